@@ -16,8 +16,9 @@ use Rattle.slate_txn.specs.Reply.{Committed, Refused}
 use Rattle.slate_txn.specs.State.{Rules, State, Tx, last_of}
 use Rattle.slate_txn.specs.Step.{step, of_open, commit, refused_or, with_reply, as_commit, closed}
 use Rattle.slate_db.specs.BatchTests.{test_refusal}
+use Rattle.slate_db.specs.Segmented.{recorded_by}
 use Rattle.slate_db.proofs.Refused.{not_exhausted, exhausted}
-use Rattle.slate_db.proofs.Tests.{commit_tests, merges_tested}
+use Rattle.slate_db.proofs.Tests.{commit_tests, tested_merges}
 
 -- the state that is left
 abbrev pub closing : State → List ℕ → State
@@ -58,10 +59,10 @@ pub step_full : (r : Rules) (s : State) (id : List ℕ) (t : Tx) (n : ℕ) → f
 step_full r s id t n found none free some last full = refused_by r s id t errors.SequenceExhausted found none (some_refusal r s t free some ∙ exhausted r s n (batch_refusals r s t.ops) last full)
 
 -- where its merges are no reason
-pub step_tests : (r : Rules) (s : State) (id : List ℕ) (t : Tx) (n : ℕ) (e : SlateDBError) → find_named id s.txns ≡ Some t → without id s.snapshots ≡ s.snapshots → conflict s.commits t ≡ None → (t.ops ≡ [] → ⊥) → n ≡ last_of r.start_seq s.commits → n < 2 ^ 64 - 2 → r.segment ≡ None →
-    merges_refusal (is_some r.combine) (holds_merge t.ops) ≡ None → test_refusal r.combine r.default_millis s.now t.ops ≡ Some e → step r s (lines.Commit id) ≡ (closing s id, Refused e)
-step_tests r s id t n e found none free some last fits segment merges is =
-    refused_by r s id t e found none (some_refusal r s t free some ∙ not_exhausted r s n (batch_refusals r s t.ops) last fits ∙ commit_tests r s t.ops segment merges ∙ is)
+pub step_tests : (r : Rules) (s : State) (recorded : List (List ℕ)) (id : List ℕ) (t : Tx) (n : ℕ) (e : SlateDBError) → find_named id s.txns ≡ Some t → without id s.snapshots ≡ s.snapshots → conflict s.commits t ≡ None → (t.ops ≡ [] → ⊥) → n ≡ last_of r.start_seq s.commits → n < 2 ^ 64 - 2 → recorded ≡ recorded_by r.segment s.commits →
+    merges_refusal (is_some r.combine) (holds_merge t.ops) ≡ None → test_refusal r.combine r.segment recorded r.default_millis s.now t.ops ≡ Some e → step r s (lines.Commit id) ≡ (closing s id, Refused e)
+step_tests r s recorded id t n e found none free some last fits are merges is =
+    refused_by r s id t e found none (some_refusal r s t free some ∙ not_exhausted r s n (batch_refusals r s t.ops) last fits ∙ commit_tests r s recorded t.ops are merges ∙ is)
 
 -- ---- what commits
 
@@ -87,8 +88,8 @@ made_of : (r : Rules) (s : State) (n : ℕ) (ops : Ops) (tracked : List (List �
 made_of r s n [] tracked some last = absurd (some refl)
 made_of r s n (o ∷ os) tracked some last = (let l = sym last in λ i. (record s { commits = s.commits ++ (record { seq = l i + 1; now = s.now; ops = kept_ops (o ∷ os); tracked = tracked } ∷ []) }, Committed (Some (l i + 1))))
 
-pub step_commits : (r : Rules) (s : State) (id : List ℕ) (t : Tx) (n : ℕ) → find_named id s.txns ≡ Some t → without id s.snapshots ≡ s.snapshots → conflict s.commits t ≡ None → (t.ops ≡ [] → ⊥) → test_refusal r.combine r.default_millis s.now t.ops ≡ None → r.segment ≡ None →
+pub step_commits : (r : Rules) (s : State) (recorded : List (List ℕ)) (id : List ℕ) (t : Tx) (n : ℕ) → find_named id s.txns ≡ Some t → without id s.snapshots ≡ s.snapshots → conflict s.commits t ≡ None → (t.ops ≡ [] → ⊥) → test_refusal r.combine r.segment recorded r.default_millis s.now t.ops ≡ None → recorded ≡ recorded_by r.segment s.commits →
     n ≡ last_of r.start_seq s.commits → n < 2 ^ 64 - 2 → step r s (lines.Commit id) ≡ (committed s id (Some (n + 1)) t, Committed (Some (n + 1)))
-step_commits r s id t n found none free some tested segment last fits =
-    passed r s id t found none (some_refusal r s t free some ∙ not_exhausted r s n (batch_refusals r s t.ops) last fits ∙ commit_tests r s t.ops segment (merges_tested r.combine r.default_millis s.now t.ops tested) ∙ tested)
+step_commits r s recorded id t n found none free some tested are last fits =
+    passed r s id t found none (some_refusal r s t free some ∙ not_exhausted r s n (batch_refusals r s t.ops) last fits ∙ commit_tests r s recorded t.ops are (tested_merges r.combine r.segment recorded r.default_millis s.now (holds_merge t.ops) t.ops tested) ∙ tested)
     ∙ made_of r (closing s id) n t.ops (tracked_writes t) some last

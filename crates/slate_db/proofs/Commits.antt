@@ -1,8 +1,8 @@
 -- A commit of a transaction, with operations or without, and a refused one.
---     RowsAfter f c n now t, core_after f s id n now t spare g      the active rows after a commit; the core, of its parts
---     Commits f s l y xs id n now t      what the parts become
---     IsRefused m fault old new id now e, HasCause .., HasKnownCause ..      what the model says of a refused one, and why it is
-use Rattle.std.proofs.Common.{◌≡◌, ℕ, ◌+◌, ◌-◌, ◌^◌, ◌≤◌, ◌<◌, Bool, true, false, cond, bytes_eq, List, [], ◌∷◌, ◌++◌, length, map, is_some, Option, Some, None, ◌⊎◌, inl, inr, ℤ, unwrap_or, refl, sym, ap, subst, ◌∙◌, arith}
+--     RowsAfter f c n now t, core_after f by s id n now t spare g      the active rows after a commit; the core, of its parts
+--     Commits f by s l y ps xs id n now t      what the parts become
+--     IsRefused m g fault old new id now e, HasCause .., HasKnownCause ..      what the model says of a refused one, and why it is
+use Rattle.std.proofs.Common.{◌≡◌, ℕ, ◌+◌, ◌-◌, ◌^◌, ◌≤◌, ◌<◌, Bool, true, false, cond, bytes_eq, List, [], ◌∷◌, ◌++◌, length, map, is_some, Option, Some, None, ◌⊎◌, inl, inr, ℤ, unwrap_or, refl, sym, ap, subst, ◌∙◌, append-nil, arith}
 use Rattle.std.specs.Prelude.{IsNone}
 use Rattle.std.specs.List.{AllByRecursion}
 use Rattle.slate_types.specs.declared.error.SlateDBError.{SlateDBError}
@@ -11,6 +11,7 @@ use Rattle.slate_types.specs.Fold.{Combine, operator_at}
 use Rattle.slate_mem.specs.Batch.{Ops, kept_ops}
 use Rattle.slate_mem.specs.BatchModel.{holds_merge}
 use Rattle.slate_mem.specs.CommitRows.{commit_rows}
+use Rattle.slate_mem.specs.KeyTests.{Segments}
 use Rattle.slate_mem.specs.Table.{put_rows}
 use Rattle.slate_mem.proofs.BatchLaws.{keeps-once}
 use Rattle.slate_txn.specs.declared.event.TranscriptStep.{TranscriptStep}
@@ -27,15 +28,16 @@ use Rattle.slate_txn.specs.Step.{step}
 use Rattle.slate_txn.proofs.LegalLaws.{fewer-keys}
 use Rattle.slate_txn.proofs.MadeLaws.{keys-of-kept}
 use Rattle.slate_db.specs.declared.engine.Core.TheInside.{Inside}
-use Rattle.slate_db.specs.Committed.{IsCommitted, IsNextOf, IsFull, after_commit, rows_at, put_at}
+use Rattle.slate_db.specs.Committed.{IsCommitted, IsNextOf, IsFull, after_commit, recorded_at, rows_at, put_at}
 use Rattle.slate_db.specs.Installs.{as_begun}
 use Rattle.slate_db.specs.Layers.{AreLayers, LayersModel}
-use Rattle.slate_db.specs.BatchTests.{IsTestRefusal, test_refusal}
+use Rattle.slate_db.specs.BatchTests.{IsTestRefusal, batch_refusal, test_refusal}
 use Rattle.slate_db.specs.Load.{load}
 use Rattle.slate_db.specs.Log.{AreFine, IsLog, LogModel, MayCommit, with_commit, with_end}
 use Rattle.slate_db.specs.Managed.{IsManaged}
-use Rattle.slate_db.specs.Meaning.{Meaning, combine_of, rules_of}
+use Rattle.slate_db.specs.Meaning.{Meaning, combine_of, rules_in}
 use Rattle.slate_db.specs.Model.{CoreModel, Rows, at}
+use Rattle.slate_db.specs.Segmented.{IsSegmented}
 use Rattle.slate_db.specs.Sound.{HasNoMerge, IsKept, IsOperable}
 use Rattle.slate_db.specs.Whole.{IsWhole, Unseen, log_of, layers_of}
 use Rattle.slate_db.proofs.CommitSteps.{step_conflict, step_full, step_idle, step_commits, step_tests}
@@ -46,7 +48,8 @@ use Rattle.slate_db.proofs.MemoryRows.{commit_within, puts_all}
 use Rattle.slate_db.proofs.Operands.{found_plain, plain_kept}
 use Rattle.slate_db.proofs.Plain.{empty_kept, some_ops}
 use Rattle.slate_db.proofs.Puts.{some_more, versions_more, active_within}
-use Rattle.slate_db.proofs.Tests.{merges_fine, tested_plain}
+use Rattle.slate_db.proofs.Segmenting.{segmented_as, segmented_more}
+use Rattle.slate_db.proofs.Tests.{merges_fine, refusal_kept, tested_plain}
 use Rattle.slate_db.proofs.Wholes.{after_end, less_one, same_snapshots}
 
 -- ---- what the log takes
@@ -97,27 +100,30 @@ may_commit c x id t n ops tracked ts w found free next ops_are keys steps fine =
 abbrev pub RowsAfter : (List ℕ → Combine) → CoreModel → Option ℕ → ℤ → Tx → Rows
 RowsAfter f c n now t = rows_at f c.settings.default_millis n now t.ops c.active
 
-abbrev pub core_after : (List ℕ → Combine) → Inside → List ℕ → Option ℕ → ℤ → Tx → ℕ → Manager → Inside
-core_after f s id n now t spare g = record s {
+abbrev pub core_after : (List ℕ → Combine) → Segments → Inside → List ℕ → Option ℕ → ℤ → Tx → ℕ → Manager → Inside
+core_after f by s id n now t spare g = record s {
   log = with_commit s.log id n now (kept_ops t.ops) (tracked_writes t) t.transcript spare;
   layers = put_at f s.default_millis n now t.ops s.layers;
   transactions = without id s.transactions;
   manager = g;
+  segments = recorded_at by n (kept_ops t.ops) s.segments;
 }
 
-pub record Commits (f : List ℕ → Combine) (s : Inside) (l : LogModel) (y : LayersModel) (xs : Transactions) (id : List ℕ) (n : Option ℕ) (now : ℤ) (t : Tx) : Type 0 where
+pub record Commits (f : List ℕ → Combine) (by : Segments) (s : Inside) (l : LogModel) (y : LayersModel) (ps : List (List ℕ)) (xs : Transactions) (id : List ℕ) (n : Option ℕ) (now : ℤ) (t : Tx) : Type 0 where
   pub log : l ≡ with_commit s.log id n now (kept_ops t.ops) (tracked_writes t) t.transcript l.spare
   pub layers : y ≡ put_at f s.default_millis n now t.ops s.layers
+  pub recorded : ps ≡ recorded_at by n (kept_ops t.ops) s.segments
   pub txns : xs ≡ without id s.transactions
   pub next : IsNextOf s.log.last t.ops n
 
-pub committed_is : (f : List ℕ → Combine) (s : Inside) (l : LogModel) (y : LayersModel) (xs : Transactions) (g : Manager) (id : List ℕ) (n : Option ℕ) (now : ℤ) (t : Tx) → Commits f s l y xs id n now t →
-    core_after f s id n now t l.spare g ≡ record s { log = l; layers = y; transactions = xs; manager = g }
-committed_is f s l y xs g id n now t made =
+pub committed_is : (f : List ℕ → Combine) (by : Segments) (s : Inside) (l : LogModel) (y : LayersModel) (ps : List (List ℕ)) (xs : Transactions) (g : Manager) (id : List ℕ) (n : Option ℕ) (now : ℤ) (t : Tx) → Commits f by s l y ps xs id n now t →
+    core_after f by s id n now t l.spare g ≡ record s { log = l; layers = y; transactions = xs; manager = g; segments = ps }
+committed_is f by s l y ps xs g id n now t made =
     let a = sym made.log in
     let b = sym made.layers in
     let d = sym made.txns in
-    λ i. record s { log = a i; layers = b i; transactions = d i; manager = g }
+    let e = sym made.recorded in
+    λ i. record s { log = a i; layers = b i; transactions = d i; manager = g; segments = e i }
 
 pub managed_made : (g : Manager) (ids newest last : ℕ) (cs : List Commit) (ps : List (List ℕ × Tx)) (n : Option ℕ) (moment now : ℤ) (os ops : Ops) (keys tracked : List (List ℕ)) → newest ≡ last → moment ≡ now → os ≡ ops → keys ≡ tracked →
     IsManaged g ids (unwrap_or n newest) (cs ++ commit_made n moment os keys) ps → IsManaged g ids (unwrap_or n last) (cs ++ commit_made n now ops tracked) ps
@@ -155,92 +161,108 @@ whole_made f c x id (Some n) now t spare g next managed log layers w =
         (λ managed log layers. whole_committed c x id now t (put_rows c.active (commit_rows f c.settings.default_millis (x.last + 1) now (kept_ops t.ops))) spare
         (some_more f c.settings.default_millis (x.last + 1) now (kept_ops t.ops) c.active (kept_some t.ops next.2)) within g managed log layers w)
 
-pub kept_made : (m : Meaning) (c : CoreModel) (x : Unseen) (id : List ℕ) (n : Option ℕ) (now : ℤ) (t : Tx) (spare : ℕ) → IsNextOf x.last t.ops n → test_refusal m.combine c.settings.default_millis now t.ops ≡ None → IsWhole c x → IsKept m c →
+pub kept_made : (m : Meaning) (c : CoreModel) (x : Unseen) (id : List ℕ) (n : Option ℕ) (now : ℤ) (t : Tx) (spare : ℕ) (g : Segments) (recorded : List (List ℕ)) → IsNextOf x.last t.ops n → test_refusal m.combine g recorded c.settings.default_millis now t.ops ≡ None → IsWhole c x → IsKept m c →
     IsKept m (after_commit c id n now t (RowsAfter (combine_of m) c n now t) spare)
-kept_made m c x id None now t spare next tested w kept = kept_idle m c id now t spare kept
-kept_made m c x id (Some n) now t spare next tested w kept =
+kept_made m c x id None now t spare g recorded next tested w kept = kept_idle m c id now t spare kept
+kept_made m c x id (Some n) now t spare g recorded next tested w kept =
     subst (λ (k : ℕ). IsKept m (after_commit c id (Some k) now t (put_rows c.active (commit_rows (combine_of m) c.settings.default_millis k now (kept_ops t.ops))) spare)) (sym next.0)
     (kept_committed m c x id now t (put_rows c.active (commit_rows (combine_of m) c.settings.default_millis (x.last + 1) now (kept_ops t.ops))) spare
-    (λ k. versions_more (combine_of m) c.settings.default_millis (x.last + 1) now (kept_ops t.ops) c.active k (active_within m c x w kept k)) (λ none. plain_kept t.ops (tested_plain m.combine (holds_merge t.ops) c.settings.default_millis now t.ops none tested)) w kept)
+    (λ k. versions_more (combine_of m) c.settings.default_millis (x.last + 1) now (kept_ops t.ops) c.active k (active_within m c x w kept k)) (λ none. plain_kept t.ops (tested_plain m.combine g recorded (holds_merge t.ops) c.settings.default_millis now t.ops none tested)) w kept)
 
 pub load_made : (f : List ℕ → Combine) (c : CoreModel) (id : List ℕ) (n : Option ℕ) (now : ℤ) (t : Tx) (spare : ℕ) → load (after_commit c id n now t (RowsAfter f c n now t) spare) ≤ load c + length t.ops
 load_made f c id None now t spare = omega arith
 load_made f c id (Some n) now t spare = write_load c f c.settings.default_millis n now (kept_ops t.ops) t.ops refl
 
-pub event_made : (f : List ℕ → Combine) (c : CoreModel) (last : ℕ) (id : List ℕ) (n : Option ℕ) (now : ℤ) (t : Tx) (spare : ℕ) → IsNextOf last t.ops n → IsCommitted c (after_commit c id n now t (RowsAfter f c n now t) spare) id n now t
-event_made f c last id None now t spare next = (next, refl)
-event_made f c last id (Some n) now t spare next = refl
+-- with the prefixes that it records
+abbrev pub CoreAfter : (List ℕ → Combine) → Segments → CoreModel → List ℕ → Option ℕ → ℤ → Tx → ℕ → CoreModel
+CoreAfter f g c id n now t spare = record (after_commit c id n now t (RowsAfter f c n now t) spare) { segments = recorded_at g n (kept_ops t.ops) c.segments }
 
-pub step_made : (m : Meaning) (c : CoreModel) (x : Unseen) (id : List ℕ) (n : Option ℕ) (now : ℤ) (t : Tx) (rows : Rows) (spare : ℕ) → IsWhole c x → find_named id c.state.txns ≡ Some t → conflict c.state.commits t ≡ None → test_refusal m.combine c.settings.default_millis now t.ops ≡ None →
-    IsNextOf x.last t.ops n → step (rules_of c.settings m) (at now c.state) (lines.Commit id) ≡ (at now (after_commit c id n now t rows spare).state, Committed n)
-step_made m c x id None now t rows spare w found free tested next = step_idle (rules_of c.settings m) (at now c.state) id t found (same_snapshots c x id w (ap is_some found)) free next
-step_made m c x id (Some n) now t rows spare w found free tested next =
-    step_commits (rules_of c.settings m) (at now c.state) id t x.last found (same_snapshots c x id w (ap is_some found)) free next.2 tested refl w.log.last next.1
+pub event_made : (f : List ℕ → Combine) (g : Segments) (c : CoreModel) (last : ℕ) (id : List ℕ) (n : Option ℕ) (now : ℤ) (t : Tx) (spare : ℕ) → IsNextOf last t.ops n → IsCommitted c (CoreAfter f g c id n now t spare) id n now t
+event_made f g c last id None now t spare next = (next, refl)
+event_made f g c last id (Some n) now t spare next = refl
+
+-- of the kept operations
+tested_kept : (m : Meaning) (g : Segments) (recorded : List (List ℕ)) (d : Option ℕ) (now : ℤ) (ops : Ops) → test_refusal m.combine g recorded d now ops ≡ None →
+    batch_refusal m.combine g recorded d now (record { ops = kept_ops ops; held_merge = holds_merge ops }) ≡ None
+tested_kept m g recorded d now ops tested = refusal_kept m.combine g recorded d now ops (record { ops = kept_ops ops; held_merge = holds_merge ops }) (refl, refl) ∙ tested
+
+pub segmented_made : (m : Meaning) (g : Segments) (c : CoreModel) (id : List ℕ) (n : Option ℕ) (now : ℤ) (t : Tx) (spare : ℕ) → test_refusal m.combine g c.segments c.settings.default_millis now t.ops ≡ None →
+    IsSegmented g c → IsSegmented g (CoreAfter (combine_of m) g c id n now t spare)
+segmented_made m g c id None now t spare tested z = segmented_as g c (CoreAfter (combine_of m) g c id None now t spare) refl (append-nil c.state.commits) z
+segmented_made m g c id (Some n) now t spare tested z =
+    segmented_more m.combine g c (CoreAfter (combine_of m) g c id (Some n) now t spare) c.settings.default_millis now (holds_merge t.ops) (record { seq = n; now = now; ops = kept_ops t.ops; tracked = tracked_writes t }) refl refl
+    (tested_kept m g c.segments c.settings.default_millis now t.ops tested) z
+
+pub step_made : (m : Meaning) (g : Segments) (c : CoreModel) (x : Unseen) (id : List ℕ) (n : Option ℕ) (now : ℤ) (t : Tx) (rows : Rows) (spare : ℕ) → IsWhole c x → IsSegmented g c → find_named id c.state.txns ≡ Some t → conflict c.state.commits t ≡ None → test_refusal m.combine g c.segments c.settings.default_millis now t.ops ≡ None →
+    IsNextOf x.last t.ops n → step (rules_in c.settings m g) (at now c.state) (lines.Commit id) ≡ (at now (after_commit c id n now t rows spare).state, Committed n)
+step_made m g c x id None now t rows spare w z found free tested next = step_idle (rules_in c.settings m g) (at now c.state) id t found (same_snapshots c x id w (ap is_some found)) free next
+step_made m g c x id (Some n) now t rows spare w z found free tested next =
+    step_commits (rules_in c.settings m g) (at now c.state) c.segments id t x.last found (same_snapshots c x id w (ap is_some found)) free next.2 tested z.recorded w.log.last next.1
     ∙ (let is = sym next.0 in λ i. (at now (after_commit c id (Some (is i)) now t rows spare).state, Committed (Some (is i))))
 
 -- ---- a refused one
 
 -- what the model says of it
-abbrev pub IsRefused : Meaning → (SlateDBError → Type 0) → CoreModel → CoreModel → List ℕ → ℤ → SlateDBError → Type 0
-IsRefused m fault old new id now e = fault e ⊎ (step (rules_of old.settings m) (at now old.state) (lines.Commit id) ≡ (at now new.state, Refused e))
+abbrev pub IsRefused : Meaning → Segments → (SlateDBError → Type 0) → CoreModel → CoreModel → List ℕ → ℤ → SlateDBError → Type 0
+IsRefused m g fault old new id now e = fault e ⊎ (step (rules_in old.settings m g) (at now old.state) (lines.Commit id) ≡ (at now new.state, Refused e))
 
 -- why it is; fault: a fault that came in the call, or want of memory
-abbrev pub HasCause : {C : Type 0} → Option C → (SlateDBError → Type 0) → CoreModel → ℕ → ℤ → Tx → SlateDBError → Type 0
-HasCause combine fault c last now t e =
+abbrev pub HasCause : {C : Type 0} → Option C → Segments → (SlateDBError → Type 0) → CoreModel → ℕ → ℤ → Tx → SlateDBError → Type 0
+HasCause combine g fault c last now t e =
     fault e ⊎ IsConflict (conflict c.state.commits t) e ⊎ IsFull last (conflict c.state.commits t) t.ops e
-    ⊎ IsTestRefusal combine c.settings.default_millis now last (conflict c.state.commits t) t.ops e
+    ⊎ IsTestRefusal combine g c.segments c.settings.default_millis now last (conflict c.state.commits t) t.ops e
 
-abbrev pub HasKnownCause : {C : Type 0} → Option C → (SlateDBError → Type 0) → CoreModel → ℤ → Tx → SlateDBError → Type 0
-HasKnownCause combine fault c now t e =
+abbrev pub HasKnownCause : {C : Type 0} → Option C → Segments → (SlateDBError → Type 0) → CoreModel → ℤ → Tx → SlateDBError → Type 0
+HasKnownCause combine g fault c now t e =
     fault e ⊎ IsConflict (conflict c.state.commits t) e
     ⊎ ((e ≡ errors.SequenceExhausted) × (last_of c.settings.start_seq c.state.commits ≡ 2 ^ 64 - 2))
-    ⊎ IsTestRefusal combine c.settings.default_millis now (last_of c.settings.start_seq c.state.commits) (conflict c.state.commits t) t.ops e
+    ⊎ IsTestRefusal combine g c.segments c.settings.default_millis now (last_of c.settings.start_seq c.state.commits) (conflict c.state.commits t) t.ops e
 
-met_step : (m : Meaning) (c : CoreModel) (x : Unseen) (id : List ℕ) (now : ℤ) (t : Tx) (spare : ℕ) (e : SlateDBError) (o : Option ℕ) → IsWhole c x → find_named id c.state.txns ≡ Some t → conflict c.state.commits t ≡ o → IsConflict o e →
-    step (rules_of c.settings m) (at now c.state) (lines.Commit id) ≡ (at now (after_end c id spare).state, Refused e)
-met_step m c x id now t spare e None w found is h = absurd h
-met_step m c x id now t spare e (Some n) w found is h = step_conflict (rules_of c.settings m) (at now c.state) id t n found (same_snapshots c x id w (ap is_some found)) is ∙ ap (λ r. (at now (after_end c id spare).state, Refused r)) (sym h)
+met_step : (m : Meaning) (g : Segments) (c : CoreModel) (x : Unseen) (id : List ℕ) (now : ℤ) (t : Tx) (spare : ℕ) (e : SlateDBError) (o : Option ℕ) → IsWhole c x → find_named id c.state.txns ≡ Some t → conflict c.state.commits t ≡ o → IsConflict o e →
+    step (rules_in c.settings m g) (at now c.state) (lines.Commit id) ≡ (at now (after_end c id spare).state, Refused e)
+met_step m g c x id now t spare e None w found is h = absurd h
+met_step m g c x id now t spare e (Some n) w found is h = step_conflict (rules_in c.settings m g) (at now c.state) id t n found (same_snapshots c x id w (ap is_some found)) is ∙ ap (λ r. (at now (after_end c id spare).state, Refused r)) (sym h)
 
 -- without an operator it took no merge
 own_plain : (m : Meaning) (c : CoreModel) (id : List ℕ) (t : Tx) → IsOperable m c → find_named id c.state.txns ≡ Some t → m.combine ≡ None → holds_merge t.ops ≡ false
 own_plain m c id t operable found none = found_plain id c.state.txns t (operable none).own found
 
-pub refused_is : (m : Meaning) (fault : SlateDBError → Type 0) (c : CoreModel) (x : Unseen) (id : List ℕ) (now : ℤ) (t : Tx) (spare : ℕ) (e : SlateDBError) → IsWhole c x → IsOperable m c → find_named id c.state.txns ≡ Some t →
-    HasCause m.combine fault c x.last now t e → IsRefused m fault c (after_end c id spare) id now e
-refused_is m fault c x id now t spare e w operable found (inl short) = inl short
-refused_is m fault c x id now t spare e w operable found (inr (inl met)) = inr (met_step m c x id now t spare e (conflict c.state.commits t) w found refl met)
-refused_is m fault c x id now t spare e w operable found (inr (inr (inl full))) =
-    inr (step_full (rules_of c.settings m) (at now c.state) id t x.last found (same_snapshots c x id w (ap is_some found)) full.2 full.3 w.log.last full.1 ∙ ap (λ r. (at now (after_end c id spare).state, Refused r)) (sym full.0))
-refused_is m fault c x id now t spare e w operable found (inr (inr (inr test))) =
-    inr (step_tests (rules_of c.settings m) (at now c.state) id t x.last e found (same_snapshots c x id w (ap is_some found)) test.free test.some w.log.last test.place refl
+pub refused_is : (m : Meaning) (g : Segments) (fault : SlateDBError → Type 0) (c : CoreModel) (x : Unseen) (id : List ℕ) (now : ℤ) (t : Tx) (spare : ℕ) (e : SlateDBError) → IsWhole c x → IsOperable m c → IsSegmented g c → find_named id c.state.txns ≡ Some t →
+    HasCause m.combine g fault c x.last now t e → IsRefused m g fault c (after_end c id spare) id now e
+refused_is m g fault c x id now t spare e w operable z found (inl short) = inl short
+refused_is m g fault c x id now t spare e w operable z found (inr (inl met)) = inr (met_step m g c x id now t spare e (conflict c.state.commits t) w found refl met)
+refused_is m g fault c x id now t spare e w operable z found (inr (inr (inl full))) =
+    inr (step_full (rules_in c.settings m g) (at now c.state) id t x.last found (same_snapshots c x id w (ap is_some found)) full.2 full.3 w.log.last full.1 ∙ ap (λ r. (at now (after_end c id spare).state, Refused r)) (sym full.0))
+refused_is m g fault c x id now t spare e w operable z found (inr (inr (inr test))) =
+    inr (step_tests (rules_in c.settings m g) (at now c.state) c.segments id t x.last e found (same_snapshots c x id w (ap is_some found)) test.free test.some w.log.last test.place z.recorded
     (merges_fine m.combine t.ops (own_plain m c id t operable found)) test.is)
 
-pub cause_is : {C : Type 0} (combine : Option C) (fault : SlateDBError → Type 0) (c : CoreModel) (x : Unseen) (now : ℤ) (t : Tx) (e : SlateDBError) → IsWhole c x → HasCause combine fault c x.last now t e → HasKnownCause combine fault c now t e
-cause_is combine fault c x now t e w (inl short) = inl short
-cause_is combine fault c x now t e w (inr (inl met)) = inr (inl met)
-cause_is combine fault c x now t e w (inr (inr (inl full))) = inr (inr (inl (full.0, sym w.log.last ∙ full.1)))
-cause_is combine fault c x now t e w (inr (inr (inr test))) =
-    inr (inr (inr (subst (λ (n : ℕ). IsTestRefusal combine c.settings.default_millis now n (conflict c.state.commits t) t.ops e) w.log.last test)))
+pub cause_is : {C : Type 0} (combine : Option C) (g : Segments) (fault : SlateDBError → Type 0) (c : CoreModel) (x : Unseen) (now : ℤ) (t : Tx) (e : SlateDBError) → IsWhole c x → HasCause combine g fault c x.last now t e → HasKnownCause combine g fault c now t e
+cause_is combine g fault c x now t e w (inl short) = inl short
+cause_is combine g fault c x now t e w (inr (inl met)) = inr (inl met)
+cause_is combine g fault c x now t e w (inr (inr (inl full))) = inr (inr (inl (full.0, sym w.log.last ∙ full.1)))
+cause_is combine g fault c x now t e w (inr (inr (inr test))) =
+    inr (inr (inr (subst (λ (n : ℕ). IsTestRefusal combine g c.segments c.settings.default_millis now n (conflict c.state.commits t) t.ops e) w.log.last test)))
 
 -- the causes of a part, in the words of the whole
-pub has_cause : {C Called : Type 0} (a b : Option C) (fault : SlateDBError → Type 0) (c : CoreModel) (n last : ℕ) (z now : ℤ) (t : Tx) (e : SlateDBError) → a ≡ b → n ≡ last → z ≡ now → (e ≡ errors.OutOfMemory → fault e) → (Called → fault e) →
-    (e ≡ errors.OutOfMemory) ⊎ (IsConflict (conflict c.state.commits t) e ⊎ IsFull n (conflict c.state.commits t) t.ops e) ⊎ IsTestRefusal a c.settings.default_millis z n (conflict c.state.commits t) t.ops e ⊎ Called → HasCause b fault c last now t e
-has_cause a b fault c n last z now t e operators seqs moments short called (inl h) = inl (short h)
-has_cause a b fault c n last z now t e operators seqs moments short called (inr (inl (inl met))) = inr (inl met)
-has_cause a b fault c n last z now t e operators seqs moments short called (inr (inl (inr full))) = inr (inr (inl (subst (λ k. IsFull k (conflict c.state.commits t) t.ops e) seqs full)))
-has_cause a b fault c n last z now t e operators seqs moments short called (inr (inr (inl test))) =
+pub has_cause : {C Called : Type 0} (a b : Option C) (g : Segments) (fault : SlateDBError → Type 0) (c : CoreModel) (n last : ℕ) (z now : ℤ) (t : Tx) (e : SlateDBError) → a ≡ b → n ≡ last → z ≡ now → (e ≡ errors.OutOfMemory → fault e) → (Called → fault e) →
+    (e ≡ errors.OutOfMemory) ⊎ (IsConflict (conflict c.state.commits t) e ⊎ IsFull n (conflict c.state.commits t) t.ops e) ⊎ IsTestRefusal a g c.segments c.settings.default_millis z n (conflict c.state.commits t) t.ops e ⊎ Called → HasCause b g fault c last now t e
+has_cause a b g fault c n last z now t e operators seqs moments short called (inl h) = inl (short h)
+has_cause a b g fault c n last z now t e operators seqs moments short called (inr (inl (inl met))) = inr (inl met)
+has_cause a b g fault c n last z now t e operators seqs moments short called (inr (inl (inr full))) = inr (inr (inl (subst (λ k. IsFull k (conflict c.state.commits t) t.ops e) seqs full)))
+has_cause a b g fault c n last z now t e operators seqs moments short called (inr (inr (inl test))) =
     inr (inr (inr (
-    subst (λ o. IsTestRefusal o c.settings.default_millis now last (conflict c.state.commits t) t.ops e) operators
-    (subst (λ k. IsTestRefusal a c.settings.default_millis now k (conflict c.state.commits t) t.ops e) seqs
-    (subst (λ (y : ℤ). IsTestRefusal a c.settings.default_millis y n (conflict c.state.commits t) t.ops e) moments test)))))
-has_cause a b fault c n last z now t e operators seqs moments short called (inr (inr (inr h))) = inl (called h)
+    subst (λ o. IsTestRefusal o g c.segments c.settings.default_millis now last (conflict c.state.commits t) t.ops e) operators
+    (subst (λ k. IsTestRefusal a g c.segments c.settings.default_millis now k (conflict c.state.commits t) t.ops e) seqs
+    (subst (λ (y : ℤ). IsTestRefusal a g c.segments c.settings.default_millis y n (conflict c.state.commits t) t.ops e) moments test)))))
+has_cause a b g fault c n last z now t e operators seqs moments short called (inr (inr (inr h))) = inl (called h)
 
 pub load_ended : (c : CoreModel) (id : List ℕ) (spare n : ℕ) → load (after_end c id spare) ≤ load c + n
 load_ended c id spare n = omega arith
 
-pub refused_parts_are : (s : Inside) (l : LogModel) (y : LayersModel) (xs : Transactions) (g : Manager) (id : List ℕ) → l ≡ with_end s.log id l.spare → y ≡ s.layers → xs ≡ without id s.transactions →
-    record s { log = with_end s.log id l.spare; transactions = without id s.transactions; manager = g } ≡ record s { log = l; layers = y; transactions = xs; manager = g }
-refused_parts_are s l y xs g id log layers txns = let a = sym log in let b = sym layers in let d = sym txns in λ i. record s { log = a i; layers = b i; transactions = d i; manager = g }
+pub refused_parts_are : (s : Inside) (l : LogModel) (y : LayersModel) (ps : List (List ℕ)) (xs : Transactions) (g : Manager) (id : List ℕ) → l ≡ with_end s.log id l.spare → y ≡ s.layers → ps ≡ s.segments → xs ≡ without id s.transactions →
+    record s { log = with_end s.log id l.spare; transactions = without id s.transactions; manager = g } ≡ record s { log = l; layers = y; transactions = xs; manager = g; segments = ps }
+refused_parts_are s l y ps xs g id log layers recorded txns = let a = sym log in let b = sym layers in let d = sym txns in let e = sym recorded in λ i. record s { log = a i; layers = b i; transactions = d i; manager = g; segments = e i }
 
 -- ---- the one transaction of the id
 
@@ -248,12 +270,12 @@ pub same_txn : (c d : CoreModel) (id : List ℕ) (t u : Tx) → c ≡ d → find
 same_txn c d id t u same a b = let h : Some t ≡ Some u = sym a ∙ ap (λ (v : CoreModel). find_named id v.state.txns) same ∙ b in cc
 
 -- what a test says of it, in the words of the parts
-pub test_of : {C : Type 0} (o : Option C) (c d : CoreModel) (x : Unseen) (id : List ℕ) (now : ℤ) (t u : Tx) (e : SlateDBError) → c ≡ d → IsWhole c x → find_named id c.state.txns ≡ Some t → find_named id d.state.txns ≡ Some u →
-    IsTestRefusal o d.settings.default_millis now (last_of d.settings.start_seq d.state.commits) (conflict d.state.commits u) u.ops e → IsTestRefusal o c.settings.default_millis now x.last (conflict c.state.commits t) t.ops e
-test_of o c d x id now t u e same w a b test =
-    subst (λ (n : ℕ). IsTestRefusal o c.settings.default_millis now n (conflict c.state.commits t) t.ops e) (sym w.log.last)
-    (subst (λ (v : Tx). IsTestRefusal o c.settings.default_millis now (last_of c.settings.start_seq c.state.commits) (conflict c.state.commits v) v.ops e) (sym (same_txn c d id t u same a b))
-    (subst (λ (v : CoreModel). IsTestRefusal o v.settings.default_millis now (last_of v.settings.start_seq v.state.commits) (conflict v.state.commits u) u.ops e) (sym same) test))
+pub test_of : {C : Type 0} (o : Option C) (g : Segments) (c d : CoreModel) (x : Unseen) (id : List ℕ) (now : ℤ) (t u : Tx) (e : SlateDBError) → c ≡ d → IsWhole c x → find_named id c.state.txns ≡ Some t → find_named id d.state.txns ≡ Some u →
+    IsTestRefusal o g d.segments d.settings.default_millis now (last_of d.settings.start_seq d.state.commits) (conflict d.state.commits u) u.ops e → IsTestRefusal o g c.segments c.settings.default_millis now x.last (conflict c.state.commits t) t.ops e
+test_of o g c d x id now t u e same w a b test =
+    subst (λ (n : ℕ). IsTestRefusal o g c.segments c.settings.default_millis now n (conflict c.state.commits t) t.ops e) (sym w.log.last)
+    (subst (λ (v : Tx). IsTestRefusal o g c.segments c.settings.default_millis now (last_of c.settings.start_seq c.state.commits) (conflict c.state.commits v) v.ops e) (sym (same_txn c d id t u same a b))
+    (subst (λ (v : CoreModel). IsTestRefusal o g v.segments v.settings.default_millis now (last_of v.settings.start_seq v.state.commits) (conflict v.state.commits u) u.ops e) (sym same) test))
 
 pub put_as : (a b : Option (List ℕ → Combine)) (d n : Option ℕ) (z now : ℤ) (ops : Ops) (l y : LayersModel) → y ≡ put_at (operator_at a) d n z ops l → a ≡ b → z ≡ now → y ≡ put_at (operator_at b) d n now ops l
 put_as a b d n z now ops l y is operators moments = is ∙ (λ i. put_at (operator_at (operators i)) d n (moments i) ops l)

@@ -10,6 +10,7 @@ use Rattle.slate_types.specs.Outside.{Counts, IsCounted, Objects, Reach}
 use Rattle.slate_mem.specs.Lookup.{is_merge_among, newest_first}
 use Rattle.slate_mem.specs.Table.{MemTableModel}
 use Rattle.slate_table.specs.TableBuilding.{max_blocks}
+use Rattle.slate_mem.specs.KeyTests.{Segments}
 use Rattle.slate_txn.specs.declared.event.Event.TheVariants as events
 use Rattle.slate_txn.specs.declared.line.Line.TheVariants as lines
 use Rattle.slate_txn.specs.Places.{IsQuiet}
@@ -21,7 +22,7 @@ use Rattle.slate_db.specs.Flushed.{Layout, IsFlushed, IsFlushError, IsFolded, To
 use Rattle.slate_db.specs.Frozen.{IsFrozen}
 use Rattle.slate_db.specs.Load.{weight}
 use Rattle.slate_db.specs.Log.{LIMIT, ends_of}
-use Rattle.slate_db.specs.Meaning.{Meaning, rules_of, combine_of}
+use Rattle.slate_db.specs.Meaning.{Meaning, rules_in, rules_of, combine_of}
 use Rattle.slate_db.specs.Model.{CoreModel, Rows, memory, IsSame}
 use Rattle.slate_db.specs.Sound.{IsKept, at_most, later}
 use Rattle.slate_db.proofs.FlushRows.{none_among}
@@ -234,6 +235,12 @@ pub steps_after : (r : Result ℕ SlateDBError) (m : Meaning) (layout : Layout) 
     IfOk r (λ n. (o : Meaning) → step (rules_of old.settings o) old.state lines.Flush ≡ (new.state, Flushed n))
 steps_after (Ok n) m layout old between new before after frozen last is = λ o. step_flush o old between new n frozen last (flushed_is m layout between new n before after is)
 steps_after (Err e) m layout old between new before after frozen last is = tt
+
+-- by any segments
+pub steps_in : {E : Type 0} (r : Result ℕ E) (old new : CoreModel) → IfOk r (λ n. (o : Meaning) → step (rules_of old.settings o) old.state lines.Flush ≡ (new.state, Flushed n)) →
+    IfOk r (λ n. (o : Meaning) (g : Segments) → step (rules_in old.settings o g) old.state lines.Flush ≡ (new.state, Flushed n))
+steps_in (Ok n) old new steps = λ o g. steps o
+steps_in (Err e) old new steps = tt
 
 -- nothing is committed behind its freeze
 pub quiet_after : (r : Result ℕ SlateDBError) (m : Meaning) (layout : Layout) (between new : CoreModel) (before after : Option Objects) → IsQuiet between.events → IfOk r (λ n. IsFlushed m layout between new n before after) → OnOk r (IsQuiet new.events)

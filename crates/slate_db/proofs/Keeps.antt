@@ -73,3 +73,11 @@ kept_rows m c active frozen same kept = (
 
 pub kept_same : (m : Meaning) (a b : CoreModel) → IsSame a b → IsKept m a → IsKept m b
 kept_same m a b same k = subst (λ (v : CoreModel). IsKept m v) (sym same) (kept_event m a a.state a.events b.spare refl refl refl (λ none own. own) k)
+
+-- other prefixes are recorded
+pub kept_recorded : (m : Meaning) (c : CoreModel) (ps : List (List ℕ)) → IsKept m c → IsKept m (record c { segments = ps })
+kept_recorded m c ps kept = (
+  kept.0,
+  λ law. let z : IsSound m c = kept.1 law in record { layers = z.layers; tables = z.tables; short = z.short; bases = z.bases; within = z.within; rise = z.rise; folds = z.folds },
+  λ none. let z : HasNoMerge c = kept.2 none in record { own = z.own; commits = z.commits },
+)

@@ -63,6 +63,8 @@ mod ScanNotes
 mod Refused
 mod Plain
 mod Tests
+pub mod Segmenting
+pub mod Recording
 pub mod Managing
 pub mod TakenBack
 pub mod CommitSteps

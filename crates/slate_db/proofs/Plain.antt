@@ -80,7 +80,7 @@ written_as r s (o ∷ os) made n some kept keys last fine =
     ap (λ e. refused_or e s (with_reply Written (as_commit r s (o ∷ os) (batch_keys (o ∷ os))))) fine
     ∙ (λ i. (record s { commits = s.commits ++ (record { seq = last i + 1; now = s.now; ops = kept i; tracked = keys i } ∷ []) }, Written (Some (last i + 1))))
 
-pub step_exhausted : (r : Rules) (s : State) (ops : Ops) (b : BatchModel) (n : ℕ) → IsBatchOf ops b → (b.ops ≡ [] → ⊥) → AreFine ops → r.segment ≡ None → n ≡ last_of r.start_seq s.commits → n ≡ 2 ^ 64 - 2 →
+pub step_exhausted : (r : Rules) (s : State) (ops : Ops) (b : BatchModel) (n : ℕ) → IsBatchOf ops b → (b.ops ≡ [] → ⊥) → AreFine ops → n ≡ last_of r.start_seq s.commits → n ≡ 2 ^ 64 - 2 →
     step r s (lines.Write ops) ≡ (s, Refused errors.SequenceExhausted)
-step_exhausted r s ops b n of some fine none last full =
-    step_refused r s ops errors.SequenceExhausted (refusal_is r s ops (has_some ops b of some) fine none ∙ exhausted r s n _ last full)
+step_exhausted r s ops b n of some fine last full =
+    step_refused r s ops errors.SequenceExhausted (refusal_is r s ops (has_some ops b of some) fine ∙ exhausted r s n _ last full)

@@ -1,40 +1,29 @@
--- The refusals of a write, where there are no segments.
-use Rattle.std.proofs.Common.{◌≡◌, ℕ, ◌-◌, ◌<◌, ◌^◌, true, false, List, [], ◌∷◌, ◌++◌, map, filter_map, Option, Some, None, refl, ap, ◌∙◌, arith, append-nil, flat_map}
+-- The refusals of a write.
+use Rattle.std.proofs.Common.{◌≡◌, ℕ, ◌-◌, ◌<◌, ◌^◌, true, false, List, [], ◌∷◌, ◌++◌, map, Option, Some, None, refl, ap, ◌∙◌, arith}
 use Rattle.std.specs.List.{AllByRecursion}
 use Rattle.std.specs.Prelude.{◌==◌, is_some}
 use Rattle.std.proofs.lemmas.Bool.Decides.{nat_tests}
 use Rattle.slate_types.specs.declared.error.SlateDBError.{SlateDBError}
 use Rattle.slate_types.specs.declared.error.SlateDBError.TheVariants as errors
-use Rattle.slate_types.specs.Keys.{keys_set}
 use Rattle.slate_mem.specs.Batch.{Ops, batch_keys}
 use Rattle.slate_mem.specs.BatchModel.{holds_merge}
-use Rattle.slate_txn.specs.State.{Rules, State, Commit, last_of}
+use Rattle.slate_txn.specs.State.{Rules, State, last_of}
 use Rattle.slate_txn.specs.declared.line.Line.TheVariants as lines
 use Rattle.slate_txn.specs.Step.{step, refused_or, with_reply, as_commit}
 use Rattle.slate_txn.specs.Reply.{Refused, Written}
 use Rattle.slate_mem.specs.Refusals.{when, first_refusal, op_refusal}
-use Rattle.slate_mem.specs.KeyTests.{prefixes, nest_refusal, merges_refusal, key_refusal, nest_refusals, prefix_by}
-use Rattle.slate_txn.specs.Refusals.{committed_prefixes, exhausted_refusal, write_refusal, batch_refusals}
+use Rattle.slate_mem.specs.KeyTests.{merges_refusal}
+use Rattle.slate_txn.specs.Refusals.{exhausted_refusal, write_refusal, batch_refusals}
 
 pub skip_none : (ops : Ops) (es : List (Option SlateDBError)) → AllByRecursion (λ o. op_refusal o.0 o.1 ≡ None) ops → first_refusal (map (λ o. op_refusal o.0 o.1) ops ++ es) ≡ first_refusal es
 skip_none [] es h = refl
 skip_none (o ∷ os) es h = (λ i. first_refusal (h.0 i ∷ (map (λ o. op_refusal o.0 o.1) os ++ es))) ∙ skip_none os es h.1
 
-no_prefixes : (ks : List (List ℕ)) → filter_map (prefix_by None) ks ≡ []
-no_prefixes [] = refl
-no_prefixes (k ∷ ks) = no_prefixes ks
-
-pub no_nests : (r : Rules) (cs : List Commit) (ops : Ops) → r.segment ≡ None → nest_refusals (committed_prefixes r cs) (prefixes r.segment ops) ≡ []
-no_nests r cs ops none = ap (λ ps. map (nest_refusal (keys_set (committed_prefixes r cs ++ prefixes r.segment ops))) (keys_set ps)) (ap (λ g. filter_map (prefix_by g) (batch_keys ops)) none ∙ no_prefixes (batch_keys ops))
-
 -- what is left of the tests, for a batch that is not empty
-pub refusal_is : (r : Rules) (s : State) (ops : Ops) → (ops ≡ [] → ⊥) → AllByRecursion (λ o. op_refusal o.0 o.1 ≡ None) ops → r.segment ≡ None →
-    write_refusal r s ops ≡ first_refusal (exhausted_refusal r s ∷ merges_refusal (is_some r.combine) (holds_merge ops) ∷ map (key_refusal r.segment r.default_millis s.now ops) (batch_keys ops))
-refusal_is r s [] some fine none = absurd (some refl)
-refusal_is r s (o ∷ os) some fine none =
-    skip_none (o ∷ os) (exhausted_refusal r s ∷ merges_refusal (is_some r.combine) (holds_merge (o ∷ os)) ∷ batch_refusals r s (o ∷ os)) fine
-    ∙ ap (λ ns. first_refusal (exhausted_refusal r s ∷ merges_refusal (is_some r.combine) (holds_merge (o ∷ os)) ∷ (map (key_refusal r.segment r.default_millis s.now (o ∷ os)) (batch_keys (o ∷ os)) ++ ns))) (no_nests r s.commits (o ∷ os) none)
-    ∙ ap (λ es. first_refusal (exhausted_refusal r s ∷ merges_refusal (is_some r.combine) (holds_merge (o ∷ os)) ∷ es)) (append-nil (map (key_refusal r.segment r.default_millis s.now (o ∷ os)) (batch_keys (o ∷ os))))
+pub refusal_is : (r : Rules) (s : State) (ops : Ops) → (ops ≡ [] → ⊥) → AllByRecursion (λ o. op_refusal o.0 o.1 ≡ None) ops →
+    write_refusal r s ops ≡ first_refusal (exhausted_refusal r s ∷ merges_refusal (is_some r.combine) (holds_merge ops) ∷ batch_refusals r s ops)
+refusal_is r s [] some fine = absurd (some refl)
+refusal_is r s (o ∷ os) some fine = skip_none (o ∷ os) (exhausted_refusal r s ∷ merges_refusal (is_some r.combine) (holds_merge (o ∷ os)) ∷ batch_refusals r s (o ∷ os)) fine
 
 pub step_refused : (r : Rules) (s : State) (ops : Ops) (e : SlateDBError) → write_refusal r s ops ≡ Some e → step r s (lines.Write ops) ≡ (s, Refused e)
 step_refused r s ops e is = ap (λ o. refused_or o s (with_reply Written (as_commit r s ops (batch_keys ops)))) is

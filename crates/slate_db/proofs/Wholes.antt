@@ -533,6 +533,28 @@ whole_room c x spare freeze log w = record {
   };
 }
 
+-- other prefixes are recorded
+pub whole_recorded : (c : CoreModel) (x : Unseen) (ps : List (List ℕ)) → IsWhole c x → IsWhole (record c { segments = ps }) x
+whole_recorded c x ps w = record {
+  log = w.log;
+  layers = w.layers;
+  tied = record {
+    txns = w.tied.txns;
+    snapshots = w.tied.snapshots;
+    shown = w.tied.shown;
+    named = w.tied.named;
+    floor_within = w.tied.floor_within;
+    begins = w.tied.begins;
+    shows = w.tied.shows;
+    own = w.tied.own;
+    all_installed = w.tied.all_installed;
+    runs = w.tied.runs;
+    quiet = w.tied.quiet;
+    manager = w.tied.manager;
+    rows_within = w.tied.rows_within;
+  };
+}
+
 -- the manager keeps less
 pub whole_manager : (c : CoreModel) (x : Unseen) (n : Manager) → IsManaged n x.ids x.last c.state.commits c.state.txns → IsWhole c x → IsWhole c (record x { manager = n })
 whole_manager c x n managed w = record {

@@ -6,6 +6,8 @@ pub mod Model
 pub mod Cut
 pub mod Installs
 pub mod Sound
+pub mod Segmented
+pub mod SegmentLaws
 pub mod StoredState
 pub mod Log
 pub mod Layers

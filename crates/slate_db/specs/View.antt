@@ -10,6 +10,7 @@ view_of s = record {
   state = record { commits = s.log.commits; txns = s.transactions; snapshots = s.snapshots.active; now = pos 0; flushed = s.log.flushed };
   events = s.log.events;
   spare = s.log.spare;
+  segments = s.segments;
   active = s.layers.active;
   frozen = s.layers.frozen;
   floor = s.layers.floor;

@@ -1,5 +1,5 @@
 -- What a write makes.
---     after_write c n now ops rows spare      the core after the commit n
+--     after_write c n now ops rows spare      the core after the commit n, but for the prefixes that it records
 --     IsWritten old new n now ops      the commit's rows are in memory, and an event says so; nothing changes where the batch is empty
 use Rattle.std.specs.Prelude.{◌≡◌, ℕ, [], ◌∷◌, ◌++◌, Option, Some, None, ℤ}
 use Rattle.slate_mem.specs.Batch.{Ops, batch_keys}
@@ -17,4 +17,4 @@ after_write c n now ops rows spare = record c {
 
 abbrev pub IsWritten : CoreModel → CoreModel → Option ℕ → ℤ → Ops → Type 0
 IsWritten old new None now ops = (ops ≡ []) × (new ≡ old)
-IsWritten old new (Some n) now ops = new ≡ after_write old n now ops new.active new.spare
+IsWritten old new (Some n) now ops = new ≡ record (after_write old n now ops new.active new.spare) { segments = new.segments }

@@ -4,7 +4,9 @@ ghost use Rattle.std.specs.List.{AllByRecursion};
 ghost use Rattle.slate_types.specs.declared.error.SlateDBError.{SlateDBError};
 ghost use Rattle.slate_types.specs.Faults.{faults_of};
 ghost use Rattle.slate_types.specs.Fold.{operator_at};
+ghost use Rattle.slate_types.specs.Keys.{keys_set};
 ghost use Rattle.slate_mem.specs.CommitRows.{commit_rows};
+ghost use Rattle.slate_mem.specs.KeyTests.{prefixes};
 ghost use Rattle.slate_mem.specs.Lookup.{IsCallback};
 ghost use Rattle.slate_mem.specs.Table.{put_rows};
 ghost use Rattle.slate_txn.specs.Managers.{StandsFor, IsCommitOf, with_commit, writes_at};
@@ -16,17 +18,19 @@ ghost use Rattle.slate_txn.specs.Replay.{commit_made};
 ghost use Rattle.slate_txn.specs.State.{Commit, Tx};
 ghost use Rattle.slate_txn.specs.Tested.{IsUntracked};
 ghost use Rattle.slate_db.specs.BatchTests.{IsTestRefusal, batch_refusal, test_refusal};
-ghost use Rattle.slate_db.specs.Committed.{IsNextOf, IsFull, put_at};
+ghost use Rattle.slate_db.specs.Committed.{IsNextOf, IsFull, put_at, recorded_at};
 ghost use Rattle.slate_db.specs.Managed.{IsManaged};
 ghost use Rattle.slate_db.specs.Layers.{AreLayers, in_memory};
 ghost use Rattle.slate_db.specs.Log.{AreFine};
+ghost use Rattle.slate_db.specs.Meaning.{segments_by};
 
 use crate::layers::Layers;
 use crate::put::put_own;
+use crate::segments::SegmentPrefixes;
 use crate::tested::{rows_of_batch, test_batch};
 use slate_mem::WriteBatch;
 use slate_txn::{DbTransactionInner, KeyList, OpList, Tested, TransactionManager, Transcript};
-use slate_types::{MergeOperator, SlateDBError};
+use slate_types::{MergeOperator, PrefixExtractor, SlateDBError};
 use std::alloc::Global;
 use uuid::Uuid;
 
@@ -40,11 +44,12 @@ pub(crate) struct Made {
 }
 
 /// Tests an open transaction, and puts its rows where it has operations. Refuses by `TransactionConflict` before all other tests,
-/// by `SequenceExhausted`, as `WriteBatch::test_entries` does, then by `Callback`, only where the operator's count of faults rose,
+/// by `SequenceExhausted`, as `test_batch` does, then by `Callback`, only where the operator's count of faults rose,
 /// and by `OutOfMemory`. The manager has then tracked what the transaction handed over.
-pub(crate) fn make<M: MergeOperator>(
+pub(crate) fn make<M: MergeOperator, X: PrefixExtractor>(
     alloc: Global,
     default_millis: Option<u64>,
+    segments: &mut SegmentPrefixes,
     layers: &mut Layers,
     manager: &mut TransactionManager,
     id: &Uuid,
@@ -52,6 +57,7 @@ pub(crate) fn make<M: MergeOperator>(
     last: u64,
     now: i64,
     operator: &mut Option<M>,
+    extractor: &Option<X>,
 ) -> Result<Made, SlateDBError>
     requires fits { last ≤ 18446744073709551614 }
     requires whole { AreLayers layers.old }
@@ -62,21 +68,23 @@ pub(crate) fn make<M: MergeOperator>(
     ensures steps { IfOk result (λ made. made.transcript ≡ owned.transcript) }
     ensures ops { IfOk result (λ made. made.ops ≡ kept_ops owned.ops) }
     ensures fine { IfOk result (λ made. AreFine made.ops) }
-    ensures tested { OnOk result (test_refusal (option_map M.combine operator.old) default_millis now owned.ops ≡ None) }
+    ensures tested { OnOk result (test_refusal (option_map M.combine operator.old) (segments_by X.lengths extractor.now) segments.old default_millis now owned.ops ≡ None) }
     ensures next { IfOk result (λ made. IsNextOf last owned.ops made.seq) }
     ensures free { (cs : List Commit) → StandsFor manager.old cs → OnOk result (conflict cs owned ≡ None) }
+    ensures recorded { IfOk result (λ made. segments.new ≡ recorded_at (segments_by X.lengths extractor.now) made.seq made.ops segments.old) }
     ensures put { IfOk result (λ made. layers.new ≡ put_at (operator_at (option_map M.combine operator.old)) default_millis made.seq now owned.ops layers.old) }
     ensures whole { AreLayers layers.new }
     ensures committed { (ids : ℕ) (cs : List Commit) (ps : List (List ℕ × Tx)) → IsManaged manager.old ids last cs ps → IfOk result (λ made. IsManaged manager.new ids (unwrap_or made.seq last) (cs ++ commit_made made.seq now made.ops made.tracked) (without id.now ps)) }
+    ensures same_segments { OnErr result (segments.new ≡ segments.old) }
     ensures same_layers { OnErr result (layers.new ≡ layers.old) }
     ensures grown { OnErr result (Grown id.now manager.old manager.new) }
-    ensures first { (cs : List Commit) → StandsFor manager.old cs → conflict cs owned ≡ None → IsNextOf last owned.ops (Some (last + 1)) → (e : SlateDBError) → test_refusal (option_map M.combine operator.old) default_millis now owned.ops ≡ Some e → (result ≡ Err e) ⊎ (result ≡ Err SlateDBError.OutOfMemory) }
+    ensures first { (cs : List Commit) → StandsFor manager.old cs → conflict cs owned ≡ None → IsNextOf last owned.ops (Some (last + 1)) → (e : SlateDBError) → test_refusal (option_map M.combine operator.old) (segments_by X.lengths extractor.now) segments.old default_millis now owned.ops ≡ Some e → (result ≡ Err e) ⊎ (result ≡ Err SlateDBError.OutOfMemory) }
     ensures met { (cs : List Commit) → StandsFor manager.old cs → (n : ℕ) → conflict cs owned ≡ Some n → (result ≡ Err (SlateDBError.TransactionConflict n)) ⊎ (result ≡ Err SlateDBError.OutOfMemory) }
     ensures full { (cs : List Commit) → StandsFor manager.old cs → conflict cs owned ≡ None → owned.ops ≢ [] → last ≡ 18446744073709551614 → (result ≡ Err SlateDBError.SequenceExhausted) ⊎ (result ≡ Err SlateDBError.OutOfMemory) }
     ensures same { option_map M.combine operator.new ≡ option_map M.combine operator.old }
     ensures later { faults_of M.faults operator.old ≤ faults_of M.faults operator.new }
     ensures cause { (cs : List Commit) → StandsFor manager.old cs → IfErr result (λ e. (e ≡ SlateDBError.OutOfMemory) ⊎ (IsConflict (conflict cs owned) e ⊎ IsFull last (conflict cs owned) owned.ops e)
-        ⊎ IsTestRefusal (option_map M.combine operator.old) default_millis now last (conflict cs owned) owned.ops e ⊎ IsCallback (faults_of M.faults operator.old) (faults_of M.faults operator.new) e) }
+        ⊎ IsTestRefusal (option_map M.combine operator.old) (segments_by X.lengths extractor.now) segments.old default_millis now last (conflict cs owned) owned.ops e ⊎ IsCallback (faults_of M.faults operator.old) (faults_of M.faults operator.new) e) }
 {
     let tested = owned.test(alloc, manager, id)?;
     if tested.batch.is_empty() {
@@ -95,6 +103,7 @@ pub(crate) fn make<M: MergeOperator>(
     let put = put_commit(
         alloc,
         default_millis,
+        segments,
         layers,
         manager,
         id,
@@ -102,6 +111,7 @@ pub(crate) fn make<M: MergeOperator>(
         last,
         now,
         operator,
+        extractor,
     );
     drop(batch);
     match put {
@@ -138,11 +148,12 @@ fn idle(alloc: Global, tested: Tested) -> Made
 }
 
 /// Puts the rows of a transaction's batch that has operations, at the sequence behind the last, and gives the operations. The
-/// manager has then ended the transaction. Refuses as `WriteBatch::test_entries` does, then by `Callback`, only where the
+/// manager has then ended the transaction. Refuses as `test_batch` does, then by `Callback`, only where the
 /// operator's count of faults rose, and by `OutOfMemory`, and then nothing is done.
-pub(crate) fn put_commit<M: MergeOperator>(
+pub(crate) fn put_commit<M: MergeOperator, X: PrefixExtractor>(
     alloc: Global,
     default_millis: Option<u64>,
+    segments: &mut SegmentPrefixes,
     layers: &mut Layers,
     manager: &mut TransactionManager,
     id: &Uuid,
@@ -150,29 +161,40 @@ pub(crate) fn put_commit<M: MergeOperator>(
     last: u64,
     now: i64,
     operator: &mut Option<M>,
+    extractor: &Option<X>,
 ) -> Result<OpList, SlateDBError>
     requires fits { last < 18446744073709551614 }
     requires whole { AreLayers layers.old }
     requires within { AllByRecursion (λ rows. AllByRecursion (λ r. r.seq ≤ last) rows) (in_memory layers.old) }
     requires newest { manager.old.last ≡ last }
+    ensures recorded { OnOk result (segments.new ≡ keys_set (segments.old ++ prefixes (segments_by X.lengths extractor.now) batch.now.ops)) }
     ensures put { OnOk result (layers.new ≡ record layers.old { active = put_rows layers.old.active (commit_rows (operator_at (option_map M.combine operator.old)) default_millis (last + 1) now batch.now.ops) }) }
     ensures whole { AreLayers layers.new }
     ensures ops { IfOk result (λ ops. ops ≡ batch.now.ops) }
     ensures fine { OnOk result (AreFine batch.now.ops) }
-    ensures tested { OnOk result (batch_refusal (option_map M.combine operator.old) default_millis now batch.now ≡ None) }
-    ensures first { (e : SlateDBError) → batch_refusal (option_map M.combine operator.old) default_millis now batch.now ≡ Some e → (result ≡ Err e) ⊎ (result ≡ Err SlateDBError.OutOfMemory) }
+    ensures tested { OnOk result (batch_refusal (option_map M.combine operator.old) (segments_by X.lengths extractor.now) segments.old default_millis now batch.now ≡ None) }
+    ensures first { (e : SlateDBError) → batch_refusal (option_map M.combine operator.old) (segments_by X.lengths extractor.now) segments.old default_millis now batch.now ≡ Some e → (result ≡ Err e) ⊎ (result ≡ Err SlateDBError.OutOfMemory) }
     ensures committed { OnOk result (manager.new ≡ record manager.old { last = last + 1; active = without id.now manager.old.active; kept = manager.new.kept }) }
     ensures stands { OnOk result ((cs : List Commit) (c : Commit) → IsCommitOf (last + 1) (writes_at (find_named id.now manager.old.active)) c → StandsFor manager.old cs → StandsFor manager.new (with_commit cs c (find_named id.now manager.old.active))) }
+    ensures same_segments { OnErr result (segments.new ≡ segments.old) }
     ensures same_layers { OnErr result (layers.new ≡ layers.old) }
     ensures same { OnErr result (manager.new ≡ manager.old) }
     ensures same_operator { option_map M.combine operator.new ≡ option_map M.combine operator.old }
     ensures later { faults_of M.faults operator.old ≤ faults_of M.faults operator.new }
-    ensures cause { IfErr result (λ e. (e ≡ SlateDBError.OutOfMemory) ⊎ (batch_refusal (option_map M.combine operator.old) default_millis now batch.now ≡ Some e) ⊎ IsCallback (faults_of M.faults operator.old) (faults_of M.faults operator.new) e) }
+    ensures cause { IfErr result (λ e. (e ≡ SlateDBError.OutOfMemory) ⊎ (batch_refusal (option_map M.combine operator.old) (segments_by X.lengths extractor.now) segments.old default_millis now batch.now ≡ Some e) ⊎ IsCallback (faults_of M.faults operator.old) (faults_of M.faults operator.new) e) }
 {
     let seq = last + 1;
-    test_batch(alloc, batch, now, default_millis, operator)?;
+    let prefixes = test_batch(
+        alloc,
+        batch,
+        now,
+        default_millis,
+        operator,
+        extractor,
+        segments,
+    )?;
     let rows = rows_of_batch(alloc, batch, seq, now, default_millis, operator)?;
     let ops = batch.ops(alloc)?;
-    put_own(alloc, layers, manager, rows, id, seq)?;
+    put_own(alloc, segments, layers, manager, rows, &prefixes, id, seq)?;
     Ok(OpList::from_vec(ops))
 }

@@ -27,6 +27,7 @@ ghost use Rattle.slate_txn.specs.Named.{find_named};
 ghost use Rattle.slate_txn.specs.Replay.{IsLegal};
 ghost use Rattle.slate_mem.specs.declared.WriteOp.{WriteOp};
 ghost use Rattle.slate_mem.specs.Batch.{Ops, kept, replaces};
+ghost use Rattle.slate_mem.specs.KeyTests.{Segments};
 ghost use Rattle.slate_mem.specs.Refusals.{op_refusal};
 ghost use Rattle.slate_mem.specs.RowOf.{own_row};
 ghost use Rattle.slate_mem.specs.BatchModel.{IsBatchOf};
@@ -37,7 +38,7 @@ ghost use Rattle.slate_txn.specs.Open.{least_start};
 ghost use Rattle.slate_txn.specs.State.{Tx, is_open, opening, last_of};
 ghost use Rattle.slate_txn.specs.Step.{Reader, noted, reader, step, with_op, with_marks, with_unmarks};
 ghost use Rattle.slate_db.specs.Answered.{AddsTables};
-ghost use Rattle.slate_db.specs.Meaning.{Meaning, IsLawfulMeaning, combine_of, rules_of, segments_by};
+ghost use Rattle.slate_db.specs.Meaning.{Meaning, IsLawfulMeaning, combine_of, rules_in, rules_of, segments_by};
 ghost use Rattle.slate_db.specs.Frozen.{IsFrozen};
 ghost use Rattle.slate_db.specs.Flushed.{Flushes, IsFlushError, MayPut, NoPlace, NoPlaceToFlush, TooLarge, WantsOperator, events_of_flush, layout_of};
 ghost use Rattle.slate_db.specs.Load.{load, weight};
@@ -47,6 +48,7 @@ ghost use Rattle.slate_db.specs.Shown.{Asking};
 ghost use Rattle.slate_db.specs.Readable.{IsAnswered, IsOwnOperand, IsOwnRead, IsRead, decides_own, keeps_merge};
 ghost use Rattle.slate_db.specs.Model.{CoreModel, IsSame, Rows, at, memory};
 ghost use Rattle.slate_db.specs.Sound.{AreTables, IsKept, IsOperable, FoldsToState};
+ghost use Rattle.slate_db.specs.Segmented.{IsSegmented};
 ghost use Rattle.slate_db.specs.StoredState.{StoresState};
 ghost use Rattle.slate_db.specs.Log.{LIMIT, AreFine, ends_of};
 ghost use Rattle.slate_txn.specs.Conflict.{conflict};
@@ -67,6 +69,7 @@ use crate::lookup::{newest_behind, newest_of_runs, query_of};
 use crate::open_scan::{merged, scan_sources, table_options};
 use crate::put::{enter, put_batch};
 use crate::scan::{DbIterator, TxnIterator};
+use crate::segments::SegmentPrefixes;
 use crate::tested::{rows_of_batch, test_batch};
 use bytes::Bytes;
 use slate_filter::FilterPolicy;
@@ -96,6 +99,8 @@ pub struct Core {
     manager: TransactionManager,
     transactions: OpenTransactions,
     snapshots: SnapshotManager,
+    /// The segment prefixes of all commits so far.
+    segments: SegmentPrefixes,
     layers: Layers,
 }
 
@@ -119,6 +124,7 @@ impl Core {
         ensures state { result.state ≡ opening }
         ensures journal { result.events ≡ [] }
         ensures kept { (m : Meaning) → IsKept m result }
+        ensures segmented { (g : Segments) → IsSegmented g result }
         ensures memory { (result.active ≡ []) × (result.frozen ≡ []) }
         ensures floor { result.floor ≡ 0 }
     {
@@ -129,6 +135,7 @@ impl Core {
             manager: TransactionManager::new(alloc, options.start_seq),
             transactions: OpenTransactions::new(alloc),
             snapshots: SnapshotManager::new(alloc, options.start_seq),
+            segments: SegmentPrefixes::new(alloc),
             layers: Layers::new(alloc),
         }
     }
@@ -165,10 +172,11 @@ impl Core {
     /// is made now. Refuses by `LimitReached` where the journal has no place for both events, and by `OutOfMemory`,
     /// and then nothing is opened.
     pub fn begin(&mut self, level: IsolationLevel) -> Result<(Uuid, u64), SlateDBError>
-        ensures step { IfOk result (λ a. (m : Meaning) → step (rules_of self.old.settings m) self.old.state (lines.Begin a.0 level) ≡ (self.new.state, Begun a.0 a.1)) }
+        ensures step { IfOk result (λ a. (m : Meaning) (g : Segments) → step (rules_in self.old.settings m g) self.old.state (lines.Begin a.0 level) ≡ (self.new.state, Begun a.0 a.1)) }
         ensures event { IfOk result (λ a. self.new ≡ record self.old { state = self.new.state; events = self.old.events ++ events.Begin a.0 level a.1 ∷ []; spare = self.new.spare }) }
         ensures vouched { IfOk result (λ a. (m : Meaning) → IsVouchedFor m self.new a.0) }
         ensures others { OnOk result ((m : Meaning) (other : List ℕ) → IsVouchedFor m self.old other → IsVouchedFor m self.new other) }
+        ensures segmented { OnOk result ((g : Segments) → IsSegmented g self.old → IsSegmented g self.new) }
         ensures kept { OnOk result ((m : Meaning) → IsKept m self.old → IsKept m self.new) }
         ensures same { OnErr result (self.new ≡ self.old) }
         ensures limit { NoPlace 2 self.old → result ≡ Err (SlateDBError.LimitReached LIMIT) }
@@ -188,9 +196,10 @@ impl Core {
     /// is made now. Refuses by `LimitReached` where the journal has no place for both events, and by `OutOfMemory`, and then
     /// nothing is opened.
     pub fn snapshot(&mut self) -> Result<(Uuid, u64), SlateDBError>
-        ensures step { IfOk result (λ a. (m : Meaning) → step (rules_of self.old.settings m) self.old.state (lines.Snapshot a.0) ≡ (self.new.state, SnapshotAt a.0 a.1)) }
+        ensures step { IfOk result (λ a. (m : Meaning) (g : Segments) → step (rules_in self.old.settings m g) self.old.state (lines.Snapshot a.0) ≡ (self.new.state, SnapshotAt a.0 a.1)) }
         ensures event { IfOk result (λ a. self.new ≡ record self.old { state = self.new.state; events = self.old.events ++ events.Snapshot a.0 a.1 ∷ []; spare = self.new.spare }) }
         ensures vouched { OnOk result ((m : Meaning) (other : List ℕ) → IsVouchedFor m self.old other → IsVouchedFor m self.new other) }
+        ensures segmented { OnOk result ((g : Segments) → IsSegmented g self.old → IsSegmented g self.new) }
         ensures kept { OnOk result ((m : Meaning) → IsKept m self.old → IsKept m self.new) }
         ensures same { OnErr result (self.new ≡ self.old) }
         ensures limit { NoPlace 2 self.old → result ≡ Err (SlateDBError.LimitReached LIMIT) }
@@ -208,9 +217,10 @@ impl Core {
     /// Releases an open snapshot, in the room that its opening made.
     pub fn release(&mut self, id: &Uuid)
         requires { IsSome (find_named id.now self.old.state.snapshots) }
-        ensures step { (m : Meaning) → step (rules_of self.old.settings m) self.old.state (lines.Rollback id.now) ≡ (self.new.state, Done) }
+        ensures step { (m : Meaning) (g : Segments) → step (rules_in self.old.settings m g) self.old.state (lines.Rollback id.now) ≡ (self.new.state, Done) }
         ensures event { self.new ≡ record self.old { state = self.new.state; events = self.old.events ++ events.Release id.now ∷ []; spare = self.new.spare } }
         ensures vouched { (m : Meaning) (other : List ℕ) → IsVouchedFor m self.old other → IsVouchedFor m self.new other }
+        ensures segmented { (g : Segments) → IsSegmented g self.old → IsSegmented g self.new }
         ensures kept { (m : Meaning) → IsKept m self.old → IsKept m self.new }
     {
         self.snapshots.drop_snapshot(id);
@@ -220,9 +230,10 @@ impl Core {
     /// Ends an open transaction without a commit, in the room that its begin made.
     pub fn rollback(&mut self, id: &Uuid)
         requires { IsSome (find_named id.now self.old.state.txns) }
-        ensures step { (m : Meaning) → step (rules_of self.old.settings m) self.old.state (lines.Rollback id.now) ≡ (self.new.state, Done) }
+        ensures step { (m : Meaning) (g : Segments) → step (rules_in self.old.settings m g) self.old.state (lines.Rollback id.now) ≡ (self.new.state, Done) }
         ensures event { self.new ≡ record self.old { state = self.new.state; events = self.old.events ++ events.End id.now ∷ []; spare = self.new.spare } }
         ensures others { (m : Meaning) (other : List ℕ) → other ≢ id.now → IsVouchedFor m self.old other → IsVouchedFor m self.new other }
+        ensures segmented { (g : Segments) → IsSegmented g self.old → IsSegmented g self.new }
         ensures kept { (m : Meaning) → IsKept m self.old → IsKept m self.new }
     {
         self.transactions.end(id);
@@ -234,7 +245,7 @@ impl Core {
     /// it changes nothing. Refuses by `LimitReached` where the journal has no place for the event, and by
     /// `OutOfMemory`, and then nothing is moved.
     pub fn freeze(&mut self) -> Result<u64, SlateDBError>
-        ensures step { IfOk result (λ n. (m : Meaning) → step (rules_of self.old.settings m) self.old.state lines.Freeze ≡ (self.new.state, Frozen n)) }
+        ensures step { IfOk result (λ n. (m : Meaning) (g : Segments) → step (rules_in self.old.settings m g) self.old.state lines.Freeze ≡ (self.new.state, Frozen n)) }
         ensures event { OnOk result (IsFrozen self.old self.new) }
         ensures quiet { OnOk result (IsQuiet self.new.events) }
         ensures idle { self.old.active ≡ [] → IsOk result }
@@ -257,9 +268,11 @@ impl Core {
 
     /// Commits a batch by itself, at the next sequence, which it gives. An empty batch commits nothing, and is never
     /// refused. Refuses by `SequenceExhausted` where no sequence is left; by `MergeOperatorMissing` where the batch ever took a
-    /// merge and there is no operator; by `IncompatibleMergeTtls`, upwards by key, where operations of a key that it keeps differ
-    /// in expiry; by `LimitReached` where the journal has no place for the event; then by `Callback`, only where the operator's
-    /// count of faults rose; and by `OutOfMemory`. Then nothing is committed.
+    /// merge and there is no operator; upwards by key by `EmptySegmentPrefix` where the extractor gives the key no prefix, or an
+    /// empty one, and by `IncompatibleMergeTtls` where operations of the key that it keeps differ in expiry; by
+    /// `InvalidSegmentPrefix` with the least of its prefixes that nests with another of its own or of an earlier commit, and the
+    /// least such other; by `LimitReached` where the journal has no place for the event; then by `Callback`, only where the
+    /// operator's count of faults rose; and by `OutOfMemory`. Then nothing is committed, and no prefix is recorded.
     pub fn write<S: Store, M: MergeOperator, T: BlockTransformer, X: PrefixExtractor>(
         &mut self,
         batch: WriteBatch,
@@ -269,46 +282,60 @@ impl Core {
     ) -> Result<Option<u64>, SlateDBError>
         ensures step { let reach = ⟦<EnvOf<S, M, T> as Outside>⟧.reach in
             let m = (reach env.old).meaning in
-            IfOk result (λ n. (ops : Ops) → IsBatchOf ops batch → AreFine ops → step (rules_of self.old.settings m) (at now self.old.state) (lines.Write ops) ≡ (at now self.new.state, Written n)) }
+            let g = segments_by X.lengths laws.now.segments in
+            IsSegmented g self.old → IfOk result (λ n. (ops : Ops) → IsBatchOf ops batch → AreFine ops → step (rules_in self.old.settings m g) (at now self.old.state) (lines.Write ops) ≡ (at now self.new.state, Written n)) }
         ensures refused { let reach = ⟦<EnvOf<S, M, T> as Outside>⟧.reach in
             let m = (reach env.old).meaning in
-            IfErr result (λ e. IsFault (reach env.old) (reach env.new) e ⊎ (e ≡ SlateDBError.LimitReached LIMIT) ⊎ ((ops : Ops) → IsBatchOf ops batch → AreFine ops → step (rules_of self.old.settings m) (at now self.old.state) (lines.Write ops) ≡ (at now self.old.state, Refused e))) }
+            let g = segments_by X.lengths laws.now.segments in
+            IsSegmented g self.old → IfErr result (λ e. IsFault (reach env.old) (reach env.new) e ⊎ (e ≡ SlateDBError.LimitReached LIMIT) ⊎ ((ops : Ops) → IsBatchOf ops batch → AreFine ops → step (rules_in self.old.settings m g) (at now self.old.state) (lines.Write ops) ≡ (at now self.old.state, Refused e))) }
         ensures event { IfOk result (λ n. IsWritten self.old self.new n now batch.ops) }
         ensures vouched { OnOk result ((m : Meaning) (other : List ℕ) → IsVouchedFor m self.old other → IsVouchedFor m self.new other) }
         ensures kept { let reach = ⟦<EnvOf<S, M, T> as Outside>⟧.reach in
             let m = (reach env.old).meaning in
             OnOk result (IsKept m self.old → IsKept m self.new) }
         ensures kept_refused { OnErr result ((m : Meaning) → IsKept m self.old → IsKept m self.new) }
+        ensures segmented { let g = segments_by X.lengths laws.now.segments in OnOk result (IsSegmented g self.old → IsSegmented g self.new) }
+        ensures segmented_refused { OnErr result ((g : Segments) → IsSegmented g self.old → IsSegmented g self.new) }
         ensures load { (ops : Ops) → IsBatchOf ops batch → OnOk result (load self.new ≤ load self.old + length ops) }
         ensures same { OnErr result (IsSame self.old self.new) }
         ensures idle { batch.ops ≡ [] → IsOk result }
         ensures exhausted { batch.ops ≢ [] → last_of self.old.settings.start_seq self.old.state.commits ≡ 2 ^ 64 - 2 → result ≡ Err SlateDBError.SequenceExhausted }
         ensures limit { let reach = ⟦<EnvOf<S, M, T> as Outside>⟧.reach in
             let m = (reach env.old).meaning in
-            batch.ops ≢ [] → last_of self.old.settings.start_seq self.old.state.commits < 2 ^ 64 - 2 → batch_refusal m.combine self.old.settings.default_millis now batch ≡ None →
+            let g = segments_by X.lengths laws.now.segments in
+            batch.ops ≢ [] → last_of self.old.settings.start_seq self.old.state.commits < 2 ^ 64 - 2 → batch_refusal m.combine g self.old.segments self.old.settings.default_millis now batch ≡ None →
             NoPlace 1 self.old → (result ≡ Err (SlateDBError.LimitReached LIMIT)) ⊎ (result ≡ Err SlateDBError.OutOfMemory) }
         ensures first { let reach = ⟦<EnvOf<S, M, T> as Outside>⟧.reach in
             let m = (reach env.old).meaning in
+            let g = segments_by X.lengths laws.now.segments in
             batch.ops ≢ [] → last_of self.old.settings.start_seq self.old.state.commits < 2 ^ 64 - 2 →
-            (e : SlateDBError) → batch_refusal m.combine self.old.settings.default_millis now batch ≡ Some e → (result ≡ Err e) ⊎ (result ≡ Err SlateDBError.OutOfMemory) }
+            (e : SlateDBError) → batch_refusal m.combine g self.old.segments self.old.settings.default_millis now batch ≡ Some e → (result ≡ Err e) ⊎ (result ≡ Err SlateDBError.OutOfMemory) }
         ensures cause { let reach = ⟦<EnvOf<S, M, T> as Outside>⟧.reach in
             let m = (reach env.old).meaning in
+            let g = segments_by X.lengths laws.now.segments in
             IfErr result (λ e. IsFault (reach env.old) (reach env.new) e
             ⊎ ((e ≡ SlateDBError.SequenceExhausted) × (last_of self.old.settings.start_seq self.old.state.commits ≡ 2 ^ 64 - 2))
             ⊎ ((e ≡ SlateDBError.LimitReached LIMIT) × NoPlace 1 self.old)
-            ⊎ (batch_refusal m.combine self.old.settings.default_millis now batch ≡ Some e)) }
+            ⊎ (batch_refusal m.combine g self.old.segments self.old.settings.default_millis now batch ≡ Some e)) }
         ensures outside { env.new ≡ record env.old { operator = env.new.operator } }
         ensures call { let reach = ⟦<EnvOf<S, M, T> as Outside>⟧.reach in IsCall (reach env.old) (reach env.new) [] }
         ensures reads { let reach = ⟦<EnvOf<S, M, T> as Outside>⟧.reach in OnlyReads (reach env.old) (reach env.new) }
     {
-        let _laws = laws;
         if batch.is_empty() {
             return Ok(None);
         }
         if self.log.last() >= 18446744073709551614 {
             return Err(SlateDBError::SequenceExhausted);
         }
-        test_batch(self.alloc, &batch, now, self.default_millis, &env.operator)?;
+        let prefixes = test_batch(
+            self.alloc,
+            &batch,
+            now,
+            self.default_millis,
+            &env.operator,
+            &laws.segments,
+            &self.segments,
+        )?;
         self.log.place(1)?;
         self.log.reserve()?;
         let seq = self.log.last() + 1;
@@ -324,10 +351,12 @@ impl Core {
         let keys = batch.keys()?;
         put_batch(
             self.alloc,
+            &mut self.segments,
             &mut self.layers,
             &mut self.manager,
             rows,
             keys,
+            &prefixes,
             seq,
         )?;
         self.log.push_write(now, OpList::from_vec(ops));
@@ -349,7 +378,7 @@ impl Core {
     ) -> Result<u64, SlateDBError>
         requires valid { IsValid laws.now.options }
         requires names { AreValidNames (map (λ p. (meaning p).name) laws.now.policies.items) }
-        ensures step { IfOk result (λ n. (m : Meaning) → step (rules_of self.old.settings m) self.old.state lines.Flush ≡ (self.new.state, Flushed n)) }
+        ensures step { IfOk result (λ n. (m : Meaning) (g : Segments) → step (rules_in self.old.settings m g) self.old.state lines.Flush ≡ (self.new.state, Flushed n)) }
         ensures installed { let reach = ⟦<EnvOf<S, M, T> as Outside>⟧.reach in IfOk result (λ n. (between : CoreModel) × IsFrozen self.old between × Flushes (layout_of laws.now.options (map (λ p. meaning p) laws.now.policies.items) (segments_by X.lengths laws.now.segments)) (reach env.old) (reach env.new) between self.new n) }
         ensures acts { let reach = ⟦<EnvOf<S, M, T> as Outside>⟧.reach in OnOk result (AddsTables (tables_of self.old.events) (tables_of self.new.events) (reach env.old).acts (reach env.new).acts) }
         ensures taken { OnOk result ((self.new.active ≡ []) × (self.new.frozen ≡ [])) }
@@ -359,6 +388,7 @@ impl Core {
         ensures full { NoPlaceToFlush self.old → self.new ≡ self.old }
         ensures full_objects { let reach = ⟦<EnvOf<S, M, T> as Outside>⟧.reach in NoPlaceToFlush self.old → (reach env.new).objects ≡ (reach env.old).objects }
         ensures vouched { OnOk result ((m : Meaning) (other : List ℕ) → IsVouchedFor m self.old other → IsVouchedFor m self.new other) }
+        ensures segmented { (g : Segments) → IsSegmented g self.old → IsSegmented g self.new }
         ensures kept { let reach = ⟦<EnvOf<S, M, T> as Outside>⟧.reach in
             let m = (reach env.old).meaning in
             IsKept m self.old → IsKept m self.new }
@@ -564,7 +594,7 @@ impl Core {
         ensures read { let reach = ⟦<EnvOf<S, M, T> as Outside>⟧.reach in
             let policies = map (λ p. meaning p) laws.now.policies.items in
             let by : Asking = record { policies = policies; query = point_query key.now options.now.filter_context } in
-            IsRead by (reach env.old) (reach env.new) self.old (λ a. step (rules_of self.old.settings (reach env.old).meaning) self.old.state (lines.Get id.now key.now) ≡ (self.new.state, Found a)) result }
+            IsRead by (reach env.old) (reach env.new) self.old (λ a. (g : Segments) → step (rules_in self.old.settings (reach env.old).meaning g) self.old.state (lines.Get id.now key.now) ≡ (self.new.state, Found a)) result }
         ensures own { let reach = ⟦<EnvOf<S, M, T> as Outside>⟧.reach in
             (t : Tx) (op : WriteOp) → find_named id.now self.old.state.txns ≡ Some t → kept t.ops key.now ≡ op ∷ [] → replaces op ≡ true →
             IsOwnRead (reach env.old) (reach env.new) (λ a. (c : Combine) → a ≡ option_map key_value (shown c (own_row key.now op ∷ []))) result }
@@ -659,7 +689,7 @@ impl Core {
         requires prefix { (p k : List ℕ) → prefix ≡ Some p → in_range range k ≡ true → starts_with nat_eq k p ≡ true }
         requires valid { IsValid laws.now.options }
         ensures noted { OnOk result (self.new ≡ record self.old { state = noted self.old.state id.now (steps.Scan options.now.order range ∷ []) }) }
-        ensures step { OnOk result ((m : Meaning) → step (rules_of self.old.settings m) self.old.state (lines.Scan id.now options.now.order range.start range.end (ScanStep.Rows 0 ∷ [])) ≡ (self.new.state, RowsAre [])) }
+        ensures step { OnOk result ((m : Meaning) (g : Segments) → step (rules_in self.old.settings m g) self.old.state (lines.Scan id.now options.now.order range.start range.end (ScanStep.Rows 0 ∷ [])) ≡ (self.new.state, RowsAre [])) }
         ensures names { (from : Reader) → reader self.old.state id.now ≡ Some from → IfOk result (IsScanOf id.now from.scans options.now.order range) }
         ensures opened { let reach = ⟦<EnvOf<S, M, T> as Outside>⟧.reach in
             let m = (reach env.old).meaning in
@@ -787,8 +817,8 @@ impl Core {
         options: &PutOptions,
     ) -> Result<(), SlateDBError>
         requires { IsSome (find_named id.now self.old.state.txns) }
-        ensures step { OnOk result ((m : Meaning) → step (rules_of self.old.settings m) self.old.state (lines.Put id.now key.now value.now options.now.ttl) ≡ (self.new.state, Done)) }
-        ensures refused { IfErr result (λ e. (e ≡ SlateDBError.OutOfMemory) ⊎ ((m : Meaning) → step (rules_of self.old.settings m) self.old.state (lines.Put id.now key.now value.now options.now.ttl) ≡ (self.old.state, Refused e))) }
+        ensures step { OnOk result ((m : Meaning) (g : Segments) → step (rules_in self.old.settings m g) self.old.state (lines.Put id.now key.now value.now options.now.ttl) ≡ (self.new.state, Done)) }
+        ensures refused { IfErr result (λ e. (e ≡ SlateDBError.OutOfMemory) ⊎ ((m : Meaning) (g : Segments) → step (rules_in self.old.settings m g) self.old.state (lines.Put id.now key.now value.now options.now.ttl) ≡ (self.old.state, Refused e))) }
         ensures taken { OnOk result (self.new ≡ operated self.old id.now (with_op key.now (WriteOp.Put value.now options.now))) }
         ensures test { (e : SlateDBError) → op_refusal key.now (WriteOp.Put value.now options.now) ≡ Some e → result ≡ Err e }
         ensures cause { IfErr result (λ e. (e ≡ SlateDBError.OutOfMemory) ⊎ (op_refusal key.now (WriteOp.Put value.now options.now) ≡ Some e)) }
@@ -803,8 +833,8 @@ impl Core {
     /// and then nothing is deleted.
     pub fn delete(&mut self, id: &Uuid, key: &[u8]) -> Result<(), SlateDBError>
         requires { IsSome (find_named id.now self.old.state.txns) }
-        ensures step { OnOk result ((m : Meaning) → step (rules_of self.old.settings m) self.old.state (lines.Delete id.now key.now) ≡ (self.new.state, Done)) }
-        ensures refused { IfErr result (λ e. (e ≡ SlateDBError.OutOfMemory) ⊎ ((m : Meaning) → step (rules_of self.old.settings m) self.old.state (lines.Delete id.now key.now) ≡ (self.old.state, Refused e))) }
+        ensures step { OnOk result ((m : Meaning) (g : Segments) → step (rules_in self.old.settings m g) self.old.state (lines.Delete id.now key.now) ≡ (self.new.state, Done)) }
+        ensures refused { IfErr result (λ e. (e ≡ SlateDBError.OutOfMemory) ⊎ ((m : Meaning) (g : Segments) → step (rules_in self.old.settings m g) self.old.state (lines.Delete id.now key.now) ≡ (self.old.state, Refused e))) }
         ensures taken { OnOk result (self.new ≡ operated self.old id.now (with_op key.now WriteOp.Delete)) }
         ensures test { (e : SlateDBError) → op_refusal key.now WriteOp.Delete ≡ Some e → result ≡ Err e }
         ensures cause { IfErr result (λ e. (e ≡ SlateDBError.OutOfMemory) ⊎ (op_refusal key.now WriteOp.Delete ≡ Some e)) }
@@ -829,10 +859,10 @@ impl Core {
         requires { IsSome (find_named id.now self.old.state.txns) }
         ensures step { let reach = ⟦<EnvOf<S, M, T> as Outside>⟧.reach in
             let m = (reach env.old).meaning in
-            OnOk result (step (rules_of self.old.settings m) self.old.state (lines.Merge id.now key.now value.now options.now.ttl) ≡ (self.new.state, Done)) }
+            OnOk result ((g : Segments) → step (rules_in self.old.settings m g) self.old.state (lines.Merge id.now key.now value.now options.now.ttl) ≡ (self.new.state, Done)) }
         ensures refused { let reach = ⟦<EnvOf<S, M, T> as Outside>⟧.reach in
             let m = (reach env.old).meaning in
-            IfErr result (λ e. (e ≡ SlateDBError.OutOfMemory) ⊎ (step (rules_of self.old.settings m) self.old.state (lines.Merge id.now key.now value.now options.now.ttl) ≡ (self.old.state, Refused e))) }
+            IfErr result (λ e. (e ≡ SlateDBError.OutOfMemory) ⊎ ((g : Segments) → step (rules_in self.old.settings m g) self.old.state (lines.Merge id.now key.now value.now options.now.ttl) ≡ (self.old.state, Refused e))) }
         ensures taken { OnOk result (self.new ≡ operated self.old id.now (with_op key.now (WriteOp.Merge value.now options.now))) }
         ensures missing { let reach = ⟦<EnvOf<S, M, T> as Outside>⟧.reach in
             let m = (reach env.old).meaning in
@@ -859,7 +889,7 @@ impl Core {
     /// Marks keys as read by an open transaction, at either level. Where memory is wanting none is marked.
     pub fn mark_read(&mut self, id: &Uuid, keys: &[Bytes]) -> Result<(), SlateDBError>
         requires { IsSome (find_named id.now self.old.state.txns) }
-        ensures step { OnOk result ((m : Meaning) → step (rules_of self.old.settings m) self.old.state (lines.Mark id.now keys.now) ≡ (self.new.state, Done)) }
+        ensures step { OnOk result ((m : Meaning) (g : Segments) → step (rules_in self.old.settings m g) self.old.state (lines.Mark id.now keys.now) ≡ (self.new.state, Done)) }
         ensures taken { OnOk result (self.new ≡ operated self.old id.now (with_marks keys.now)) }
         ensures cause { IsOkUnless result SlateDBError.OutOfMemory }
         ensures vouched { (m : Meaning) (other : List ℕ) → IsVouchedFor m self.old other → IsVouchedFor m self.new other }
@@ -872,7 +902,7 @@ impl Core {
     /// Takes keys out of what an open transaction tracks where it writes them. Where memory is wanting none is taken out.
     pub fn unmark_write(&mut self, id: &Uuid, keys: &[Bytes]) -> Result<(), SlateDBError>
         requires { IsSome (find_named id.now self.old.state.txns) }
-        ensures step { OnOk result ((m : Meaning) → step (rules_of self.old.settings m) self.old.state (lines.Unmark id.now keys.now) ≡ (self.new.state, Done)) }
+        ensures step { OnOk result ((m : Meaning) (g : Segments) → step (rules_in self.old.settings m g) self.old.state (lines.Unmark id.now keys.now) ≡ (self.new.state, Done)) }
         ensures taken { OnOk result (self.new ≡ operated self.old id.now (with_unmarks keys.now)) }
         ensures cause { IsOkUnless result SlateDBError.OutOfMemory }
         ensures vouched { (m : Meaning) (other : List ℕ) → IsVouchedFor m self.old other → IsVouchedFor m self.new other }
@@ -885,8 +915,11 @@ impl Core {
     /// Commits an open transaction at a moment, and gives its sequence, or None where it has no operations. It ends either way.
     /// Refuses by `TransactionConflict`, with the greatest sequence that conflicts, before all other tests; by
     /// `SequenceExhausted` where no sequence is left; by `MergeOperatorMissing` where it took a merge and there is no operator any
-    /// more; by `IncompatibleMergeTtls`, upwards by key, where operations of a key that it keeps differ in expiry; then by
-    /// `Callback`, only where the operator's count of faults rose; and by `OutOfMemory`. Then nothing is committed.
+    /// more; upwards by key by `EmptySegmentPrefix` where the extractor gives the key no prefix, or an empty one, and by
+    /// `IncompatibleMergeTtls` where operations of the key that it keeps differ in expiry; by `InvalidSegmentPrefix` with the
+    /// least of its prefixes that nests with another of its own or of an earlier commit, and the least such other; then by
+    /// `Callback`, only where the operator's count of faults rose; and by `OutOfMemory`. Then nothing is committed, and no prefix
+    /// is recorded.
     pub fn commit<S: Store, M: MergeOperator, T: BlockTransformer, X: PrefixExtractor>(
         &mut self,
         id: &Uuid,
@@ -897,10 +930,12 @@ impl Core {
         requires { IsSome (find_named id.now self.old.state.txns) }
         ensures step { let reach = ⟦<EnvOf<S, M, T> as Outside>⟧.reach in
             let m = (reach env.old).meaning in
-            IfOk result (λ n. step (rules_of self.old.settings m) (at now self.old.state) (lines.Commit id.now) ≡ (at now self.new.state, Committed n)) }
+            let g = segments_by X.lengths laws.now.segments in
+            IsSegmented g self.old → IfOk result (λ n. step (rules_in self.old.settings m g) (at now self.old.state) (lines.Commit id.now) ≡ (at now self.new.state, Committed n)) }
         ensures refused { let reach = ⟦<EnvOf<S, M, T> as Outside>⟧.reach in
             let m = (reach env.old).meaning in
-            IsOperable m self.old → IfErr result (λ e. IsFault (reach env.old) (reach env.new) e ⊎ (step (rules_of self.old.settings m) (at now self.old.state) (lines.Commit id.now) ≡ (at now self.new.state, Refused e))) }
+            let g = segments_by X.lengths laws.now.segments in
+            IsOperable m self.old → IsSegmented g self.old → IfErr result (λ e. IsFault (reach env.old) (reach env.new) e ⊎ (step (rules_in self.old.settings m g) (at now self.old.state) (lines.Commit id.now) ≡ (at now self.new.state, Refused e))) }
         ensures event { (t : Tx) → find_named id.now self.old.state.txns ≡ Some t → IfOk result (λ n. IsCommitted self.old self.new id.now n now t) }
         ensures ended { OnErr result (IsEnded self.old self.new id.now) }
         ensures others { (m : Meaning) (other : List ℕ) → other ≢ id.now → IsVouchedFor m self.old other → IsVouchedFor m self.new other }
@@ -908,6 +943,8 @@ impl Core {
             let m = (reach env.old).meaning in
             IsKept m self.old → IsKept m self.new }
         ensures kept_refused { OnErr result ((m : Meaning) → IsKept m self.old → IsKept m self.new) }
+        ensures segmented { let g = segments_by X.lengths laws.now.segments in IsSegmented g self.old → IsSegmented g self.new }
+        ensures segmented_refused { OnErr result ((g : Segments) → IsSegmented g self.old → IsSegmented g self.new) }
         ensures load { (t : Tx) → find_named id.now self.old.state.txns ≡ Some t → load self.new ≤ load self.old + length t.ops }
         ensures met { (t : Tx) (n : ℕ) → find_named id.now self.old.state.txns ≡ Some t → conflict self.old.state.commits t ≡ Some n →
             (result ≡ Err (SlateDBError.TransactionConflict n)) ⊎ (result ≡ Err SlateDBError.OutOfMemory) }
@@ -915,20 +952,21 @@ impl Core {
             last_of self.old.settings.start_seq self.old.state.commits ≡ 2 ^ 64 - 2 → (result ≡ Err SlateDBError.SequenceExhausted) ⊎ (result ≡ Err SlateDBError.OutOfMemory) }
         ensures first { let reach = ⟦<EnvOf<S, M, T> as Outside>⟧.reach in
             let m = (reach env.old).meaning in
+            let g = segments_by X.lengths laws.now.segments in
             (t : Tx) (e : SlateDBError) → find_named id.now self.old.state.txns ≡ Some t →
-            IsTestRefusal m.combine self.old.settings.default_millis now (last_of self.old.settings.start_seq self.old.state.commits) (conflict self.old.state.commits t) t.ops e →
+            IsTestRefusal m.combine g self.old.segments self.old.settings.default_millis now (last_of self.old.settings.start_seq self.old.state.commits) (conflict self.old.state.commits t) t.ops e →
             (result ≡ Err e) ⊎ (result ≡ Err SlateDBError.OutOfMemory) }
         ensures cause { let reach = ⟦<EnvOf<S, M, T> as Outside>⟧.reach in
             let m = (reach env.old).meaning in
+            let g = segments_by X.lengths laws.now.segments in
             (t : Tx) → find_named id.now self.old.state.txns ≡ Some t → IfErr result (λ e. IsFault (reach env.old) (reach env.new) e
             ⊎ IsConflict (conflict self.old.state.commits t) e
             ⊎ ((e ≡ SlateDBError.SequenceExhausted) × (last_of self.old.settings.start_seq self.old.state.commits ≡ 2 ^ 64 - 2))
-            ⊎ IsTestRefusal m.combine self.old.settings.default_millis now (last_of self.old.settings.start_seq self.old.state.commits) (conflict self.old.state.commits t) t.ops e) }
+            ⊎ IsTestRefusal m.combine g self.old.segments self.old.settings.default_millis now (last_of self.old.settings.start_seq self.old.state.commits) (conflict self.old.state.commits t) t.ops e) }
         ensures outside { env.new ≡ record env.old { operator = env.new.operator } }
         ensures call { let reach = ⟦<EnvOf<S, M, T> as Outside>⟧.reach in IsCall (reach env.old) (reach env.new) [] }
         ensures reads { let reach = ⟦<EnvOf<S, M, T> as Outside>⟧.reach in OnlyReads (reach env.old) (reach env.new) }
     {
-        let _laws = laws;
         let Some(owned) = self.transactions.take(id) else {
             unreachable!()
         };
@@ -936,6 +974,7 @@ impl Core {
         let made = make(
             self.alloc,
             self.default_millis,
+            &mut self.segments,
             &mut self.layers,
             &mut self.manager,
             id,
@@ -943,6 +982,7 @@ impl Core {
             last,
             now,
             &mut env.operator,
+            &laws.segments,
         );
         match made {
             Ok(made) => {

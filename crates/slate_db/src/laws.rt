@@ -2,6 +2,7 @@
 //! proved of all values by a call that does nothing.
 ghost use Rattle.slate_db.specs.FlushLaws.{RunsAreOfSegments, TablesAreOfOneSegment};
 ghost use Rattle.slate_db.specs.ScanLaws.{ListsHaveAllRows, ScansOfCoreShowWhatIsSeen, ScansShowWhatIsSeen};
+ghost use Rattle.slate_db.specs.SegmentLaws.{SegmentsStandApart};
 ghost use Rattle.slate_db.specs.SerialLaws.{CallsKeepCoresVouched, CommitsKeepItVouched, CommitsStandAtTheirPlaces, NewCoreIsVouched, OtherEventsKeepItVouched, WritesKeepCoresVouched};
 
 use slate_filter::FilterPolicy;
@@ -48,4 +49,9 @@ pub fn transactions()
     ensures calls { CallsKeepCoresVouched }
     ensures writes { WritesKeepCoresVouched }
     ensures at_their_places { CommitsStandAtTheirPlaces }
+{}
+
+/// Of segments. In a core that is segmented, recorded prefixes never nest, and each key has at most one.
+pub fn segments()
+    ensures stand_apart { SegmentsStandApart }
 {}

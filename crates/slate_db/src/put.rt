@@ -3,7 +3,7 @@ ghost use Rattle.std.specs.Prelude.{◌≡◌, ◌+◌, ◌<◌, ◌≤◌, ◌�
 ghost use Rattle.std.specs.declared.cmp.Ordering.TheVariants.{Greater};
 ghost use Rattle.std.specs.List.{AllByRecursion};
 ghost use Rattle.slate_types.specs.declared.error.SlateDBError.{SlateDBError};
-ghost use Rattle.slate_types.specs.Keys.{key_cmp};
+ghost use Rattle.slate_types.specs.Keys.{key_cmp, keys_set};
 ghost use Rattle.slate_mem.specs.Table.{put_rows};
 ghost use Rattle.slate_txn.specs.Ids.{id_of};
 ghost use Rattle.slate_txn.specs.Managers.{StandsFor, IsCommitOf, with_commit, writes_at};
@@ -15,10 +15,12 @@ ghost use Rattle.slate_db.specs.Model.{versions_in};
 
 use crate::layers::Layers;
 use crate::log::Log;
+use crate::segments::SegmentPrefixes;
 use bytes::Bytes;
 use slate_txn::{OpenTransactions, TransactionManager};
 use slate_types::{IsolationLevel, RowEntry, SlateDBError};
 use std::alloc::Global;
+use std::collections::BTreeSet;
 use uuid::Uuid;
 
 /// Opens a transaction under the next id, and notes it in the log.
@@ -50,8 +52,43 @@ pub(crate) fn enter(
     Ok(())
 }
 
-/// Puts the rows of a batch that commits by itself, and has the manager track its keys.
+/// Puts the rows of a batch that commits by itself, records its segment prefixes, and has the manager track its keys.
 pub(crate) fn put_batch(
+    alloc: Global,
+    segments: &mut SegmentPrefixes,
+    layers: &mut Layers,
+    manager: &mut TransactionManager,
+    rows: Vec<RowEntry>,
+    keys: Vec<Bytes>,
+    prefixes: &BTreeSet<Bytes>,
+    seq: u64,
+) -> Result<(), SlateDBError>
+    requires whole { AreLayers layers.old }
+    requires fit { AllByRecursion FitsMemory rows.items }
+    requires rise { (k : List ℕ) → AreRising (versions_in k (layers.old.frozen ++ put_rows layers.old.active rows.items ∷ [])) }
+    requires seqs { AllByRecursion (λ r. r.seq ≡ seq) rows.items }
+    requires older { AllByRecursion (λ r. r.seq < seq) layers.old.active }
+    requires later { manager.old.last < seq }
+    ensures recorded { OnOk result (segments.new ≡ keys_set (segments.old ++ prefixes.now.keys)) }
+    ensures put { OnOk result (layers.new ≡ record layers.old { active = put_rows layers.old.active rows.items }) }
+    ensures whole { AreLayers layers.new }
+    ensures committed { OnOk result (manager.new ≡ record manager.old { last = seq; kept = manager.new.kept }) }
+    ensures stands { OnOk result ((cs : List Commit) (c : Commit) → IsCommitOf seq keys.items c → StandsFor manager.old cs → StandsFor manager.new (cs ++ c ∷ [])) }
+    ensures same_segments { OnErr result (segments.new ≡ segments.old) }
+    ensures same_layers { OnErr result (layers.new ≡ layers.old) }
+    ensures same { OnErr result (manager.new ≡ manager.old) }
+    ensures cause { IsOkUnless result SlateDBError.OutOfMemory }
+{
+    let fresh = segments.record(alloc, prefixes)?;
+    if let Err(error) = put_tracked(alloc, layers, manager, rows, keys, seq) {
+        segments.take_back(&fresh);
+        return Err(error);
+    }
+    Ok(())
+}
+
+/// Puts the rows of a batch that commits by itself, and has the manager track its keys.
+fn put_tracked(
     alloc: Global,
     layers: &mut Layers,
     manager: &mut TransactionManager,
@@ -84,8 +121,43 @@ pub(crate) fn put_batch(
     Ok(())
 }
 
-/// Puts the rows of a transaction that commits, and has the manager track what it hands over, and end it.
+/// Puts the rows of a transaction that commits, records its segment prefixes, and has the manager track what it hands over, and end it.
 pub(crate) fn put_own(
+    alloc: Global,
+    segments: &mut SegmentPrefixes,
+    layers: &mut Layers,
+    manager: &mut TransactionManager,
+    rows: Vec<RowEntry>,
+    prefixes: &BTreeSet<Bytes>,
+    id: &Uuid,
+    seq: u64,
+) -> Result<(), SlateDBError>
+    requires whole { AreLayers layers.old }
+    requires fit { AllByRecursion FitsMemory rows.items }
+    requires rise { (k : List ℕ) → AreRising (versions_in k (layers.old.frozen ++ put_rows layers.old.active rows.items ∷ [])) }
+    requires seqs { AllByRecursion (λ r. r.seq ≡ seq) rows.items }
+    requires older { AllByRecursion (λ r. r.seq < seq) layers.old.active }
+    requires later { manager.old.last < seq }
+    ensures recorded { OnOk result (segments.new ≡ keys_set (segments.old ++ prefixes.now.keys)) }
+    ensures put { OnOk result (layers.new ≡ record layers.old { active = put_rows layers.old.active rows.items }) }
+    ensures whole { AreLayers layers.new }
+    ensures committed { OnOk result (manager.new ≡ record manager.old { last = seq; active = without id.now manager.old.active; kept = manager.new.kept }) }
+    ensures stands { OnOk result ((cs : List Commit) (c : Commit) → IsCommitOf seq (writes_at (find_named id.now manager.old.active)) c → StandsFor manager.old cs → StandsFor manager.new (with_commit cs c (find_named id.now manager.old.active))) }
+    ensures same_segments { OnErr result (segments.new ≡ segments.old) }
+    ensures same_layers { OnErr result (layers.new ≡ layers.old) }
+    ensures same { OnErr result (manager.new ≡ manager.old) }
+    ensures cause { IsOkUnless result SlateDBError.OutOfMemory }
+{
+    let fresh = segments.record(alloc, prefixes)?;
+    if let Err(error) = put_ended(alloc, layers, manager, rows, id, seq) {
+        segments.take_back(&fresh);
+        return Err(error);
+    }
+    Ok(())
+}
+
+/// Puts the rows of a transaction that commits, and has the manager track what it hands over, and end it.
+fn put_ended(
     alloc: Global,
     layers: &mut Layers,
     manager: &mut TransactionManager,

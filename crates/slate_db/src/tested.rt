@@ -1,44 +1,53 @@
 //! The tests of a batch that is to become a commit, and its rows.
-ghost use Rattle.std.specs.Prelude.{◌≡◌, ◌⊎◌, ◌≤◌, option_map, Some, None, Err, IfErr, IfOk, OnOk};
+ghost use Rattle.std.specs.Prelude.{◌≡◌, ◌⊎◌, ◌≤◌, is_some, option_map, Some, None, Err, IfErr, IfOk, OnOk};
 ghost use Rattle.std.specs.List.{AllByRecursion};
 ghost use Rattle.slate_types.specs.declared.error.SlateDBError.{SlateDBError};
 ghost use Rattle.slate_types.specs.Faults.{faults_of};
 ghost use Rattle.slate_types.specs.Fold.{operator_at};
+ghost use Rattle.slate_types.specs.Keys.{keys_set};
 ghost use Rattle.slate_mem.specs.CommitRows.{commit_rows};
+ghost use Rattle.slate_mem.specs.KeyTests.{merges_refusal, prefixes};
 ghost use Rattle.slate_mem.specs.Lookup.{IsCallback};
 ghost use Rattle.slate_db.specs.BatchTests.{batch_refusal};
 ghost use Rattle.slate_db.specs.Layers.{FitsMemory};
 ghost use Rattle.slate_db.specs.Log.{AreFine};
+ghost use Rattle.slate_db.specs.Meaning.{segments_by};
 
+use crate::segments::SegmentPrefixes;
+use bytes::Bytes;
 use slate_mem::WriteBatch;
-use slate_types::{MergeOperator, NoExtractor, RowEntry, SlateDBError};
+use slate_types::{MergeOperator, PrefixExtractor, RowEntry, SlateDBError};
 use std::alloc::Global;
+use std::collections::BTreeSet;
 
-/// Tests a batch that is to become a commit of the moment `now`. Refuses as `WriteBatch::test_entries` does, and by `OutOfMemory`.
-/// Calls no operator.
-pub(crate) fn test_batch<M: MergeOperator>(
+/// Tests a batch that is to become a commit of the moment `now`, and gives the segment prefixes of its keys. Refuses as
+/// `WriteBatch::test_entries` does, then as `SegmentPrefixes::test` does, and by `OutOfMemory`. Calls no operator.
+pub(crate) fn test_batch<M: MergeOperator, X: PrefixExtractor>(
     alloc: Global,
     batch: &WriteBatch,
     now: i64,
     default_millis: Option<u64>,
     operator: &Option<M>,
-) -> Result<(), SlateDBError>
-    ensures tested { OnOk result (batch_refusal (option_map M.combine operator.now) default_millis now batch.now ≡ None) }
-    ensures first { (e : SlateDBError) → batch_refusal (option_map M.combine operator.now) default_millis now batch.now ≡ Some e → (result ≡ Err e) ⊎ (result ≡ Err SlateDBError.OutOfMemory) }
-    ensures cause { IfErr result (λ e. (e ≡ SlateDBError.OutOfMemory) ⊎ (batch_refusal (option_map M.combine operator.now) default_millis now batch.now ≡ Some e)) }
+    extractor: &Option<X>,
+    recorded: &SegmentPrefixes,
+) -> Result<BTreeSet<Bytes>, SlateDBError>
+    ensures prefixes { IfOk result (λ own. own.keys ≡ keys_set (prefixes (segments_by X.lengths extractor.now) batch.now.ops)) }
+    ensures tested { OnOk result (batch_refusal (option_map M.combine operator.now) (segments_by X.lengths extractor.now) recorded.now default_millis now batch.now ≡ None) }
+    ensures first { (e : SlateDBError) → batch_refusal (option_map M.combine operator.now) (segments_by X.lengths extractor.now) recorded.now default_millis now batch.now ≡ Some e → (result ≡ Err e) ⊎ (result ≡ Err SlateDBError.OutOfMemory) }
+    ensures cause { IfErr result (λ e. (e ≡ SlateDBError.OutOfMemory) ⊎ (batch_refusal (option_map M.combine operator.now) (segments_by X.lengths extractor.now) recorded.now default_millis now batch.now ≡ Some e)) }
 {
-    let prefixes = batch.test_entries(
+    let own = batch.test_entries(
         alloc,
         now,
         default_millis,
         operator.is_some(),
-        None::<&NoExtractor>,
+        extractor.as_ref(),
     )?;
-    drop(prefixes);
-    Ok(())
+    recorded.test(&own)?;
+    Ok(own)
 }
 
-/// The rows of a batch that no test refuses, as the commit `seq` of the moment `now`. Refuses by `Callback`, only where the
+/// The rows of a batch whose merges no test refuses, as the commit `seq` of the moment `now`. Refuses by `Callback`, only where the
 /// operator's count of faults rose, and by `OutOfMemory`.
 pub(crate) fn rows_of_batch<M: MergeOperator>(
     alloc: Global,
@@ -48,7 +57,7 @@ pub(crate) fn rows_of_batch<M: MergeOperator>(
     default_millis: Option<u64>,
     operator: &mut Option<M>,
 ) -> Result<Vec<RowEntry>, SlateDBError>
-    requires { batch_refusal (option_map M.combine operator.old) default_millis now batch.now ≡ None }
+    requires { merges_refusal (is_some (option_map M.combine operator.old)) batch.now.held_merge ≡ None }
     ensures rows { IfOk result (λ rows. rows.items ≡ commit_rows (operator_at (option_map M.combine operator.old)) default_millis seq now batch.now.ops) }
     ensures fit { AreFine batch.now.ops → IfOk result (λ rows. AllByRecursion FitsMemory rows.items) }
     ensures same { option_map M.combine operator.new ≡ option_map M.combine operator.old }

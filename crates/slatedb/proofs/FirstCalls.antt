@@ -62,7 +62,7 @@ put-first m k v before after b n none settings state events-are batch fine steps
         ∙ ap (λ (s : State). step plain (at (pos 0) s) (lines.Write (put-op k v))) state)
         ∙ steps (put-op k v) (subst (IsBatchOf (put-op k v)) (sym batch) (refl, refl)) (fine, tt)
 
-    is : after ≡ after_write before 1 (pos 0) b.ops after.active after.spare
+    is : after ≡ record (after_write before 1 (pos 0) b.ops after.active after.spare) { segments = after.segments }
     is = subst (λ o. IsWritten before after o (pos 0) b.ops) (is-first k v (at (pos 0) after.state) n stepped) event
 
 pub opened-first : (k v id : List ℕ) (level : IsolationLevel) (put flushed opened : CoreModel) (n start : ℕ) (p : IsPut k v put) → flushed.settings ≡ put.settings →

@@ -3,14 +3,17 @@ use Rattle.std.proofs.lemmas.Int.{to_z-of_z}
 use Rattle.std.proofs.lemmas.Result.{err_from_is_err_and}
 use Rattle.slate_txn.specs.Conflict.{conflict}
 use Rattle.slate_mem.specs.Batch.{Ops, kept_ops}
+use Rattle.slate_mem.specs.KeyTests.{prefixes}
+use Rattle.slate_types.specs.Keys.{keys_set}
 use Rattle.slate_txn.specs.Named.{without}
 use Rattle.slate_txn.specs.Replay.{commit_made}
 use Rattle.slate_txn.specs.State.{Commit}
 use Rattle.slate_db.specs.declared.commit.Made.{Made}
 use Rattle.slate_db.specs.BatchTests.{test_refusal}
-use Rattle.slate_db.specs.Committed.{IsNextOf}
+use Rattle.slate_db.specs.Committed.{IsNextOf, recorded_at}
 use Rattle.slate_db.specs.Log.{AreFine}
 use Rattle.slate_db.specs.Managed.{IsManaged}
+use Rattle.slate_db.specs.Meaning.{segments_by}
 use Rattle.slate_db.proofs.Managing.{managed_dropped, managed_committed}
 use Rattle.slate_db.proofs.Plain.{empty_kept}
 use Rattle.slate_types.specs.declared.error.SlateDBError.TheVariants.{OutOfMemory}
@@ -40,7 +43,13 @@ pub returns-then-is_empty-clause-fine : goal.returns-then-is_empty-clause-fine
 returns-then-is_empty-clause-fine g c = subst (λ (made : Made). AreFine made.ops) (sym c.idle.ensures) tt
 
 pub returns-then-is_empty-clause-tested : goal.returns-then-is_empty-clause-tested
-returns-then-is_empty-clause-tested g c = subst (λ (ops : Ops). test_refusal (option_map g.M.MergeOperator.combine c.args.operator.now) c.args.default_millis c.args.now ops ≡ None) (sym (empty_kept c.args.owned.ops (sym c.in_ok-tested.ensures.commits.batch.0 ∙ c.is_empty.ensures.0 c.if-is_empty.true))) refl
+returns-then-is_empty-clause-tested g c = subst (λ (ops : Ops). test_refusal (option_map g.M.MergeOperator.combine c.args.operator.now) (segments_by g.X.PrefixExtractor.lengths c.args.extractor.now) c.args.segments.now c.args.default_millis c.args.now ops ≡ None) (sym (empty_kept c.args.owned.ops (sym c.in_ok-tested.ensures.commits.batch.0 ∙ c.is_empty.ensures.0 c.if-is_empty.true))) refl
+
+pub returns-then-is_empty-clause-recorded : goal.returns-then-is_empty-clause-recorded
+returns-then-is_empty-clause-recorded g c = subst (λ (made : Made). c.args.segments.now ≡ recorded_at (segments_by g.X.PrefixExtractor.lengths c.args.extractor.now) made.seq made.ops c.args.segments.now) (sym c.idle.ensures) refl
+
+pub returns-in-Ok-clause-recorded : goal.returns-in-Ok-clause-recorded
+returns-in-Ok-clause-recorded g c = c.in-Ok.ensures.recorded ∙ ap (λ ops. keys_set (c.args.segments.now ++ prefixes (segments_by g.X.PrefixExtractor.lengths c.args.extractor.now) ops)) (sym c.in-Ok.ensures.ops)
 
 pub returns-then-is_empty-clause-first : goal.returns-then-is_empty-clause-first
 returns-then-is_empty-clause-first g c cs stands free next e is = absurd (next.2 (empty_kept c.args.owned.ops (sym c.in_ok-tested.ensures.commits.batch.0 ∙ c.is_empty.ensures.0 c.if-is_empty.true)))
@@ -50,17 +59,17 @@ returns-in-Ok-clause-fine g c = subst AreFine (sym c.in-Ok.ensures.ops) c.in-Ok.
 
 pub returns-in-Ok-clause-tested : goal.returns-in-Ok-clause-tested
 returns-in-Ok-clause-tested g c =
-    sym (test_as (option_map g.M.MergeOperator.combine c.args.operator.now) c.args.default_millis _ c.args.now c.args.owned.ops c.in_ok-tested.tested.batch (to_z-of_z w64 c.args.now c.ranges.now) c.in_ok-tested.ensures.commits.batch) ∙ c.in-Ok.ensures.tested
+    sym (test_as (option_map g.M.MergeOperator.combine c.args.operator.now) (segments_by g.X.PrefixExtractor.lengths c.args.extractor.now) c.args.segments.now c.args.default_millis _ c.args.now c.args.owned.ops c.in_ok-tested.tested.batch (to_z-of_z w64 c.args.now c.ranges.now) c.in_ok-tested.ensures.commits.batch) ∙ c.in-Ok.ensures.tested
 
 pub returns-in-Ok-clause-first : goal.returns-in-Ok-clause-first
 returns-in-Ok-clause-first g c cs stands free next e is =
-    let tested = sym (test_as (option_map g.M.MergeOperator.combine c.args.operator.now) c.args.default_millis _ c.args.now c.args.owned.ops c.in_ok-tested.tested.batch (to_z-of_z w64 c.args.now c.ranges.now) c.in_ok-tested.ensures.commits.batch) ∙ c.in-Ok.ensures.tested in
+    let tested = sym (test_as (option_map g.M.MergeOperator.combine c.args.operator.now) (segments_by g.X.PrefixExtractor.lengths c.args.extractor.now) c.args.segments.now c.args.default_millis _ c.args.now c.args.owned.ops c.in_ok-tested.tested.batch (to_z-of_z w64 c.args.now c.ranges.now) c.in_ok-tested.ensures.commits.batch) ∙ c.in-Ok.ensures.tested in
     none_some e (sym tested ∙ is)
 
 pub returns-in-Err-clause-first : goal.returns-in-Err-clause-first
 returns-in-Err-clause-first g c cs stands free next e is =
     first_moved c.in-Err.error e OutOfMemory _ _ refl refl (c.in-Err.ensures.first e
-    (test_as (option_map g.M.MergeOperator.combine c.args.operator.now) c.args.default_millis _ c.args.now c.args.owned.ops c.in_ok-tested.tested.batch (to_z-of_z w64 c.args.now c.ranges.now) c.in_ok-tested.ensures.commits.batch ∙ is))
+    (test_as (option_map g.M.MergeOperator.combine c.args.operator.now) (segments_by g.X.PrefixExtractor.lengths c.args.extractor.now) c.args.segments.now c.args.default_millis _ c.args.now c.args.owned.ops c.in_ok-tested.tested.batch (to_z-of_z w64 c.args.now c.ranges.now) c.in_ok-tested.ensures.commits.batch ∙ is))
 
 -- of the causes one is said of all operations
 cause_made : {Short Test Called Conflict Known : Type 0} → (Test → Known) → Short ⊎ Test ⊎ Called → Short ⊎ Conflict ⊎ Known ⊎ Called
@@ -75,7 +84,7 @@ returns-in-Err-clause-cause g c cs stands =
       free = c.in_ok-tested.ensures.free cs stands c.requires.held;
       some = λ none. let t : true ≡ false = sym (c.is_empty.ensures.1 (c.in_ok-tested.ensures.commits.batch.0 ∙ ap kept_ops none)) ∙ c.if-is_empty.false in cc;
       place = omega (arith, c.if-last-ge18446744073709551614.false);
-      is = sym (test_as (option_map g.M.MergeOperator.combine c.args.operator.now) c.args.default_millis _ c.args.now c.args.owned.ops c.in_ok-tested.tested.batch (to_z-of_z w64 c.args.now c.ranges.now) c.in_ok-tested.ensures.commits.batch) ∙ is;
+      is = sym (test_as (option_map g.M.MergeOperator.combine c.args.operator.now) (segments_by g.X.PrefixExtractor.lengths c.args.extractor.now) c.args.segments.now c.args.default_millis _ c.args.now c.args.owned.ops c.in_ok-tested.tested.batch (to_z-of_z w64 c.args.now c.ranges.now) c.in_ok-tested.ensures.commits.batch) ∙ is;
     })
     c.in-Err.ensures.cause
 

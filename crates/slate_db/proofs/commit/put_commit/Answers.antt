@@ -3,17 +3,28 @@ use Rattle.std.specs.List.{AllByRecursion}
 use Rattle.std.proofs.lemmas.Int.{to_z-of_z}
 use Rattle.slate_types.specs.Fold.{Combine, operator_at}
 use Rattle.slate_mem.specs.CommitRows.{commit_rows}
+use Rattle.slate_mem.specs.KeyTests.{prefixes}
 use Rattle.slate_mem.specs.Table.{put_rows}
+use Rattle.slate_mem.proofs.NestLaws.{set-of-rest}
+use Rattle.slate_types.specs.Keys.{keys_set}
 use Rattle.slate_txn.specs.State.{opening}
 use Rattle.slate_db.specs.Layers.{LayersModel, AreRising}
 use Rattle.slate_db.specs.Model.{CoreModel, Rows, versions_in}
+use Rattle.slate_db.specs.Meaning.{segments_by}
 use Rattle.slate_db.proofs.MemoryRows.{rise_more}
+use Rattle.slate_db.proofs.Tests.{tested_merges}
 use Rattle.slate_db.proofs.TakenBack.{commit_seqs, older_rows}
 use Rattle.slate_db.proofs.commit.put_commit.Goals as goal
 
 -- a core of these layers
 core_of : LayersModel → CoreModel
-core_of y = record { settings = record { default_millis = None; start_seq = 0 }; state = opening; events = []; spare = 0; active = y.active; frozen = y.frozen; floor = y.floor }
+core_of y = record { settings = record { default_millis = None; start_seq = 0 }; state = opening; events = []; spare = 0; segments = []; active = y.active; frozen = y.frozen; floor = y.floor }
+
+pub rows_of_batch-requires : goal.rows_of_batch-requires
+rows_of_batch-requires g c = tested_merges (option_map g.M.MergeOperator.combine c.args.operator.now) (segments_by g.X.PrefixExtractor.lengths c.args.extractor.now) c.args.segments.now c.args.default_millis _ c.args.batch.now.held_merge c.args.batch.now.ops c.in_ok-prefixes.ensures.tested
+
+pub returns-clause-recorded : goal.returns-clause-recorded
+returns-clause-recorded g c = c.in_ok-put_own.ensures.recorded ∙ ap (λ ps. keys_set (c.args.segments.now ++ ps)) c.in_ok-prefixes.ensures.prefixes ∙ set-of-rest c.args.segments.now (prefixes (segments_by g.X.PrefixExtractor.lengths c.args.extractor.now) c.args.batch.now.ops)
 
 pub put_own-requires : goal.put_own-requires
 unfolding core_of

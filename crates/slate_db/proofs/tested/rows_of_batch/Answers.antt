@@ -1,4 +1,4 @@
-use Rattle.std.proofs.Common.{option_map, refl, sym, subst}
+use Rattle.std.proofs.Common.{option_map, sym, subst}
 use Rattle.std.specs.List.{AllByRecursion}
 use Rattle.slate_types.specs.Fold.{operator_at}
 use Rattle.slate_db.specs.Layers.{FitsMemory}
@@ -7,7 +7,7 @@ use Rattle.slate_db.proofs.Tests.{is_some_map, operator_short, tested_some}
 use Rattle.slate_db.proofs.tested.rows_of_batch.Goals as goal
 
 pub fold_entries-requires : goal.fold_entries-requires
-fold_entries-requires g c = tested_some c.args.operator.now c.args.batch.now.held_merge _ c.args.default_millis c.args.now c.args.now c.args.batch.now.ops (is_some_map g.M.MergeOperator.combine c.args.operator.now) refl c.requires
+fold_entries-requires g c = tested_some c.args.operator.now c.args.batch.now.held_merge _ (is_some_map g.M.MergeOperator.combine c.args.operator.now) c.requires
 
 pub returns-clause-fit : goal.returns-clause-fit
 returns-clause-fit g c fine = subst (AllByRecursion FitsMemory) (sym c.in_ok-rows.ensures.rows)

@@ -1,4 +1,4 @@
-use Rattle.std.proofs.Common.{inl, is_some, refl, sym, ap, ◌∙◌, subst}
+use Rattle.std.proofs.Common.{None, inl, is_some, refl, sym, ap, ◌∙◌, subst}
 use Rattle.slate_types.specs.declared.config.IsolationLevel.TheVariants.{Snapshot}
 use Rattle.slate_mem.specs.BatchModel.{BatchModel, plain_put, with_op}
 use Rattle.slate_mem.specs.Refusals.{op_refusal}
@@ -20,9 +20,9 @@ get-requires-after_bounds g c κs within =
     (c.new-core.ensures.settings ∙ ap settings_of c.new.ensures) c.new-core.ensures.state c.new-core.ensures.journal
     (c.in_ok-put.ensures.taken ∙ ap (λ (b : BatchModel). with_op b c.args.key.now (plain_put c.args.value.now)) c.new-batch.ensures)
     (none-refused (op_refusal c.args.key.now (plain_put c.args.value.now)) c.put.result c.in_ok-put.field-0 c.put.ensures.refused c.in_ok-put.was)
-    c.in_ok-write.ensures.step c.in_ok-write.ensures.event in
+    (c.in_ok-write.ensures.step (c.new-core.ensures.segmented _)) c.in_ok-write.ensures.event in
     let opened = opened-first c.args.key.now c.args.value.now c.in_ok-reader.reader Snapshot c.write.new.self c.flush.new.self c.begin.new.self c.in_ok-flush.field-0 c.in_ok-reader._start p
-    c.flush.ensures.settings c.in_ok-flush.ensures.step c.in_ok-reader.ensures.step in
+    c.flush.ensures.settings (λ m. c.in_ok-flush.ensures.step m None) (λ m. c.in_ok-reader.ensures.step m None) in
     is-reader c.in_ok-reader.reader Snapshot p.ops p.tracked c.begin.new.self.state opened
 
 pub rollback-requires : goal.rollback-requires
@@ -31,9 +31,9 @@ rollback-requires g c =
     (c.new-core.ensures.settings ∙ ap settings_of c.new.ensures) c.new-core.ensures.state c.new-core.ensures.journal
     (c.in_ok-put.ensures.taken ∙ ap (λ (b : BatchModel). with_op b c.args.key.now (plain_put c.args.value.now)) c.new-batch.ensures)
     (none-refused (op_refusal c.args.key.now (plain_put c.args.value.now)) c.put.result c.in_ok-put.field-0 c.put.ensures.refused c.in_ok-put.was)
-    c.in_ok-write.ensures.step c.in_ok-write.ensures.event in
+    (c.in_ok-write.ensures.step (c.new-core.ensures.segmented _)) c.in_ok-write.ensures.event in
     let opened = opened-first c.args.key.now c.args.value.now c.in_ok-reader.reader Snapshot c.write.new.self c.flush.new.self c.begin.new.self c.in_ok-flush.field-0 c.in_ok-reader._start p
-    c.flush.ensures.settings c.in_ok-flush.ensures.step c.in_ok-reader.ensures.step in
+    c.flush.ensures.settings (λ m. c.in_ok-flush.ensures.step m None) (λ m. c.in_ok-reader.ensures.step m None) in
     ap (λ (x : CoreModel). is_some (find_named c.in_ok-reader.reader x.state.txns)) c.in_ok-found.ensures.noted
     ∙ ap is_some (is-open-still c.in_ok-reader.reader Snapshot p.ops p.tracked c.begin.new.self.state _ opened)
 
@@ -43,9 +43,9 @@ returns g c =
     (c.new-core.ensures.settings ∙ ap settings_of c.new.ensures) c.new-core.ensures.state c.new-core.ensures.journal
     (c.in_ok-put.ensures.taken ∙ ap (λ (b : BatchModel). with_op b c.args.key.now (plain_put c.args.value.now)) c.new-batch.ensures)
     (none-refused (op_refusal c.args.key.now (plain_put c.args.value.now)) c.put.result c.in_ok-put.field-0 c.put.ensures.refused c.in_ok-put.was)
-    c.in_ok-write.ensures.step c.in_ok-write.ensures.event in
+    (c.in_ok-write.ensures.step (c.new-core.ensures.segmented _)) c.in_ok-write.ensures.event in
     let opened = opened-first c.args.key.now c.args.value.now c.in_ok-reader.reader Snapshot c.write.new.self c.flush.new.self c.begin.new.self c.in_ok-flush.field-0 c.in_ok-reader._start p
-    c.flush.ensures.settings c.in_ok-flush.ensures.step c.in_ok-reader.ensures.step in
+    c.flush.ensures.settings (λ m. c.in_ok-flush.ensures.step m None) (λ m. c.in_ok-reader.ensures.step m None) in
     let meant = c.flush.ensures.puts.meaning in
     let same = c.write.ensures.reads.meaning in
     record {
@@ -65,5 +65,5 @@ returns g c =
               holds = subst (Holds table.os) (sym (ap (λ (x : CoreModel). tables_of x.events) c.in_ok-reader.ensures.event ∙ none-more c.flush.new.self.events _ refl)) table.holds;
             };
             answers = inl table.is;
-          })));
+          }) None));
     }

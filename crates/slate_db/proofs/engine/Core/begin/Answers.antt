@@ -1,4 +1,4 @@
-use Rattle.std.proofs.Common.{◌≡◌, ℕ, List, None, ◌+◌, ◌++◌, ◌∷◌, [], ◌≤◌, ap, sym, subst, ◌∙◌, Greater}
+use Rattle.std.proofs.Common.{refl, ◌≡◌, ℕ, List, None, ◌+◌, ◌++◌, ◌∷◌, [], ◌≤◌, ap, sym, subst, ◌∙◌, Greater}
 use Rattle.std.specs.List.{AllByRecursion}
 use Rattle.slate_types.specs.Keys.{key_cmp}
 use Rattle.slate_txn.specs.declared.line.Line.TheVariants as lines
@@ -9,13 +9,15 @@ use Rattle.slate_txn.specs.Reply.{Begun}
 use Rattle.slate_txn.specs.Step.{step}
 use Rattle.slate_db.specs.declared.engine.Core.TheInside.{Inside}
 use Rattle.slate_db.specs.Log.{IsLog}
-use Rattle.slate_db.specs.Meaning.{rules_of}
+use Rattle.slate_db.specs.Meaning.{rules_in}
 use Rattle.slate_db.specs.Model.{CoreModel}
 use Rattle.slate_db.specs.View.{view_of, unseen_of, IsWholeInside}
+use Rattle.slate_db.specs.Segmented.{IsSegmented}
 use Rattle.slate_db.specs.Sound.{IsKept}
 use Rattle.slate_db.specs.Vouched.{IsVouchedFor}
 use Rattle.slate_db.proofs.Calls.{begun_is}
 use Rattle.slate_db.proofs.Managing.{back_named, managed_back}
+use Rattle.slate_db.proofs.Segmenting.{segmented_as}
 use Rattle.slate_db.proofs.Steps.{step_begin}
 use Rattle.slate_db.proofs.Vouches.{others_begin, vouched_begin}
 use Rattle.slate_db.proofs.Wholes.{after_begin, whole_begin, whole_manager, kept_begin, past_begun, fresh_begun, within_newest}
@@ -62,15 +64,24 @@ invariant_of-self-in_default c =
     (whole_begin (view_of s) (unseen_of s) c.args.level c.enter.new.log.spare n managed (c.in_ok-id.ensures.stands _) (subst IsLog c.in_default.ensures.log c.in_default.ensures.whole) c.self.invariant)
 
 pub returns-clause-step : goal.returns-clause-step
-returns-clause-step c m =
+returns-clause-step c m h =
     let s = c.self.inside in
     let id = c.in_ok-id.ensures.id ∙ ap (λ n. id_of (n + 1)) c.self.invariant.tied.manager.counted in
     let start = c.in_ok-id.ensures.opened.0 ∙ c.self.invariant.tied.manager.newest in
     let becomes = begun_is s c.enter.new.log c.enter.new.transactions c.new_transaction.new.self c.args.level c.in_ok-id.id c.in_ok-id.start id start c.in_default.ensures.log c.in_default.ensures.opened in
-    sym (ap (λ (v : CoreModel). step (rules_of v.settings m) v.state (lines.Begin c.in_ok-id.id c.args.level)) c.self.view_is)
-    ∙ (λ i. step (rules_of (view_of c.self.inside).settings m) (view_of c.self.inside).state (lines.Begin (id i) c.args.level))
+    sym (ap (λ (v : CoreModel). step (rules_in v.settings m h) v.state (lines.Begin c.in_ok-id.id c.args.level)) c.self.view_is)
+    ∙ (λ i. step (rules_in (view_of c.self.inside).settings m h) (view_of c.self.inside).state (lines.Begin (id i) c.args.level))
     ∙ step_begin m (view_of c.self.inside) (unseen_of c.self.inside) c.args.level c.enter.new.log.spare c.self.invariant
     ∙ (let ids = sym id in let at = sym start in λ i. ((view_of (becomes i)).state, Begun (ids i) (at i)))
+
+pub returns-clause-segmented : goal.returns-clause-segmented
+returns-clause-segmented c h z =
+    let s = c.self.inside in
+    let id = c.in_ok-id.ensures.id ∙ ap (λ n. id_of (n + 1)) c.self.invariant.tied.manager.counted in
+    let start = c.in_ok-id.ensures.opened.0 ∙ c.self.invariant.tied.manager.newest in
+    let becomes = begun_is s c.enter.new.log c.enter.new.transactions c.new_transaction.new.self c.args.level c.in_ok-id.id c.in_ok-id.start id start c.in_default.ensures.log c.in_default.ensures.opened in
+    subst (λ (s : Inside). IsSegmented h (view_of s)) becomes
+    (segmented_as h (view_of c.self.inside) _ refl refl (subst (λ (v : CoreModel). IsSegmented h v) (sym c.self.view_is) z))
 
 pub returns-clause-kept : goal.returns-clause-kept
 returns-clause-kept c m k =

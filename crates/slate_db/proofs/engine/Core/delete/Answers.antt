@@ -20,8 +20,8 @@ invariant_of-self c = whole_either c.delete.result c.self.inside c.delete.new.se
 
 pub returns : goal.returns
 returns c = record {
-  step = ok_both c.delete.result (λ fine taken m. step_operated c.args.self.now.state c.args.id.now c.args.key.now ops.Delete c.requires fine ∙ ap (λ (v : CoreModel). (v.state, Done)) (sym (operated_is c.self.inside c.args.self.now c.delete.new.self c.args.id.now (with_op c.args.key.now ops.Delete) c.self.view_is taken))) c.delete.ensures.fine c.delete.ensures.taken;
-  refused = refused_map c.delete.result _ _ (λ e h m. step_refused_op c.args.self.now.state c.args.id.now c.args.key.now ops.Delete e c.requires h) c.delete.ensures.cause;
+  step = ok_both c.delete.result (λ fine taken m s. step_operated c.args.self.now.state c.args.id.now c.args.key.now ops.Delete c.requires fine ∙ ap (λ (v : CoreModel). (v.state, Done)) (sym (operated_is c.self.inside c.args.self.now c.delete.new.self c.args.id.now (with_op c.args.key.now ops.Delete) c.self.view_is taken))) c.delete.ensures.fine c.delete.ensures.taken;
+  refused = refused_map c.delete.result _ _ (λ e h m s. step_refused_op c.args.self.now.state c.args.id.now c.args.key.now ops.Delete e c.requires h) c.delete.ensures.cause;
   taken = on_ok c.delete.result (λ taken. operated_is c.self.inside c.args.self.now c.delete.new.self c.args.id.now (with_op c.args.key.now ops.Delete) c.self.view_is taken) c.delete.ensures.taken;
   test = c.delete.ensures.refused;
   cause = c.delete.ensures.cause;

@@ -19,8 +19,10 @@ use Rattle.slate_db.specs.Sound.{IsKept}
 use Rattle.slate_db.specs.Log.{LIMIT, LogModel, IsLog, with_flush}
 use Rattle.slate_db.specs.View.{view_of, unseen_of, IsWholeInside}
 use Rattle.slate_db.specs.Vouched.{IsVouchedFor}
-use Rattle.slate_db.proofs.Flushes.{kept_flushed, step_flush, frozen_settings, steps_after, place_cause, freeze_cause, frozen_idle, none_frozen, installed_after, cause_after, too_large_before, wants_before, among_frozen, kept_behind, none_idle, never_missing, place_left, some_frozen, frozen_at_fault, no_fault, settled, all_taken, quiet_after}
+use Rattle.slate_db.proofs.Flushes.{kept_flushed, step_flush, frozen_settings, steps_after, steps_in, place_cause, freeze_cause, frozen_idle, none_frozen, installed_after, cause_after, too_large_before, wants_before, among_frozen, kept_behind, none_idle, never_missing, place_left, some_frozen, frozen_at_fault, no_fault, settled, all_taken, quiet_after}
 use Rattle.slate_db.proofs.Built.{may_keep}
+use Rattle.slate_db.specs.Segmented.{IsSegmented}
+use Rattle.slate_db.proofs.Segmenting.{segmented_as, segmented_flushed, segmented_frozen}
 use Rattle.slate_db.proofs.Vouches.{vouched_flushed}
 use Rattle.slate_db.proofs.Wholes.{whole_flushed}
 use Rattle.slate_txn.proofs.NamedLaws.{both_err}
@@ -73,6 +75,7 @@ returns-in_err-place_for_flush g c =
       full = λ h. refl;
       full_objects = λ h. refl;
       vouched = IfOk-from_err c.from_residual.result _ c.from_residual.ensures.0;
+      segmented = λ h z. z;
       kept = λ k. k;
       settings = refl;
       limit = λ h. let p = err_from_is_err_and c.from_residual.result c.from_residual.ensures.1 in p.1 ∙ ap Err (p.2 ∙ c.in_err-place_for_flush.ensures.limit.0);
@@ -103,6 +106,7 @@ returns-in_err-freeze g c =
       full = λ h. c.in_err-freeze.ensures.same;
       full_objects = λ h. refl;
       vouched = IfOk-from_err c.from_residual-in_err-freeze.result _ c.from_residual-in_err-freeze.ensures.0;
+      segmented = λ h z. subst (λ (v : CoreModel). IsSegmented h v) (sym c.in_err-freeze.ensures.same) z;
       kept = λ k. subst (λ (v : CoreModel). IsKept (reach_of g.S.Store g.M.MergeOperator g.T.BlockTransformer c.args.env.now).meaning v) (sym c.in_err-freeze.ensures.same) k;
       settings = ap (λ (v : CoreModel). v.settings) c.in_err-freeze.ensures.same;
       limit = λ h. absurd (omega (arith, c.in_ok-place_for_flush.ensures.place, h));
@@ -122,9 +126,14 @@ noted : (s : Inside) (c : CoreModel) (l : LogModel) → view_of s ≡ c → l �
 noted s c l is log = ap (λ (x : LogModel). view_of (record s { log = x })) log ∙ ap (λ (v : CoreModel). record v { state = record v.state { flushed = s.log.last } }) is
 
 pub returns-then-is_empty-clause-step : goal.returns-then-is_empty-clause-step
-returns-then-is_empty-clause-step g c m = step_flush m c.args.self.now c.freeze.new.self (view_of (record c.self.inside { log = c.note_flush.new.self })) c.last.result c.in_ok-freeze.ensures.event
+returns-then-is_empty-clause-step g c m h = step_flush m c.args.self.now c.freeze.new.self (view_of (record c.self.inside { log = c.note_flush.new.self })) c.last.result c.in_ok-freeze.ensures.event
     (c.last.ensures ∙ ap (λ (l : LogModel). l.last) c.note_flush.ensures.value ∙ c.self.invariant.log.last ∙ ap (λ (v : CoreModel). last_of v.settings.start_seq v.state.commits) c.self.view_is)
     (ap (λ (v : CoreModel). v.state) (noted c.self.inside c.freeze.new.self c.note_flush.new.self c.self.view_is c.note_flush.ensures.value) ∙ (let n = sym (c.last.ensures ∙ ap (λ (l : LogModel). l.last) c.note_flush.ensures.value) in λ i. record c.freeze.new.self.state { flushed = n i }))
+
+pub returns-then-is_empty-clause-segmented : goal.returns-then-is_empty-clause-segmented
+returns-then-is_empty-clause-segmented g c h z =
+    subst (λ (v : CoreModel). IsSegmented h v) (sym (noted c.self.inside c.freeze.new.self c.note_flush.new.self c.self.view_is c.note_flush.ensures.value))
+    (segmented_as h c.freeze.new.self _ refl refl (segmented_frozen h c.args.self.now c.freeze.new.self c.in_ok-freeze.ensures.event z))
 
 pub returns-then-is_empty-clause-settings : goal.returns-then-is_empty-clause-settings
 returns-then-is_empty-clause-settings g c = ap (λ (v : CoreModel). v.settings) (noted c.self.inside c.freeze.new.self c.note_flush.new.self c.self.view_is c.note_flush.ensures.value) ∙ frozen_settings c.args.self.now c.freeze.new.self c.in_ok-freeze.ensures.event
@@ -208,7 +217,7 @@ returns g c =
     let steps = steps_after c.install.result before.meaning (layout_of c.args.laws.now.options (map (λ p. (goal.FilterPolicy-dyn g (p.vtable, p.value)).meaning p.value) c.args.laws.now.policies.items) (segments_by g.X.PrefixExtractor.lengths c.args.laws.now.segments)) c.args.self.now c.freeze.new.self c.install.new.self (g.S.Store.objects c.args.env.now.store.now) (g.S.Store.objects c.install.new.env.store.now) c.in_ok-freeze.ensures.event c.install.ensures.newest c.install.ensures.installed in
     let same = settled c.install.result before.meaning (layout_of c.args.laws.now.options (map (λ p. (goal.FilterPolicy-dyn g (p.vtable, p.value)).meaning p.value) c.args.laws.now.policies.items) (segments_by g.X.PrefixExtractor.lengths c.args.laws.now.segments)) c.freeze.new.self c.install.new.self (g.S.Store.objects c.args.env.now.store.now) (g.S.Store.objects c.install.new.env.store.now) c.install.ensures.installed c.install.ensures.same ∙ frozen_settings c.args.self.now c.freeze.new.self c.in_ok-freeze.ensures.event in
     record {
-      step = steps;
+      step = steps_in c.install.result c.args.self.now c.install.new.self steps;
       installed = installed_after c.install.result before.meaning (layout_of c.args.laws.now.options (map (λ p. (goal.FilterPolicy-dyn g (p.vtable, p.value)).meaning p.value) c.args.laws.now.policies.items) (segments_by g.X.PrefixExtractor.lengths c.args.laws.now.segments)) c.args.self.now c.freeze.new.self c.install.new.self (g.S.Store.objects c.args.env.now.store.now) (g.S.Store.objects c.install.new.env.store.now) c.in_ok-freeze.ensures.event c.install.ensures.installed;
       acts = (subst (λ (ts : List (Ulid × List ℕ)). OnOk c.install.result (AddsTables ts (tables_of c.install.new.self.events) (g.S.Store.acts c.args.env.now.store.now) (g.S.Store.acts c.install.new.env.store.now)))
           (frozen_tables c.args.self.now c.freeze.new.self c.in_ok-freeze.ensures.event) c.install.ensures.acts);
@@ -219,6 +228,9 @@ returns g c =
       full = λ h. absurd (omega (arith, c.in_ok-place_for_flush.ensures.place, h));
       full_objects = λ h. absurd (omega (arith, c.in_ok-place_for_flush.ensures.place, h));
       vouched = vouched_flushed c.install.result c.args.self.now c.install.new.self steps same;
+      segmented = (λ h z.
+          segmented_flushed c.install.result before.meaning layout c.freeze.new.self c.install.new.self (g.S.Store.objects c.args.env.now.store.now) (g.S.Store.objects c.install.new.env.store.now) c.install.ensures.installed c.install.ensures.same h
+          (segmented_frozen h c.args.self.now c.freeze.new.self c.in_ok-freeze.ensures.event z));
       kept = λ k. c.install.ensures.kept (c.in_ok-freeze.ensures.kept _ k);
       settings = same;
       limit = λ h. absurd (omega (arith, c.in_ok-place_for_flush.ensures.place, h));

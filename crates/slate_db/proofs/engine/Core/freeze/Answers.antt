@@ -8,7 +8,7 @@ use Rattle.slate_txn.specs.Step.{step}
 use Rattle.slate_db.specs.declared.engine.Core.TheInside.{Inside}
 use Rattle.slate_db.specs.Layers.{AreLayers, LayersModel}
 use Rattle.slate_db.specs.Log.{IsLog, LogModel, with_freeze}
-use Rattle.slate_db.specs.Meaning.{rules_of}
+use Rattle.slate_db.specs.Meaning.{rules_in}
 use Rattle.slate_db.specs.Model.{CoreModel}
 use Rattle.slate_db.specs.View.{view_of, unseen_of, IsWholeInside}
 use Rattle.slate_db.specs.Sound.{IsKept}
@@ -23,7 +23,7 @@ pub returns-then-is_empty : goal.returns-then-is_empty
 returns-then-is_empty c =
     let none : c.args.self.now.active ≡ [] = ap (λ (v : CoreModel). v.active) (sym c.self.view_is) ∙ sym c.active.ensures ∙ c.is_empty.ensures.0 c.if-is_empty.true in
     record {
-      step = λ m. ap (λ n. (c.args.self.now.state, Frozen n)) (sym (c.last.ensures ∙ c.self.invariant.log.last ∙ ap (λ (v : CoreModel). last_of v.settings.start_seq v.state.commits) c.self.view_is));
+      step = λ m h. ap (λ n. (c.args.self.now.state, Frozen n)) (sym (c.last.ensures ∙ c.self.invariant.log.last ∙ ap (λ (v : CoreModel). last_of v.settings.start_seq v.state.commits) c.self.view_is));
       event = inl (none, refl);
       quiet = subst (λ (v : CoreModel). IsQuiet v.events) c.self.view_is (c.self.invariant.tied.quiet (sym c.active.ensures ∙ c.is_empty.ensures.0 c.if-is_empty.true));
       idle = λ is. refl;
@@ -55,8 +55,8 @@ returns c =
     let becomes = frozen_is c.self.inside c.reserve.new.self c.push_freeze.new.self c.reserve_freeze.new.self c.freeze.new.self c.reserve.ensures.value c.push_freeze.ensures.value c.reserve_freeze.ensures.value c.freeze.ensures.value in
     let log : c.push_freeze.new.self ≡ with_freeze c.self.inside.log c.push_freeze.new.self.spare = c.push_freeze.ensures.value ∙ ap (λ (l : LogModel). with_freeze l c.push_freeze.new.self.spare) c.reserve.ensures.value in
     record {
-      step = (λ m.
-          sym (ap (λ (v : CoreModel). step (rules_of v.settings m) v.state lines.Freeze) c.self.view_is)
+      step = (λ m h.
+          sym (ap (λ (v : CoreModel). step (rules_in v.settings m h) v.state lines.Freeze) c.self.view_is)
           ∙ (let n = sym c.self.invariant.log.last in λ i. ((view_of c.self.inside).state, Frozen (n i)))
           ∙ (let n = sym (c.last-2.ensures ∙ ap (λ (l : LogModel). l.last) log) in λ i. ((view_of (becomes i)).state, Frozen (n i))));
       event = inr (

@@ -151,7 +151,7 @@ returns g c =
     record {
       noted = noted_is g c;
       read = record {
-        answer = (λ is.
+        answer = (λ is h.
             let m = (reach_of g.S.Store g.M.MergeOperator g.T.BlockTransformer c.args.env.now).meaning in
             let r = rules_of c.args.self.now.settings m in
             let k = c.args.key.now in

@@ -14,7 +14,7 @@ invariant_of-self c = whole_either c.mark_read.result c.self.inside c.mark_read.
 
 pub returns : goal.returns
 returns c = record {
-  step = on_ok c.mark_read.result (λ taken m. step_changed c.args.self.now.state c.args.id.now (with_marks c.args.keys.now) c.requires ∙ ap (λ (v : CoreModel). (v.state, Done)) (sym (operated_is c.self.inside c.args.self.now c.mark_read.new.self c.args.id.now (with_marks c.args.keys.now) c.self.view_is taken))) c.mark_read.ensures.marked;
+  step = on_ok c.mark_read.result (λ taken m s. step_changed c.args.self.now.state c.args.id.now (with_marks c.args.keys.now) c.requires ∙ ap (λ (v : CoreModel). (v.state, Done)) (sym (operated_is c.self.inside c.args.self.now c.mark_read.new.self c.args.id.now (with_marks c.args.keys.now) c.self.view_is taken))) c.mark_read.ensures.marked;
   taken = on_ok c.mark_read.result (λ taken. operated_is c.self.inside c.args.self.now c.mark_read.new.self c.args.id.now (with_marks c.args.keys.now) c.self.view_is taken) c.mark_read.ensures.marked;
   cause = c.mark_read.ensures.cause;
   kept = λ m k. kept_either c.mark_read.result m c.self.inside c.args.self.now c.mark_read.new.self c.args.id.now (with_marks c.args.keys.now) c.self.view_is c.mark_read.ensures.marked c.mark_read.ensures.same (λ none. own_kept c.mark_read.result) k;

@@ -30,8 +30,8 @@ returns g c =
     let some = some_combine g.M.MergeOperator.combine c.args.env.now.operator c.if-is_none.ensures in
     let becomes : c.merge.new.self ≡ update_named c.args.id.now (with_op c.args.key.now (ops.Merge c.args.value.now c.args.options.now)) c.self.inside.transactions → view_of (record c.self.inside { transactions = c.merge.new.self }) ≡ operated c.args.self.now c.args.id.now (with_op c.args.key.now (ops.Merge c.args.value.now c.args.options.now)) = λ taken. operated_is c.self.inside c.args.self.now c.merge.new.self c.args.id.now (with_op c.args.key.now (ops.Merge c.args.value.now c.args.options.now)) c.self.view_is taken in
     record {
-      step = ok_both c.merge.result (λ fine taken. step_merged (combine_of g.M.MergeOperator.combine c.args.env.now.operator) c.args.self.now.state c.args.id.now c.args.key.now (ops.Merge c.args.value.now c.args.options.now) c.requires some fine ∙ ap (λ (v : CoreModel). (v.state, Done)) (sym (becomes taken))) c.merge.ensures.fine c.merge.ensures.taken;
-      refused = refused_map c.merge.result _ _ (λ e h. step_refused_merge (combine_of g.M.MergeOperator.combine c.args.env.now.operator) c.args.self.now.state c.args.id.now c.args.key.now (ops.Merge c.args.value.now c.args.options.now) e c.requires some h) c.merge.ensures.cause;
+      step = ok_both c.merge.result (λ fine taken s. step_merged (combine_of g.M.MergeOperator.combine c.args.env.now.operator) c.args.self.now.state c.args.id.now c.args.key.now (ops.Merge c.args.value.now c.args.options.now) c.requires some fine ∙ ap (λ (v : CoreModel). (v.state, Done)) (sym (becomes taken))) c.merge.ensures.fine c.merge.ensures.taken;
+      refused = refused_map c.merge.result _ _ (λ e h s. step_refused_merge (combine_of g.M.MergeOperator.combine c.args.env.now.operator) c.args.self.now.state c.args.id.now c.args.key.now (ops.Merge c.args.value.now c.args.options.now) e c.requires some h) c.merge.ensures.cause;
       taken = on_ok c.merge.result becomes c.merge.ensures.taken;
       missing = λ none. there g.M.MergeOperator.combine c.args.env.now.operator c.if-is_none.ensures none;
       test = λ e has h. c.merge.ensures.refused e h;

@@ -20,8 +20,8 @@ invariant_of-self c = whole_either c.put.result c.self.inside c.put.new.self c.a
 
 pub returns : goal.returns
 returns c = record {
-  step = ok_both c.put.result (λ fine taken m. step_operated c.args.self.now.state c.args.id.now c.args.key.now (ops.Put c.args.value.now c.args.options.now) c.requires fine ∙ ap (λ (v : CoreModel). (v.state, Done)) (sym (operated_is c.self.inside c.args.self.now c.put.new.self c.args.id.now (with_op c.args.key.now (ops.Put c.args.value.now c.args.options.now)) c.self.view_is taken))) c.put.ensures.fine c.put.ensures.taken;
-  refused = refused_map c.put.result _ _ (λ e h m. step_refused_op c.args.self.now.state c.args.id.now c.args.key.now (ops.Put c.args.value.now c.args.options.now) e c.requires h) c.put.ensures.cause;
+  step = ok_both c.put.result (λ fine taken m s. step_operated c.args.self.now.state c.args.id.now c.args.key.now (ops.Put c.args.value.now c.args.options.now) c.requires fine ∙ ap (λ (v : CoreModel). (v.state, Done)) (sym (operated_is c.self.inside c.args.self.now c.put.new.self c.args.id.now (with_op c.args.key.now (ops.Put c.args.value.now c.args.options.now)) c.self.view_is taken))) c.put.ensures.fine c.put.ensures.taken;
+  refused = refused_map c.put.result _ _ (λ e h m s. step_refused_op c.args.self.now.state c.args.id.now c.args.key.now (ops.Put c.args.value.now c.args.options.now) e c.requires h) c.put.ensures.cause;
   taken = on_ok c.put.result (λ taken. operated_is c.self.inside c.args.self.now c.put.new.self c.args.id.now (with_op c.args.key.now (ops.Put c.args.value.now c.args.options.now)) c.self.view_is taken) c.put.ensures.taken;
   test = c.put.ensures.refused;
   cause = c.put.ensures.cause;

@@ -140,7 +140,7 @@ returns g c =
     let how = c.in_ok-how.ensures.order in
     record {
       noted = noted_is g c;
-      step = λ k. step_scan (rules_of old.settings k) old.state id order range (open_is (reader old.state id) c.requires.open).value (open_is (reader old.state id) c.requires.open).is c.requires.range
+      step = λ k h. step_scan (rules_of old.settings k) old.state id order range (open_is (reader old.state id) c.requires.open).value (open_is (reader old.state id) c.requires.open).is c.requires.range
           ∙ ap (λ (v : CoreModel). (v.state, RowsAre [])) (sym (noted_is g c));
       names = λ from found. record { named = refl; number = number_is g c from found; ordered = e.order ∙ how; ranged = e.range };
       opened = (λ from found a.

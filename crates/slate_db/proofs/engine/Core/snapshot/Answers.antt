@@ -8,13 +8,15 @@ use Rattle.slate_txn.specs.Reply.{SnapshotAt}
 use Rattle.slate_txn.specs.Step.{step}
 use Rattle.slate_db.specs.declared.engine.Core.TheInside.{Inside}
 use Rattle.slate_db.specs.Log.{IsLog, LogModel}
-use Rattle.slate_db.specs.Meaning.{rules_of}
+use Rattle.slate_db.specs.Meaning.{rules_in}
 use Rattle.slate_db.specs.Model.{CoreModel}
 use Rattle.slate_db.specs.View.{view_of, unseen_of, IsWholeInside}
+use Rattle.slate_db.specs.Segmented.{IsSegmented}
 use Rattle.slate_db.specs.Sound.{IsKept}
 use Rattle.slate_db.specs.Vouched.{IsVouchedFor}
 use Rattle.slate_db.proofs.Calls.{event_shown, only_short, past_place, placed, shown_is, shown_more}
 use Rattle.slate_db.proofs.Managing.{back_shown, shown_back}
+use Rattle.slate_db.proofs.Segmenting.{segmented_as}
 use Rattle.slate_db.proofs.Steps.{step_snapshot}
 use Rattle.slate_db.proofs.Wholes.{kept_snapshot, whole_snapshot}
 use Rattle.slate_db.proofs.engine.Core.snapshot.Goals as goal
@@ -46,15 +48,18 @@ returns c =
     let shown : c.new_snapshot.new.self ≡ shown_more c.self.inside = c.in_ok-id.ensures.opened.1 ∙ (λ i. record c.self.inside.snapshots { ids = c.self.inside.snapshots.ids + 1; active = c.self.inside.snapshots.active ++ ((id i, at i) ∷ []) }) in
     let becomes = shown_is c.self.inside c.push_snapshot.new.self c.new_snapshot.new.self c.in_default.ensures.value shown in
     record {
-      step = (λ m.
-          sym (ap (λ (v : CoreModel). step (rules_of v.settings m) v.state (lines.Snapshot c.in_ok-id.id)) c.self.view_is)
-          ∙ (λ i. step (rules_of (view_of c.self.inside).settings m) (view_of c.self.inside).state (lines.Snapshot (id i)))
+      step = (λ m h.
+          sym (ap (λ (v : CoreModel). step (rules_in v.settings m h) v.state (lines.Snapshot c.in_ok-id.id)) c.self.view_is)
+          ∙ (λ i. step (rules_in (view_of c.self.inside).settings m h) (view_of c.self.inside).state (lines.Snapshot (id i)))
           ∙ step_snapshot m (view_of c.self.inside) (unseen_of c.self.inside) c.push_snapshot.new.self.spare c.self.invariant
           ∙ (let ids = sym id in let ats = sym at in λ i. ((view_of (becomes i)).state, SnapshotAt (ids i) (ats i))));
       event = event_shown c.self.inside c.args.self.now c.push_snapshot.new.self c.new_snapshot.new.self c.in_ok-id.id c.in_ok-id.seq c.self.view_is id at c.in_default.ensures.value;
       vouched = (λ m k h.
           subst (λ (s : Inside). IsVouchedFor m (view_of s) k) becomes
           (subst (λ (v : CoreModel). IsVouchedFor m v k) (sym c.self.view_is) h));
+      segmented = (λ h z.
+          subst (λ (s : Inside). IsSegmented h (view_of s)) becomes
+          (segmented_as h (view_of c.self.inside) _ refl refl (subst (λ (v : CoreModel). IsSegmented h v) (sym c.self.view_is) z)));
       kept = (λ m k.
           subst (λ (s : Inside). IsKept m (view_of s)) becomes
           (kept_snapshot m (view_of c.self.inside) c.self.inside.log.last (snapshot_id (c.self.inside.log.snapshot_ids + 1)) c.push_snapshot.new.self.spare (subst (λ (v : CoreModel). IsKept m v) (sym c.self.view_is) k)));
@@ -80,6 +85,7 @@ returns-in-Err c =
       step = tt;
       event = tt;
       vouched = tt;
+      segmented = tt;
       kept = tt;
       same = (ap view_of (unopened c.self.inside c.push_snapshot.new.self c.take_back.new.self c.in-Err.ensures.same
           (shown_back c.self.inside.snapshots c.new_snapshot.new.self c.take_back.new.self c.in_ok-id.id c.in_ok-id.seq c.in_ok-id.ensures.opened.1 c.in_ok-id.ensures.fresh c.take_back.ensures)) ∙ c.self.view_is);
@@ -97,6 +103,7 @@ returns-in_err-id c =
       step = IfOk-from_err c.from_residual-in_err-id.result _ c.from_residual-in_err-id.ensures.0;
       event = IfOk-from_err c.from_residual-in_err-id.result _ c.from_residual-in_err-id.ensures.0;
       vouched = IfOk-from_err c.from_residual-in_err-id.result _ c.from_residual-in_err-id.ensures.0;
+      segmented = IfOk-from_err c.from_residual-in_err-id.result _ c.from_residual-in_err-id.ensures.0;
       kept = IfOk-from_err c.from_residual-in_err-id.result _ c.from_residual-in_err-id.ensures.0;
       same = rw p.1 (ap (λ (n : Snapshots). view_of (record c.self.inside { snapshots = n })) c.in_err-id.ensures.same ∙ c.self.view_is);
       limit = placed (view_of c.self.inside) c.args.self.now (unseen_of c.self.inside) 2 c.self.view_is c.self.invariant c.in_ok-place.ensures.place;
@@ -111,6 +118,7 @@ returns-in_err-place c =
       step = IfOk-from_err c.from_residual.result _ c.from_residual.ensures.0;
       event = IfOk-from_err c.from_residual.result _ c.from_residual.ensures.0;
       vouched = IfOk-from_err c.from_residual.result _ c.from_residual.ensures.0;
+      segmented = IfOk-from_err c.from_residual.result _ c.from_residual.ensures.0;
       kept = IfOk-from_err c.from_residual.result _ c.from_residual.ensures.0;
       same = rw p.1 refl;
       limit = λ past. p.1 ∙ ap Err (p.2 ∙ limit.0);

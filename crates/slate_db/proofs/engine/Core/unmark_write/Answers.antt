@@ -14,7 +14,7 @@ invariant_of-self c = whole_either c.unmark_write.result c.self.inside c.unmark_
 
 pub returns : goal.returns
 returns c = record {
-  step = on_ok c.unmark_write.result (λ taken m. step_changed c.args.self.now.state c.args.id.now (with_unmarks c.args.keys.now) c.requires ∙ ap (λ (v : CoreModel). (v.state, Done)) (sym (operated_is c.self.inside c.args.self.now c.unmark_write.new.self c.args.id.now (with_unmarks c.args.keys.now) c.self.view_is taken))) c.unmark_write.ensures.unmarked;
+  step = on_ok c.unmark_write.result (λ taken m s. step_changed c.args.self.now.state c.args.id.now (with_unmarks c.args.keys.now) c.requires ∙ ap (λ (v : CoreModel). (v.state, Done)) (sym (operated_is c.self.inside c.args.self.now c.unmark_write.new.self c.args.id.now (with_unmarks c.args.keys.now) c.self.view_is taken))) c.unmark_write.ensures.unmarked;
   taken = on_ok c.unmark_write.result (λ taken. operated_is c.self.inside c.args.self.now c.unmark_write.new.self c.args.id.now (with_unmarks c.args.keys.now) c.self.view_is taken) c.unmark_write.ensures.unmarked;
   cause = c.unmark_write.ensures.cause;
   kept = λ m k. kept_either c.unmark_write.result m c.self.inside c.args.self.now c.unmark_write.new.self c.args.id.now (with_unmarks c.args.keys.now) c.self.view_is c.unmark_write.ensures.unmarked c.unmark_write.ensures.same (λ none. own_kept c.unmark_write.result) k;

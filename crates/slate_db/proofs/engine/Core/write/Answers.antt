@@ -7,16 +7,20 @@ use Rattle.slate_types.specs.declared.error.SlateDBError.TheVariants as errors
 use Rattle.slate_types.specs.Fold.{Combine, operator_at}
 use Rattle.slate_mem.specs.Batch.{Ops, batch_keys}
 use Rattle.slate_mem.specs.CommitRows.{commit_rows}
+use Rattle.slate_mem.specs.KeyTests.{Segments, prefixes}
 use Rattle.slate_mem.specs.Table.{put_rows}
+use Rattle.slate_mem.proofs.NestLaws.{set-of-rest}
+use Rattle.slate_types.specs.Keys.{keys_set}
 use Rattle.slate_txn.specs.declared.line.Line.TheVariants as lines
 use Rattle.slate_txn.specs.Reply.{Written, Refused}
 use Rattle.slate_txn.specs.Step.{step}
 use Rattle.slate_db.specs.declared.engine.Core.TheInside.{Inside}
 use Rattle.slate_db.specs.BatchTests.{batch_refusal}
 use Rattle.slate_db.specs.Load.{load}
-use Rattle.slate_db.specs.Meaning.{rules_of, combine_of}
+use Rattle.slate_db.specs.Meaning.{rules_in, combine_of, segments_by}
 use Rattle.slate_db.specs.Model.{CoreModel, Rows, at, versions, versions_in, IsSame}
 use Rattle.slate_db.specs.View.{view_of, unseen_of, IsWholeInside}
+use Rattle.slate_db.specs.Segmented.{IsSegmented}
 use Rattle.slate_db.specs.Sound.{IsKept}
 use Rattle.slate_db.specs.Vouched.{IsVouchedFor}
 use Rattle.slate_db.specs.Layers.{AreLayers, LayersModel, FitsMemory, AreRising}
@@ -26,7 +30,8 @@ use Rattle.slate_types.specs.Outside.{Meaning}
 use Rattle.slate_types.proofs.Reaching.{reads_none}
 use Rattle.slate_store.specs.Reach.{reach_of}
 use Rattle.slate_db.proofs.Asks.{asked_call, asked_reads, call_none, callback_fault, short_fault}
-use Rattle.slate_db.proofs.Keeps.{kept_same, room_made}
+use Rattle.slate_db.proofs.Keeps.{kept_recorded, kept_same, room_made}
+use Rattle.slate_db.proofs.Segmenting.{segmented_more, segmented_same}
 use Rattle.slate_db.proofs.Calls.{none_left, past_place, placed, room_in_log, written_is}
 use Rattle.slate_db.proofs.Lists.{all_map, all_behind}
 use Rattle.slate_db.proofs.Loads.{write_load}
@@ -37,18 +42,20 @@ use Rattle.slate_db.proofs.Plain.{step_nothing, step_exhausted, some_ops}
 use Rattle.slate_db.proofs.Puts.{some_more, versions_more, active_within}
 use Rattle.slate_db.proofs.Logs.{has_place}
 use Rattle.slate_db.proofs.TakenBack.{commit_seqs, older_rows}
-use Rattle.slate_db.proofs.Tests.{batch_refusal_as, first_moved, none_some, refusal_asked, refusal_known, step_test_refused, step_tested, tested_plain}
+use Rattle.slate_db.proofs.Tests.{batch_refusal_as, first_moved, none_some, refusal_asked, refusal_known, step_test_refused, step_tested, tested_merges, tested_plain}
 use Rattle.slate_db.proofs.Vouches.{below_next, vouched_write}
-use Rattle.slate_db.proofs.Wholes.{whole_write}
+use Rattle.slate_db.proofs.Wholes.{whole_recorded, whole_write}
 use Rattle.slate_db.proofs.Writes.{kept_write}
 use Rattle.slate_db.proofs.engine.Core.write.Goals as goal
 
 pub returns-then-is_empty : goal.returns-then-is_empty
 returns-then-is_empty g c =
     record {
-      step = (λ ops of fine.
-          step_nothing (rules_of c.args.self.now.settings (reach_of g.S.Store g.M.MergeOperator g.T.BlockTransformer c.args.env.now).meaning) (at c.args.now c.args.self.now.state) ops c.args.batch of (c.is_empty.ensures.0 c.if-is_empty.true));
-      refused = tt;
+      step = (λ z ops of fine.
+          step_nothing (rules_in c.args.self.now.settings (reach_of g.S.Store g.M.MergeOperator g.T.BlockTransformer c.args.env.now).meaning (segments_by g.X.PrefixExtractor.lengths c.args.laws.now.segments)) (at c.args.now c.args.self.now.state) ops c.args.batch of (c.is_empty.ensures.0 c.if-is_empty.true));
+      refused = λ z. tt;
+      segmented = λ z. z;
+      segmented_refused = tt;
       event = (c.is_empty.ensures.0 c.if-is_empty.true, refl);
       vouched = λ m k h. h;
       kept = λ k. k;
@@ -68,12 +75,14 @@ returns-then-is_empty g c =
 pub returns-then-last-ge18446744073709551614 : goal.returns-then-last-ge18446744073709551614
 returns-then-last-ge18446744073709551614 g c =
     record {
-      step = tt;
-      refused = (inr (inr (λ ops of fine.
+      step = λ z. tt;
+      segmented = tt;
+      segmented_refused = λ h z. z;
+      refused = (λ z. inr (inr (λ ops of fine.
           let m : Meaning = (reach_of g.S.Store g.M.MergeOperator g.T.BlockTransformer c.args.env.now).meaning in
-          sym (ap (λ (v : CoreModel). step (rules_of v.settings m) (at c.args.now v.state) (lines.Write ops)) c.self.view_is)
-          ∙ step_exhausted (rules_of (view_of c.self.inside).settings m) (at c.args.now (view_of c.self.inside).state) ops c.args.batch c.self.inside.log.last of
-          (λ e. let t : true ≡ false = sym (c.is_empty.ensures.1 e) ∙ c.if-is_empty.false in cc) fine refl c.self.invariant.log.last
+          sym (ap (λ (v : CoreModel). step (rules_in v.settings m (segments_by g.X.PrefixExtractor.lengths c.args.laws.now.segments)) (at c.args.now v.state) (lines.Write ops)) c.self.view_is)
+          ∙ step_exhausted (rules_in (view_of c.self.inside).settings m (segments_by g.X.PrefixExtractor.lengths c.args.laws.now.segments)) (at c.args.now (view_of c.self.inside).state) ops c.args.batch c.self.inside.log.last of
+          (λ e. let t : true ≡ false = sym (c.is_empty.ensures.1 e) ∙ c.if-is_empty.false in cc) fine c.self.invariant.log.last
           (let h : c.self.inside.log.last ≤ 2 ^ 64 - 2 = c.self.invariant.log.last_fits in omega (arith, c.last.ensures))
           ∙ ap (λ (v : CoreModel). (at c.args.now v.state, Refused errors.SequenceExhausted)) c.self.view_is)));
       event = tt;
@@ -117,6 +126,9 @@ made a b d n seq at now ops rows is operators seqs ats = is ∙ (λ i. commit_ro
 higher : (n m : ℕ) → m ≤ n → m ≤ n + 1
 higher n m h = omega arith
 
+pub rows_of_batch-requires : goal.rows_of_batch-requires
+rows_of_batch-requires g c = tested_merges (option_map g.M.MergeOperator.combine c.args.env.now.operator) (segments_by g.X.PrefixExtractor.lengths c.args.laws.now.segments) c.self.inside.segments c.self.inside.default_millis _ c.args.batch.held_merge c.args.batch.ops c.in_ok-prefixes.ensures.tested
+
 pub put_batch-requires : goal.put_batch-requires
 put_batch-requires g c =
     let f : List ℕ → Combine = combine_of (reach_of g.S.Store g.M.MergeOperator g.T.BlockTransformer c.args.env.now).meaning in
@@ -152,7 +164,8 @@ invariant_of-self-2 g c =
     c.in_ok-put_batch.ensures.put ∙ ap (λ rs. record c.self.inside.layers { active = put_rows c.self.inside.layers.active rs }) rows in
     let log : c.push_write.new.self ≡ with_write c.self.inside.log c.args.now c.args.batch.ops c.push_write.new.self.spare =
     c.push_write.ensures.value ∙ (λ i. with_write (c.reserve.ensures.value i) (to_z-of_z w64 c.args.now c.ranges.now i) ((c.from_vec.ensures ∙ c.in_ok-ops.ensures.ops) i) c.push_write.new.self.spare) in
-    subst IsWholeInside (written_is c.self.inside c.reserve.new.self c.push_write.new.self c.put_batch.new.layers c.put_batch.new.manager c.args.now _ c.args.batch.ops _ _ c.reserve.ensures.value (to_z-of_z w64 c.args.now c.ranges.now) (c.from_vec.ensures ∙ c.in_ok-ops.ensures.ops) c.push_write.ensures.value layers)
+    subst IsWholeInside (written_is (record c.self.inside { segments = c.put_batch.new.segments }) c.reserve.new.self c.push_write.new.self c.put_batch.new.layers c.put_batch.new.manager c.args.now _ c.args.batch.ops _ _ c.reserve.ensures.value (to_z-of_z w64 c.args.now c.ranges.now) (c.from_vec.ensures ∙ c.in_ok-ops.ensures.ops) c.push_write.ensures.value layers)
+    (whole_recorded (after_write (view_of c.self.inside) (n + 1) c.args.now c.args.batch.ops (put_rows c.self.inside.layers.active (commit_rows f c.self.inside.default_millis (n + 1) c.args.now c.args.batch.ops)) c.push_write.new.self.spare) _ c.put_batch.new.segments
     (whole_write (view_of c.self.inside) (unseen_of c.self.inside) c.args.now c.args.batch.ops (put_rows c.self.inside.layers.active (commit_rows f c.self.inside.default_millis (n + 1) c.args.now c.args.batch.ops)) c.push_write.new.self.spare
     (some_more f c.self.inside.default_millis (n + 1) c.args.now c.args.batch.ops c.self.inside.layers.active (λ e. let t : true ≡ false = sym (c.is_empty.ensures.1 e) ∙ c.if-is_empty.false in cc))
     (puts_all _ c.self.inside.layers.active _ (all_map _ _ (λ r h. higher n r.seq h) _ (all_behind (λ rows. AllByRecursion (λ r. r.seq ≤ n) rows) c.self.inside.layers.frozen (c.self.inside.layers.active ∷ []) c.self.invariant.tied.rows_within).0) (commit_within f c.self.inside.default_millis (n + 1) c.args.now c.args.batch.ops))
@@ -160,7 +173,7 @@ invariant_of-self-2 g c =
     (managed_written c.self.inside.manager c.put_batch.new.manager c.self.inside.log.ids n (n + 1) c.self.inside.log.commits c.self.inside.transactions (record { seq = n + 1; now = c.args.now; ops = c.args.batch.ops; tracked = batch_keys c.args.batch.ops })
     (subst (λ (k : ℕ). c.put_batch.new.manager ≡ record c.self.inside.manager { last = k; kept = c.put_batch.new.manager.kept }) seq c.in_ok-put_batch.ensures.committed)
     (c.in_ok-put_batch.ensures.stands _ _ (sym seq, sym c.in_ok-keys.ensures.keys)) c.self.invariant.tied.manager)
-    (subst IsLog log c.push_write.ensures.whole) (subst AreLayers layers c.put_batch.ensures.whole) c.self.invariant)
+    (subst IsLog log c.push_write.ensures.whole) (subst AreLayers layers c.put_batch.ensures.whole) c.self.invariant))
 
 pub returns : goal.returns
 returns g c =
@@ -173,18 +186,27 @@ returns g c =
     let written : Rows = put_rows c.self.inside.layers.active (commit_rows f c.self.inside.default_millis (n + 1) c.args.now c.args.batch.ops) in
     let layers : c.put_batch.new.layers ≡ record c.self.inside.layers { active = put_rows c.self.inside.layers.active (commit_rows f c.self.inside.default_millis (n + 1) c.args.now c.args.batch.ops) } =
     c.in_ok-put_batch.ensures.put ∙ ap (λ rs. record c.self.inside.layers { active = put_rows c.self.inside.layers.active rs }) rows in
-    let becomes = written_is c.self.inside c.reserve.new.self c.push_write.new.self c.put_batch.new.layers c.put_batch.new.manager c.args.now _ c.args.batch.ops _ _ c.reserve.ensures.value (to_z-of_z w64 c.args.now c.ranges.now) (c.from_vec.ensures ∙ c.in_ok-ops.ensures.ops) c.push_write.ensures.value layers in
+    let by : Segments = segments_by g.X.PrefixExtractor.lengths c.args.laws.now.segments in
+    let recorded : c.put_batch.new.segments ≡ keys_set (c.self.inside.segments ++ prefixes by c.args.batch.ops) =
+    c.in_ok-put_batch.ensures.recorded ∙ ap (λ ps. keys_set (c.self.inside.segments ++ ps)) c.in_ok-prefixes.ensures.prefixes ∙ set-of-rest c.self.inside.segments (prefixes by c.args.batch.ops) in
+    let becomes = written_is (record c.self.inside { segments = c.put_batch.new.segments }) c.reserve.new.self c.push_write.new.self c.put_batch.new.layers c.put_batch.new.manager c.args.now _ c.args.batch.ops _ _ c.reserve.ensures.value (to_z-of_z w64 c.args.now c.ranges.now) (c.from_vec.ensures ∙ c.in_ok-ops.ensures.ops) c.push_write.ensures.value layers in
     let below : n < 2 ^ 64 - 2 = omega (arith, c.last.ensures) in
-    let tested : batch_refusal m.combine c.self.inside.default_millis c.args.now c.args.batch ≡ None =
-    sym (batch_refusal_as (option_map g.M.MergeOperator.combine c.args.env.now.operator) m.combine c.self.inside.default_millis _ c.args.now c.args.batch (sym (combine_is g.M.MergeOperator.combine c.args.env.now.operator)) (to_z-of_z w64 c.args.now c.ranges.now)) ∙ c.in_ok-test_batch.ensures.tested in
+    let tested : batch_refusal m.combine by c.self.inside.segments c.self.inside.default_millis c.args.now c.args.batch ≡ None =
+    sym (batch_refusal_as (option_map g.M.MergeOperator.combine c.args.env.now.operator) m.combine by c.self.inside.segments c.self.inside.default_millis _ c.args.now c.args.batch (sym (combine_is g.M.MergeOperator.combine c.args.env.now.operator)) (to_z-of_z w64 c.args.now c.ranges.now)) ∙ c.in_ok-prefixes.ensures.tested in
     record {
-      step = (λ ops of fine.
-          sym (ap (λ (v : CoreModel). step (rules_of v.settings m) (at c.args.now v.state) (lines.Write ops)) c.self.view_is)
-          ∙ step_tested (rules_of (view_of c.self.inside).settings m) (at c.args.now (view_of c.self.inside).state) ops c.args.batch n of (λ e. let t : true ≡ false = sym (c.is_empty.ensures.1 e) ∙ c.if-is_empty.false in cc) tested fine refl c.self.invariant.log.last below
+      step = (λ z ops of fine.
+          sym (ap (λ (v : CoreModel). step (rules_in v.settings m by) (at c.args.now v.state) (lines.Write ops)) c.self.view_is)
+          ∙ step_tested (rules_in (view_of c.self.inside).settings m by) (at c.args.now (view_of c.self.inside).state) c.self.inside.segments ops c.args.batch n of (λ e. let t : true ≡ false = sym (c.is_empty.ensures.1 e) ∙ c.if-is_empty.false in cc) tested fine (subst (λ (v : CoreModel). IsSegmented by v) (sym c.self.view_is) z).recorded c.self.invariant.log.last below
           ∙ (let s = sym seq in λ i. (at c.args.now (view_of (becomes i)).state, Written (Some (s i)))));
-      refused = tt;
-      event = sym (ap view_of becomes) ∙ ap (λ (v : CoreModel). after_write v (n + 1) c.args.now c.args.batch.ops (put_rows c.self.inside.layers.active (commit_rows f c.self.inside.default_millis (n + 1) c.args.now c.args.batch.ops)) c.push_write.new.self.spare) c.self.view_is
-          ∙ (let s = sym seq in let rows = sym (ap (λ (y : LayersModel). y.active) layers) in λ i. after_write c.args.self.now (s i) c.args.now c.args.batch.ops (rows i) c.push_write.new.self.spare);
+      refused = λ z. tt;
+      segmented = (λ z.
+          subst (λ (s : Inside). IsSegmented by (view_of s)) becomes
+          (segmented_more m.combine by (view_of c.self.inside) (record (after_write (view_of c.self.inside) (n + 1) c.args.now c.args.batch.ops written c.push_write.new.self.spare) { segments = c.put_batch.new.segments })
+          c.self.inside.default_millis c.args.now c.args.batch.held_merge (record { seq = n + 1; now = c.args.now; ops = c.args.batch.ops; tracked = batch_keys c.args.batch.ops }) recorded refl tested
+          (subst (λ (v : CoreModel). IsSegmented by v) (sym c.self.view_is) z)));
+      segmented_refused = tt;
+      event = sym (ap view_of becomes) ∙ ap (λ (v : CoreModel). record (after_write v (n + 1) c.args.now c.args.batch.ops (put_rows c.self.inside.layers.active (commit_rows f c.self.inside.default_millis (n + 1) c.args.now c.args.batch.ops)) c.push_write.new.self.spare) { segments = c.put_batch.new.segments }) c.self.view_is
+          ∙ (let s = sym seq in let rows = sym (ap (λ (y : LayersModel). y.active) layers) in λ i. record (after_write c.args.self.now (s i) c.args.now c.args.batch.ops (rows i) c.push_write.new.self.spare) { segments = c.put_batch.new.segments });
       vouched = (λ m k h.
           subst (λ (s : Inside). IsVouchedFor m (view_of s) k) becomes
           (vouched_write m (view_of c.self.inside) k (n + 1) c.args.now c.args.batch.ops written c.push_write.new.self.spare (below_next (view_of c.self.inside) (unseen_of c.self.inside) c.self.invariant)
@@ -192,12 +214,13 @@ returns g c =
       kept = (λ k.
           let old : IsKept m (view_of c.self.inside) = subst (λ (v : CoreModel). IsKept m v) (sym c.self.view_is) k in
           subst (λ (s : Inside). IsKept m (view_of s)) becomes
+          (kept_recorded m (after_write (view_of c.self.inside) (n + 1) c.args.now c.args.batch.ops written c.push_write.new.self.spare) c.put_batch.new.segments
           (kept_write m (view_of c.self.inside) (unseen_of c.self.inside) c.args.now c.args.batch.ops _ c.push_write.new.self.spare
           (λ j. versions_more f c.self.inside.default_millis (n + 1) c.args.now c.args.batch.ops c.self.inside.layers.active j (active_within m (view_of c.self.inside) (unseen_of c.self.inside) c.self.invariant old j))
-          (λ none. c.ops.ensures.plain (tested_plain m.combine c.args.batch.held_merge c.self.inside.default_millis c.args.now c.args.batch.ops none tested))
-          c.self.invariant old));
+          (λ none. c.ops.ensures.plain (tested_plain m.combine by c.self.inside.segments c.args.batch.held_merge c.self.inside.default_millis c.args.now c.args.batch.ops none tested))
+          c.self.invariant old)));
       load = (λ ops of.
-          subst (λ (v : CoreModel). load (view_of (record c.self.inside { log = c.push_write.new.self; layers = c.put_batch.new.layers; manager = c.put_batch.new.manager })) ≤ load v + length ops) c.self.view_is
+          subst (λ (v : CoreModel). load (view_of (record c.self.inside { log = c.push_write.new.self; layers = c.put_batch.new.layers; manager = c.put_batch.new.manager; segments = c.put_batch.new.segments })) ≤ load v + length ops) c.self.view_is
           (subst (λ (s : Inside). load (view_of s) ≤ load (view_of c.self.inside) + length ops) becomes
           (write_load (view_of c.self.inside) f c.self.inside.default_millis (n + 1) c.args.now c.args.batch.ops ops of.0)));
       kept_refused = tt;
@@ -205,7 +228,7 @@ returns g c =
       idle = λ none. absurd (true≢false (sym (c.is_empty.ensures.1 none) ∙ c.if-is_empty.false));
       exhausted = λ some. none_left (view_of c.self.inside) c.args.self.now (unseen_of c.self.inside) (2 ^ 64 - 2) c.self.view_is c.self.invariant below;
       limit = λ some below fine. placed (view_of c.self.inside) c.args.self.now (unseen_of c.self.inside) 1 c.self.view_is c.self.invariant c.in_ok-place.ensures.place;
-      first = λ some below e is. none_some e (sym (refusal_known (option_map g.M.MergeOperator.combine c.args.env.now.operator) (reach_of g.S.Store g.M.MergeOperator g.T.BlockTransformer c.args.env.now).meaning.combine (view_of c.self.inside) c.args.self.now _ c.args.now c.args.batch _ (sym (combine_is g.M.MergeOperator.combine c.args.env.now.operator)) c.self.view_is (to_z-of_z w64 c.args.now c.ranges.now) c.in_ok-test_batch.ensures.tested) ∙ is);
+      first = λ some below e is. none_some e (sym (refusal_known (option_map g.M.MergeOperator.combine c.args.env.now.operator) (reach_of g.S.Store g.M.MergeOperator g.T.BlockTransformer c.args.env.now).meaning.combine (segments_by g.X.PrefixExtractor.lengths c.args.laws.now.segments) (view_of c.self.inside) c.args.self.now _ c.args.now c.args.batch _ (sym (combine_is g.M.MergeOperator.combine c.args.env.now.operator)) c.self.view_is (to_z-of_z w64 c.args.now c.ranges.now) c.in_ok-prefixes.ensures.tested) ∙ is);
       cause = tt;
       outside = refl;
       call = asked_call g.S.Store g.M.MergeOperator g.T.BlockTransformer c.args.env.now c.rows_of_batch.new.operator c.rows_of_batch.ensures.same;
@@ -227,33 +250,35 @@ pub invariant_of-self-in_err-keys : goal.invariant_of-self-in_err-keys
 invariant_of-self-in_err-keys g c = room_in_log c.self.inside c.reserve.new.self c.reserve.ensures.value c.reserve.ensures.whole c.self.invariant
 
 pub invariant_of-self-in_err-put_batch : goal.invariant_of-self-in_err-put_batch
-invariant_of-self-in_err-put_batch g c = subst IsWholeInside (let y = sym c.in_err-put_batch.ensures.same_layers in let m = sym c.in_err-put_batch.ensures.same in λ i. record c.self.inside { log = c.reserve.new.self; layers = y i; manager = m i })
+invariant_of-self-in_err-put_batch g c = subst IsWholeInside (let y = sym c.in_err-put_batch.ensures.same_layers in let m = sym c.in_err-put_batch.ensures.same in let ps = sym c.in_err-put_batch.ensures.same_segments in λ i. record c.self.inside { log = c.reserve.new.self; layers = y i; manager = m i; segments = ps i })
     (room_in_log c.self.inside c.reserve.new.self c.reserve.ensures.value c.reserve.ensures.whole c.self.invariant)
 
-pub returns-in_err-test_batch : goal.returns-in_err-test_batch
-returns-in_err-test_batch g c =
+pub returns-in_err-prefixes : goal.returns-in_err-prefixes
+returns-in_err-prefixes g c =
     let p = err_from_is_err_and c.from_residual.result c.from_residual.ensures.1 in
     let m : Meaning = (reach_of g.S.Store g.M.MergeOperator g.T.BlockTransformer c.args.env.now).meaning in
     let below : c.self.inside.log.last < 2 ^ 64 - 2 = omega (arith, c.last.ensures) in
     record {
-      step = IfOk-from_err c.from_residual.result _ c.from_residual.ensures.0;
-      refused = rw (p.1, p.2) (refused_test (short_fault (reach_of g.S.Store g.M.MergeOperator g.T.BlockTransformer c.args.env.now) (reach_of g.S.Store g.M.MergeOperator g.T.BlockTransformer c.args.env.now) c.in_err-test_batch.field-0.0)
+      step = λ z. IfOk-from_err c.from_residual.result _ c.from_residual.ensures.0;
+      refused = λ z. rw (p.1, p.2) (refused_test (short_fault (reach_of g.S.Store g.M.MergeOperator g.T.BlockTransformer c.args.env.now) (reach_of g.S.Store g.M.MergeOperator g.T.BlockTransformer c.args.env.now) c.in_err-prefixes.field-0.0)
           (λ test ops of fine.
-          sym (ap (λ (v : CoreModel). step (rules_of v.settings m) (at c.args.now v.state) (lines.Write ops)) c.self.view_is)
-          ∙ step_test_refused (rules_of (view_of c.self.inside).settings m) (at c.args.now (view_of c.self.inside).state) ops c.args.batch c.self.inside.log.last c.in_err-test_batch.field-0.0 of (λ none. let t : true ≡ false = sym (c.is_empty.ensures.1 none) ∙ c.if-is_empty.false in cc)
-          (ap (λ (v : CoreModel). batch_refusal m.combine v.settings.default_millis c.args.now c.args.batch) c.self.view_is ∙ refusal_known (option_map g.M.MergeOperator.combine c.args.env.now.operator) (reach_of g.S.Store g.M.MergeOperator g.T.BlockTransformer c.args.env.now).meaning.combine (view_of c.self.inside) c.args.self.now _ c.args.now c.args.batch _ (sym (combine_is g.M.MergeOperator.combine c.args.env.now.operator)) c.self.view_is (to_z-of_z w64 c.args.now c.ranges.now) test) fine refl c.self.invariant.log.last below
-          ∙ ap (λ (v : CoreModel). (at c.args.now v.state, Refused c.in_err-test_batch.field-0.0)) c.self.view_is) c.in_err-test_batch.ensures.cause);
+          sym (ap (λ (v : CoreModel). step (rules_in v.settings m (segments_by g.X.PrefixExtractor.lengths c.args.laws.now.segments)) (at c.args.now v.state) (lines.Write ops)) c.self.view_is)
+          ∙ step_test_refused (rules_in (view_of c.self.inside).settings m (segments_by g.X.PrefixExtractor.lengths c.args.laws.now.segments)) (at c.args.now (view_of c.self.inside).state) c.self.inside.segments ops c.args.batch c.self.inside.log.last c.in_err-prefixes.field-0.0 of (λ none. let t : true ≡ false = sym (c.is_empty.ensures.1 none) ∙ c.if-is_empty.false in cc)
+          (ap (λ (v : CoreModel). batch_refusal m.combine (segments_by g.X.PrefixExtractor.lengths c.args.laws.now.segments) v.segments v.settings.default_millis c.args.now c.args.batch) c.self.view_is ∙ refusal_known (option_map g.M.MergeOperator.combine c.args.env.now.operator) (reach_of g.S.Store g.M.MergeOperator g.T.BlockTransformer c.args.env.now).meaning.combine (segments_by g.X.PrefixExtractor.lengths c.args.laws.now.segments) (view_of c.self.inside) c.args.self.now _ c.args.now c.args.batch _ (sym (combine_is g.M.MergeOperator.combine c.args.env.now.operator)) c.self.view_is (to_z-of_z w64 c.args.now c.ranges.now) test) fine (subst (λ (v : CoreModel). IsSegmented (segments_by g.X.PrefixExtractor.lengths c.args.laws.now.segments) v) (sym c.self.view_is) z).recorded c.self.invariant.log.last below
+          ∙ ap (λ (v : CoreModel). (at c.args.now v.state, Refused c.in_err-prefixes.field-0.0)) c.self.view_is) c.in_err-prefixes.ensures.cause);
       event = IfOk-from_err c.from_residual.result _ c.from_residual.ensures.0;
       vouched = IfOk-from_err c.from_residual.result _ c.from_residual.ensures.0;
       kept = IfOk-from_err c.from_residual.result _ c.from_residual.ensures.0;
+      segmented = IfOk-from_err c.from_residual.result _ c.from_residual.ensures.0;
+      segmented_refused = rw p.1 (λ h z. z);
       kept_refused = rw p.1 (λ m k. k);
       load = λ ops of. IfOk-from_err c.from_residual.result _ c.from_residual.ensures.0;
       same = rw p.1 refl;
       idle = λ none. absurd (true≢false (sym (c.is_empty.ensures.1 none) ∙ c.if-is_empty.false));
       exhausted = λ some. none_left (view_of c.self.inside) c.args.self.now (unseen_of c.self.inside) (2 ^ 64 - 2) c.self.view_is c.self.invariant below;
-      limit = λ some below fine past. or_short (λ short. p.1 ∙ ap Err (p.2 ∙ short)) (λ test. none_some c.in_err-test_batch.field-0.0 (sym fine ∙ refusal_known (option_map g.M.MergeOperator.combine c.args.env.now.operator) (reach_of g.S.Store g.M.MergeOperator g.T.BlockTransformer c.args.env.now).meaning.combine (view_of c.self.inside) c.args.self.now _ c.args.now c.args.batch _ (sym (combine_is g.M.MergeOperator.combine c.args.env.now.operator)) c.self.view_is (to_z-of_z w64 c.args.now c.ranges.now) test)) c.in_err-test_batch.ensures.cause;
-      first = λ some lower e is. first_moved c.in_err-test_batch.field-0.0 e errors.OutOfMemory _ c.from_residual.result refl (p.1 ∙ ap Err p.2) (c.in_err-test_batch.ensures.first e (refusal_asked (option_map g.M.MergeOperator.combine c.args.env.now.operator) (reach_of g.S.Store g.M.MergeOperator g.T.BlockTransformer c.args.env.now).meaning.combine (view_of c.self.inside) c.args.self.now _ c.args.now c.args.batch _ (sym (combine_is g.M.MergeOperator.combine c.args.env.now.operator)) c.self.view_is (to_z-of_z w64 c.args.now c.ranges.now) is));
-      cause = rw (p.1, p.2) (cause_test (short_fault (reach_of g.S.Store g.M.MergeOperator g.T.BlockTransformer c.args.env.now) (reach_of g.S.Store g.M.MergeOperator g.T.BlockTransformer c.args.env.now) c.in_err-test_batch.field-0.0) (λ test. refusal_known (option_map g.M.MergeOperator.combine c.args.env.now.operator) (reach_of g.S.Store g.M.MergeOperator g.T.BlockTransformer c.args.env.now).meaning.combine (view_of c.self.inside) c.args.self.now _ c.args.now c.args.batch _ (sym (combine_is g.M.MergeOperator.combine c.args.env.now.operator)) c.self.view_is (to_z-of_z w64 c.args.now c.ranges.now) test) c.in_err-test_batch.ensures.cause);
+      limit = λ some below fine past. or_short (λ short. p.1 ∙ ap Err (p.2 ∙ short)) (λ test. none_some c.in_err-prefixes.field-0.0 (sym fine ∙ refusal_known (option_map g.M.MergeOperator.combine c.args.env.now.operator) (reach_of g.S.Store g.M.MergeOperator g.T.BlockTransformer c.args.env.now).meaning.combine (segments_by g.X.PrefixExtractor.lengths c.args.laws.now.segments) (view_of c.self.inside) c.args.self.now _ c.args.now c.args.batch _ (sym (combine_is g.M.MergeOperator.combine c.args.env.now.operator)) c.self.view_is (to_z-of_z w64 c.args.now c.ranges.now) test)) c.in_err-prefixes.ensures.cause;
+      first = λ some lower e is. first_moved c.in_err-prefixes.field-0.0 e errors.OutOfMemory _ c.from_residual.result refl (p.1 ∙ ap Err p.2) (c.in_err-prefixes.ensures.first e (refusal_asked (option_map g.M.MergeOperator.combine c.args.env.now.operator) (reach_of g.S.Store g.M.MergeOperator g.T.BlockTransformer c.args.env.now).meaning.combine (segments_by g.X.PrefixExtractor.lengths c.args.laws.now.segments) (view_of c.self.inside) c.args.self.now _ c.args.now c.args.batch _ (sym (combine_is g.M.MergeOperator.combine c.args.env.now.operator)) c.self.view_is (to_z-of_z w64 c.args.now c.ranges.now) is));
+      cause = rw (p.1, p.2) (cause_test (short_fault (reach_of g.S.Store g.M.MergeOperator g.T.BlockTransformer c.args.env.now) (reach_of g.S.Store g.M.MergeOperator g.T.BlockTransformer c.args.env.now) c.in_err-prefixes.field-0.0) (λ test. refusal_known (option_map g.M.MergeOperator.combine c.args.env.now.operator) (reach_of g.S.Store g.M.MergeOperator g.T.BlockTransformer c.args.env.now).meaning.combine (segments_by g.X.PrefixExtractor.lengths c.args.laws.now.segments) (view_of c.self.inside) c.args.self.now _ c.args.now c.args.batch _ (sym (combine_is g.M.MergeOperator.combine c.args.env.now.operator)) c.self.view_is (to_z-of_z w64 c.args.now c.ranges.now) test) c.in_err-prefixes.ensures.cause);
       outside = refl;
       call = call_none _;
       reads = reads_none _;
@@ -265,18 +290,20 @@ returns-in_err-place g c =
     let limit = c.in_err-place.ensures.limit in
     let below : c.self.inside.log.last < 2 ^ 64 - 2 = omega (arith, c.last.ensures) in
     record {
-      step = IfOk-from_err c.from_residual-in_err-place.result _ c.from_residual-in_err-place.ensures.0;
-      refused = rw (p.1, p.2) (inr (inl limit.0));
+      step = λ z. IfOk-from_err c.from_residual-in_err-place.result _ c.from_residual-in_err-place.ensures.0;
+      refused = λ z. rw (p.1, p.2) (inr (inl limit.0));
       event = IfOk-from_err c.from_residual-in_err-place.result _ c.from_residual-in_err-place.ensures.0;
       vouched = IfOk-from_err c.from_residual-in_err-place.result _ c.from_residual-in_err-place.ensures.0;
       kept = IfOk-from_err c.from_residual-in_err-place.result _ c.from_residual-in_err-place.ensures.0;
       load = λ ops of. IfOk-from_err c.from_residual-in_err-place.result _ c.from_residual-in_err-place.ensures.0;
+      segmented = IfOk-from_err c.from_residual-in_err-place.result _ c.from_residual-in_err-place.ensures.0;
+      segmented_refused = rw p.1 (λ h z. z);
       kept_refused = rw p.1 (λ m k. k);
       same = rw p.1 refl;
       idle = λ none. absurd (true≢false (sym (c.is_empty.ensures.1 none) ∙ c.if-is_empty.false));
       exhausted = λ some. none_left (view_of c.self.inside) c.args.self.now (unseen_of c.self.inside) (2 ^ 64 - 2) c.self.view_is c.self.invariant below;
       limit = λ some below fine past. inl (p.1 ∙ ap Err (p.2 ∙ limit.0));
-      first = λ some lower e is. none_some e (sym (refusal_known (option_map g.M.MergeOperator.combine c.args.env.now.operator) (reach_of g.S.Store g.M.MergeOperator g.T.BlockTransformer c.args.env.now).meaning.combine (view_of c.self.inside) c.args.self.now _ c.args.now c.args.batch _ (sym (combine_is g.M.MergeOperator.combine c.args.env.now.operator)) c.self.view_is (to_z-of_z w64 c.args.now c.ranges.now) c.in_ok-test_batch.ensures.tested) ∙ is);
+      first = λ some lower e is. none_some e (sym (refusal_known (option_map g.M.MergeOperator.combine c.args.env.now.operator) (reach_of g.S.Store g.M.MergeOperator g.T.BlockTransformer c.args.env.now).meaning.combine (segments_by g.X.PrefixExtractor.lengths c.args.laws.now.segments) (view_of c.self.inside) c.args.self.now _ c.args.now c.args.batch _ (sym (combine_is g.M.MergeOperator.combine c.args.env.now.operator)) c.self.view_is (to_z-of_z w64 c.args.now c.ranges.now) c.in_ok-prefixes.ensures.tested) ∙ is);
       cause = rw (p.1, p.2) (inr (inr (inl (limit.0, past_place (view_of c.self.inside) c.args.self.now (unseen_of c.self.inside) 1 c.self.view_is c.self.invariant limit.1))));
       outside = refl;
       call = call_none _;
@@ -288,18 +315,20 @@ returns-in_err-reserve g c =
     let p = err_from_is_err_and c.from_residual-in_err-reserve.result c.from_residual-in_err-reserve.ensures.1 in
     let below : c.self.inside.log.last < 2 ^ 64 - 2 = omega (arith, c.last.ensures) in
     record {
-      step = IfOk-from_err c.from_residual-in_err-reserve.result _ c.from_residual-in_err-reserve.ensures.0;
-      refused = rw (p.1, p.2) (inl tt);
+      step = λ z. IfOk-from_err c.from_residual-in_err-reserve.result _ c.from_residual-in_err-reserve.ensures.0;
+      refused = λ z. rw (p.1, p.2) (inl tt);
       event = IfOk-from_err c.from_residual-in_err-reserve.result _ c.from_residual-in_err-reserve.ensures.0;
       vouched = IfOk-from_err c.from_residual-in_err-reserve.result _ c.from_residual-in_err-reserve.ensures.0;
       kept = IfOk-from_err c.from_residual-in_err-reserve.result _ c.from_residual-in_err-reserve.ensures.0;
       load = λ ops of. IfOk-from_err c.from_residual-in_err-reserve.result _ c.from_residual-in_err-reserve.ensures.0;
+      segmented = IfOk-from_err c.from_residual-in_err-reserve.result _ c.from_residual-in_err-reserve.ensures.0;
+      segmented_refused = rw p.1 (λ h z. segmented_same h c.args.self.now _ (subst (λ (v : CoreModel). IsSame v (view_of (record c.self.inside { log = c.reserve.new.self }))) c.self.view_is (room_made c.self.inside c.reserve.new.self c.reserve.ensures.value)) z);
       kept_refused = rw p.1 (λ m k. kept_same m c.args.self.now _ (subst (λ (v : CoreModel). IsSame v (view_of (record c.self.inside { log = c.reserve.new.self }))) c.self.view_is (room_made c.self.inside c.reserve.new.self c.reserve.ensures.value)) k);
       same = rw p.1 (subst (λ (v : CoreModel). IsSame v (view_of (record c.self.inside { log = c.reserve.new.self }))) c.self.view_is (room_made c.self.inside c.reserve.new.self c.reserve.ensures.value));
       idle = λ none. absurd (true≢false (sym (c.is_empty.ensures.1 none) ∙ c.if-is_empty.false));
       exhausted = λ some. none_left (view_of c.self.inside) c.args.self.now (unseen_of c.self.inside) (2 ^ 64 - 2) c.self.view_is c.self.invariant below;
       limit = λ some below fine. placed (view_of c.self.inside) c.args.self.now (unseen_of c.self.inside) 1 c.self.view_is c.self.invariant c.in_ok-place.ensures.place;
-      first = λ some lower e is. none_some e (sym (refusal_known (option_map g.M.MergeOperator.combine c.args.env.now.operator) (reach_of g.S.Store g.M.MergeOperator g.T.BlockTransformer c.args.env.now).meaning.combine (view_of c.self.inside) c.args.self.now _ c.args.now c.args.batch _ (sym (combine_is g.M.MergeOperator.combine c.args.env.now.operator)) c.self.view_is (to_z-of_z w64 c.args.now c.ranges.now) c.in_ok-test_batch.ensures.tested) ∙ is);
+      first = λ some lower e is. none_some e (sym (refusal_known (option_map g.M.MergeOperator.combine c.args.env.now.operator) (reach_of g.S.Store g.M.MergeOperator g.T.BlockTransformer c.args.env.now).meaning.combine (segments_by g.X.PrefixExtractor.lengths c.args.laws.now.segments) (view_of c.self.inside) c.args.self.now _ c.args.now c.args.batch _ (sym (combine_is g.M.MergeOperator.combine c.args.env.now.operator)) c.self.view_is (to_z-of_z w64 c.args.now c.ranges.now) c.in_ok-prefixes.ensures.tested) ∙ is);
       cause = rw (p.1, p.2) (inl tt);
       outside = refl;
       call = call_none _;
@@ -311,18 +340,20 @@ returns-in_err-rows g c =
     let p = err_from_is_err_and c.from_residual-in_err-rows.result c.from_residual-in_err-rows.ensures.1 in
     let below : c.self.inside.log.last < 2 ^ 64 - 2 = omega (arith, c.last.ensures) in
     record {
-      step = IfOk-from_err c.from_residual-in_err-rows.result _ c.from_residual-in_err-rows.ensures.0;
-      refused = rw (p.1, p.2) (inl (either (short_fault (reach_of g.S.Store g.M.MergeOperator g.T.BlockTransformer c.args.env.now) (reach_of g.S.Store g.M.MergeOperator g.T.BlockTransformer (record c.args.env.now { operator = c.rows_of_batch.new.operator })) c.in_err-rows.field-0.0) (callback_fault (reach_of g.S.Store g.M.MergeOperator g.T.BlockTransformer c.args.env.now) (reach_of g.S.Store g.M.MergeOperator g.T.BlockTransformer (record c.args.env.now { operator = c.rows_of_batch.new.operator })) c.in_err-rows.field-0.0) c.in_err-rows.ensures.cause));
+      step = λ z. IfOk-from_err c.from_residual-in_err-rows.result _ c.from_residual-in_err-rows.ensures.0;
+      refused = λ z. rw (p.1, p.2) (inl (either (short_fault (reach_of g.S.Store g.M.MergeOperator g.T.BlockTransformer c.args.env.now) (reach_of g.S.Store g.M.MergeOperator g.T.BlockTransformer (record c.args.env.now { operator = c.rows_of_batch.new.operator })) c.in_err-rows.field-0.0) (callback_fault (reach_of g.S.Store g.M.MergeOperator g.T.BlockTransformer c.args.env.now) (reach_of g.S.Store g.M.MergeOperator g.T.BlockTransformer (record c.args.env.now { operator = c.rows_of_batch.new.operator })) c.in_err-rows.field-0.0) c.in_err-rows.ensures.cause));
       event = IfOk-from_err c.from_residual-in_err-rows.result _ c.from_residual-in_err-rows.ensures.0;
       vouched = IfOk-from_err c.from_residual-in_err-rows.result _ c.from_residual-in_err-rows.ensures.0;
       kept = IfOk-from_err c.from_residual-in_err-rows.result _ c.from_residual-in_err-rows.ensures.0;
       load = λ ops of. IfOk-from_err c.from_residual-in_err-rows.result _ c.from_residual-in_err-rows.ensures.0;
+      segmented = IfOk-from_err c.from_residual-in_err-rows.result _ c.from_residual-in_err-rows.ensures.0;
+      segmented_refused = rw p.1 (λ h z. segmented_same h c.args.self.now _ (subst (λ (v : CoreModel). IsSame v (view_of (record c.self.inside { log = c.reserve.new.self }))) c.self.view_is (room_made c.self.inside c.reserve.new.self c.reserve.ensures.value)) z);
       kept_refused = rw p.1 (λ m k. kept_same m c.args.self.now _ (subst (λ (v : CoreModel). IsSame v (view_of (record c.self.inside { log = c.reserve.new.self }))) c.self.view_is (room_made c.self.inside c.reserve.new.self c.reserve.ensures.value)) k);
       same = rw p.1 (subst (λ (v : CoreModel). IsSame v (view_of (record c.self.inside { log = c.reserve.new.self }))) c.self.view_is (room_made c.self.inside c.reserve.new.self c.reserve.ensures.value));
       idle = λ none. absurd (true≢false (sym (c.is_empty.ensures.1 none) ∙ c.if-is_empty.false));
       exhausted = λ some. none_left (view_of c.self.inside) c.args.self.now (unseen_of c.self.inside) (2 ^ 64 - 2) c.self.view_is c.self.invariant below;
       limit = λ some below fine. placed (view_of c.self.inside) c.args.self.now (unseen_of c.self.inside) 1 c.self.view_is c.self.invariant c.in_ok-place.ensures.place;
-      first = λ some lower e is. none_some e (sym (refusal_known (option_map g.M.MergeOperator.combine c.args.env.now.operator) (reach_of g.S.Store g.M.MergeOperator g.T.BlockTransformer c.args.env.now).meaning.combine (view_of c.self.inside) c.args.self.now _ c.args.now c.args.batch _ (sym (combine_is g.M.MergeOperator.combine c.args.env.now.operator)) c.self.view_is (to_z-of_z w64 c.args.now c.ranges.now) c.in_ok-test_batch.ensures.tested) ∙ is);
+      first = λ some lower e is. none_some e (sym (refusal_known (option_map g.M.MergeOperator.combine c.args.env.now.operator) (reach_of g.S.Store g.M.MergeOperator g.T.BlockTransformer c.args.env.now).meaning.combine (segments_by g.X.PrefixExtractor.lengths c.args.laws.now.segments) (view_of c.self.inside) c.args.self.now _ c.args.now c.args.batch _ (sym (combine_is g.M.MergeOperator.combine c.args.env.now.operator)) c.self.view_is (to_z-of_z w64 c.args.now c.ranges.now) c.in_ok-prefixes.ensures.tested) ∙ is);
       cause = rw (p.1, p.2) (inl (either (short_fault (reach_of g.S.Store g.M.MergeOperator g.T.BlockTransformer c.args.env.now) (reach_of g.S.Store g.M.MergeOperator g.T.BlockTransformer (record c.args.env.now { operator = c.rows_of_batch.new.operator })) c.in_err-rows.field-0.0) (callback_fault (reach_of g.S.Store g.M.MergeOperator g.T.BlockTransformer c.args.env.now) (reach_of g.S.Store g.M.MergeOperator g.T.BlockTransformer (record c.args.env.now { operator = c.rows_of_batch.new.operator })) c.in_err-rows.field-0.0) c.in_err-rows.ensures.cause));
       outside = refl;
       call = asked_call g.S.Store g.M.MergeOperator g.T.BlockTransformer c.args.env.now c.rows_of_batch.new.operator c.rows_of_batch.ensures.same;
@@ -334,18 +365,20 @@ returns-in_err-ops g c =
     let p = err_from_is_err_and c.from_residual-in_err-ops.result c.from_residual-in_err-ops.ensures.1 in
     let below : c.self.inside.log.last < 2 ^ 64 - 2 = omega (arith, c.last.ensures) in
     record {
-      step = IfOk-from_err c.from_residual-in_err-ops.result _ c.from_residual-in_err-ops.ensures.0;
-      refused = rw (p.1, p.2) (inl (short_fault (reach_of g.S.Store g.M.MergeOperator g.T.BlockTransformer c.args.env.now) (reach_of g.S.Store g.M.MergeOperator g.T.BlockTransformer (record c.args.env.now { operator = c.rows_of_batch.new.operator })) c.in_err-ops.field-0.0 c.in_err-ops.ensures.cause));
+      step = λ z. IfOk-from_err c.from_residual-in_err-ops.result _ c.from_residual-in_err-ops.ensures.0;
+      refused = λ z. rw (p.1, p.2) (inl (short_fault (reach_of g.S.Store g.M.MergeOperator g.T.BlockTransformer c.args.env.now) (reach_of g.S.Store g.M.MergeOperator g.T.BlockTransformer (record c.args.env.now { operator = c.rows_of_batch.new.operator })) c.in_err-ops.field-0.0 c.in_err-ops.ensures.cause));
       event = IfOk-from_err c.from_residual-in_err-ops.result _ c.from_residual-in_err-ops.ensures.0;
       vouched = IfOk-from_err c.from_residual-in_err-ops.result _ c.from_residual-in_err-ops.ensures.0;
       kept = IfOk-from_err c.from_residual-in_err-ops.result _ c.from_residual-in_err-ops.ensures.0;
       load = λ ops of. IfOk-from_err c.from_residual-in_err-ops.result _ c.from_residual-in_err-ops.ensures.0;
+      segmented = IfOk-from_err c.from_residual-in_err-ops.result _ c.from_residual-in_err-ops.ensures.0;
+      segmented_refused = rw p.1 (λ h z. segmented_same h c.args.self.now _ (subst (λ (v : CoreModel). IsSame v (view_of (record c.self.inside { log = c.reserve.new.self }))) c.self.view_is (room_made c.self.inside c.reserve.new.self c.reserve.ensures.value)) z);
       kept_refused = rw p.1 (λ m k. kept_same m c.args.self.now _ (subst (λ (v : CoreModel). IsSame v (view_of (record c.self.inside { log = c.reserve.new.self }))) c.self.view_is (room_made c.self.inside c.reserve.new.self c.reserve.ensures.value)) k);
       same = rw p.1 (subst (λ (v : CoreModel). IsSame v (view_of (record c.self.inside { log = c.reserve.new.self }))) c.self.view_is (room_made c.self.inside c.reserve.new.self c.reserve.ensures.value));
       idle = λ none. absurd (true≢false (sym (c.is_empty.ensures.1 none) ∙ c.if-is_empty.false));
       exhausted = λ some. none_left (view_of c.self.inside) c.args.self.now (unseen_of c.self.inside) (2 ^ 64 - 2) c.self.view_is c.self.invariant below;
       limit = λ some below fine. placed (view_of c.self.inside) c.args.self.now (unseen_of c.self.inside) 1 c.self.view_is c.self.invariant c.in_ok-place.ensures.place;
-      first = λ some lower e is. none_some e (sym (refusal_known (option_map g.M.MergeOperator.combine c.args.env.now.operator) (reach_of g.S.Store g.M.MergeOperator g.T.BlockTransformer c.args.env.now).meaning.combine (view_of c.self.inside) c.args.self.now _ c.args.now c.args.batch _ (sym (combine_is g.M.MergeOperator.combine c.args.env.now.operator)) c.self.view_is (to_z-of_z w64 c.args.now c.ranges.now) c.in_ok-test_batch.ensures.tested) ∙ is);
+      first = λ some lower e is. none_some e (sym (refusal_known (option_map g.M.MergeOperator.combine c.args.env.now.operator) (reach_of g.S.Store g.M.MergeOperator g.T.BlockTransformer c.args.env.now).meaning.combine (segments_by g.X.PrefixExtractor.lengths c.args.laws.now.segments) (view_of c.self.inside) c.args.self.now _ c.args.now c.args.batch _ (sym (combine_is g.M.MergeOperator.combine c.args.env.now.operator)) c.self.view_is (to_z-of_z w64 c.args.now c.ranges.now) c.in_ok-prefixes.ensures.tested) ∙ is);
       cause = rw (p.1, p.2) (inl (short_fault (reach_of g.S.Store g.M.MergeOperator g.T.BlockTransformer c.args.env.now) (reach_of g.S.Store g.M.MergeOperator g.T.BlockTransformer (record c.args.env.now { operator = c.rows_of_batch.new.operator })) c.in_err-ops.field-0.0 c.in_err-ops.ensures.cause));
       outside = refl;
       call = asked_call g.S.Store g.M.MergeOperator g.T.BlockTransformer c.args.env.now c.rows_of_batch.new.operator c.rows_of_batch.ensures.same;
@@ -357,18 +390,20 @@ returns-in_err-keys g c =
     let p = err_from_is_err_and c.from_residual-in_err-keys.result c.from_residual-in_err-keys.ensures.1 in
     let below : c.self.inside.log.last < 2 ^ 64 - 2 = omega (arith, c.last.ensures) in
     record {
-      step = IfOk-from_err c.from_residual-in_err-keys.result _ c.from_residual-in_err-keys.ensures.0;
-      refused = rw (p.1, p.2) (inl (short_fault (reach_of g.S.Store g.M.MergeOperator g.T.BlockTransformer c.args.env.now) (reach_of g.S.Store g.M.MergeOperator g.T.BlockTransformer (record c.args.env.now { operator = c.rows_of_batch.new.operator })) c.in_err-keys.field-0.0 c.in_err-keys.ensures.cause));
+      step = λ z. IfOk-from_err c.from_residual-in_err-keys.result _ c.from_residual-in_err-keys.ensures.0;
+      refused = λ z. rw (p.1, p.2) (inl (short_fault (reach_of g.S.Store g.M.MergeOperator g.T.BlockTransformer c.args.env.now) (reach_of g.S.Store g.M.MergeOperator g.T.BlockTransformer (record c.args.env.now { operator = c.rows_of_batch.new.operator })) c.in_err-keys.field-0.0 c.in_err-keys.ensures.cause));
       event = IfOk-from_err c.from_residual-in_err-keys.result _ c.from_residual-in_err-keys.ensures.0;
       vouched = IfOk-from_err c.from_residual-in_err-keys.result _ c.from_residual-in_err-keys.ensures.0;
       kept = IfOk-from_err c.from_residual-in_err-keys.result _ c.from_residual-in_err-keys.ensures.0;
       load = λ ops of. IfOk-from_err c.from_residual-in_err-keys.result _ c.from_residual-in_err-keys.ensures.0;
+      segmented = IfOk-from_err c.from_residual-in_err-keys.result _ c.from_residual-in_err-keys.ensures.0;
+      segmented_refused = rw p.1 (λ h z. segmented_same h c.args.self.now _ (subst (λ (v : CoreModel). IsSame v (view_of (record c.self.inside { log = c.reserve.new.self }))) c.self.view_is (room_made c.self.inside c.reserve.new.self c.reserve.ensures.value)) z);
       kept_refused = rw p.1 (λ m k. kept_same m c.args.self.now _ (subst (λ (v : CoreModel). IsSame v (view_of (record c.self.inside { log = c.reserve.new.self }))) c.self.view_is (room_made c.self.inside c.reserve.new.self c.reserve.ensures.value)) k);
       same = rw p.1 (subst (λ (v : CoreModel). IsSame v (view_of (record c.self.inside { log = c.reserve.new.self }))) c.self.view_is (room_made c.self.inside c.reserve.new.self c.reserve.ensures.value));
       idle = λ none. absurd (true≢false (sym (c.is_empty.ensures.1 none) ∙ c.if-is_empty.false));
       exhausted = λ some. none_left (view_of c.self.inside) c.args.self.now (unseen_of c.self.inside) (2 ^ 64 - 2) c.self.view_is c.self.invariant below;
       limit = λ some below fine. placed (view_of c.self.inside) c.args.self.now (unseen_of c.self.inside) 1 c.self.view_is c.self.invariant c.in_ok-place.ensures.place;
-      first = λ some lower e is. none_some e (sym (refusal_known (option_map g.M.MergeOperator.combine c.args.env.now.operator) (reach_of g.S.Store g.M.MergeOperator g.T.BlockTransformer c.args.env.now).meaning.combine (view_of c.self.inside) c.args.self.now _ c.args.now c.args.batch _ (sym (combine_is g.M.MergeOperator.combine c.args.env.now.operator)) c.self.view_is (to_z-of_z w64 c.args.now c.ranges.now) c.in_ok-test_batch.ensures.tested) ∙ is);
+      first = λ some lower e is. none_some e (sym (refusal_known (option_map g.M.MergeOperator.combine c.args.env.now.operator) (reach_of g.S.Store g.M.MergeOperator g.T.BlockTransformer c.args.env.now).meaning.combine (segments_by g.X.PrefixExtractor.lengths c.args.laws.now.segments) (view_of c.self.inside) c.args.self.now _ c.args.now c.args.batch _ (sym (combine_is g.M.MergeOperator.combine c.args.env.now.operator)) c.self.view_is (to_z-of_z w64 c.args.now c.ranges.now) c.in_ok-prefixes.ensures.tested) ∙ is);
       cause = rw (p.1, p.2) (inl (short_fault (reach_of g.S.Store g.M.MergeOperator g.T.BlockTransformer c.args.env.now) (reach_of g.S.Store g.M.MergeOperator g.T.BlockTransformer (record c.args.env.now { operator = c.rows_of_batch.new.operator })) c.in_err-keys.field-0.0 c.in_err-keys.ensures.cause));
       outside = refl;
       call = asked_call g.S.Store g.M.MergeOperator g.T.BlockTransformer c.args.env.now c.rows_of_batch.new.operator c.rows_of_batch.ensures.same;
@@ -380,18 +415,20 @@ returns-in_err-put_batch g c =
     let p = err_from_is_err_and c.from_residual-in_err-put_batch.result c.from_residual-in_err-put_batch.ensures.1 in
     let below : c.self.inside.log.last < 2 ^ 64 - 2 = omega (arith, c.last.ensures) in
     record {
-      step = IfOk-from_err c.from_residual-in_err-put_batch.result _ c.from_residual-in_err-put_batch.ensures.0;
-      refused = rw (p.1, p.2) (inl (short_fault (reach_of g.S.Store g.M.MergeOperator g.T.BlockTransformer c.args.env.now) (reach_of g.S.Store g.M.MergeOperator g.T.BlockTransformer (record c.args.env.now { operator = c.rows_of_batch.new.operator })) c.in_err-put_batch.field-0.0 c.in_err-put_batch.ensures.cause));
+      step = λ z. IfOk-from_err c.from_residual-in_err-put_batch.result _ c.from_residual-in_err-put_batch.ensures.0;
+      refused = λ z. rw (p.1, p.2) (inl (short_fault (reach_of g.S.Store g.M.MergeOperator g.T.BlockTransformer c.args.env.now) (reach_of g.S.Store g.M.MergeOperator g.T.BlockTransformer (record c.args.env.now { operator = c.rows_of_batch.new.operator })) c.in_err-put_batch.field-0.0 c.in_err-put_batch.ensures.cause));
       event = IfOk-from_err c.from_residual-in_err-put_batch.result _ c.from_residual-in_err-put_batch.ensures.0;
       vouched = IfOk-from_err c.from_residual-in_err-put_batch.result _ c.from_residual-in_err-put_batch.ensures.0;
       kept = IfOk-from_err c.from_residual-in_err-put_batch.result _ c.from_residual-in_err-put_batch.ensures.0;
       load = λ ops of. IfOk-from_err c.from_residual-in_err-put_batch.result _ c.from_residual-in_err-put_batch.ensures.0;
-      kept_refused = rw p.1 (λ m k. kept_same m c.args.self.now _ (ap (λ (y : LayersModel). view_of (record c.self.inside { log = c.reserve.new.self; layers = y })) c.in_err-put_batch.ensures.same_layers ∙ subst (λ (v : CoreModel). IsSame v (view_of (record c.self.inside { log = c.reserve.new.self }))) c.self.view_is (room_made c.self.inside c.reserve.new.self c.reserve.ensures.value)) k);
-      same = rw p.1 (ap (λ (y : LayersModel). view_of (record c.self.inside { log = c.reserve.new.self; layers = y })) c.in_err-put_batch.ensures.same_layers ∙ subst (λ (v : CoreModel). IsSame v (view_of (record c.self.inside { log = c.reserve.new.self }))) c.self.view_is (room_made c.self.inside c.reserve.new.self c.reserve.ensures.value));
+      segmented = IfOk-from_err c.from_residual-in_err-put_batch.result _ c.from_residual-in_err-put_batch.ensures.0;
+      segmented_refused = rw p.1 (λ h z. segmented_same h c.args.self.now _ ((let y = c.in_err-put_batch.ensures.same_layers in let ps = c.in_err-put_batch.ensures.same_segments in λ i. view_of (record c.self.inside { log = c.reserve.new.self; layers = y i; segments = ps i })) ∙ subst (λ (v : CoreModel). IsSame v (view_of (record c.self.inside { log = c.reserve.new.self }))) c.self.view_is (room_made c.self.inside c.reserve.new.self c.reserve.ensures.value)) z);
+      kept_refused = rw p.1 (λ m k. kept_same m c.args.self.now _ ((let y = c.in_err-put_batch.ensures.same_layers in let ps = c.in_err-put_batch.ensures.same_segments in λ i. view_of (record c.self.inside { log = c.reserve.new.self; layers = y i; segments = ps i })) ∙ subst (λ (v : CoreModel). IsSame v (view_of (record c.self.inside { log = c.reserve.new.self }))) c.self.view_is (room_made c.self.inside c.reserve.new.self c.reserve.ensures.value)) k);
+      same = rw p.1 ((let y = c.in_err-put_batch.ensures.same_layers in let ps = c.in_err-put_batch.ensures.same_segments in λ i. view_of (record c.self.inside { log = c.reserve.new.self; layers = y i; segments = ps i })) ∙ subst (λ (v : CoreModel). IsSame v (view_of (record c.self.inside { log = c.reserve.new.self }))) c.self.view_is (room_made c.self.inside c.reserve.new.self c.reserve.ensures.value));
       idle = λ none. absurd (true≢false (sym (c.is_empty.ensures.1 none) ∙ c.if-is_empty.false));
       exhausted = λ some. none_left (view_of c.self.inside) c.args.self.now (unseen_of c.self.inside) (2 ^ 64 - 2) c.self.view_is c.self.invariant below;
       limit = λ some below fine. placed (view_of c.self.inside) c.args.self.now (unseen_of c.self.inside) 1 c.self.view_is c.self.invariant c.in_ok-place.ensures.place;
-      first = λ some lower e is. none_some e (sym (refusal_known (option_map g.M.MergeOperator.combine c.args.env.now.operator) (reach_of g.S.Store g.M.MergeOperator g.T.BlockTransformer c.args.env.now).meaning.combine (view_of c.self.inside) c.args.self.now _ c.args.now c.args.batch _ (sym (combine_is g.M.MergeOperator.combine c.args.env.now.operator)) c.self.view_is (to_z-of_z w64 c.args.now c.ranges.now) c.in_ok-test_batch.ensures.tested) ∙ is);
+      first = λ some lower e is. none_some e (sym (refusal_known (option_map g.M.MergeOperator.combine c.args.env.now.operator) (reach_of g.S.Store g.M.MergeOperator g.T.BlockTransformer c.args.env.now).meaning.combine (segments_by g.X.PrefixExtractor.lengths c.args.laws.now.segments) (view_of c.self.inside) c.args.self.now _ c.args.now c.args.batch _ (sym (combine_is g.M.MergeOperator.combine c.args.env.now.operator)) c.self.view_is (to_z-of_z w64 c.args.now c.ranges.now) c.in_ok-prefixes.ensures.tested) ∙ is);
       cause = rw (p.1, p.2) (inl (short_fault (reach_of g.S.Store g.M.MergeOperator g.T.BlockTransformer c.args.env.now) (reach_of g.S.Store g.M.MergeOperator g.T.BlockTransformer (record c.args.env.now { operator = c.rows_of_batch.new.operator })) c.in_err-put_batch.field-0.0 c.in_err-put_batch.ensures.cause));
       outside = refl;
       call = asked_call g.S.Store g.M.MergeOperator g.T.BlockTransformer c.args.env.now c.rows_of_batch.new.operator c.rows_of_batch.ensures.same;
