@@ -17,6 +17,7 @@ pub mod lookup;
 pub mod open_scan;
 mod put;
 pub mod scan;
+mod scan_filters;
 mod tested;
 mod values;
 pub mod vectors;
