@@ -81,7 +81,7 @@ asked_passes asking h a c (Ok passes) k = by (Asks asking h) refl
         (filters_act h call.0 ∷ [], call.1, λ yes. inr (is, (call.0, refl, subst (λ (b : Bool). IsAsked a.meaning.decode asking.policies asking.query (whole_answer h.info.filter_len call.0) b) yes call.2)))
     by false is = ([], call_quiet a c k.objects (same_parts asking h a c _ k) (k.none is).1, λ yes. inl (is, refl))
 
-asks_err : (asking : Asking) (h : SsTableHandle) (a c : Reach) (e : SlateDBError) → IsAsking asking h a c (Err e) → Asks asking h ≡ true
+pub asks_err : (asking : Asking) (h : SsTableHandle) (a c : Reach) (e : SlateDBError) → IsAsking asking h a c (Err e) → Asks asking h ≡ true
 asks_err asking h a c e k = by (Asks asking h) refl
   where
     by : (t : Bool) → Asks asking h ≡ t → t ≡ true
@@ -103,14 +103,14 @@ asked_cause asking h a c (Err e) k = by k.cause
 
 -- ---- where the objects that answer hold the table, with its filters
 
-asks_some : (policies : List Policy) (len : ℕ) → asks_filters policies len ≡ true → 0 < len
+pub asks_some : (policies : List Policy) (len : ℕ) → asks_filters policies len ≡ true → 0 < len
 asks_some [] len h = cc
 asks_some (p ∷ ps) len h = grind (arith, nat_tests, h)
 
 for_point : (query : FilterQuery) (k : List ℕ) → query.target ≡ Point k → query ≡ point_query k query.context
 for_point query k is = λ i. record { target = is i; context = query.context }
 
-table_there : (m : Meaning) (os : Objects) (h : SsTableHandle) (rows : Rows) → (stored : IsStoredAs m os h rows) → object_at os (path_of root h.id.0) ≡ Some stored.bytes
+pub table_there : (m : Meaning) (os : Objects) (h : SsTableHandle) (rows : Rows) → (stored : IsStoredAs m os h rows) → object_at os (path_of root h.id.0) ≡ Some stored.bytes
 table_there m os h rows stored = subst (λ (o : Objects). object_at o (path_of root h.id.0) ≡ Some stored.bytes) (sym (same_Some os stored.os stored.told)) stored.there
 
 -- what the law says of such a table

@@ -84,6 +84,8 @@ mod ScanWorlds
 mod ScanTables
 mod SourceLists
 mod ScanReaders
+mod RangeFilters
+mod ScanFilters
 mod ScanOpenings
 mod ScanRefusals
 mod OpenNotes

@@ -4,6 +4,7 @@ use Rattle.std.specs.Prelude.{Contains, IfErr, ◌&&◌, ◌==◌, length, nat_l
 use Rattle.std.specs.Int.{w16, w32, w64}
 use Rattle.slate_types.specs.declared.error.SlateDBError.{SlateDBError}
 use Rattle.slate_types.specs.declared.error.SlateDBError.TheVariants.{ChecksumMismatch, CorruptTable, InvalidFilterBlock, InvalidRowFlags, InvalidSequenceOrder, MergeOperatorMissing}
+use Rattle.slate_types.specs.declared.filter_policy.FilterQuery.{FilterQuery}
 use Rattle.slate_types.specs.declared.iter.IterationOrder.{IterationOrder}
 use Rattle.slate_types.specs.Outside.{Act, Meaning, Reach}
 use Rattle.slate_block.specs.declared.block.Block.{Block}
@@ -13,6 +14,7 @@ use Rattle.slate_block.specs.Damage.{◌>>=◌, block_field, flags_at, flags_fie
 use Rattle.slate_block.specs.RowSpelling.{are_flags}
 use Rattle.slate_block.specs.RowReading.{row_v1_of}
 use Rattle.slate_block.specs.Walks.{are_named, between, block_reads, block_reads_v1, first_key_v1, is_restored, moved, moved_result, next_place, reads_v2, row_upto, row_v1_in}
+use Rattle.slate_filter.specs.Policy.{Policy}
 use Rattle.slate_table.specs.declared.info.SsTableHandle.{SsTableHandle}
 use Rattle.slate_table.specs.Parts.{Encode}
 use Rattle.slate_read.specs.Showing.{RefusesBlockOf, ShowsByReads}
@@ -21,6 +23,7 @@ use Rattle.slate_db.specs.Installs.{AreHandles, tables_of}
 use Rattle.slate_db.specs.Model.{CoreModel}
 use Rattle.slate_db.specs.Parts.{IsTableError}
 use Rattle.slate_read.specs.Folds.{IsRise, RefusesFold}
+use Rattle.slate_db.specs.ScanFilters.{ShowsFilters}
 use Rattle.slate_db.specs.Scans.{IsOpeningError, IsRefusedByScan, IsScanError, ShowsAmong}
 use Rattle.slate_db.specs.Shown.{IsUnreadable}
 use Rattle.slate_db.proofs.Damaged.{block_damage, block_unreadable, bound, in_block, index_unreadable, number_damage, passes}
@@ -144,12 +147,14 @@ rise_kind e h = absurd h
 pub scan_kind : (m : Meaning) (c : CoreModel) (acts : List Act) (e : SlateDBError) → IsRefusedByScan m c acts e → IsTableError e
 scan_kind m c acts e r = by r.refused
   where
-    by : RefusesFold m None e ⊎ ShowsAmong m.decode r.handles acts e → IsTableError e
+    by : RefusesFold m None e ⊎ ShowsAmong m.decode r.handles acts e ⊎ ((policies : List Policy) × (query : Option FilterQuery) × ShowsFilters m.decode policies query r.handles acts e) → IsTableError e
     by (inl (inl is)) = subst IsTableError (sym is.1) tt
     by (inl (inr is)) = rise_kind e is.2
-    by (inr (h, among, shows)) = unreadable_kind e (shown_unreadable m.decode h acts e (known_version (tables_of c.events) r.handles h r.are among) shows)
+    by (inr (inl (h, among, shows))) = unreadable_kind e (shown_unreadable m.decode h acts e (known_version (tables_of c.events) r.handles h r.are among) shows)
+    by (inr (inr (policies, query, shows))) = unreadable_kind e shows.kind
 
 -- and an opening's is one of a scan
-pub opening_scan : (before after : Reach) (c : CoreModel) (e : SlateDBError) → IsOpeningError before after c e → IsScanError before after c e
+pub opening_scan : {policies : List Policy} {query : Option FilterQuery} (before after : Reach) (c : CoreModel) (e : SlateDBError) → IsOpeningError policies query before after c e → IsScanError before after c e
 opening_scan before after c e (inl fault) = inl fault
-opening_scan before after c e (inr (reads, call, s)) = inr (reads, call, record { handles = s.handles; are = s.are; refused = inr s.shown })
+opening_scan before after c e (inr (reads, call, inl s)) = inr (reads, call, record { handles = s.handles; are = s.are; refused = inr (inl s.shown) })
+opening_scan {policies} {query} before after c e (inr (reads, call, inr f)) = inr (reads, call, record { handles = f.handles; are = f.are; refused = inr (inr (policies, query, f.shown)) })

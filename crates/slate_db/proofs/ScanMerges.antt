@@ -1,20 +1,24 @@
 -- A scan that was opened: what it leaves, and what it may refuse for.
 use Rattle.std.proofs.Common.{◌≡◌, ◌≢◌, ◌⊎◌, inl, inr, ℕ, ◌≤◌, true, false, List, [], ◌∷◌, ◌++◌, map, filter, reverse, Option, Some, None, refl, sym, ap, subst, ◌∙◌}
-use Rattle.std.specs.Prelude.{IfErr, IfOk, Result, Ok, Err}
+use Rattle.std.specs.Prelude.{Contains, IfErr, IfOk, Result, Ok, Err}
+use Rattle.std.proofs.lemmas.List.Elements.{Contains-append_right}
 use Rattle.std.specs.List.{AllByRecursion}
 use Rattle.slate_types.specs.declared.bytes_range.BytesRange.{BytesRange}
 use Rattle.slate_types.specs.declared.error.SlateDBError.{SlateDBError}
 use Rattle.slate_types.specs.declared.error.SlateDBError.TheVariants.{InvalidSequenceOrder, IteratorNotInitialized, OutOfMemory}
+use Rattle.slate_types.specs.declared.filter_policy.FilterContext.{FilterContext}
+use Rattle.slate_types.specs.declared.filter_policy.FilterQuery.{FilterQuery}
 use Rattle.slate_types.specs.declared.iter.IterationOrder.{IterationOrder}
 use Rattle.slate_types.specs.declared.types.RowEntry.{RowEntry}
 use Rattle.slate_types.specs.Fold.{operator_at}
 use Rattle.slate_types.specs.Iteration.{IsInOrder}
 use Rattle.slate_types.specs.Keys.{in_range}
-use Rattle.slate_types.specs.Outside.{Act, IsFault, Meaning, Objects, Reach}
+use Rattle.slate_types.specs.Outside.{Act, IsFault, Meaning, Objects, OnlyReads, Reach}
 use Rattle.slate_types.specs.Refusing.{IsDamage, IsReady, NoMore}
 use Rattle.slate_types.specs.Steps.{Takes}
 use Rattle.slate_types.specs.World.{AnswersWorld, IsCall, Made, Sees, World}
-use Rattle.slate_types.proofs.Calls.{seen}
+use Rattle.slate_types.proofs.Calls.{call_both, seen}
+use Rattle.slate_types.proofs.Reaching.{fault_earlier}
 use Rattle.slate_mem.specs.Batch.{Ops}
 use Rattle.slate_mem.specs.BatchModel.{holds_merge}
 use Rattle.slate_read.specs.declared.folding.Folding.{Folding}
@@ -30,23 +34,33 @@ use Rattle.slate_read.specs.OperatorIterators.{IsFolding, IsGoing, IsOperable, K
 use Rattle.slate_read.specs.Peeking.{TakesAhead, with_ahead}
 use Rattle.slate_read.specs.declared.sorted_run.SortedRun.{SortedRun}
 use Rattle.slate_read.specs.ReadSources as read
+use Rattle.slate_read.specs.Showing.{ShowsByReads}
+use Rattle.slate_table.specs.declared.info.SsTableHandle.{SsTableHandle}
+use Rattle.slate_table.specs.Parts.{Encode}
 use Rattle.slate_txn.specs.Reads.{rows_seen}
 use Rattle.slate_db.specs.declared.scan.DbIterator.{DbIterator}
 use Rattle.slate_db.specs.declared.scan.ScanState.{ScanState}
 use Rattle.slate_db.specs.declared.scan.ScanState.TheVariants.{Walking}
-use Rattle.slate_db.specs.Installs.{handles_of}
+use Rattle.slate_db.specs.Answered.{AnswersFrom}
+use Rattle.slate_db.specs.Installs.{handles_of, tables_of}
+use Rattle.slate_db.specs.Lookup.{AreFilteredAs}
 use Rattle.slate_db.specs.Log.{AreFine}
 use Rattle.slate_db.specs.Meaning.{rules_of}
 use Rattle.slate_db.specs.Model.{CoreModel, Rows}
 use Rattle.slate_db.specs.OpenScans.{AreScanSources, CanOpen, IsBlamedFor, folded_rows, merged_rows}
 use Rattle.slate_filter.specs.Policy.{Policy}
-use Rattle.slate_db.specs.Readable.{IsAnswered}
+use Rattle.slate_db.specs.Readable.{IsAnswered, IsReadable}
+use Rattle.slate_db.specs.ScanFilters.{AreRunsLeft, AreTablesThere, RunsAreLeft, ShowsFilters, scan_query}
+use Rattle.slate_db.specs.Scanned.{AreStoredRuns}
 use Rattle.slate_db.specs.Scans.{AreForIn, FoldsAll, IsFor, IsOpeningError, IsOperableIn, IsReached, IsRefusedByScan, IsScanRefusal, IsShownByScan, IsSoundIn, IsSoundSource, IsWorldOf, Leaves, MergedSources, RefusesIn, ScanRefuses, ScanSource, has_value, left_in, merge_refuses, merge_rows, order_of, source_refuses, source_rows}
 use Rattle.slate_db.specs.Sound.{AreBases}
 use Rattle.slate_db.specs.Whole.{IsWhole, Unseen}
+use Rattle.slate_db.proofs.Answered.{from_last}
+use Rattle.slate_db.proofs.Filters.{filtered_known}
 use Rattle.slate_db.proofs.Foldings.{bases_closed, closed_bases, going_refuses, refuses_going}
 use Rattle.slate_db.proofs.Runs.{all_handles}
-use Rattle.slate_db.proofs.ScanOpenings.{ScanOpens, scan_opens}
+use Rattle.slate_db.proofs.ScanFilters.{shows_more, tables_there}
+use Rattle.slate_db.proofs.ScanOpenings.{ScanOpens, runs_of_core, scan_opens, stored}
 use Rattle.slate_db.proofs.ScanRefusals.{IsShown, blamed_shows}
 use Rattle.slate_db.proofs.ScanFolds.{merged_falls}
 use Rattle.slate_db.proofs.ScanStates.{IsSound, Merged, OwnRefusal, operable_folds}
@@ -185,16 +199,44 @@ module _ (os : Objects) (m : Meaning) (c : CoreModel) (n : ℕ) (ops : Ops) (ran
 
 -- ---- what is refused
 
-module _ (m : Meaning) (c : CoreModel) (x : Unseen) (w : IsWhole c x) (range : BytesRange) (order : IterationOrder) (n : ℕ) (ops : Ops) (layers : List Rows) (sources : List ScanSource)
-    (are : AreScanSources range order n ops layers (reverse x.runs) sources) where
+-- what reads show they show behind others
+by_reads_later : (decode : Encode) (h : SsTableHandle) (done reads : List Act) (e : SlateDBError) → ShowsByReads decode h reads e → ShowsByReads decode h (done ++ reads) e
+by_reads_later decode h done reads e s = record {
+  given = s.given;
+  among = Contains-append_right done reads _ s.among;
+  why = elim s.why [
+    | inl k ↦ inl k
+    | inr k ↦ inr (k.0, k.1, record { first = k.2.first; stop = k.2.stop; at = k.2.at; from = k.2.from; upto = k.2.upto; within = k.2.within; given = k.2.given; among = Contains-append_right done reads _ k.2.among; refuses = k.2.refuses })
+  ];
+}
+
+shown_later : {m : Meaning} {c : CoreModel} (done reads : List Act) (e : SlateDBError) → IsShownByScan m c reads e → IsShownByScan m c (done ++ reads) e
+shown_later {m} done reads e s = record { handles = s.handles; are = s.are; shown = (s.shown.0, s.shown.1, by_reads_later m.decode s.shown.0 done reads e s.shown.2) }
+
+pub refused_later : (m : Meaning) (c : CoreModel) (done reads : List Act) (e : SlateDBError) → IsRefusedByScan m c reads e → IsRefusedByScan m c (done ++ reads) e
+refused_later m c done reads e r = record {
+  handles = r.handles;
+  are = r.are;
+  refused = elim r.refused [
+    | inl k ↦ inl k
+    | inr k ↦ inr (elim k [
+      | inl s ↦ inl (s.0, s.1, by_reads_later m.decode s.0 done reads e s.2)
+      | inr f ↦ inr (f.0, f.1, shows_more r.handles r.handles done reads e (λ h there. there) f.2)
+    ])
+  ];
+}
+
+-- left: of the runs of a core, what filters left
+module _ (m : Meaning) (c : CoreModel) (x : Unseen) (w : IsWhole c x) (left : List SortedRun) (among : (h : SsTableHandle) → Contains (handles_of left) h → Contains (handles_of x.runs) h) (range : BytesRange) (order : IterationOrder) (n : ℕ) (ops : Ops)
+    (layers : List Rows) (sources : List ScanSource) (are : AreScanSources range order n ops layers (reverse left) sources) where
   shown : (reads : List Act) (at : Option (List ℕ)) (e : SlateDBError) → IsReached range at → IsBlamedFor sources m reads at e → IsShown m (handles_of x.runs) reads e
-  shown reads at e reached blamed = blamed_shows m range order n ops layers x.runs sources are reads at e reached blamed
+  shown reads at e reached blamed = let s = blamed_shows m range order n ops layers left sources are reads at e reached blamed in (s.0, (s.1.0, among s.1.0 s.1.1, s.1.2))
 
   shown_by : (reads : List Act) (e : SlateDBError) → IsShown m (handles_of x.runs) reads e → IsShownByScan m c reads e
   shown_by reads e s = record { handles = handles_of x.runs; are = all_handles c.events x.runs w.tied.runs; shown = s.1 }
 
   refused_by : (reads : List Act) (e : SlateDBError) → IsShown m (handles_of x.runs) reads e → IsRefusedByScan m c reads e
-  refused_by reads e s = record { handles = handles_of x.runs; are = all_handles c.events x.runs w.tied.runs; refused = inr s.1 }
+  refused_by reads e s = record { handles = handles_of x.runs; are = all_handles c.events x.runs w.tied.runs; refused = inr (inl s.1) }
 
   abbrev pub LaterBlamed : Merged → List Act → Type 0
   LaterBlamed rows reads = (later : List Act) (at : Option (List ℕ)) (e : SlateDBError) → merge_refuses rows.iterator m later at e → IsBlamedFor sources m (reads ++ later) at e
@@ -226,9 +268,12 @@ module _ (m : Meaning) (c : CoreModel) (x : Unseen) (w : IsWhole c x) (range : B
       by (inl folding) = record { handles = handles_of x.runs; are = all_handles c.events x.runs w.tied.runs; refused = inl (anywhere folding) }
       by (inr r) = refused_by (reads ++ later) e (shown (reads ++ later) at e r.0 (blamed later at e r.1))
 
-  pub opening_refused : (before after : Reach) (e : SlateDBError) → before.meaning ≡ m → Made before after (λ reads. IsFault before after e ⊎ IsBlamedFor sources m reads None e) → IsOpeningError before after c e
-  opening_refused before after e same (reads, call, inl fault) = inl fault
-  opening_refused before after e same (reads, call, inr blamed) = inr (reads, call, subst (λ (k : Meaning). IsShownByScan k c reads e) (sym same) (shown_by reads e (shown reads None e tt blamed)))
+  -- before: the filters were asked
+  pub opening_refused : (policies : List Policy) (query : Option FilterQuery) (before middle after : Reach) (e : SlateDBError) → middle.meaning ≡ m → OnlyReads before middle → Made before middle (λ _. Unit {0}) →
+      Made middle after (λ reads. IsFault middle after e ⊎ IsBlamedFor sources m reads None e) → IsOpeningError policies query before after c e
+  opening_refused policies query before middle after e same first asked (reads, call, inl fault) = inl (fault_earlier before middle after e first.later fault)
+  opening_refused policies query before middle after e same first asked (reads, call, inr blamed) =
+      inr (asked.0 ++ reads, call_both before middle after asked.0 reads asked.1 call, inl (subst (λ (k : Meaning). IsShownByScan k c (asked.0 ++ reads) e) (sym same ∙ first.meaning) (shown_later asked.0 reads e (shown_by reads e (shown reads None e tt blamed)))))
 
   pub opening_undamaged : (os : Objects) (before after : Reach) (e : SlateDBError) (o : ScanOpens os m c n ops range order sources) → Sees o.world before after → Made before after (λ reads. IsFault before after e ⊎ IsBlamedFor sources m reads None e) → IsFault before after e
   opening_undamaged os before after e o sees (reads, call, inl fault) = fault
@@ -248,10 +293,50 @@ module _ (m : Meaning) (c : CoreModel) (x : Unseen) (w : IsWhole c x) (range : B
 
 -- ---- a scan of a core
 
-module _ (policies : List Policy) (before after : Reach) (c : CoreModel) (x : Unseen) (w : IsWhole c x) (range : BytesRange) (order : IterationOrder) (n : ℕ) (ops : Ops) (fine : AreFine ops) (from : c.floor ≤ n) (sources : List ScanSource)
-    (are : AreScanSources range order n ops (c.active ∷ reverse c.frozen) (reverse x.runs) sources) (a : IsAnswered policies before after c) (plain : before.meaning.combine ≡ None → holds_merge ops ≡ false) where
+-- what asking filters is refused for
+pub asking_refused : (policies : List Policy) (query : Option FilterQuery) (before after : Reach) (c : CoreModel) (x : Unseen) → IsWhole c x → (e : SlateDBError) →
+    IsFault before after e ⊎ Made before after (λ reads. ShowsFilters before.meaning.decode policies query (handles_of x.runs) reads e) → IsOpeningError policies query before after c e
+asking_refused policies query before after c x w e (inl fault) = inl fault
+asking_refused policies query before after c x w e (inr (reads, call, s)) = inr (reads, call, inr (record { handles = handles_of x.runs; are = all_handles c.events x.runs w.tied.runs; shown = s }))
+
+-- the same of equal policies, and of an equal query
+pub opening_as : {A : Type 0} (of : A → Policy) (xs ys : List A) → xs ≡ ys → (range : BytesRange) (p q : Option (List ℕ)) → p ≡ q → (u v : Option FilterContext) → u ≡ v → (before after : Reach) (c : CoreModel) (e : SlateDBError) →
+    IsOpeningError (map of xs) (scan_query range p u) before after c e → IsOpeningError (map of ys) (scan_query range q v) before after c e
+opening_as {A} of xs ys policies range p q prefix u v context before after c e h =
+    subst (λ (ws : List A). IsOpeningError (map of ws) (scan_query range q v) before after c e) policies
+    (subst (λ (o : Option (List ℕ)). IsOpeningError (map of xs) (scan_query range o v) before after c e) prefix
+    (subst (λ (o : Option FilterContext). IsOpeningError (map of xs) (scan_query range p o) before after c e) context h))
+
+pub answered_as : {A : Type 0} (of : A → Policy) (xs ys : List A) → xs ≡ ys → (before after : Reach) (c : CoreModel) (means : Objects → Type 0) → ((a : IsAnswered (map of xs) before after c) → means a.os) → (a : IsAnswered (map of ys) before after c) → means a.os
+answered_as {A} of xs ys same before after c means h = subst (λ (ws : List A). (a : IsAnswered (map of ws) before after c) → means a.os) same h
+
+-- the runs of a core are stored, with their filters
+pub runs_filtered : (policies : List Policy) (m : Meaning) (os : Objects) (c : CoreModel) (x : Unseen) → IsWhole c x → IsReadable policies m os c → AreFilteredAs policies m os (handles_of x.runs)
+runs_filtered policies m os c x w r = filtered_known policies m os (tables_of c.events) (handles_of x.runs) r.lawful_policies r.filtered (all_handles c.events x.runs w.tied.runs) r.holds
+
+pub runs_there : (policies : List Policy) (m : Meaning) (os : Objects) (c : CoreModel) (x : Unseen) → IsWhole c x → IsReadable policies m os c → AreTablesThere m os (handles_of x.runs)
+runs_there policies m os c x w r = tables_there m os x.runs (runs_of_core m c x w r.lawful r.kept).groups (stored m c x w r.lawful r.kept os r.holds)
+
+pub readable_still : (policies : List Policy) (m m2 : Meaning) (os : Objects) (c : CoreModel) → m2 ≡ m → IsReadable policies m os c → IsReadable policies m2 os c
+readable_still policies m m2 os c same r = subst (λ (k : Meaning). IsReadable policies k os c) (sym same) r
+
+abbrev pub LeavesRuns : List Policy → Meaning → Objects → BytesRange → List SortedRun → List SortedRun → Type 0
+LeavesRuns policies m os range runs left = (groups : List (List Rows)) → AreStoredRuns m os runs groups → AreFilteredAs policies m os (handles_of runs) → AreRunsLeft range runs groups left
+
+-- behind a call that changed nothing
+abbrev pub answered_last : (policies : List Policy) (before middle after : Reach) (c : CoreModel) → OnlyReads before middle → OnlyReads middle after → IsAnswered policies before after c → IsAnswered policies middle after c
+answered_last policies before middle after c first last a = record { os = a.os; readable = readable_still policies before.meaning middle.meaning a.os c first.meaning a.readable; answers = from_last a.os before middle after first last a.answers }
+
+pub leaves_runs : (policies : List Policy) (before middle after : Reach) (range : BytesRange) (runs left : List SortedRun) → RunsAreLeft policies before middle range runs left → OnlyReads before middle → (os : Objects) → AnswersFrom os before middle → LeavesRuns policies middle.meaning os range runs left
+leaves_runs policies before middle after range runs left asked first os answers groups s f =
+    asked.others groups os (subst (λ (k : Meaning). AreStoredRuns k os runs groups) first.meaning s) (subst (λ (k : Meaning). AreFilteredAs policies k os (handles_of runs)) first.meaning f) answers
+
+module _ (policies : List Policy) (before after : Reach) (c : CoreModel) (x : Unseen) (w : IsWhole c x) (left : List SortedRun) (among : (h : SsTableHandle) → Contains (handles_of left) h → Contains (handles_of x.runs) h) (range : BytesRange) (order : IterationOrder)
+    (n : ℕ) (ops : Ops) (fine : AreFine ops) (from : c.floor ≤ n) (sources : List ScanSource) (are : AreScanSources range order n ops (c.active ∷ reverse c.frozen) (reverse left) sources) (a : IsAnswered policies before after c)
+    (lefts : LeavesRuns policies before.meaning a.os range x.runs left) (plain : before.meaning.combine ≡ None → holds_merge ops ≡ false) where
   opens : ScanOpens a.os before.meaning c n ops range order sources
-  opens = scan_opens before.meaning c x w a.readable.lawful a.readable.kept a.os a.readable.holds n from ops fine plain range order sources are
+  opens = scan_opens before.meaning c x w a.readable.lawful a.readable.kept a.os a.readable.holds n from ops fine plain range order left
+      (lefts (runs_of_core before.meaning c x w a.readable.lawful a.readable.kept).groups (stored before.meaning c x w a.readable.lawful a.readable.kept a.os a.readable.holds) (runs_filtered policies before.meaning a.os c x w a.readable)) sources are
 
   sees : Sees opens.world before after
   sees = sees_world a.os opens.world before after opens.is.meaning opens.is.holds a.answers
@@ -263,11 +348,11 @@ module _ (policies : List Policy) (before after : Reach) (c : CoreModel) (x : Un
       ((v : World) → AllByRecursion (CanOpen v order) sources → Sees v before after → IsSound rows v) →
       ((v : World) → AllByRecursion (CanOpen v order) sources → Sees v before after → rest_folding merge_rows rows v ≡ folded_rows v.meaning order v sources) →
       ((v : World) → AllByRecursion (CanOpen v order) sources → Sees v before after → (v.meaning.combine ≡ None → AreBases (merged_rows order v sources)) → IsOperableIn (Walking rows) v) →
-      (reads : List Act) → LaterBlamed before.meaning c x w range order n ops (c.active ∷ reverse c.frozen) sources are rows reads →
+      (reads : List Act) → LaterBlamed before.meaning c x w left among range order n ops (c.active ∷ reverse c.frozen) sources are rows reads →
       (v : World) × IsWorldOf a.os before.meaning v × Leaves it v (rows_seen (rules_of c.settings before.meaning) c.state.commits n ops order range)
   scan_leaves rows it state_is range_is order_is going sound rest op reads blamed =
       opened_leaves a.os before.meaning c n ops range order sources opens rows it state_is range_is order_is going (sound opens.world opens.can sees) (rest opens.world opens.can sees) (op opens.world opens.can sees world_operable)
-      (sources_for before.meaning c x w range order n ops (c.active ∷ reverse c.frozen) sources are rows reads blamed)
+      (sources_for before.meaning c x w left among range order n ops (c.active ∷ reverse c.frozen) sources are rows reads blamed)
 
   pub scan_undamaged : (e : SlateDBError) → Made before after (λ reads. IsFault before after e ⊎ IsBlamedFor sources before.meaning reads None e) → IsFault before after e
-  scan_undamaged e made = opening_undamaged before.meaning c x w range order n ops (c.active ∷ reverse c.frozen) sources are a.os before after e opens sees made
+  scan_undamaged e made = opening_undamaged before.meaning c x w left among range order n ops (c.active ∷ reverse c.frozen) sources are a.os before after e opens sees made

@@ -36,6 +36,7 @@ use Rattle.slate_db.specs.Log.{AreFine}
 use Rattle.slate_db.specs.Meaning.{Meaning, IsLawfulMeaning, rules_of}
 use Rattle.slate_db.specs.Model.{CoreModel, Rows, memory}
 use Rattle.slate_db.specs.OpenScans.{AreEach, AreScanSources, CanOpen, HasRows, IsInMemory, IsMemorySource, IsOverRun, IsOwnSource, IsRunSource, folded_rows, merged_rows}
+use Rattle.slate_db.specs.ScanFilters.{AreRunsLeft}
 use Rattle.slate_db.specs.Scanned.{AreStoredRuns, AreTablesOfRuns, BringEach, Brings, HasOwn, in_one, left_of, own_rows}
 use Rattle.slate_db.specs.Scans.{IsWorldOf, ScanSource, has_value, source_rows}
 use Rattle.slate_db.specs.Sound.{AreBases, IsKept}
@@ -48,7 +49,7 @@ use Rattle.slate_db.proofs.ScanFolds.{folded_keys}
 use Rattle.slate_db.proofs.ScanLists.{Grouped, grouped, have_all, stored_runs}
 use Rattle.slate_db.proofs.ScanRows.{all_brought, all_merged, all_of_keys, all_ranged}
 use Rattle.slate_db.proofs.ScanSources.{core_scans}
-use Rattle.slate_db.proofs.ScanTables.{IsRunHere, brought_by_run, runs_here}
+use Rattle.slate_db.proofs.ScanTables.{IsRunHere, IsRunLeft, runs_here, runs_left}
 use Rattle.slate_db.proofs.ScanWorlds.{AreNew, all_found, held_paths, held_runs, is_world, map_both, paths_of, runs_new, world_of}
 use Rattle.slate_db.proofs.SourceLists.{each_back}
 use Rattle.slate_db.proofs.Short.{all_append, all_filter}
@@ -113,14 +114,14 @@ module _ (w : World) (order : IterationOrder) where
   memory_in means (Table it) h = absurd h
   memory_in means (Run it) h = absurd h
 
-  run_in : (range : BytesRange) (run : SortedRun) (layers : List Rows) (x : ReadSource) → IsOverRun range order run x → IsRunHere w run layers → IsIn (Brings range (all_rows layers)) x
+  run_in : (range : BytesRange) (run : SortedRun) (layers : List Rows) (x : ReadSource) → IsOverRun range order run x → IsRunLeft w range run layers → IsIn (Brings range (all_rows layers)) x
   run_in range run layers (Run it) h here =
       let b = h.brings w here.kepts here.are in
       record {
         sound = b.sound;
         ordered = b.same_order;
         turn = subst (AreInTurn (row_before order)) (sym b.rest) b.turn;
-        rows = subst (Brings range (all_rows layers)) (sym b.rest) (brought_by_run w run layers range order here);
+        rows = subst (Brings range (all_rows layers)) (sym b.rest) (here.brings order);
       }
   run_in range run layers (Empty it) h here = absurd h
   run_in range run layers (Internal it) h here = absurd h
@@ -158,7 +159,7 @@ module _ (w : World) (order : IterationOrder) where
   memory_all range n [] (s ∷ sources) h = absurd h
   memory_all range n (rows ∷ layers) [] h = absurd h
 
-  runs_all : (range : BytesRange) (n : ℕ) (runs : List SortedRun) (groups : List (List Rows)) (sources : List ScanSource) → AreEach (IsRunSource range order n) runs sources → AreEach (IsRunHere w) runs groups → AreIn range n (in_one groups) sources
+  runs_all : (range : BytesRange) (n : ℕ) (runs : List SortedRun) (groups : List (List Rows)) (sources : List ScanSource) → AreEach (IsRunSource range order n) runs sources → AreEach (IsRunLeft w range) runs groups → AreIn range n (in_one groups) sources
   runs_all range n [] [] [] h here = none_in range n
   runs_all range n (run ∷ runs) (layers ∷ groups) (s ∷ sources) h here =
       one_in range n (all_rows layers) (in_one groups) s sources h.0.0 (run_in range run layers s.iterator h.0.1 here.0) (runs_all range n runs groups sources h.1 here.1)
@@ -186,10 +187,10 @@ module _ (m : Meaning) (c : CoreModel) (x : Unseen) (w : IsWhole c x) (law : IsL
   abbrev layers : List Rows
   layers = (kept_m.1 law).layers
 
-  runs_of_core : Grouped m w.tied.runs.groups layers
+  pub runs_of_core : Grouped m w.tied.runs.groups layers
   runs_of_core = grouped m (tables_of c.events) x.runs w.tied.runs layers (kept_m.1 law).tables
 
-  stored : (os : Objects) → Holds os (tables_of c.events) → AreStoredRuns m os x.runs runs_of_core.groups
+  pub stored : (os : Objects) → Holds os (tables_of c.events) → AreStoredRuns m os x.runs runs_of_core.groups
   stored os holds = stored_runs m law os w.tied.runs.groups x.runs runs_of_core.groups runs_of_core.tables w.tied.runs.each (subst (Holds os) (sym w.tied.runs.are) holds)
 
   runs_paths : (os : Objects) (runs : List (List (Ulid × List ℕ))) (kept : List SortedRun) (groups : List (List Rows)) (s : AreStoredRuns m os kept groups) → AreRuns runs kept → map (λ e. e.0) (held_runs m os kept groups s) ≡ paths_of (flat_map (λ ts. ts) runs)
@@ -240,8 +241,8 @@ module _ (m : Meaning) (c : CoreModel) (x : Unseen) (w : IsWhole c x) (law : IsL
   newest_runs (ls ∷ groups) =
       ap in_one (reverse-append (ls ∷ []) groups) ∙ map_both all_rows (reverse groups) (ls ∷ []) ∙ ap (λ (l : List Rows). l ++ (all_rows ls ∷ [])) (newest_runs groups) ∙ sym (reverse-append (all_rows ls ∷ []) (in_one groups))
 
-  module _ (os : Objects) (holds : Holds os (tables_of c.events)) (n : ℕ) (from : c.floor ≤ n) (ops : Ops) (fine : AreFine ops) (plain : m.combine ≡ None → holds_merge ops ≡ false) (range : BytesRange) (order : IterationOrder) (sources : List ScanSource)
-      (are : AreScanSources range order n ops (c.active ∷ reverse c.frozen) (reverse x.runs) sources) where
+  module _ (os : Objects) (holds : Holds os (tables_of c.events)) (n : ℕ) (from : c.floor ≤ n) (ops : Ops) (fine : AreFine ops) (plain : m.combine ≡ None → holds_merge ops ≡ false) (range : BytesRange) (order : IterationOrder) (left : List SortedRun)
+      (lefts : AreRunsLeft range x.runs runs_of_core.groups left) (sources : List ScanSource) (are : AreScanSources range order n ops (c.active ∷ reverse c.frozen) (reverse left) sources) where
     abbrev v : World
     v = world_at os holds
 
@@ -254,7 +255,7 @@ module _ (m : Meaning) (c : CoreModel) (x : Unseen) (w : IsWhole c x) (law : IsL
     in_runs : AreIn v order range n (reverse (in_one runs_of_core.groups)) are.in_runs
     in_runs =
         subst (λ (ls : List Rows). AreIn v order range n ls are.in_runs) (newest_runs runs_of_core.groups)
-        (runs_all v order range n (reverse x.runs) (reverse runs_of_core.groups) are.in_runs are.of_runs (each_back (IsRunHere v) x.runs runs_of_core.groups (here os holds)))
+        (runs_all v order range n (reverse left) (reverse runs_of_core.groups) are.in_runs are.of_runs (each_back (IsRunLeft v range) left runs_of_core.groups (runs_left v range x.runs runs_of_core.groups left (here os holds) lefts)))
 
     abbrev own_list : Rows
     own_list = read.rest_of are.own.iterator v

@@ -1,7 +1,8 @@
 -- The runs of a core in a world that has their tables, and the rows that they bring there.
-use Rattle.std.proofs.Common.{◌≡◌, ℕ, Bool, true, false, List, [], ◌∷◌, ◌++◌, map, flat_map, filter, Some, refl, sym, ap, subst, ◌∙◌}
+use Rattle.std.proofs.Common.{inl, inr, ◌≡◌, ℕ, Bool, true, false, List, [], ◌∷◌, ◌++◌, map, flat_map, filter, Some, refl, sym, ap, subst, ◌∙◌}
 use Rattle.std.specs.Prelude.{◌&&◌}
 use Rattle.std.specs.List.{AllByRecursion}
+use Rattle.std.proofs.lemmas.List.Elements.{filter-append}
 use Rattle.slate_types.specs.declared.bytes_range.BytesRange.{BytesRange}
 use Rattle.slate_types.specs.declared.iter.IterationOrder.{IterationOrder}
 use Rattle.slate_types.specs.declared.iter.IterationOrder.TheVariants.{Ascending}
@@ -33,6 +34,7 @@ use Rattle.slate_db.specs.Lookup.{AreStoredAs}
 use Rattle.slate_db.specs.Meaning.{Meaning}
 use Rattle.slate_db.specs.Model.{Rows}
 use Rattle.slate_db.specs.OpenScans.{AreEach}
+use Rattle.slate_db.specs.ScanFilters.{AreLeft, AreRunsLeft}
 use Rattle.slate_db.specs.Scanned.{AreStoredRuns, Brings}
 use Rattle.slate_db.proofs.Lists.{all_behind, all_front, all_map}
 use Rattle.slate_db.proofs.ScanRows.{turned_same}
@@ -70,6 +72,19 @@ rows_are m os [] [] s = refl
 rows_are m os (h ∷ hs) (rows ∷ layers) s = λ i. (flat_mapped (as_read h.format_version) (table_held m os h rows s.0).blocks ∙ sym (table_held m os h rows s.0).rows_are) i ++ rows_are m os hs layers s.1 i
 rows_are m os [] (rows ∷ layers) s = absurd s
 rows_are m os (h ∷ hs) [] s = absurd s
+
+-- table by table
+abbrev pub AreRowsOf : List Kept → List Rows → Type 0
+AreRowsOf [] [] = Unit {0}
+AreRowsOf (kept ∷ kepts) (rows ∷ layers) = (all_rows kept ≡ rows) × AreRowsOf kepts layers
+AreRowsOf [] (rows ∷ layers) = ⊥
+AreRowsOf (kept ∷ kepts) [] = ⊥
+
+each_rows : (m : Meaning) (os : Objects) (hs : List SsTableHandle) (layers : List Rows) (s : AreStoredAs m os hs layers) → AreRowsOf (kepts_of m os hs layers s) layers
+each_rows m os [] [] s = tt
+each_rows m os (h ∷ hs) (rows ∷ layers) s = (flat_mapped (as_read h.format_version) (table_held m os h rows s.0).blocks ∙ sym (table_held m os h rows s.0).rows_are, each_rows m os hs layers s.1)
+each_rows m os [] (rows ∷ layers) s = absurd s
+each_rows m os (h ∷ hs) [] s = absurd s
 
 -- ---- they rise
 
@@ -130,6 +145,7 @@ in_order_all w (h ∷ hs) [] each rise = absurd each
 -- a world has the tables of a run, with these rows
 pub record IsRunHere (w : World) (run : SortedRun) (layers : List Rows) : Type 0 where
   pub kepts : List Kept
+  pub tables : AreRowsOf kepts layers
   pub are : AreReadable w run.tables.items kepts
   pub rows : run_rows kepts ≡ merge.all_rows layers
   pub order : IsInOrder Ascending (run_rows kepts)
@@ -141,7 +157,7 @@ runs_here m os w (t ∷ ts) (run ∷ runs) (layers ∷ groups) s are meant fits 
     let hs = run.tables.items in
     let each = each_readable m os w hs layers s.0 meant fits (all_front _ (held m os hs layers s.0) (held_runs m os runs groups s.1) found) in
     let rise = rising w hs (kepts_of m os hs layers s.0) are.0.apart each in (
-      record { kepts = kepts_of m os hs layers s.0; are = record { each = each; rising = rise }; rows = rows_are m os hs layers s.0; order = in_order_all w hs (kepts_of m os hs layers s.0) each rise },
+      record { kepts = kepts_of m os hs layers s.0; tables = each_rows m os hs layers s.0; are = record { each = each; rising = rise }; rows = rows_are m os hs layers s.0; order = in_order_all w hs (kepts_of m os hs layers s.0) each rise },
       runs_here m os w ts runs groups s.1 are.1 meant fits (all_behind _ (held m os hs layers s.0) (held_runs m os runs groups s.1) found),
     )
 runs_here m os w ts [] (layers ∷ groups) s are meant fits found = absurd s
@@ -149,8 +165,62 @@ runs_here m os w ts (run ∷ runs) [] s are meant fits found = absurd s
 runs_here m os w [] (run ∷ runs) groups s are meant fits found = absurd are
 runs_here m os w (t ∷ ts) [] groups s are meant fits found = absurd are
 
--- what a run brings
-pub brought_by_run : (w : World) (run : SortedRun) (layers : List Rows) (range : BytesRange) (order : IterationOrder) (h : IsRunHere w run layers) → Brings range (merge.all_rows layers) (in_turn order (rows_in_run range order h.kepts))
-brought_by_run w run layers range order h k =
-    turned_same order (filter (is_in range) (run_rows h.kepts)) (in_order_filtered Ascending (is_in range) (run_rows h.kepts) h.order) k
-    ∙ ap (λ (rows : Rows). of_key k (filter (is_in range) rows)) h.rows
+-- ---- what filters leave of it
+
+-- some of the tables, which have all rows of the range
+record Part (w : World) (range : BytesRange) (hs : List SsTableHandle) (kepts : List Kept) : Type 0 where
+  pub some : List Kept
+  pub each : AreEachReadable w hs some
+  pub same : filter (is_in range) (run_rows some) ≡ filter (is_in range) (run_rows kepts)
+  pub below : (k : List ℕ) → AllByRecursion (λ s. key_lt k s.key ≡ true) (run_rows kepts) → AllByRecursion (λ s. key_lt k s.key ≡ true) (run_rows some)
+  pub rising : AreRisingTables some
+
+part_left : (w : World) (range : BytesRange) (hs : List SsTableHandle) (layers : List Rows) (kepts : List Kept) (left : List SsTableHandle) → AreEachReadable w hs kepts → AreRowsOf kepts layers → AreRisingTables kepts → AreLeft range hs layers left → Part w range left kepts
+part_left w range [] [] [] left each rows rise is = record { some = []; each = subst (λ (l : List SsTableHandle). AreEachReadable w l []) (sym is) tt; same = refl; below = λ k h. h; rising = tt }
+part_left w range (h ∷ hs) (rs ∷ layers) (kept ∷ kepts) left each rows rise (inl (later, is, rest)) =
+    let p = part_left w range hs layers kepts later each.1 rows.1 rise.1 rest in
+    record {
+      some = kept ∷ p.some;
+      each = subst (λ (l : List SsTableHandle). AreEachReadable w l (kept ∷ p.some)) (sym is) (each.0, p.each);
+      same = filter-append (is_in range) (all_rows kept) (run_rows p.some) ∙ ap (λ (l : Rows). filter (is_in range) (all_rows kept) ++ l) p.same ∙ sym (filter-append (is_in range) (all_rows kept) (run_rows kepts));
+      below = λ k h. all_append (λ s. key_lt k s.key ≡ true) (all_rows kept) (run_rows p.some) (all_front (λ s. key_lt k s.key ≡ true) (all_rows kept) (run_rows kepts) h) (p.below k (all_behind (λ s. key_lt k s.key ≡ true) (all_rows kept) (run_rows kepts) h));
+      rising = (all_map (λ (r : RowEntry). AllByRecursion (λ s. key_lt r.key s.key ≡ true) (run_rows kepts)) (λ (r : RowEntry). AllByRecursion (λ s. key_lt r.key s.key ≡ true) (run_rows p.some)) (λ r h. p.below r.key h) (all_rows kept) rise.0, p.rising);
+    }
+part_left w range (h ∷ hs) (rs ∷ layers) (kept ∷ kepts) left each rows rise (inr (none, rest)) =
+    let p = part_left w range hs layers kepts left each.1 rows.1 rise.1 rest in
+    record {
+      some = p.some;
+      each = p.each;
+      same = p.same ∙ ap (λ (l : Rows). l ++ filter (is_in range) (run_rows kepts)) (sym (ap (filter (is_in range)) rows.0 ∙ none)) ∙ sym (filter-append (is_in range) (all_rows kept) (run_rows kepts));
+      below = λ k h. p.below k (all_behind (λ s. key_lt k s.key ≡ true) (all_rows kept) (run_rows kepts) h);
+      rising = p.rising;
+    }
+part_left w range [] [] (kept ∷ kepts) left each rows rise is = absurd each
+part_left w range [] (rs ∷ layers) kepts left each rows rise is = absurd is
+part_left w range (h ∷ hs) [] kepts left each rows rise is = absurd is
+part_left w range (h ∷ hs) (rs ∷ layers) [] left each rows rise is = absurd each
+
+-- a world has the tables of a run that are left, and these bring what the run has in the range
+pub record IsRunLeft (w : World) (range : BytesRange) (run : SortedRun) (layers : List Rows) : Type 0 where
+  pub kepts : List Kept
+  pub are : AreReadable w run.tables.items kepts
+  pub brings : (order : IterationOrder) → Brings range (merge.all_rows layers) (in_turn order (rows_in_run range order kepts))
+
+run_left : (w : World) (range : BytesRange) (run left : SortedRun) (layers : List Rows) → IsRunHere w run layers → AreLeft range run.tables.items layers left.tables.items → IsRunLeft w range left layers
+run_left w range run left layers h is =
+    let p = part_left w range run.tables.items layers h.kepts left.tables.items h.are.each h.tables h.are.rising is in
+    record {
+      kepts = p.some;
+      are = record { each = p.each; rising = p.rising };
+      brings = λ order k.
+          turned_same order (filter (is_in range) (run_rows p.some)) (in_order_filtered Ascending (is_in range) (run_rows p.some) (in_order_all w left.tables.items p.some p.each p.rising)) k
+          ∙ ap (λ (rows : Rows). of_key k rows) (p.same ∙ ap (λ (rows : Rows). filter (is_in range) rows) h.rows);
+    }
+
+pub runs_left : (w : World) (range : BytesRange) (runs : List SortedRun) (groups : List (List Rows)) (left : List SortedRun) → AreEach (IsRunHere w) runs groups → AreRunsLeft range runs groups left → AreEach (IsRunLeft w range) left groups
+runs_left w range [] [] [] here is = tt
+runs_left w range (run ∷ runs) (layers ∷ groups) (one ∷ left) here is = (run_left w range run one layers here.0 is.0, runs_left w range runs groups left here.1 is.1)
+runs_left w range [] [] (one ∷ left) here is = absurd is
+runs_left w range (run ∷ runs) (layers ∷ groups) [] here is = absurd is
+runs_left w range [] (layers ∷ groups) left here is = absurd here
+runs_left w range (run ∷ runs) [] left here is = absurd here

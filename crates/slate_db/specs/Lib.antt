@@ -36,4 +36,5 @@ pub mod ScanLaws
 pub mod SerialLaws
 pub mod Values
 pub mod Scans
+pub mod ScanFilters
 pub mod OpenScans

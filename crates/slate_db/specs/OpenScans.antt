@@ -5,11 +5,12 @@
 --     IsRunSource range order n run s      those of a run of tables, up to a sequence
 --     AreEach R xs ys      two lists of one length, of which R is true place by place
 --     AreScanSources range order n ops memory runs sources      the own rows, then the memtables, then the runs
+--     LeftSources policies before after range order n own active frozen runs made      the sources of a scan: the runs are those that filters left to it
 --     CanOpen w order s      a source is sound in a world, of the order, and its rows there stand in turn
 --     merged_rows order w sources      the rows of all sources merged, in a world
 --     folded_rows m order w sources      what they fold to, by what the parts mean
 --     IsBlamedFor sources m reads at e      by the reads a source refuses for it, and not for want of an `init`
-use Rattle.std.specs.Prelude.{◌≡◌, ◌≢◌, ℕ, true, List, [], ◌∷◌, ◌++◌, map, Option, Some, None}
+use Rattle.std.specs.Prelude.{◌≡◌, ◌≢◌, ℕ, true, List, [], ◌∷◌, ◌++◌, map, reverse, Option, Some, None}
 use Rattle.slate_types.specs.declared.bytes_range.BytesRange.{BytesRange}
 use Rattle.slate_types.specs.declared.error.SlateDBError.{SlateDBError}
 use Rattle.slate_types.specs.declared.error.SlateDBError.TheVariants.{IteratorNotInitialized}
@@ -17,9 +18,10 @@ use Rattle.slate_types.specs.declared.iter.IterationOrder.{IterationOrder}
 use Rattle.slate_types.specs.declared.types.RowEntry.{RowEntry}
 use Rattle.slate_types.specs.Fold.{operator_at}
 use Rattle.slate_types.specs.Iteration.{IsInOrder, RowList}
-use Rattle.slate_types.specs.Outside.{Act, Meaning}
+use Rattle.slate_types.specs.Outside.{Act, Meaning, Reach}
 use Rattle.slate_types.specs.RowTurns.{AreInTurn, row_before}
 use Rattle.slate_types.specs.World.{World}
+use Rattle.slate_filter.specs.Policy.{Policy}
 use Rattle.slate_mem.specs.Batch.{Ops}
 use Rattle.slate_read.specs.declared.read_source.ReadSource.{ReadSource}
 use Rattle.slate_read.specs.declared.read_source.ReadSource.TheVariants.{Run, Batch, Memory}
@@ -29,6 +31,7 @@ use Rattle.slate_read.specs.Merge.{merged}
 use Rattle.slate_read.specs.Merging.{CanMerge, blames, waiting_sources}
 use Rattle.slate_read.specs.RunIterators.{IsRunIterator}
 use Rattle.slate_db.specs.Model.{Rows}
+use Rattle.slate_db.specs.ScanFilters.{RunsAreLeft}
 use Rattle.slate_db.specs.Scanned.{Brings, HasOwn}
 use Rattle.slate_db.specs.Scans.{IsSoundSource, ScanSource, order_of, source_refuses, source_rows}
 
@@ -71,6 +74,11 @@ pub record AreScanSources (range : BytesRange) (order : IterationOrder) (n : ℕ
   pub of_own : IsOwnSource range order ops own
   pub of_memory : AreEach (IsMemorySource range order n) memory in_memory
   pub of_runs : AreEach (IsRunSource range order n) runs in_runs
+
+pub record LeftSources (policies : List Policy) (before after : Reach) (range : BytesRange) (order : IterationOrder) (n : ℕ) (own : RowList) (active : Rows) (frozen : List Rows) (runs : List SortedRun) (made : List ScanSource) : Type 0 where
+  pub left : List SortedRun
+  pub asked : RunsAreLeft policies before after range runs left
+  pub are : (ops : Ops) → HasRows order (HasOwn range ops) own → AreScanSources range order n ops (active ∷ reverse frozen) (reverse left) made
 
 abbrev pub CanOpen : World → IterationOrder → ScanSource → Type 0
 CanOpen w order s = CanMerge (λ x. source_rows x w) (λ x. IsSoundSource x w × (order_of x ≡ order)) order s

@@ -19,14 +19,16 @@
 --     IsOpenScan c it      its transaction is open, and opened it; or its snapshot is open
 --     HasLeft m c it rows      of the list that the scan's opening fixed these rows are left, by the transcript
 --     ShowsAmong decode hs reads e      of some tables one shows the error, by reads among these
+--     IsShownByFilters policies query m c reads e      the reads show it of the filters of a table that the journal names, which were asked this
 --     IsShownByScan m c reads e, IsRefusedByScan m c reads e      the reads show it of the tables that the journal names; or there is no
 --                                                                 operator; or there is one, and it names two sequences that rise
---     IsOpeningError before after c e, IsScanError before after c e      a fault that came in the call, or want of memory, or such a refusal by its reads: an opening meets no operand
+--     IsOpeningError policies query before after c e, IsScanError before after c e      a fault that came in the call, or want of memory, or such a refusal by its reads: an opening meets no operand
 use Rattle.std.specs.Prelude.{◌≡◌, ◌≢◌, ◌⊎◌, ℕ, ◌<◌, true, List, [], filter, count_by, Contains, Option, Some, None, Result, Err, IsSome, slice_get}
 use Rattle.std.specs.List.{AllByRecursion}
 use Rattle.slate_types.specs.declared.bytes_range.BytesRange.{BytesRange}
 use Rattle.slate_types.specs.declared.error.SlateDBError.{SlateDBError}
 use Rattle.slate_types.specs.declared.error.SlateDBError.TheVariants.{MergeOperatorMissing, OutOfMemory}
+use Rattle.slate_types.specs.declared.filter_policy.FilterQuery.{FilterQuery}
 use Rattle.slate_types.specs.declared.iter.IterationOrder.{IterationOrder}
 use Rattle.slate_types.specs.declared.types.RowEntry.{RowEntry}
 use Rattle.slate_types.specs.Keys.{in_range, is_past_start}
@@ -34,6 +36,7 @@ use Rattle.slate_types.specs.Outside.{Act, Objects, IsFault, Meaning, Reach}
 use Rattle.slate_types.specs.Refusing.{IsDamage}
 use Rattle.slate_types.specs.Rows.{is_base}
 use Rattle.slate_types.specs.World.{World, HoldsWorld, Made}
+use Rattle.slate_filter.specs.Policy.{Policy}
 use Rattle.slate_read.specs.declared.filter_iterator.FilterIterator.{FilterIterator}
 use Rattle.slate_read.specs.declared.filter_iterator.MaxSeq.{MaxSeq}
 use Rattle.slate_read.specs.declared.read_source.ReadSource.{ReadSource}
@@ -60,6 +63,7 @@ use Rattle.slate_db.specs.declared.scan.ScanState.TheVariants.{Walking, Done, Re
 use Rattle.slate_db.specs.Installs.{AreHandles, tables_of}
 use Rattle.slate_db.specs.Meaning.{rules_of}
 use Rattle.slate_db.specs.Model.{CoreModel}
+use Rattle.slate_db.specs.ScanFilters.{ShowsFilters}
 pub use Rattle.slate_db.specs.Values.{has_value}
 
 pub record IsWorldOf (os : Objects) (m : Meaning) (w : World) : Type 0 where
@@ -221,10 +225,16 @@ pub record IsShownByScan (m : Meaning) (c : CoreModel) (reads : List Act) (e : S
 pub record IsRefusedByScan (m : Meaning) (c : CoreModel) (reads : List Act) (e : SlateDBError) : Type 0 where
   pub handles : List SsTableHandle
   pub are : AreHandles (tables_of c.events) handles
-  pub refused : RefusesFold m None e ⊎ ShowsAmong m.decode handles reads e
+  pub refused : RefusesFold m None e ⊎ ShowsAmong m.decode handles reads e ⊎ ((policies : List Policy) × (query : Option FilterQuery) × ShowsFilters m.decode policies query handles reads e)
 
-abbrev pub IsOpeningError : Reach → Reach → CoreModel → SlateDBError → Type 0
-IsOpeningError before after c e = IsFault before after e ⊎ Made before after (λ reads. IsShownByScan before.meaning c reads e)
+pub record IsShownByFilters (policies : List Policy) (query : Option FilterQuery) (m : Meaning) (c : CoreModel) (reads : List Act) (e : SlateDBError) : Type 0 where
+  pub handles : List SsTableHandle
+  pub are : AreHandles (tables_of c.events) handles
+  pub shown : ShowsFilters m.decode policies query handles reads e
+
+-- policies, query: what filters are asked
+abbrev pub IsOpeningError : List Policy → Option FilterQuery → Reach → Reach → CoreModel → SlateDBError → Type 0
+IsOpeningError policies query before after c e = IsFault before after e ⊎ Made before after (λ reads. IsShownByScan before.meaning c reads e ⊎ IsShownByFilters policies query before.meaning c reads e)
 
 abbrev pub IsScanError : Reach → Reach → CoreModel → SlateDBError → Type 0
 IsScanError before after c e = IsFault before after e ⊎ Made before after (λ reads. IsRefusedByScan before.meaning c reads e)

@@ -55,6 +55,7 @@ ghost use Rattle.slate_txn.specs.Conflict.{conflict};
 ghost use Rattle.slate_txn.specs.HandedOver.{IsConflict};
 ghost use Rattle.slate_db.specs.Committed.{IsCommitted, IsEnded};
 ghost use Rattle.slate_db.specs.Operated.{operated};
+ghost use Rattle.slate_db.specs.ScanFilters.{scan_query};
 ghost use Rattle.slate_db.specs.Scans.{AnswersAgain, HasLeft, IsFor, IsOpenScan, IsOpeningError, IsRefusedByScan, IsRefusedScan, IsScanOf, IsUnrefused, IsWorldOf, Keeps, Leaves, LeavesIn, ScanRefuses, id_of, number_of, scan_of};
 ghost use Rattle.slate_read.specs.SstOptions.{CanFetch};
 ghost use Rattle.slate_db.specs.Vouched.{IsVouchedFor};
@@ -66,7 +67,7 @@ use crate::laws::Laws;
 use crate::layers::Layers;
 use crate::log::Log;
 use crate::lookup::{newest_behind, newest_of_runs, query_of};
-use crate::open_scan::{merged, scan_sources, table_options};
+use crate::open_scan::{asked_sources, merged, table_options};
 use crate::put::{enter, put_batch};
 use crate::scan::{DbIterator, TxnIterator};
 use crate::segments::SegmentPrefixes;
@@ -646,16 +647,17 @@ impl Core {
     ) -> Result<DbIterator<'a>, SlateDBError>
         requires open { IsSome (reader self.now.state id.now) }
         requires range { is_refused range.start range.end ≡ false }
+        requires prefix { (p k : List ℕ) → how.prefix ≡ Some p → in_range range k ≡ true → starts_with nat_eq k p ≡ true }
         requires fetches { CanFetch how }
         ensures opened { let reach = ⟦<EnvOf<S, M, T> as Outside>⟧.reach in
             let m = (reach env.old).meaning in
-            (from : Reader) → reader self.now.state id.now ≡ Some from → self.now.floor ≤ begin → (asked : List Policy) (a : IsAnswered asked (reach env.old) (reach env.new) self.now) →
+            (from : Reader) → reader self.now.state id.now ≡ Some from → self.now.floor ≤ begin → (a : IsAnswered (map (λ p. meaning p) policies.now) (reach env.old) (reach env.new) self.now) →
             IfOk result (λ it. (w : World) × IsWorldOf a.os m w × Leaves it w (rows_seen (rules_of self.now.settings m) self.now.state.commits begin from.ops how.order range)) }
         ensures later { let reach = ⟦<EnvOf<S, M, T> as Outside>⟧.reach in
             let m = (reach env.old).meaning in
             IfOk result (λ it. IsFor m it × Made (reach env.old) (reach env.new) (λ reads. (later : List Act) (at : Option (List ℕ)) (e : SlateDBError) → ScanRefuses it m later at e → IsRefusedByScan m self.now (reads ++ later) e)) }
-        ensures undamaged { let reach = ⟦<EnvOf<S, M, T> as Outside>⟧.reach in self.now.floor ≤ begin → (asked : List Policy) → IsAnswered asked (reach env.old) (reach env.new) self.now → IfErr result (IsFault (reach env.old) (reach env.new)) }
-        ensures cause { let reach = ⟦<EnvOf<S, M, T> as Outside>⟧.reach in IfErr result (IsOpeningError (reach env.old) (reach env.new) self.now) }
+        ensures undamaged { let reach = ⟦<EnvOf<S, M, T> as Outside>⟧.reach in self.now.floor ≤ begin → IsAnswered (map (λ p. meaning p) policies.now) (reach env.old) (reach env.new) self.now → IfErr result (IsFault (reach env.old) (reach env.new)) }
+        ensures cause { let reach = ⟦<EnvOf<S, M, T> as Outside>⟧.reach in IfErr result (IsOpeningError (map (λ p. meaning p) policies.now) (scan_query range how.prefix how.filter_context) (reach env.old) (reach env.new) self.now) }
         ensures range { IfOk result (λ it. it.range ≡ range) }
         ensures order { IfOk result (λ it. it.order ≡ how.order) }
         ensures reads { let reach = ⟦<EnvOf<S, M, T> as Outside>⟧.reach in OnlyReads (reach env.old) (reach env.new) }
@@ -663,18 +665,20 @@ impl Core {
         let order = how.order;
         let alloc = self.alloc;
         let own = self.transactions.own_range(alloc, id, &range, order)?;
-        let sources = scan_sources(alloc, own, &self.layers, &range, begin, &how, policies)?;
+        let layers = &self.layers;
+        let sources = asked_sources(alloc, own, layers, &range, begin, &how, policies, env)?;
         let rows = merged(alloc, sources, order, env)?;
         Ok(DbIterator::new(alloc, rows, range, order))
     }
 
     /// Opens a scan of an open transaction or an open snapshot over the rows in a range, in an order. The rows are fixed now: later
     /// calls change nothing of them. The opening is noted in the transaction's transcript; a snapshot has none. Where a prefix is
-    /// given each key of the range must begin with it.
+    /// given each key of the range must begin with it. The filters of tables that can hold a key of the range are asked first, for the
+    /// key where the range is a point, else for the prefix, with the options' context: a denied table costs one read.
     ///
     /// Refuses by `StoreFault` and `BlockTransformError`, each only where its count of faults rose; by `ChecksumMismatch`,
-    /// `CorruptTable` and `InvalidRowFlags`, only where reads of this call show it, of a table that the journal names; and by
-    /// `OutOfMemory`. Then nothing is noted.
+    /// `CorruptTable`, `InvalidRowFlags` and `InvalidFilterBlock`, only where reads of this call show it, of a table that the journal
+    /// names; and by `OutOfMemory`. Then nothing is noted.
     pub fn scan<'a, S: Store, M: MergeOperator, T: BlockTransformer, X: PrefixExtractor>(
         &mut self,
         id: &Uuid,
@@ -702,7 +706,8 @@ impl Core {
             let m = (reach env.old).meaning in
             IfOk result (λ it. IsFor m (scan_of it) × Made (reach env.old) (reach env.new) (λ reads. (later : List Act) (at : Option (List ℕ)) (e : SlateDBError) → ScanRefuses (scan_of it) m later at e → IsRefusedByScan m self.old (reads ++ later) e)) }
         ensures undamaged { let reach = ⟦<EnvOf<S, M, T> as Outside>⟧.reach in IsAnswered (map (λ p. meaning p) laws.now.policies.items) (reach env.old) (reach env.new) self.old → IfErr result (IsFault (reach env.old) (reach env.new)) }
-        ensures cause { let reach = ⟦<EnvOf<S, M, T> as Outside>⟧.reach in IfErr result (IsOpeningError (reach env.old) (reach env.new) self.old) }
+        ensures cause { let reach = ⟦<EnvOf<S, M, T> as Outside>⟧.reach in
+            IfErr result (IsOpeningError (map (λ p. meaning p) laws.now.policies.items) (scan_query range prefix options.now.filter_context) (reach env.old) (reach env.new) self.old) }
         ensures vouched { OnOk result ((m : Meaning) (other : List ℕ) → IsVouchedFor m self.old other → IsVouchedFor m self.new other) }
         ensures same { OnErr result (self.new ≡ self.old) }
         ensures kept { (m : Meaning) → IsKept m self.old → IsKept m self.new }
@@ -713,8 +718,7 @@ impl Core {
             unreachable!()
         };
         let how = table_options(prefix, options, &laws.options)?;
-        let policies = laws.policies.as_slice();
-        let rows = self.opened(id, begin, range, how, policies, env)?;
+        let rows = self.opened(id, begin, range, how, laws.policies.as_slice(), env)?;
         let scan = match self.transactions.note_scan(id, options.order, &rows.range) {
             Ok(scan) => scan,
             Err(error) => {

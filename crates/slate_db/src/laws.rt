@@ -16,8 +16,8 @@ pub struct Laws<X> {
     pub options: Options,
     /// What gives each key the prefix of its segment, where there are segments.
     pub segments: Option<X>,
-    /// The policies of the filters that tables get, and by which gets pass tables by. A flush needs their names distinct, fewer than
-    /// 65536 of them, and each of fewer bytes than that.
+    /// The policies of the filters that tables get, and by which gets and scans pass tables by. A flush needs their names distinct,
+    /// fewer than 65536 of them, and each of fewer bytes than that.
     pub policies: Vec<Box<dyn FilterPolicy>>,
 }
 

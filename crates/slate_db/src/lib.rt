@@ -17,6 +17,7 @@ pub mod lookup;
 pub mod open_scan;
 mod put;
 pub mod scan;
+mod scan_filters;
 pub mod segments;
 mod tested;
 mod values;

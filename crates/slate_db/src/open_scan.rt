@@ -1,23 +1,26 @@
 //! How a scan is opened: its sources, and the merge of them.
-ghost use Rattle.std.specs.Prelude.{◌≡◌, ◌≢◌, ◌⊎◌, ◌∷◌, ◌++◌, ◌<◌, ℕ, List, Option, None, false, true, map, reverse, IfOk, IfErr, IsOkUnless};
-ghost use Rattle.std.specs.List.{AllByRecursion};
+ghost use Rattle.std.specs.Prelude.{◌≡◌, ◌≢◌, ◌⊎◌, ◌∷◌, ◌++◌, ◌<◌, ℕ, List, Option, None, Some, false, true, map, nat_eq, reverse, IfOk, IfErr, IsOkUnless, OnOk};
+ghost use Rattle.std.specs.List.{AllByRecursion, starts_with};
 ghost use Rattle.slate_types.specs.declared.error.SlateDBError.{SlateDBError};
 ghost use Rattle.slate_types.specs.declared.iter.IterationOrder.{IterationOrder};
 ghost use Rattle.slate_types.specs.Iteration.{IsInOrder};
-ghost use Rattle.slate_types.specs.Keys.{is_refused};
+ghost use Rattle.slate_types.specs.Keys.{in_range, is_refused};
 ghost use Rattle.slate_types.specs.Outside.{Act, IsFault, OnlyReads};
 ghost use Rattle.slate_types.specs.RowTurns.{AreInTurn, row_before};
 ghost use Rattle.slate_types.specs.World.{World, Made, Sees};
 ghost use Rattle.slate_mem.specs.Batch.{Ops};
 ghost use Rattle.slate_read.specs.OperatorIterators.{IsGoing, rest_folding, sound_folding};
 ghost use Rattle.slate_read.specs.SstOptions.{CanFetch};
-ghost use Rattle.slate_db.specs.OpenScans.{AreEach, AreScanSources, CanOpen, HasRows, IsBlamedFor, IsMemorySource, IsRunSource, folded_rows, merged_rows};
+ghost use Rattle.slate_db.specs.Installs.{handles_of};
+ghost use Rattle.slate_db.specs.OpenScans.{AreEach, AreScanSources, CanOpen, HasRows, IsBlamedFor, IsMemorySource, IsRunSource, LeftSources, folded_rows, merged_rows};
+ghost use Rattle.slate_db.specs.ScanFilters.{FailsAsking, scan_query};
 ghost use Rattle.slate_db.specs.Scanned.{HasOwn};
 ghost use Rattle.slate_db.specs.Scans.{FoldsAll, IsOperableIn, IsSoundMerged, merge_refuses, merge_rows, order_of_merge};
 ghost use Rattle.slate_db.specs.Sound.{AreBases};
 
 use crate::layers::Layers;
 use crate::scan::{DbIterator, ScanState};
+use crate::scan_filters::{runs_left, scan_query};
 use bytes::Bytes;
 use slate_filter::FilterPolicy;
 use slate_mem::{ImmutableMemtable, MemTable, MemTableIterator, WriteBatchIterator};
@@ -87,6 +90,8 @@ pub(crate) fn table_options(
     requires tasks { 0 < limits.now.max_fetch_tasks }
     requires fetch { 0 < limits.now.target_bytes_to_fetch }
     ensures order { IfOk result (λ made. made.order ≡ options.now.order) }
+    ensures prefix { IfOk result (λ made. made.prefix ≡ prefix) }
+    ensures context { IfOk result (λ made. made.filter_context ≡ options.now.filter_context) }
     ensures fetches { IfOk result CanFetch }
     ensures cause { IsOkUnless result SlateDBError.OutOfMemory }
 {
@@ -117,7 +122,7 @@ fn copy_options(options: &SstIteratorOptions) -> Result<SstIteratorOptions, Allo
 
 // ---- what is kept of runs
 
-fn copy_handle(handle: &SsTableHandle) -> Result<SsTableHandle, AllocError>
+pub(crate) fn copy_handle(handle: &SsTableHandle) -> Result<SsTableHandle, AllocError>
     ensures { IfOk result (λ copy. copy ≡ handle.now) }
 {
     let info = handle.info.clone()?;
@@ -235,11 +240,13 @@ fn run_sources<'a>(
     Ok(sources)
 }
 
-/// The sources of a scan: a transaction's own rows, and behind them those of the layers up to its begin, the newest layer first.
-pub(crate) fn scan_sources<'a>(
+/// The sources of a scan: a transaction's own rows, and behind them those of the memtables and of some runs up to its begin, the
+/// newest layer first.
+fn scan_sources<'a>(
     alloc: Global,
     own: WriteBatchIterator,
     layers: &Layers,
+    runs: &[SortedRun],
     range: &BytesRange,
     begin: u64,
     options: &SstIteratorOptions,
@@ -247,7 +254,7 @@ pub(crate) fn scan_sources<'a>(
 ) -> Result<Vec<FilterIterator<ReadSource<'a>, MaxSeq>>, SlateDBError>
     requires range { is_refused range.now.start range.now.end ≡ false }
     requires fetches { CanFetch options.now }
-    ensures sources { (ops : Ops) → HasRows options.now.order (HasOwn range.now ops) own → IfOk result (λ made. AreScanSources range.now options.now.order begin ops (layers.now.active ∷ reverse layers.now.frozen) (reverse layers.now.runs) made.items) }
+    ensures sources { (ops : Ops) → HasRows options.now.order (HasOwn range.now ops) own → IfOk result (λ made. AreScanSources range.now options.now.order begin ops (layers.now.active ∷ reverse layers.now.frozen) (reverse runs.now) made.items) }
     ensures cause { IsOkUnless result SlateDBError.OutOfMemory }
 {
     let own = FilterIterator::new(alloc, ReadSource::Batch(own), MaxSeq { max_seq: None })?;
@@ -256,8 +263,45 @@ pub(crate) fn scan_sources<'a>(
     sources.push(own)?;
     let mut memory = memory_sources(alloc, active, frozen, range, options.order, begin)?;
     sources.append(&mut memory)?;
-    let mut runs = run_sources(alloc, layers.runs(), range, begin, options, policies)?;
+    let mut runs = run_sources(alloc, runs, range, begin, options, policies)?;
     sources.append(&mut runs)?;
+    Ok(sources)
+}
+
+/// The same of all layers. Filters of stored tables are asked first, and those that deny the scan are left out: by lawful policies
+/// they have no row in the range.
+pub(crate) fn asked_sources<'a, S: Store, M: MergeOperator, T: BlockTransformer>(
+    alloc: Global,
+    own: WriteBatchIterator,
+    layers: &Layers,
+    range: &BytesRange,
+    begin: u64,
+    options: &SstIteratorOptions,
+    policies: &'a [Box<dyn FilterPolicy>],
+    env: &mut Env<'_, S, M, T>,
+) -> Result<Vec<FilterIterator<ReadSource<'a>, MaxSeq>>, SlateDBError>
+    requires range { is_refused range.now.start range.now.end ≡ false }
+    requires prefix { (p k : List ℕ) → options.now.prefix ≡ Some p → in_range range.now k ≡ true → starts_with nat_eq k p ≡ true }
+    requires fetches { CanFetch options.now }
+    ensures sources { let reach = ⟦<EnvOf<S, M, T> as Outside>⟧.reach in
+        IfOk result (λ made. LeftSources (map (λ p. meaning p) policies.now) (reach env.old) (reach env.new) range.now options.now.order begin own layers.now.active layers.now.frozen layers.now.runs made.items) }
+    ensures made { let reach = ⟦<EnvOf<S, M, T> as Outside>⟧.reach in OnOk result (Made (reach env.old) (reach env.new) (λ _. Unit {0})) }
+    ensures refused { let reach = ⟦<EnvOf<S, M, T> as Outside>⟧.reach in
+        IfErr result (FailsAsking (map (λ p. meaning p) policies.now) (scan_query range.now options.now.prefix options.now.filter_context) (reach env.old) (reach env.new) (handles_of layers.now.runs)) }
+    ensures reads { let reach = ⟦<EnvOf<S, M, T> as Outside>⟧.reach in OnlyReads (reach env.old) (reach env.new) }
+{
+    let query = scan_query(range, options)?;
+    let left = runs_left(alloc, layers.runs(), range, policies, &query, env)?;
+    let sources = scan_sources(
+        alloc,
+        own,
+        layers,
+        left.as_slice(),
+        range,
+        begin,
+        options,
+        policies,
+    )?;
     Ok(sources)
 }
 

@@ -56,7 +56,7 @@ fn reaches_end(range: &BytesRange, first: &Option<Bytes>) -> bool
 }
 
 /// Whether a table can hold a key of the range, by its first and its last key. One that names no such key can.
-pub(crate) fn can_reach(range: &BytesRange, info: &SsTableInfo) -> bool
+pub fn can_reach(range: &BytesRange, info: &SsTableInfo) -> bool
     ensures { result ≡ can_reach range.now info.now }
 {
     reaches_start(range, &info.last_entry) && reaches_end(range, &info.first_entry)

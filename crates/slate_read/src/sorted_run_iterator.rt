@@ -27,11 +27,11 @@ use std::marker::PhantomData;
 /// The rows of a run of stored tables in a range, in an order, the newest of each key first: one table after another. A table is
 /// opened when those before it are spent, and one that can't hold a key of the range, or that a seek passes over, never is. The
 /// code holds one block at most, and what is read ahead, and reads each at most once; no clause says that. Filters of the tables
-/// aren't asked yet.
+/// aren't asked here: who reads asks them first, and leaves out the tables that they deny.
 #[derive(Drop)]
 pub struct SortedRunIterator<'a> {
     pub(crate) rows: NewestFirst<FilterIterator<RunWalk, InRange>>,
-    /// The policies of filters are borrowed for as long as it is used. None is asked yet.
+    /// The policies of filters are borrowed for as long as it is used. None is asked here.
     policies: PhantomData<&'a ()>,
 }
 

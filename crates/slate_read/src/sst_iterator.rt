@@ -19,11 +19,12 @@ use slate_types::{
 use std::alloc::Global;
 use std::marker::PhantomData;
 
-/// The rows of a stored table in a range, in an order, the newest of each key first. Its filters aren't asked yet.
+/// The rows of a stored table in a range, in an order, the newest of each key first. Its filters aren't asked here: who reads
+/// asks them first, and opens no table that they deny.
 #[derive(Drop)]
 pub struct SstIterator<'a> {
     pub(crate) rows: InternalSstIterator,
-    /// The policies of filters are borrowed for as long as it is used. None is asked yet.
+    /// The policies of filters are borrowed for as long as it is used. None is asked here.
     policies: PhantomData<&'a ()>,
 }
 

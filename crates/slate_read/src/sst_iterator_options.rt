@@ -14,10 +14,10 @@ pub struct SstIteratorOptions {
     /// The order in which the rows come.
     pub order: IterationOrder,
 
-    /// The prefix that filters are asked for, where the keys have one. Not used yet: no filter is asked.
+    /// The prefix that filters are asked for, where each key of the range begins with one.
     pub prefix: Option<Bytes>,
 
-    /// What filters are told beside the prefix. Not used yet.
+    /// What filters are told beside the key or the prefix.
     pub filter_context: Option<FilterContext>,
 }
 

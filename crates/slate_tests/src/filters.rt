@@ -1,5 +1,5 @@
 // Runs with filters of prefixes over a store of which one call fails. The first call puts a table, and of a get the next reads the
-// table's filters, and the one behind its index.
+// table's filters, and the one behind its index; so it is of a scan of one key.
 ghost use Rattle.std.specs.Prelude.{◌≡◌, ◌<◌, ◌^◌, true, length, map, IfOk};
 ghost use Rattle.slate_filter.specs.Laws.{AreValidNames};
 
@@ -72,15 +72,26 @@ const SHORT_KEY: &[u8] = b"write put 'a '1 put 'b '2\nflush\nbegin t si\nget t '
 
 const LONG_KEY: &[u8] = b"write put 'a '1 put 'b '2\nflush\nbegin t si\nget t 'aaaa\n";
 
+const SHORT_SCAN: &[u8] = b"write put 'a '1 put 'b '2\nflush\nbegin t si\nscan t asc i'a i'a\n";
+
+const LONG_SCAN: &[u8] =
+    b"write put 'a '1 put 'b '2\nflush\nbegin t si\nscan t asc i'aaaa i'aaaa\n";
+
 const BEGUN: &[u8] = b"written 1\nflushed 1\nbegun t 1\n";
 
 const DENIED: &[u8] = b"written 1\nflushed 1\nbegun t 1\nnone\n";
+
+const EMPTY: &[u8] = b"written 1\nflushed 1\nbegun t 1\nrows 0\n";
 
 const RUNS: &[Run] = &[
     (SHORT_KEY, 2, 7, BEGUN),
     (SHORT_KEY, 3, 7, BEGUN),
     (LONG_KEY, 2, 7, BEGUN),
     (LONG_KEY, 3, 0, DENIED),
+    (SHORT_SCAN, 2, 7, BEGUN),
+    (SHORT_SCAN, 3, 7, BEGUN),
+    (LONG_SCAN, 2, 7, BEGUN),
+    (LONG_SCAN, 3, 0, EMPTY),
 ];
 
 // The filter is read first, and where it denies the key nothing else is.

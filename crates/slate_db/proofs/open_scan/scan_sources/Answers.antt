@@ -1,8 +1,7 @@
 use Rattle.std.proofs.Common.{◌≡◌, [], ◌∷◌, List, ap, map, reverse, subst, sym}
 use Rattle.slate_read.specs.declared.filter_iterator.MaxSeq.{MaxSeq}
-use Rattle.slate_read.specs.declared.sorted_run.SortedRun.{SortedRun}
 use Rattle.slate_db.specs.Model.{Rows}
-use Rattle.slate_db.specs.OpenScans.{AreEach, IsMemorySource, IsRunSource}
+use Rattle.slate_db.specs.OpenScans.{AreEach, IsMemorySource}
 use Rattle.slate_db.proofs.SourceLists.{all_sources, own_is}
 use Rattle.slate_db.proofs.open_scan.scan_sources.Goals as goal
 
@@ -16,4 +15,4 @@ returns-clause-sources g c ops has =
     (own_is range order ops c.args.own c.in_ok-own.own c.in_ok-own.ensures.iterator (ap (λ (p : MaxSeq). p.max_seq) c.in_ok-own.ensures.predicate) has)
     (subst (λ (rows : Rows). AreEach (IsMemorySource range order n) (rows ∷ reverse c.args.layers.now.frozen) c.in_ok-memory.memory.items) c.active-active.ensures
     (subst (λ (ls : List Rows). AreEach (IsMemorySource range order n) (c.active-active.result.now.rows ∷ reverse ls) c.in_ok-memory.memory.items) c.frozen-frozen.ensures c.in_ok-memory.ensures.each))
-    (subst (λ (rs : List SortedRun). AreEach (IsRunSource range order n) (reverse rs) c.in_ok-runs.runs.items) c.runs.ensures c.in_ok-runs.ensures.each)
+    c.in_ok-runs.ensures.each

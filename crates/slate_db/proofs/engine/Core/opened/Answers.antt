@@ -1,11 +1,12 @@
-use Rattle.std.proofs.Common.{inl, inr, ◌≡◌, ◌≤◌, ℕ, [], ◌∷◌, ◌++◌, List, Option, Some, refl, ap, sym, subst, ◌∙◌}
+use Rattle.std.proofs.Common.{inl, inr, ◌≡◌, ◌≤◌, ℕ, [], ◌∷◌, ◌++◌, List, Option, Some, map, refl, ap, sym, subst, ◌∙◌, append_assoc}
 use Rattle.std.specs.Prelude.{IsSome}
 use Rattle.std.proofs.lemmas.Result.{IfOk-from_err, err_from_is_err_and}
 use Rattle.slate_types.specs.declared.error.SlateDBError.{SlateDBError}
-use Rattle.slate_types.specs.Outside.{Act, IsFault}
+use Rattle.slate_types.specs.Outside.{Act, IsFault, Meaning}
 use Rattle.slate_types.specs.World.{Made, World}
+use Rattle.slate_types.proofs.Calls.{call_both}
 use Rattle.slate_types.proofs.Exits.{err_exit}
-use Rattle.slate_types.proofs.Reaching.{reads_none}
+use Rattle.slate_types.proofs.Reaching.{fault_earlier, reads_none, reads_then}
 use Rattle.slate_store.specs.Reach.{reach_of}
 use Rattle.slate_txn.specs.Reads.{rows_seen}
 use Rattle.slate_txn.specs.Step.{Reader, reader}
@@ -14,53 +15,74 @@ use Rattle.slate_filter.specs.Policy.{Policy}
 use Rattle.slate_db.specs.Meaning.{rules_of}
 use Rattle.slate_db.specs.Model.{CoreModel}
 use Rattle.slate_db.specs.Readable.{IsAnswered}
+use Rattle.slate_db.specs.ScanFilters.{scan_query}
 use Rattle.slate_db.specs.Scans.{IsFor, IsOpeningError, IsRefusedByScan, IsWorldOf, Leaves, ScanRefuses}
 use Rattle.slate_db.specs.View.{unseen_of, view_of}
+use Rattle.slate_db.proofs.Answered.{from_first}
 use Rattle.slate_db.proofs.Readers.{own_range_of}
-use Rattle.slate_db.proofs.ScanMerges.{opening_refused, scan_is_for, scan_leaves, scan_refused, scan_undamaged}
+use Rattle.slate_db.proofs.ScanMerges.{answered_last, asking_refused, leaves_runs, opening_refused, refused_later, runs_filtered, runs_there, scan_is_for, scan_leaves, scan_refused, scan_undamaged}
 use Rattle.slate_db.proofs.ScanReaders.{fine_reader, plain_reader}
 use Rattle.slate_db.proofs.engine.Core.opened.Goals as goal
 
 pub returns : goal.returns
 returns g c =
     let before = reach_of g.S.Store g.M.MergeOperator g.T.BlockTransformer c.args.env.now in
+    let middle = reach_of g.S.Store g.M.MergeOperator g.T.BlockTransformer c.asked_sources.new.env in
     let after = reach_of g.S.Store g.M.MergeOperator g.T.BlockTransformer c.merged.new.env in
+    let policies : List Policy = map (λ p. (goal.FilterPolicy-dyn g (p.vtable, p.value)).meaning p.value) c.args.policies.now in
     let m = before.meaning in
     let v = view_of c.self.inside in
     let x = unseen_of c.self.inside in
     let order = c.args.how.order in
+    let first = c.asked_sources.ensures.reads in
+    let last = c.merged.ensures.reads in
     let own = c.in_ok-own.ensures in
     let own_rows = c.in_ok-own.own.rows in
     let there : (from : Reader) → reader c.args.self.now.state c.args.id.now ≡ Some from → reader v.state c.args.id.now ≡ Some from = λ from found. ap (λ (u : CoreModel). reader u.state c.args.id.now) c.self.view_is ∙ found in
     let from : Reader = (open_is (reader c.args.self.now.state c.args.id.now) c.requires.open).value in
     let found : reader c.args.self.now.state c.args.id.now ≡ Some from = (open_is (reader c.args.self.now.state c.args.id.now) c.requires.open).is in
-    let are = c.in_ok-sources.ensures.sources from.ops (record { rows = own_range_of v.state c.args.id.now from (there from found) c.args.range own_rows own.rows own.none; in_order = own.in_order; turn = own.turn; same_order = own.order }) in
+    let sources = c.in_ok-sources.ensures.sources in
+    let asked = c.in_ok-sources.ensures.made in
+    let are = sources.are from.ops (record { rows = own_range_of v.state c.args.id.now from (there from found) c.args.range own_rows own.rows own.none; in_order = own.in_order; turn = own.turn; same_order = own.order }) in
     let rows = c.in_ok-rows.ensures in
     let made = c.new.ensures in
     record {
-      opened = λ u at. subst (λ (k : CoreModel). k.floor ≤ c.args.begin → (asked : List Policy) (a : IsAnswered asked before after k) → (w : World) × IsWorldOf a.os m w × Leaves c.new.result w (rows_seen (rules_of k.settings m) k.state.commits c.args.begin u.ops order c.args.range)) c.self.view_is
-          (λ above asked a.
-          let mine = c.in_ok-sources.ensures.sources u.ops (record { rows = own_range_of v.state c.args.id.now u (there u at) c.args.range own_rows own.rows own.none; in_order = own.in_order; turn = own.turn; same_order = own.order }) in
-          scan_leaves asked before after v x c.self.invariant c.args.range order c.args.begin u.ops (fine_reader v.state c.args.id.now u (there u at) c.own_range.ensures.fine) above c.in_ok-sources.sources.items mine a
-          (plain_reader m v c.args.id.now u (there u at) a.readable.kept.2) c.in_ok-rows.rows c.new.result made.state made.range made.order rows.going rows.sound rows.rows rows.operable rows.later.0 rows.later.2);
+      opened = λ u at. subst (λ (k : CoreModel). k.floor ≤ c.args.begin → (a : IsAnswered policies before after k) → (w : World) × IsWorldOf a.os m w × Leaves c.new.result w (rows_seen (rules_of k.settings m) k.state.commits c.args.begin u.ops order c.args.range)) c.self.view_is
+          (λ above a.
+          let mine = sources.are u.ops (record { rows = own_range_of v.state c.args.id.now u (there u at) c.args.range own_rows own.rows own.none; in_order = own.in_order; turn = own.turn; same_order = own.order }) in
+          let b : IsAnswered policies middle after v = answered_last policies before middle after v first last a in
+          subst (λ (k : Meaning). (w : World) × IsWorldOf a.os k w × Leaves c.new.result w (rows_seen (rules_of v.settings k) v.state.commits c.args.begin u.ops order c.args.range)) first.meaning
+          (scan_leaves policies middle after v x c.self.invariant sources.left sources.asked.among c.args.range order c.args.begin u.ops (fine_reader v.state c.args.id.now u (there u at) c.own_range.ensures.fine) above c.in_ok-sources.sources.items mine b
+          (leaves_runs policies before middle after c.args.range x.runs sources.left sources.asked first a.os (from_first a.os before middle after first last a.answers))
+          (plain_reader middle.meaning v c.args.id.now u (there u at) b.readable.kept.2) c.in_ok-rows.rows c.new.result made.state made.range made.order rows.going rows.sound rows.rows rows.operable rows.later.0 rows.later.2));
       later = subst (λ (k : CoreModel). IsFor m c.new.result × Made before after (λ reads. (later : List Act) (at : Option (List ℕ)) (e : SlateDBError) → ScanRefuses c.new.result m later at e → IsRefusedByScan m k (reads ++ later) e)) c.self.view_is (
-        scan_is_for m v x c.self.invariant c.args.range order c.args.begin from.ops _ c.in_ok-sources.sources.items are c.in_ok-rows.rows c.new.result rows.later.0 made.state made.range rows.going.0 rows.later.2,
-        (rows.later.0, rows.later.1, scan_refused m v x c.self.invariant c.args.range order c.args.begin from.ops _ c.in_ok-sources.sources.items are c.in_ok-rows.rows c.new.result rows.later.0 made.state made.range rows.going.0 rows.later.2),
+        subst (λ (k : Meaning). IsFor k c.new.result) first.meaning
+            (scan_is_for middle.meaning v x c.self.invariant sources.left sources.asked.among c.args.range order c.args.begin from.ops _ c.in_ok-sources.sources.items are c.in_ok-rows.rows c.new.result rows.later.0 made.state made.range rows.going.0 rows.later.2),
+        (
+          asked.0 ++ rows.later.0,
+          call_both before middle after asked.0 rows.later.0 asked.1 rows.later.1,
+          λ later at e h.
+              subst (λ (reads : List Act). IsRefusedByScan m v reads e) (sym (append_assoc asked.0 rows.later.0 later))
+              (refused_later m v asked.0 (rows.later.0 ++ later) e
+              (subst (λ (k : Meaning). IsRefusedByScan k v (rows.later.0 ++ later) e) first.meaning
+              (scan_refused middle.meaning v x c.self.invariant sources.left sources.asked.among c.args.range order c.args.begin from.ops _ c.in_ok-sources.sources.items are c.in_ok-rows.rows c.new.result rows.later.0 made.state made.range rows.going.0 rows.later.2 later at e
+              (subst (λ (k : Meaning). ScanRefuses c.new.result k later at e) (sym first.meaning) h)))),
+        ),
       );
-      undamaged = λ above asked a. tt;
+      undamaged = λ above a. tt;
       cause = tt;
       range = made.range;
       order = made.order;
-      reads = c.merged.ensures.reads;
+      reads = reads_then before middle after first last;
     }
 
 pub returns-in_err-own : goal.returns-in_err-own
 returns-in_err-own g c =
     let fault = subst (IsFault (reach_of g.S.Store g.M.MergeOperator g.T.BlockTransformer c.args.env.now) (reach_of g.S.Store g.M.MergeOperator g.T.BlockTransformer c.args.env.now)) (sym c.in_err-own.ensures.cause) tt in
     record {
-      opened = λ u at from asked a. IfOk-from_err c.from_residual.result _ c.from_residual.ensures.0;
+      opened = λ u at from a. IfOk-from_err c.from_residual.result _ c.from_residual.ensures.0;
       later = IfOk-from_err c.from_residual.result _ c.from_residual.ensures.0;
-      undamaged = λ from asked a. err_exit c.from_residual.result _ c.from_residual.ensures.1 _ fault;
+      undamaged = λ from a. err_exit c.from_residual.result _ c.from_residual.ensures.1 _ fault;
       cause = err_exit c.from_residual.result _ c.from_residual.ensures.1 _ (inl fault);
       range = IfOk-from_err c.from_residual.result _ c.from_residual.ensures.0;
       order = IfOk-from_err c.from_residual.result _ c.from_residual.ensures.0;
@@ -69,43 +91,62 @@ returns-in_err-own g c =
 
 pub returns-in_err-sources : goal.returns-in_err-sources
 returns-in_err-sources g c =
-    let fault = subst (IsFault (reach_of g.S.Store g.M.MergeOperator g.T.BlockTransformer c.args.env.now) (reach_of g.S.Store g.M.MergeOperator g.T.BlockTransformer c.args.env.now)) (sym c.in_err-sources.ensures.cause) tt in
+    let before = reach_of g.S.Store g.M.MergeOperator g.T.BlockTransformer c.args.env.now in
+    let middle = reach_of g.S.Store g.M.MergeOperator g.T.BlockTransformer c.asked_sources.new.env in
+    let policies : List Policy = map (λ p. (goal.FilterPolicy-dyn g (p.vtable, p.value)).meaning p.value) c.args.policies.now in
+    let query = scan_query c.args.range c.args.how.prefix c.args.how.filter_context in
+    let v = view_of c.self.inside in
+    let x = unseen_of c.self.inside in
+    let e = c.in_err-sources.field-0.0 in
+    let refused = c.in_err-sources.ensures.refused in
     record {
-      opened = λ u at from asked a. IfOk-from_err c.from_residual-in_err-sources.result _ c.from_residual-in_err-sources.ensures.0;
+      opened = λ u at from a. IfOk-from_err c.from_residual-in_err-sources.result _ c.from_residual-in_err-sources.ensures.0;
       later = IfOk-from_err c.from_residual-in_err-sources.result _ c.from_residual-in_err-sources.ensures.0;
-      undamaged = λ from asked a. err_exit c.from_residual-in_err-sources.result _ c.from_residual-in_err-sources.ensures.1 _ fault;
-      cause = err_exit c.from_residual-in_err-sources.result _ c.from_residual-in_err-sources.ensures.1 _ (inl fault);
+      undamaged = λ above a. err_exit c.from_residual-in_err-sources.result _ c.from_residual-in_err-sources.ensures.1 _
+          (subst (λ (k : CoreModel). IsAnswered policies before middle k → IsFault before middle e) c.self.view_is
+          (λ b. refused.undamaged b.os (runs_there policies before.meaning b.os v x c.self.invariant b.readable) (runs_filtered policies before.meaning b.os v x c.self.invariant b.readable) b.answers) a);
+      cause = err_exit c.from_residual-in_err-sources.result _ c.from_residual-in_err-sources.ensures.1 _
+          (subst (λ (k : CoreModel). IsOpeningError policies query before middle k e) c.self.view_is (asking_refused policies query before middle v x c.self.invariant e refused.cause));
       range = IfOk-from_err c.from_residual-in_err-sources.result _ c.from_residual-in_err-sources.ensures.0;
       order = IfOk-from_err c.from_residual-in_err-sources.result _ c.from_residual-in_err-sources.ensures.0;
-      reads = reads_none _;
+      reads = c.asked_sources.ensures.reads;
     }
 
 pub returns-in_err-rows : goal.returns-in_err-rows
 returns-in_err-rows g c =
     let before = reach_of g.S.Store g.M.MergeOperator g.T.BlockTransformer c.args.env.now in
+    let middle = reach_of g.S.Store g.M.MergeOperator g.T.BlockTransformer c.asked_sources.new.env in
     let after = reach_of g.S.Store g.M.MergeOperator g.T.BlockTransformer c.merged.new.env in
-    let m = before.meaning in
+    let policies : List Policy = map (λ p. (goal.FilterPolicy-dyn g (p.vtable, p.value)).meaning p.value) c.args.policies.now in
+    let query = scan_query c.args.range c.args.how.prefix c.args.how.filter_context in
     let v = view_of c.self.inside in
     let x = unseen_of c.self.inside in
     let order = c.args.how.order in
+    let first = c.asked_sources.ensures.reads in
+    let last = c.merged.ensures.reads in
     let own = c.in_ok-own.ensures in
     let own_rows = c.in_ok-own.own.rows in
     let e = c.in_err-rows.field-0.0 in
     let from : Reader = (open_is (reader c.args.self.now.state c.args.id.now) c.requires.open).value in
     let found : reader c.args.self.now.state c.args.id.now ≡ Some from = (open_is (reader c.args.self.now.state c.args.id.now) c.requires.open).is in
     let there : reader v.state c.args.id.now ≡ Some from = ap (λ (u : CoreModel). reader u.state c.args.id.now) c.self.view_is ∙ found in
-    let are = c.in_ok-sources.ensures.sources from.ops (record { rows = own_range_of v.state c.args.id.now from there c.args.range own_rows own.rows own.none; in_order = own.in_order; turn = own.turn; same_order = own.order }) in
+    let sources = c.in_ok-sources.ensures.sources in
+    let are = sources.are from.ops (record { rows = own_range_of v.state c.args.id.now from there c.args.range own_rows own.rows own.none; in_order = own.in_order; turn = own.turn; same_order = own.order }) in
     record {
-      opened = λ u at above asked a. IfOk-from_err c.from_residual-in_err-rows.result _ c.from_residual-in_err-rows.ensures.0;
+      opened = λ u at above a. IfOk-from_err c.from_residual-in_err-rows.result _ c.from_residual-in_err-rows.ensures.0;
       later = IfOk-from_err c.from_residual-in_err-rows.result _ c.from_residual-in_err-rows.ensures.0;
-      undamaged = λ above asked a. err_exit c.from_residual-in_err-rows.result _ c.from_residual-in_err-rows.ensures.1 _
-          (subst (λ (k : CoreModel). k.floor ≤ c.args.begin → (asked : List Policy) → IsAnswered asked before after k → IsFault before after e) c.self.view_is
-          (λ f asked b. scan_undamaged asked before after v x c.self.invariant c.args.range order c.args.begin from.ops (fine_reader v.state c.args.id.now from there c.own_range.ensures.fine) f c.in_ok-sources.sources.items are b
-          (plain_reader m v c.args.id.now from there b.readable.kept.2) e c.in_err-rows.ensures.cause) above asked a);
+      undamaged = λ above a. err_exit c.from_residual-in_err-rows.result _ c.from_residual-in_err-rows.ensures.1 _
+          (subst (λ (k : CoreModel). k.floor ≤ c.args.begin → IsAnswered policies before after k → IsFault before after e) c.self.view_is
+          (λ f a.
+          let b : IsAnswered policies middle after v = answered_last policies before middle after v first last a in
+          fault_earlier before middle after e first.later
+          (scan_undamaged policies middle after v x c.self.invariant sources.left sources.asked.among c.args.range order c.args.begin from.ops (fine_reader v.state c.args.id.now from there c.own_range.ensures.fine) f c.in_ok-sources.sources.items are b
+          (leaves_runs policies before middle after c.args.range x.runs sources.left sources.asked first a.os (from_first a.os before middle after first last a.answers))
+          (plain_reader middle.meaning v c.args.id.now from there b.readable.kept.2) e c.in_err-rows.ensures.cause)) above a);
       cause = err_exit c.from_residual-in_err-rows.result _ c.from_residual-in_err-rows.ensures.1 _
-          (subst (λ (k : CoreModel). IsOpeningError before after k e) c.self.view_is
-          (opening_refused m v x c.self.invariant c.args.range order c.args.begin from.ops _ c.in_ok-sources.sources.items are before after e refl c.in_err-rows.ensures.cause));
+          (subst (λ (k : CoreModel). IsOpeningError policies query before after k e) c.self.view_is
+          (opening_refused middle.meaning v x c.self.invariant sources.left sources.asked.among c.args.range order c.args.begin from.ops _ c.in_ok-sources.sources.items are policies query before middle after e refl first c.in_ok-sources.ensures.made c.in_err-rows.ensures.cause));
       range = IfOk-from_err c.from_residual-in_err-rows.result _ c.from_residual-in_err-rows.ensures.0;
       order = IfOk-from_err c.from_residual-in_err-rows.result _ c.from_residual-in_err-rows.ensures.0;
-      reads = c.merged.ensures.reads;
+      reads = reads_then before middle after first last;
     }

@@ -31,6 +31,7 @@ use Rattle.slate_db.specs.Vouched.{IsVouchedFor}
 use Rattle.slate_db.proofs.Keeps.{kept_event}
 use Rattle.slate_db.proofs.OpenNotes.{step_scan, vouched_scan}
 use Rattle.slate_db.proofs.Operands.{own_updated}
+use Rattle.slate_db.proofs.ScanMerges.{answered_as, opening_as}
 use Rattle.slate_db.proofs.Readers.{floor_at, own_at, scan_left, scans_of, start_at}
 use Rattle.slate_db.proofs.Wholes.{after_note, whole_note}
 use Rattle.slate_db.proofs.engine.Core.scan.Goals as goal
@@ -39,6 +40,9 @@ use Rattle.slate_db.proofs.engine.Core.scan.Given as given
 -- nothing is noted
 unnoted : (s : Inside) (ts : Transactions) → ts ≡ s.transactions → record s { transactions = ts } ≡ s
 unnoted s ts same = ap (λ (us : Transactions). record s { transactions = us }) same
+
+pub opened-requires-clause-prefix : goal.opened-requires-clause-prefix
+opened-requires-clause-prefix g c p k is within = c.requires.prefix p k (sym c.in_ok-how.ensures.prefix ∙ is) within
 
 pub returns-in_err-how : goal.returns-in_err-how
 returns-in_err-how g c =
@@ -73,8 +77,10 @@ returns-in_err-rows g c =
       opened = λ from found a. IfOk-from_err c.from_residual-in_err-rows.result _ c.from_residual-in_err-rows.ensures.0;
       left = λ from found. IfOk-from_err c.from_residual-in_err-rows.result _ c.from_residual-in_err-rows.ensures.0;
       later = IfOk-from_err c.from_residual-in_err-rows.result _ c.from_residual-in_err-rows.ensures.0;
-      undamaged = λ a. err_exit c.from_residual-in_err-rows.result _ c.from_residual-in_err-rows.ensures.1 _ (c.in_err-rows.ensures.undamaged above _ a);
-      cause = err_exit c.from_residual-in_err-rows.result _ c.from_residual-in_err-rows.ensures.1 _ c.in_err-rows.ensures.cause;
+      undamaged = λ a. err_exit c.from_residual-in_err-rows.result _ c.from_residual-in_err-rows.ensures.1 _
+          (answered_as (λ p. (goal.FilterPolicy-dyn g (p.vtable, p.value)).meaning p.value) c.as_slice.result.now c.args.laws.now.policies.items c.as_slice.ensures.value (reach_of g.S.Store g.M.MergeOperator g.T.BlockTransformer c.args.env.now) (reach_of g.S.Store g.M.MergeOperator g.T.BlockTransformer c.opened.new.env) c.args.self.now (λ os. IsFault (reach_of g.S.Store g.M.MergeOperator g.T.BlockTransformer c.args.env.now) (reach_of g.S.Store g.M.MergeOperator g.T.BlockTransformer c.opened.new.env) c.in_err-rows.field-0.0) (λ b. c.in_err-rows.ensures.undamaged above b) a);
+      cause = err_exit c.from_residual-in_err-rows.result _ c.from_residual-in_err-rows.ensures.1 _
+          (opening_as (λ p. (goal.FilterPolicy-dyn g (p.vtable, p.value)).meaning p.value) c.as_slice.result.now c.args.laws.now.policies.items c.as_slice.ensures.value c.args.range c.in_ok-how.how.prefix c.args.prefix c.in_ok-how.ensures.prefix c.in_ok-how.how.filter_context c.args.options.now.filter_context c.in_ok-how.ensures.context (reach_of g.S.Store g.M.MergeOperator g.T.BlockTransformer c.args.env.now) (reach_of g.S.Store g.M.MergeOperator g.T.BlockTransformer c.opened.new.env) c.args.self.now c.in_err-rows.field-0.0 c.in_err-rows.ensures.cause);
       vouched = rw p.1 tt;
       same = rw p.1 refl;
       kept = λ m k. k;
@@ -147,7 +153,9 @@ returns g c =
           let begins : c.in-Some.begin ≡ from.at = start_at s old c.self.view_is id from found c.in-Some.begin c.in-Some.ensures in
           let above : old.floor ≤ c.in-Some.begin = subst (λ (n : ℕ). old.floor ≤ n) (sym begins) (floor_at s old c.self.view_is id from found c.self.invariant) in
           subst (λ (o : IterationOrder). (w : World) × IsWorldOf a.os m w × Leaves rows w (rows_seen (rules_of old.settings m) old.state.commits from.at from.ops o range)) how
-          (subst (λ (n : ℕ). (w : World) × IsWorldOf a.os m w × Leaves rows w (rows_seen (rules_of old.settings m) old.state.commits n from.ops c.in_ok-how.how.order range)) begins (e.opened from found above _ a)));
+          (subst (λ (n : ℕ). (w : World) × IsWorldOf a.os m w × Leaves rows w (rows_seen (rules_of old.settings m) old.state.commits n from.ops c.in_ok-how.how.order range)) begins
+          (answered_as (λ p. (goal.FilterPolicy-dyn g (p.vtable, p.value)).meaning p.value) c.as_slice.result.now c.args.laws.now.policies.items c.as_slice.ensures.value before after old
+          (λ os. (w : World) × IsWorldOf os m w × Leaves rows w (rows_seen (rules_of old.settings m) old.state.commits c.in-Some.begin from.ops c.in_ok-how.how.order range)) (λ b. e.opened from found above b) a)));
       left = λ from found. subst (λ (k : CoreModel). (u : Tx) → find_named id k.state.txns ≡ Some u → slice_get (scans_left (rules_of k.settings m) k.state.commits u.begin u.transcript) c.in-Ok.scan ≡ Some (rows.order, rows_seen (rules_of old.settings m) old.state.commits from.at from.ops order range)) (sym (noted_is g c))
           (λ u at. scan_left m old id order range from c.in-Ok.scan found (number_is g c from found) (own_at s old c.self.view_is id c.self.invariant) u at
           ∙ ap (λ (o : IterationOrder). Some (o, rows_seen (rules_of old.settings m) old.state.commits from.at from.ops order range)) (sym (e.order ∙ how)));

@@ -1,0 +1,130 @@
+-- By lawful policies no table is denied that has a row in a range whose keys match the query.
+use Rattle.std.proofs.Common.{◌≡◌, ℕ, suc, ◌<◌, Bool, true, false, cond, List, [], ◌∷◌, ◌++◌, drop, length, map, flat_map, filter, Option, Some, None, inl, inr, refl, sym, ap, subst, ◌∙◌, arith}
+use Rattle.std.specs.Prelude.{Contains, ◌&&◌, ◌==◌, nat_eq}
+use Rattle.std.specs.List.{starts_with}
+use Rattle.std.proofs.lemmas.Bool.Decides.{nat_tests}
+use Rattle.std.proofs.lemmas.Slice.Eq.{bytes_eq-Decides}
+use Rattle.slate_types.specs.declared.bytes_range.BytesRange.{BytesRange}
+use Rattle.slate_types.specs.declared.error.SlateDBError.{SlateDBError}
+use Rattle.slate_types.specs.declared.types.RowEntry.{RowEntry}
+use Rattle.slate_types.specs.declared.filter_policy.FilterContext.{FilterContext}
+use Rattle.slate_types.specs.declared.filter_policy.FilterQuery.{FilterQuery}
+use Rattle.slate_types.specs.Keys.{in_range, point_of}
+use Rattle.slate_types.specs.Lawful.{IsLawfulTransform}
+use Rattle.slate_types.proofs.PointLaws.{point-key}
+use Rattle.slate_block.specs.BlockSpelling.{as_read}
+use Rattle.slate_block.specs.ReadingLaws.{EachIsAByte}
+use Rattle.slate_block.specs.RowSpelling.{read_expiry}
+use Rattle.slate_filter.specs.Asking.{asked}
+use Rattle.slate_filter.specs.Policy.{IsOf, Policy, filters_of}
+use Rattle.slate_filter.proofs.PolicyLaws.{all_let_through}
+use Rattle.slate_mem.specs.Table.{ranged}
+use Rattle.slate_table.specs.Decoded.{Info, IsFilters}
+use Rattle.slate_table.specs.Filtered.{IsAsked, RefusesQuery, AreLawful, HasFiltersOf, filters_answer}
+use Rattle.slate_table.specs.Finding.{IsTableWith}
+use Rattle.slate_table.specs.Parts.{Encode, section, filters_bytes}
+use Rattle.slate_table.specs.Reading.{IsPart}
+use Rattle.slate_table.specs.Table.{filter_section}
+use Rattle.slate_table.proofs.FilterLaws.{same_filter_part}
+use Rattle.slate_table.proofs.FilteredLaws.{denied_lack}
+use Rattle.slate_table.proofs.PolicyReads.{all_are_answered}
+use Rattle.slate_table.proofs.TableFinds.{FiltersFound, filters_found, part_is}
+use Rattle.slate_table.proofs.TableLaws.{tables_one_way}
+use Rattle.slate_db.specs.ScanFilters.{Covers, query_for, scan_query}
+
+-- ---- what a scan asks matches each key of its range
+
+both_true : (a b : Bool) → (a && b) ≡ true → (a ≡ true) × (b ≡ true)
+both_true true b h = (refl, h)
+both_true false b h = cc
+
+begun_by : (p k : List ℕ) → starts_with nat_eq k p ≡ true → k ≡ p ++ drop (length p) k
+begun_by [] k h = refl
+begun_by (b ∷ p) [] h = cc
+begun_by (b ∷ p) (x ∷ k) h =
+    let both = both_true (nat_eq b x) _ h in
+    let same : x ≡ b = (let e = both.0 in grind (arith, nat_tests, e)) in
+    λ i. same i ∷ begun_by p k both.1 i
+
+pub scan_covers : (range : BytesRange) (prefix : Option (List ℕ)) (context : Option FilterContext) → ((p k : List ℕ) → prefix ≡ Some p → in_range range k ≡ true → starts_with nat_eq k p ≡ true) → Covers (scan_query range prefix context) range
+scan_covers range prefix context begins = by (point_of range) prefix refl begins
+  where
+    by : (point : Option (List ℕ)) (known : Option (List ℕ)) → point_of range ≡ point → ((p k : List ℕ) → known ≡ Some p → in_range range k ≡ true → starts_with nat_eq k p ≡ true) → Covers (query_for point known context) range
+    by (Some key) known is h = λ k within. sym ((bytes_eq-Decides key k).0 (sym (point-key range key k is) ∙ within))
+    by None (Some p) is h = λ k within. (drop (length p) k, begun_by p k (h p k refl within))
+    by None None is h = tt
+
+-- ---- rows in a range
+
+as_read_key : (version : ℕ) (r : RowEntry) → (as_read version r).key ≡ r.key
+as_read_key version r = by (version == 1)
+  where
+    by : (b : Bool) → (cond b (record r { expire_ts = read_expiry r.value r.expire_ts }) r).key ≡ r.key
+    by true = refl
+    by false = refl
+
+ranged_read : (version : ℕ) (range : BytesRange) (rows : List RowEntry) → ranged range rows ≡ [] → ranged range (map (as_read version) rows) ≡ []
+ranged_read version range [] none = refl
+ranged_read version range (r ∷ rows) none = by (in_range range r.key) none (ap (in_range range) (as_read_key version r)) (ranged_read version range rows)
+  where
+    by : (t : Bool) → cond t (r ∷ ranged range rows) (ranged range rows) ≡ [] → in_range range (as_read version r).key ≡ t → (ranged range rows ≡ [] → ranged range (map (as_read version) rows) ≡ []) → ranged range (map (as_read version) (r ∷ rows)) ≡ []
+    by true gone is later = cc
+    by false gone is later = ap (λ (b : Bool). cond b (as_read version r ∷ ranged range (map (as_read version) rows)) (ranged range (map (as_read version) rows))) is ∙ later gone
+
+none_ranged : (range : BytesRange) (rows : List RowEntry) → ((r : RowEntry) → Contains rows r → in_range range r.key ≡ true → ⊥) → ranged range rows ≡ []
+none_ranged range [] out = refl
+none_ranged range (r ∷ rows) out = by (in_range range r.key) refl (none_ranged range rows (λ s h. out s (suc h.0, (let lt = h.1 in omega (arith, lt)), h.2)))
+  where
+    by : (t : Bool) → in_range range r.key ≡ t → ranged range rows ≡ [] → cond t (r ∷ ranged range rows) (ranged range rows) ≡ []
+    by true is later = absurd (out r (0, omega arith, refl) is)
+    by false is later = later
+
+-- ---- the law
+
+-- a section of filters that isn't empty is that of their part
+some_section : (encode : Encode) (fs : List (List ℕ × List ℕ)) → 0 < length (filter_section encode fs) → filter_section encode fs ≡ section encode (filters_bytes fs)
+some_section encode [] some = absurd (omega (arith, some))
+some_section encode (f ∷ fs) some = refl
+
+pub denied_range : (encode decode : Encode) → IsLawfulTransform encode decode → (policies : List Policy) → AreLawful policies →
+    (bytes : List ℕ) (version : ℕ) (info : Info) (rows : List RowEntry) → EachIsAByte bytes → IsTableWith encode bytes version info rows → HasFiltersOf encode policies bytes →
+    (query : FilterQuery) (range : BytesRange) → ((k : List ℕ) → in_range range k ≡ true → IsOf query.target k) → 0 < info.filters.len →
+    (IsAsked decode policies query (filters_answer bytes info) false → ranged range rows ≡ [])
+    × ((e : SlateDBError) → RefusesQuery decode policies query (filters_answer bytes info) e → ⊥)
+denied_range encode decode lawful policies ps bytes version info rows fits t h query range covers some = (lacks, refused)
+  where
+    one_way : (t.written ≡ h.version) × (t.is.0 ≡ h.blocks) × (t.is.1 ≡ filters_of policies h.min (flat_map (λ b. b) h.blocks))
+    one_way = tables_one_way encode decode lawful bytes t.written h.version t.is.0 h.blocks t.is.1 (filters_of policies h.min (flat_map (λ b. b) h.blocks)) t.is.2 h.is
+
+    found : FiltersFound encode bytes info t.is.1
+    found = filters_found encode bytes version info t.written t.is.0 t.is.1 t.is.2 t.info
+
+    is_section : filter_section encode t.is.1 ≡ section encode (filters_bytes t.is.1)
+    is_section = some_section encode t.is.1 (let l = found.len in omega (arith, l, some))
+
+    answer : filters_answer bytes info ≡ Some (section encode (filters_bytes t.is.1))
+    answer = found.answer ∙ ap Some is_section
+
+    part_of_them : (part : List ℕ) → IsPart decode (filters_answer bytes info) part → part ≡ filters_bytes t.is.1
+    part_of_them part p = part_is encode decode lawful (filters_bytes t.is.1) part (filters_answer bytes info) answer p
+
+    -- what is read are the filters of the policies
+    same : (part : List ℕ) (filters : List (List ℕ × List ℕ)) → IsPart decode (filters_answer bytes info) part → IsFilters part filters →
+        filters ≡ filters_of policies h.min (flat_map (λ b. b) t.is.0)
+    same part filters p is =
+        same_filter_part filters t.is.1 is.few t.is.2.few_filters is.each t.is.2.each_filter (sym is.is ∙ part_of_them part p)
+        ∙ one_way.2 ∙ ap (λ bs. filters_of policies h.min (flat_map (λ b. b) bs)) (sym one_way.1)
+
+    lacks : IsAsked decode policies query (filters_answer bytes info) false → ranged range rows ≡ []
+    lacks (filters, (part, p, is), says) =
+        let denied = sym (ap (λ fs. asked policies fs query) (same part filters p is)) ∙ says in
+        let none : ranged range (flat_map (λ b. b) t.is.0) ≡ [] = none_ranged range (flat_map (λ b. b) t.is.0) (λ r has within.
+        let passes = all_let_through policies ps.distinct ps.each h.min (flat_map (λ b. b) t.is.0) r query has (covers r.key within) in
+        let clash : Some true ≡ Some false = sym passes ∙ denied in cc) in
+        ap (ranged range) t.is.3 ∙ ranged_read t.written range (flat_map (λ b. b) t.is.0) none
+
+    refused : (e : SlateDBError) → RefusesQuery decode policies query (filters_answer bytes info) e → ⊥
+    refused e (inl r) = (denied_lack encode decode lawful policies ps bytes version info rows fits t h [] None some).1 e (inl r)
+    refused e (inr (part, filters, p, is, says, length_is)) =
+        let answered = all_are_answered policies ps.distinct ps.each h.min (flat_map (λ b. b) t.is.0) query in
+        let clash : None ≡ Some answered.0 = sym says ∙ ap (λ fs. asked policies fs query) (same part filters p is) ∙ answered.1 in cc

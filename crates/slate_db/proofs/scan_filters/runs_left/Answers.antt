@@ -1,0 +1,60 @@
+use Rattle.std.proofs.Common.{[], ap, map, refl}
+use Rattle.std.proofs.lemmas.Result.{IfOk-from_err, err_from_is_err_and}
+use Rattle.slate_types.proofs.Calls.{call_none}
+use Rattle.slate_types.proofs.Exits.{err_exit}
+use Rattle.slate_types.proofs.Reaching.{reads_none, reads_then}
+use Rattle.slate_store.specs.Reach.{reach_of}
+use Rattle.slate_db.specs.Installs.{handles_of}
+use Rattle.slate_db.proofs.RunReads.{handle_among}
+use Rattle.slate_db.proofs.ScanFilters.{among_none, fails_memory, fails_more, made_both, runs_among, runs_so_far_all, runs_so_far_more, runs_so_far_none}
+use Rattle.slate_db.proofs.scan_filters.runs_left.Goals as goal
+
+pub loop-run-init : goal.loop-run-init
+loop-run-init g c = record {
+  made = ([], call_none _, tt);
+  reads = reads_none _;
+  among = among_none (handles_of c.args.runs.now) (handles_of c.new-left.result.items) (ap handles_of c.new-left.ensures.items);
+  so_far = runs_so_far_none (map (λ p. (goal.FilterPolicy-dyn g (p.vtable, p.value)).meaning p.value) c.args.policies.now) (reach_of g.S.Store g.M.MergeOperator g.T.BlockTransformer c.args.env.now) c.args.range.now c.args.runs.now c.new-left.result.items c.new-left.ensures.items;
+}
+
+pub loop-run-preserved : goal.loop-run-preserved
+loop-run-preserved g c =
+    let i = c.loop-run.invariant in
+    let one = c.in_ok-one.ensures.left in
+    record {
+      made = made_both _ _ _ i.made c.in_ok-one.ensures.made;
+      reads = reads_then _ _ _ i.reads c.run_left.ensures.reads;
+      among = runs_among c.args.runs.now c.loop-run.run-index c.run-item.result c.in_ok-one.one c.loop-run.left.items c.push.new.self.items c.loop-run-test.true c.run-item.is c.in_ok-push.ensures.items one.among i.among;
+      so_far = runs_so_far_more _ _ _ _ c.args.range.now c.args.runs.now c.loop-run.run-index c.run-item.result c.in_ok-one.one c.loop-run.left.items c.push.new.self.items i.reads c.run_left.ensures.reads c.loop-run-test.true c.run-item.is i.so_far one c.in_ok-push.ensures.items;
+    }
+
+pub returns : goal.returns
+returns g c =
+    let i = c.loop-run.invariant in
+    record {
+      left = record { among = i.among; others = runs_so_far_all (map (λ p. (goal.FilterPolicy-dyn g (p.vtable, p.value)).meaning p.value) c.args.policies.now) (reach_of g.S.Store g.M.MergeOperator g.T.BlockTransformer c.args.env.now) (reach_of g.S.Store g.M.MergeOperator g.T.BlockTransformer c.loop-run.env) c.args.range.now c.args.runs.now c.loop-run.run-index c.loop-run.left.items c.loop-run-test.false i.so_far };
+      made = i.made;
+      refused = tt;
+      reads = i.reads;
+    }
+
+pub returns-in_err-one : goal.returns-in_err-one
+returns-in_err-one g c =
+    let i = c.loop-run.invariant in
+    record {
+      left = IfOk-from_err c.from_residual.result _ c.from_residual.ensures.0;
+      made = IfOk-from_err c.from_residual.result _ c.from_residual.ensures.0;
+      refused = err_exit c.from_residual.result _ c.from_residual.ensures.1 _
+          (fails_more _ _ _ _ _ c.run-item.result.tables.items (handles_of c.args.runs.now) _ (handle_among c.args.runs.now c.loop-run.run-index c.run-item.result c.loop-run-test.true c.run-item.is) i.made i.reads c.run_left.ensures.reads c.in_err-one.ensures.refused);
+      reads = reads_then _ _ _ i.reads c.run_left.ensures.reads;
+    }
+
+pub returns-in_err-push : goal.returns-in_err-push
+returns-in_err-push g c =
+    let p = err_from_is_err_and c.from_residual-in_err-push.result c.from_residual-in_err-push.ensures.1 in
+    record {
+      left = IfOk-from_err c.from_residual-in_err-push.result _ c.from_residual-in_err-push.ensures.0;
+      made = IfOk-from_err c.from_residual-in_err-push.result _ c.from_residual-in_err-push.ensures.0;
+      refused = rw (p.1, p.2) (fails_memory _ _ _ _ _ _ refl);
+      reads = reads_then _ _ _ c.loop-run.invariant.reads c.run_left.ensures.reads;
+    }

@@ -1,0 +1,96 @@
+-- What a scan asks the filters of tables, and which tables these leave to it.
+--     scan_query range prefix context      the query of a scan: for the key of a range that is a point, else for its prefix, where it has one
+--     Covers query range      each key of the range matches the query, where there is one
+--     AreLeft range hs layers left      some of these tables are left; of the others no row is in the range
+--     AreRunsLeft range runs groups left      the same of the tables of each run
+--     ShowsFilters decode policies query hs reads e      the filters of one of these tables were read, and they are refused, or the bytes of one that was asked
+--     AddsLeft policies before after range h old new, TablesAreLeft policies before after range hs left, RunsAreLeft policies before after range runs left
+--                 a call left a table, or the filters that it read deny it; and the same of several tables, and of runs
+--     FailsAsking policies query before after hs e      a call that asked was refused, by a fault or by what such filters show
+use Rattle.std.specs.Prelude.{◌≡◌, ◌⊎◌, ℕ, Bool, true, false, if◌then◌else◌, List, [], ◌∷◌, ◌++◌, Contains, Option, Some, None}
+use Rattle.std.specs.List.{AllByRecursion}
+use Rattle.slate_types.specs.declared.bytes_range.BytesRange.{BytesRange}
+use Rattle.slate_types.specs.declared.error.SlateDBError.{SlateDBError}
+use Rattle.slate_types.specs.declared.filter_policy.FilterContext.{FilterContext}
+use Rattle.slate_types.specs.declared.filter_policy.FilterQuery.{FilterQuery}
+use Rattle.slate_types.specs.declared.filter_policy.PrefixTarget.TheVariants.{Prefix}
+use Rattle.slate_types.specs.Keys.{in_range, point_of}
+use Rattle.slate_types.specs.Outside.{Act, IsFault, Meaning, Objects, Reach}
+use Rattle.slate_types.specs.World.{Made}
+use Rattle.slate_filter.specs.Policy.{IsOf, Policy}
+use Rattle.slate_mem.specs.Table.{ranged}
+use Rattle.slate_read.specs.declared.sorted_run.SortedRun.{SortedRun}
+use Rattle.slate_table.specs.declared.info.SsTableHandle.{SsTableHandle}
+use Rattle.slate_table.specs.Filtered.{RefusesQuery, asks_filters, point_query}
+use Rattle.slate_table.specs.Parts.{Encode}
+use Rattle.slate_table.specs.Reading.{whole_answer}
+use Rattle.slate_db.specs.Answered.{AnswersFrom}
+use Rattle.slate_db.specs.Installs.{handles_of}
+use Rattle.slate_db.specs.Lookup.{AreFilteredAs, AreStoredAs, IsStoredAs}
+use Rattle.slate_db.specs.Model.{Rows}
+use Rattle.slate_db.specs.Scanned.{AreStoredRuns}
+use Rattle.slate_db.specs.Shown.{IsUnreadable, filters_act}
+
+-- ---- what is asked
+
+abbrev pub query_for : Option (List ℕ) → Option (List ℕ) → Option FilterContext → Option FilterQuery
+query_for (Some k) prefix context = Some (point_query k context)
+query_for None (Some p) context = Some (record { target = Prefix p; context = context })
+query_for None None context = None
+
+abbrev pub scan_query : BytesRange → Option (List ℕ) → Option FilterContext → Option FilterQuery
+scan_query range prefix context = query_for (point_of range) prefix context
+
+abbrev pub Covers : Option FilterQuery → BytesRange → Type 0
+Covers None range = Unit {0}
+Covers (Some query) range = (k : List ℕ) → in_range range k ≡ true → IsOf query.target k
+
+-- ---- what is left
+
+abbrev pub AreLeft : BytesRange → List SsTableHandle → List Rows → List SsTableHandle → Type 0
+AreLeft range [] [] left = left ≡ []
+AreLeft range (h ∷ hs) (rows ∷ layers) left =
+    ((later : List SsTableHandle) × (left ≡ h ∷ later) × AreLeft range hs layers later) ⊎ ((ranged range rows ≡ []) × AreLeft range hs layers left)
+AreLeft range [] (rows ∷ layers) left = ⊥
+AreLeft range (h ∷ hs) [] left = ⊥
+
+abbrev pub AreRunsLeft : BytesRange → List SortedRun → List (List Rows) → List SortedRun → Type 0
+AreRunsLeft range [] [] [] = Unit {0}
+AreRunsLeft range (run ∷ runs) (layers ∷ groups) (one ∷ left) = AreLeft range run.tables.items layers one.tables.items × AreRunsLeft range runs groups left
+AreRunsLeft range _ _ _ = ⊥
+
+-- ---- what is refused
+
+pub record ShowsFilters (decode : Encode) (policies : List Policy) (query : Option FilterQuery) (hs : List SsTableHandle) (reads : List Act) (e : SlateDBError) : Type 0 where
+  pub table : SsTableHandle
+  pub among : Contains hs table
+  pub asked : FilterQuery
+  pub is : query ≡ Some asked
+  pub asks : asks_filters policies table.info.filter_len ≡ true
+  pub given : Option (List ℕ)
+  pub read : Contains reads (filters_act table given)
+  pub kind : IsUnreadable e
+  pub refuses : RefusesQuery decode policies asked (whole_answer table.info.filter_len given) e
+
+-- ---- calls that ask
+
+pub record AddsLeft (policies : List Policy) (before after : Reach) (range : BytesRange) (h : SsTableHandle) (old new : List SsTableHandle) : Type 0 where
+  pub kept : Bool
+  pub are : new ≡ (if kept then old ++ (h ∷ []) else old)
+  pub denied : (rows : Rows) (os : Objects) → IsStoredAs before.meaning os h rows → AreFilteredAs policies before.meaning os (h ∷ []) → AnswersFrom os before after → kept ≡ false → ranged range rows ≡ []
+
+pub record TablesAreLeft (policies : List Policy) (before after : Reach) (range : BytesRange) (hs left : List SsTableHandle) : Type 0 where
+  pub among : (h : SsTableHandle) → Contains left h → Contains hs h
+  pub others : (layers : List Rows) (os : Objects) → AreStoredAs before.meaning os hs layers → AreFilteredAs policies before.meaning os hs → AnswersFrom os before after → AreLeft range hs layers left
+
+pub record RunsAreLeft (policies : List Policy) (before after : Reach) (range : BytesRange) (runs left : List SortedRun) : Type 0 where
+  pub among : (h : SsTableHandle) → Contains (handles_of left) h → Contains (handles_of runs) h
+  pub others : (groups : List (List Rows)) (os : Objects) → AreStoredRuns before.meaning os runs groups → AreFilteredAs policies before.meaning os (handles_of runs) → AnswersFrom os before after → AreRunsLeft range runs groups left
+
+-- each is a table of some rows
+abbrev pub AreTablesThere : Meaning → Objects → List SsTableHandle → Type 0
+AreTablesThere m os hs = AllByRecursion (λ h. (rows : Rows) × IsStoredAs m os h rows) hs
+
+pub record FailsAsking (policies : List Policy) (query : Option FilterQuery) (before after : Reach) (hs : List SsTableHandle) (e : SlateDBError) : Type 0 where
+  pub undamaged : (os : Objects) → AreTablesThere before.meaning os hs → AreFilteredAs policies before.meaning os hs → AnswersFrom os before after → IsFault before after e
+  pub cause : IsFault before after e ⊎ Made before after (λ reads. ShowsFilters before.meaning.decode policies query hs reads e)
