@@ -20,7 +20,7 @@ use Rattle.slate_mem.specs.BatchModel.{holds_merge}
 use Rattle.slate_mem.specs.RowOf.{own_row}
 use Rattle.slate_mem.specs.Table.{ranged}
 use Rattle.slate_read.specs.declared.read_source.ReadSource.{ReadSource}
-use Rattle.slate_read.specs.declared.read_source.ReadSource.TheVariants.{Empty, Internal, Table, Run, Batch, Memory}
+use Rattle.slate_read.specs.declared.read_source.ReadSource.TheVariants.{Empty, Internal, Table, Run, Segments, Batch, Memory}
 use Rattle.slate_read.specs.declared.sorted_run.SortedRun.{SortedRun}
 use Rattle.slate_read.specs.Filtering.{upto_seq}
 use Rattle.slate_read.specs.Folding.{folded}
@@ -113,6 +113,7 @@ module _ (w : World) (order : IterationOrder) where
   memory_in means (Internal it) h = absurd h
   memory_in means (Table it) h = absurd h
   memory_in means (Run it) h = absurd h
+  memory_in means (Segments it) h = absurd h
 
   run_in : (range : BytesRange) (run : SortedRun) (layers : List Rows) (x : ReadSource) → IsOverRun range order run x → IsRunLeft w range run layers → IsIn (Brings range (all_rows layers)) x
   run_in range run layers (Run it) h here =
@@ -126,6 +127,7 @@ module _ (w : World) (order : IterationOrder) where
   run_in range run layers (Empty it) h here = absurd h
   run_in range run layers (Internal it) h here = absurd h
   run_in range run layers (Table it) h here = absurd h
+  run_in range run layers (Segments it) h here = absurd h
   run_in range run layers (Batch it) h here = absurd h
   run_in range run layers (Memory it) h here = absurd h
 

@@ -14,7 +14,7 @@ use Rattle.slate_types.specs.World.{AnswersWorld, Made, Sees, World}
 use Rattle.slate_types.proofs.Calls.{seen}
 use Rattle.slate_mem.specs.Batch.{Ops}
 use Rattle.slate_read.specs.declared.read_source.ReadSource.{ReadSource}
-use Rattle.slate_read.specs.declared.read_source.ReadSource.TheVariants.{Empty, Internal, Table, Run, Batch, Memory}
+use Rattle.slate_read.specs.declared.read_source.ReadSource.TheVariants.{Empty, Internal, Table, Run, Segments, Batch, Memory}
 use Rattle.slate_read.specs.declared.filter_iterator.FilterIterator.{FilterIterator}
 use Rattle.slate_read.specs.declared.sorted_run.SortedRun.{SortedRun}
 use Rattle.slate_read.specs.Merging.{AnyByRecursion, CanMerge, either_refusal}
@@ -64,6 +64,7 @@ module _ (m : Meaning) (range : BytesRange) (order : IterationOrder) (reads : Li
   memory_silent means (Internal it) at h r = absurd h
   memory_silent means (Table it) at h r = absurd h
   memory_silent means (Run it) at h r = absurd h
+  memory_silent means (Segments it) at h r = absurd h
 
   run_shows : (run : SortedRun) (x : ReadSource) (at : Option (List ℕ)) → AreAmong hs run → IsReached range at → IsOverRun range order run x → read.source_refuses x m reads at e → IsShown m hs reads e
   run_shows run (Run it) at among open_at h r = by (runs_show range run order it.rows h m reads at e r)
@@ -75,6 +76,7 @@ module _ (m : Meaning) (range : BytesRange) (order : IterationOrder) (reads : Li
   run_shows run (Empty it) at among open_at h r = absurd h
   run_shows run (Internal it) at among open_at h r = absurd h
   run_shows run (Table it) at among open_at h r = absurd h
+  run_shows run (Segments it) at among open_at h r = absurd h
   run_shows run (Batch it) at among open_at h r = absurd h
   run_shows run (Memory it) at among open_at h r = absurd h
 

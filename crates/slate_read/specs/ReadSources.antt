@@ -12,9 +12,11 @@ use Rattle.slate_types.specs.Outside.{Act, Meaning}
 use Rattle.slate_types.specs.Refusing.{IsDamage}
 use Rattle.slate_types.specs.World.{World, AnswersWorld}
 use Rattle.slate_read.specs.declared.read_source.ReadSource.{ReadSource}
-use Rattle.slate_read.specs.declared.read_source.ReadSource.TheVariants.{Empty, Internal, Table, Run, Batch, Memory}
+use Rattle.slate_read.specs.declared.read_source.ReadSource.TheVariants.{Empty, Internal, Table, Run, Segments, Batch, Memory}
 use Rattle.slate_read.specs.RunIterators.{run_iterator_bound, run_refuses, run_rest, run_sound}
 use Rattle.slate_read.specs.RunLaws.{run_iterator_more, run_iterator_rising, run_iterator_whole}
+use Rattle.slate_read.specs.SegmentIterators.{segment_bound, segment_order, segment_refuses, segment_rest, segment_sound}
+use Rattle.slate_read.specs.SegmentLaws.{segment_more, segment_rising, segment_whole}
 use Rattle.slate_read.specs.SstIterators.{sst_bound, sst_refuses, sst_rest, sst_sound}
 use Rattle.slate_read.specs.SstLaws.{sst_more, sst_rising, sst_whole}
 
@@ -23,6 +25,7 @@ rest_of (Empty it) w = []
 rest_of (Internal it) w = sst_rest it w
 rest_of (Table it) w = sst_rest it.rows w
 rest_of (Run it) w = run_rest it.rows w
+rest_of (Segments it) w = segment_rest it w
 rest_of (Batch it) w = it.rows
 rest_of (Memory it) w = it.rows
 
@@ -31,6 +34,7 @@ IsSoundSource (Empty it) w = Unit {0}
 IsSoundSource (Internal it) w = sst_sound it w
 IsSoundSource (Table it) w = sst_sound it.rows w
 IsSoundSource (Run it) w = run_sound it.rows w
+IsSoundSource (Segments it) w = segment_sound it w
 IsSoundSource (Batch it) w = IsInOrder it.order it.rows
 IsSoundSource (Memory it) w = IsInOrder it.order it.rows
 
@@ -39,6 +43,7 @@ order_of (Empty it) = Ascending
 order_of (Internal it) = it.iterator.iterator.order
 order_of (Table it) = it.rows.iterator.iterator.order
 order_of (Run it) = it.rows.iterator.iterator.order
+order_of (Segments it) = segment_order it
 order_of (Batch it) = it.order
 order_of (Memory it) = it.order
 
@@ -47,6 +52,7 @@ source_bound (Empty it) = 0
 source_bound (Internal it) = sst_bound it
 source_bound (Table it) = sst_bound it.rows
 source_bound (Run it) = run_iterator_bound it.rows
+source_bound (Segments it) = segment_bound it
 source_bound (Batch it) = length it.rows
 source_bound (Memory it) = length it.rows
 
@@ -55,6 +61,7 @@ source_refuses (Empty it) m reads at e = ⊥
 source_refuses (Internal it) m reads at e = sst_refuses it m reads at e
 source_refuses (Table it) m reads at e = sst_refuses it.rows m reads at e
 source_refuses (Run it) m reads at e = run_refuses it.rows m reads at e
+source_refuses (Segments it) m reads at e = segment_refuses it m reads at e
 source_refuses (Batch it) m reads at e = ⊥
 source_refuses (Memory it) m reads at e = ⊥
 
@@ -65,6 +72,7 @@ source_rising (Empty it) w h = tt
 source_rising (Internal it) w h = sst_rising it w h
 source_rising (Table it) w h = sst_rising it.rows w h
 source_rising (Run it) w h = run_iterator_rising it.rows w h
+source_rising (Segments it) w h = segment_rising it w h
 source_rising (Batch it) w h = h
 source_rising (Memory it) w h = h
 
@@ -73,6 +81,7 @@ source_more (Empty it) m done reads at e h = h
 source_more (Internal it) m done reads at e h = sst_more it m done reads at e h
 source_more (Table it) m done reads at e h = sst_more it.rows m done reads at e h
 source_more (Run it) m done reads at e h = run_iterator_more it.rows m done reads at e h
+source_more (Segments it) m done reads at e h = segment_more it m done reads at e h
 source_more (Batch it) m done reads at e h = h
 source_more (Memory it) m done reads at e h = h
 
@@ -81,5 +90,6 @@ source_whole (Empty it) w reads at e h k r = absurd r
 source_whole (Internal it) w reads at e h k r = sst_whole it w reads at e h k r
 source_whole (Table it) w reads at e h k r = sst_whole it.rows w reads at e h k r
 source_whole (Run it) w reads at e h k r = run_iterator_whole it.rows w reads at e h k r
+source_whole (Segments it) w reads at e h k r = segment_whole it w reads at e h k r
 source_whole (Batch it) w reads at e h k r = absurd r
 source_whole (Memory it) w reads at e h k r = absurd r

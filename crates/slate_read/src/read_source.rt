@@ -3,6 +3,7 @@ ghost use Rattle.slate_read.specs.ReadSources.{IsSoundSource, order_of, rest_of,
 
 use crate::empty_iterator::EmptyIterator;
 use crate::internal_sst_iterator::InternalSstIterator;
+use crate::segment_merge_iterator::SegmentMergeIterator;
 use crate::sorted_run_iterator::SortedRunIterator;
 use crate::sst_iterator::SstIterator;
 use slate_mem::{MemTableIterator, WriteBatchIterator};
@@ -12,13 +13,14 @@ use slate_types::{
 };
 use std::alloc::Global;
 
-/// A source of rows: none, a table, a run of tables, a batch or a memtable. It stands where sources of several kinds are merged.
+/// A source of rows: none, a table, a run of tables, the runs of segments, a batch or a memtable. It stands where sources of several kinds are merged.
 #[derive(Drop)]
 pub enum ReadSource<'a> {
     Empty(EmptyIterator),
     Internal(InternalSstIterator),
     Table(SstIterator<'a>),
     Run(SortedRunIterator<'a>),
+    Segments(SegmentMergeIterator<'a>),
     Batch(WriteBatchIterator),
     Memory(MemTableIterator),
 }
@@ -57,6 +59,9 @@ impl<S: Store, M: MergeOperator, T: BlockTransformer> RowEntryIterator<Env<'_, S
             }
             ReadSource::Table(rows) => RowEntryIterator::<Env<'_, S, M, T>>::iteration_order(rows),
             ReadSource::Run(rows) => RowEntryIterator::<Env<'_, S, M, T>>::iteration_order(rows),
+            ReadSource::Segments(rows) => {
+                RowEntryIterator::<Env<'_, S, M, T>>::iteration_order(rows)
+            }
             ReadSource::Batch(rows) => RowEntryIterator::<Env<'_, S, M, T>>::iteration_order(rows),
             ReadSource::Memory(rows) => {
                 RowEntryIterator::<Env<'_, S, M, T>>::iteration_order(rows)
@@ -70,6 +75,7 @@ impl<S: Store, M: MergeOperator, T: BlockTransformer> RowEntryIterator<Env<'_, S
             ReadSource::Internal(rows) => rows.init(alloc, env),
             ReadSource::Table(rows) => rows.init(alloc, env),
             ReadSource::Run(rows) => rows.init(alloc, env),
+            ReadSource::Segments(rows) => rows.init(alloc, env),
             ReadSource::Batch(rows) => rows.init(alloc, env),
             ReadSource::Memory(rows) => rows.init(alloc, env),
         }
@@ -85,6 +91,7 @@ impl<S: Store, M: MergeOperator, T: BlockTransformer> RowEntryIterator<Env<'_, S
             ReadSource::Internal(rows) => rows.next(alloc, env),
             ReadSource::Table(rows) => rows.next(alloc, env),
             ReadSource::Run(rows) => rows.next(alloc, env),
+            ReadSource::Segments(rows) => rows.next(alloc, env),
             ReadSource::Batch(rows) => rows.next(alloc, env),
             ReadSource::Memory(rows) => rows.next(alloc, env),
         }
@@ -101,6 +108,7 @@ impl<S: Store, M: MergeOperator, T: BlockTransformer> RowEntryIterator<Env<'_, S
             ReadSource::Internal(rows) => rows.seek(alloc, key, env),
             ReadSource::Table(rows) => rows.seek(alloc, key, env),
             ReadSource::Run(rows) => rows.seek(alloc, key, env),
+            ReadSource::Segments(rows) => rows.seek(alloc, key, env),
             ReadSource::Batch(rows) => rows.seek(alloc, key, env),
             ReadSource::Memory(rows) => rows.seek(alloc, key, env),
         }

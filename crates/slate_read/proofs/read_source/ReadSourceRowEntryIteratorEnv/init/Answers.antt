@@ -40,6 +40,19 @@ returns-in-Run g c = record {
   reads = c.init-in-Run.ensures.reads;
 }
 
+pub returns-in-Segments : goal.returns-in-Segments
+returns-in-Segments g c = record {
+  rows = rw c.in-Segments.is c.init-in-Segments.ensures.rows;
+  still = rw c.in-Segments.is c.init-in-Segments.ensures.still;
+  checked = rw c.in-Segments.is c.init-in-Segments.ensures.checked;
+  ready = c.init-in-Segments.ensures.ready;
+  begun = rw c.in-Segments.is (on_ok_weaker c.init-in-Segments.result (λ k. (k.0, k.1, (tt, k.2.1))) c.init-in-Segments.ensures.begun);
+  cause = rw c.in-Segments.is (IfErr-weaker c.init-in-Segments.result _ _ (λ e k. (k.0, k.1, (k.2.0, tt, k.2.2))) c.init-in-Segments.ensures.cause);
+  no_larger = rw c.in-Segments.is c.init-in-Segments.ensures.no_larger;
+  order = rw c.in-Segments.is c.init-in-Segments.ensures.order;
+  reads = c.init-in-Segments.ensures.reads;
+}
+
 pub returns-in-Batch-clause-checked : goal.returns-in-Batch-clause-checked
 returns-in-Batch-clause-checked g c = rw c.in-Batch.is c.init-in-Batch.ensures.checked
 

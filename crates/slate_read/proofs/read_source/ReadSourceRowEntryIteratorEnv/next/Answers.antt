@@ -40,6 +40,19 @@ returns-in-Run g c = record {
   reads = c.next-in-Run.ensures.reads;
 }
 
+pub returns-in-Segments : goal.returns-in-Segments
+returns-in-Segments g c = record {
+  rows = rw c.in-Segments.is c.next-in-Segments.ensures.rows;
+  still = rw c.in-Segments.is c.next-in-Segments.ensures.still;
+  checked = rw c.in-Segments.is c.next-in-Segments.ensures.checked;
+  taken = rw c.in-Segments.is (IfOk-weaker c.next-in-Segments.result _ _ (λ answer k. (k.0, k.1, (tt, k.2.1))) c.next-in-Segments.ensures.taken);
+  cause = rw c.in-Segments.is (IfErr-weaker c.next-in-Segments.result _ _ (λ e k. (k.0, k.1, (k.2.0, tt, k.2.2))) c.next-in-Segments.ensures.cause);
+  smaller = rw c.in-Segments.is c.next-in-Segments.ensures.smaller;
+  no_larger = rw c.in-Segments.is c.next-in-Segments.ensures.no_larger;
+  order = rw c.in-Segments.is c.next-in-Segments.ensures.order;
+  reads = c.next-in-Segments.ensures.reads;
+}
+
 pub returns-in-Batch-clause-checked : goal.returns-in-Batch-clause-checked
 returns-in-Batch-clause-checked g c = rw c.in-Batch.is c.next-in-Batch.ensures.checked
 

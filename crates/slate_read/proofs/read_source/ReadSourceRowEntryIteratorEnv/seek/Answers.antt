@@ -37,6 +37,18 @@ returns-in-Run g c = record {
   reads = c.seek-in-Run.ensures.reads;
 }
 
+pub returns-in-Segments : goal.returns-in-Segments
+returns-in-Segments g c = record {
+  rows = rw c.in-Segments.is c.seek-in-Segments.ensures.rows;
+  still = rw c.in-Segments.is c.seek-in-Segments.ensures.still;
+  checked = rw c.in-Segments.is c.seek-in-Segments.ensures.checked;
+  sought = rw c.in-Segments.is (on_ok_weaker c.seek-in-Segments.result (λ k. (k.0, k.1, (tt, k.2.1))) c.seek-in-Segments.ensures.sought);
+  cause = rw c.in-Segments.is (IfErr-weaker c.seek-in-Segments.result _ _ (λ e k. (k.0, k.1, (k.2.0, tt, k.2.2))) c.seek-in-Segments.ensures.cause);
+  no_larger = rw c.in-Segments.is c.seek-in-Segments.ensures.no_larger;
+  order = rw c.in-Segments.is c.seek-in-Segments.ensures.order;
+  reads = c.seek-in-Segments.ensures.reads;
+}
+
 pub returns-in-Batch-clause-still : goal.returns-in-Batch-clause-still
 returns-in-Batch-clause-still g c = rw c.in-Batch.is c.seek-in-Batch.ensures.still
 
