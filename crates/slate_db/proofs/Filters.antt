@@ -25,12 +25,14 @@ use Rattle.slate_table.specs.SectionReading.{IsTransformFault}
 use Rattle.slate_table.proofs.FilteredLaws.{denied_lack}
 use Rattle.slate_table.proofs.ReadCalls.{call_of, call_quiet}
 use Rattle.slate_db.specs.Answered.{AddsReads, AnswersFrom}
+use Rattle.slate_db.specs.Asked.{IsFiltersRead}
 use Rattle.slate_db.specs.Installs.{AreHandles, Holds, root}
 use Rattle.slate_db.specs.Lookup.{AreFilteredAs, IsFilteredAs, IsStoredAs}
 use Rattle.slate_db.specs.Model.{CoreModel, Rows}
 use Rattle.slate_db.specs.Readable.{AreFiltered, IsRead}
 use Rattle.slate_db.specs.Shown.{Asking, IsUnreadable, LetsThrough, RefusesFiltersRead, filters_act}
 use Rattle.slate_db.proofs.Answered.{Knows, adds_once, adds_read, adds_same}
+use Rattle.slate_db.proofs.Behind.{filters_alone}
 use Rattle.slate_db.proofs.Causes.{read_fault, store_fault, transform_fault}
 use Rattle.slate_db.proofs.Damaged.{filters_unreadable}
 use Rattle.slate_db.proofs.Tables.{answered_by, read_part}
@@ -100,6 +102,19 @@ asked_cause asking h a c (Err e) k = by k.cause
         let call = call_of a c (path_of root h.id.0) h.info.filter_offset h.info.filter_len (λ answer. RefusesQuery a.meaning.decode asking.policies asking.query answer e) k.objects (same_parts asking h a c _ k) r in
         let kind = filters_unreadable a.meaning.decode asking.policies asking.query (whole_answer h.info.filter_len call.0) e call.2 in
         inr (filters_act h call.0 ∷ [], call.1, (kind, (asks_err asking h a c e k, (call.0, refl, call.2))))
+
+-- nothing else is read
+pub asked_alone : (asking : Asking) (h : SsTableHandle) (a c : Reach) (r : Result Bool SlateDBError) → IsAsking asking h a c r → Made a c (AllByRecursion (IsFiltersRead h))
+asked_alone asking h a c (Err e) k = by k.once
+  where
+    by : (c.acts ≡ a.acts) ⊎ FiltersRead asking h a c (λ _. Unit {0}) → Made a c (AllByRecursion (IsFiltersRead h))
+    by (inl none) = ([], call_quiet a c k.objects (same_parts asking h a c _ k) none, tt)
+    by (inr read) = filters_alone a c h (λ _. Unit {0}) k.objects (same_parts asking h a c _ k) read
+asked_alone asking h a c (Ok passes) k = by (Asks asking h) refl
+  where
+    by : (t : Bool) → Asks asking h ≡ t → Made a c (AllByRecursion (IsFiltersRead h))
+    by true is = filters_alone a c h (λ answer. IsAsked a.meaning.decode asking.policies asking.query answer passes) k.objects (same_parts asking h a c _ k) (k.asked is)
+    by false is = ([], call_quiet a c k.objects (same_parts asking h a c _ k) (k.none is).1, tt)
 
 -- ---- where the objects that answer hold the table, with its filters
 

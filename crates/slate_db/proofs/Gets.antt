@@ -109,7 +109,7 @@ memory_short : (m : Meaning) (c : CoreModel) (u : Unseen) (k : List ℕ) → IsW
 memory_short m c u k w law kept =
     subst (λ (xs : Rows). AreShort xs) (sym (kept.0 k)) (commits_short (rules_of c.settings m) k (law.short k) _ (all_filter _ (λ x. nat_lt (installed c.events) x.seq) c.state.commits (all_map _ _ (λ x. fine_short x.ops) c.state.commits w.log.fine)))
 
-found_turned : (c : CoreModel) (k : List ℕ) (at : ℕ) (own found : Rows) (layers : List Rows) → found ≡ own ++ newest k at ((c.active ++ newest_first c.frozen) ++ newest_first layers) →
+pub found_turned : (c : CoreModel) (k : List ℕ) (at : ℕ) (own found : Rows) (layers : List Rows) → found ≡ own ++ newest k at ((c.active ++ newest_first c.frozen) ++ newest_first layers) →
     reverse found ≡ taken (at_most at (versions_in k (layers ++ memory c))) ++ reverse own
 found_turned c k at own found layers is =
     ap reverse (is ∙ ap (λ rows. own ++ newest k at rows) (sym (layers_are c layers)))

@@ -93,3 +93,8 @@ mod Readers
 mod ScanMerges
 pub mod RowDamage
 mod Serial
+mod Places
+mod Behind
+mod KeyBlocks
+mod Needs
+mod Finds

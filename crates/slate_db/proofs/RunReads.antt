@@ -4,12 +4,13 @@ use Rattle.std.specs.Prelude.{Contains}
 use Rattle.std.specs.List.{AllByRecursion}
 use Rattle.std.proofs.lemmas.Grind.{flat_map-append}
 use Rattle.std.proofs.lemmas.List.{take-append-drop, drop_all}
-use Rattle.std.proofs.lemmas.List.Elements.{All-contains, All-from_recursion, Contains-append_left, Contains-append_right}
+use Rattle.std.proofs.lemmas.List.Elements.{Contains-append_left, Contains-append_right}
 use Rattle.slate_types.specs.declared.error.SlateDBError.{SlateDBError}
 use Rattle.slate_types.specs.declared.types.RowEntry.{RowEntry}
 use Rattle.slate_types.specs.Outside.{Act, IsFault, IsLater, Meaning, Objects, Reach}
 use Rattle.slate_types.specs.World.{Made}
 use Rattle.slate_types.proofs.Calls.{call_both}
+use Rattle.slate_types.proofs.Lists.{AllByRecursion-append}
 use Rattle.slate_types.proofs.OutsideLaws.{counted_earlier}
 use Rattle.slate_mem.specs.Lookup.{is_decided, newest_first}
 use Rattle.slate_mem.specs.Table.{newest}
@@ -20,8 +21,9 @@ use Rattle.slate_table.specs.Parts.{Encode}
 use Rattle.slate_db.specs.Installs.{handles_of}
 use Rattle.slate_db.specs.Lookup.{AreStored, AreStoredAs, FindsBehind, IsUnknown}
 use Rattle.slate_db.specs.Model.{Rows}
-use Rattle.slate_db.specs.Shown.{Asking, BringsRow, ShowsDamage}
+use Rattle.slate_db.specs.Shown.{Asking, BringsRow, BringsRows, ShowsDamage}
 use Rattle.slate_db.proofs.Lists.{all_map}
+use Rattle.slate_db.proofs.Shown.{more_reads}
 use Rattle.slate_db.proofs.UnderOwn.{behind_stays}
 
 -- ---- the tables of a run among all
@@ -94,42 +96,30 @@ run_stored m os runs i run layers within is are =
 
 -- ---- which rows are brought, and what damage is shown
 
-abbrev Found : Encode → Asking → List SsTableHandle → List RowEntry → List Act → RowEntry → Type 0
-Found decode asking hs newer reads r = Contains newer r ⊎ BringsRow decode asking hs reads r
-
-pub rows_of_run : (a b c : Reach) (asking : Asking) (hs ks : List SsTableHandle) (newer found all : List RowEntry) → ((h : SsTableHandle) → Contains ks h → Contains hs h) → Made a b (λ reads. AllByRecursion (λ r. Contains newer r ⊎ BringsRow a.meaning.decode asking hs reads r) found) →
-    Made b c (λ reads. AllByRecursion (λ r. Contains found r ⊎ BringsRow b.meaning.decode asking ks reads r) all) → Made a c (λ reads. AllByRecursion (λ r. Contains newer r ⊎ BringsRow a.meaning.decode asking hs reads r) all)
-rows_of_run a b c asking hs ks newer found all among first last = (
-  first.0 ++ last.0,
-  call_both a b c first.0 last.0 first.1 last.1,
-  all_map (Found b.meaning.decode asking ks found last.0) (Found a.meaning.decode asking hs newer (first.0 ++ last.0)) (λ r h. by r h) all last.2,
+pub rows_of_run : (a b c : Reach) (asking : Asking) (hs ks : List SsTableHandle) (newer found all : List RowEntry) → ((h : SsTableHandle) → Contains ks h → Contains hs h) → Made a b (BringsRows a.meaning.decode asking hs newer found) →
+    Made b c (BringsRows b.meaning.decode asking ks found all) → Made a c (BringsRows a.meaning.decode asking hs newer all)
+rows_of_run a b c asking hs ks newer found all among (first, f, (some, behind, each)) (last, l, (more, is, others)) = (
+  first ++ last,
+  call_both a b c first last f l,
+  (
+    some ++ more,
+    is ∙ ap (λ (x : List RowEntry). x ++ more) behind ∙ append_assoc newer some more,
+    AllByRecursion-append (BringsRow a.meaning.decode asking hs (first ++ last)) some more
+        (all_map (BringsRow a.meaning.decode asking hs first) (BringsRow a.meaning.decode asking hs (first ++ last)) (λ r row. more_reads a.meaning.decode asking hs first last r row) some each)
+        (all_map (BringsRow a.meaning.decode asking ks last) (BringsRow a.meaning.decode asking hs (first ++ last)) (λ r row. by r row) more (subst (λ (m : Meaning). AllByRecursion (BringsRow m.decode asking ks last) more) f.meaning others)),
+  ),
 )
   where
-    still : (r : RowEntry) → Found a.meaning.decode asking hs newer first.0 r → Found a.meaning.decode asking hs newer (first.0 ++ last.0) r
-    still r (inl n) = inl n
-    still r (inr b) = inr (record {
-      table = b.table;
-      among = b.among;
-      earlier = b.earlier;
-      acts = b.acts;
-      later = b.later ++ last.0;
-      split = ap (λ (l : List Act). l ++ last.0) b.split ∙ append_assoc b.earlier (b.acts ++ b.later) last.0 ∙ ap (λ (l : List Act). b.earlier ++ l) (append_assoc b.acts b.later last.0);
-      row = b.row;
-    })
-
-    by : (r : RowEntry) → Found b.meaning.decode asking ks found last.0 r → Found a.meaning.decode asking hs newer (first.0 ++ last.0) r
-    by r (inl n) = still r (All-contains (Found a.meaning.decode asking hs newer first.0) found r (All-from_recursion _ found first.2) n)
-    by r (inr brought) =
-        let x : BringsRow a.meaning.decode asking ks last.0 r = subst (λ (m : Meaning). BringsRow m.decode asking ks last.0 r) first.1.meaning brought in
-        inr (record {
-          table = x.table;
-          among = among x.table x.among;
-          earlier = first.0 ++ x.earlier;
-          acts = x.acts;
-          later = x.later;
-          split = ap (λ (l : List Act). first.0 ++ l) x.split ∙ sym (append_assoc first.0 x.earlier (x.acts ++ x.later));
-          row = x.row;
-        })
+    by : (r : RowEntry) → BringsRow a.meaning.decode asking ks last r → BringsRow a.meaning.decode asking hs (first ++ last) r
+    by r x = record {
+      table = x.table;
+      among = among x.table x.among;
+      earlier = first ++ x.earlier;
+      acts = x.acts;
+      later = x.later;
+      split = ap (λ (y : List Act). first ++ y) x.split ∙ sym (append_assoc first x.earlier (x.acts ++ x.later));
+      row = x.row;
+    }
 
 pub damage_of_run : {X : List Act → Type 0} (a b c : Reach) (asking : Asking) (hs ks : List SsTableHandle) (e : SlateDBError) → ((h : SsTableHandle) → Contains ks h → Contains hs h) → IsLater a.faults b.faults → Made a b X →
     IsFault b c e ⊎ Made b c (λ reads. ShowsDamage b.meaning.decode asking ks reads e) ⊎ ((x : SsTableHandle) × Contains ks x × IsUnknown x.format_version e) →

@@ -13,11 +13,12 @@ use Rattle.slate_types.specs.Iteration.{Steps}
 use Rattle.slate_types.specs.Outside.{Act, Meaning, Objects, IsCounted, IsFault, IsLater, Reach}
 use Rattle.slate_types.specs.Rows.{is_operand}
 use Rattle.slate_types.specs.World.{IsCall, Made}
-use Rattle.slate_types.proofs.Calls.{call_both}
+use Rattle.slate_types.proofs.Calls.{call_both, call_none}
 use Rattle.slate_types.proofs.Lists.{AllByRecursion-append}
 use Rattle.slate_types.proofs.OutsideLaws.{counted_earlier}
 use Rattle.slate_block.specs.declared.block.Block.{Block}
 use Rattle.slate_block.specs.BlockWalks.{TakesRead}
+use Rattle.slate_block.specs.ReadingLaws.{EachIsAByte}
 use Rattle.slate_block.specs.Walks.{RowRead, are_named, block_reads, reads_v2}
 use Rattle.slate_mem.specs.Lookup.{Brings, IsCallback, is_merge_among, newest_first}
 use Rattle.slate_mem.specs.Table.{newest}
@@ -33,7 +34,7 @@ use Rattle.slate_db.specs.Lookup.{IsUnknown}
 use Rattle.slate_db.specs.Model.{CoreModel, memory}
 use Rattle.slate_db.specs.Parts.{IsTableError}
 use Rattle.slate_db.specs.Readable.{IsOwnOperand, IsReadError, IsRefusedBy, LacksOperator}
-use Rattle.slate_db.specs.Shown.{Asking, index_act, blocks_act, LetsThrough, Passed, IsOpened, section_at, HasBlock, IsRowOf, RefusesRow, HasRow, HasRowRead, IsUnreadable, RefusesFiltersRead, Shows, ShowsRead, BringsRow, ShowsDamage}
+use Rattle.slate_db.specs.Shown.{Asking, index_act, blocks_act, LetsThrough, Passed, IsOpened, section_at, HasBlock, IsRowOf, RefusesRow, HasRow, HasRowRead, IsUnreadable, RefusesFiltersRead, Shows, ShowsRead, BringsRow, BringsRows, ShowsDamage}
 use Rattle.slate_db.proofs.Causes.{callback_fault, store_fault, transform_fault}
 use Rattle.slate_db.proofs.Damaged.{block_unreadable, index_unreadable}
 use Rattle.slate_db.proofs.Lists.{all_map}
@@ -88,8 +89,8 @@ walk_reads version body offsets reads it first second begins known = by (eqb ver
         let not_two : version ≢ 2 = λ two. cc in
         let clash : Ok it ≡ Err (InvalidVersion version) = known not_one not_two in absurd cc
 
-pub rows_read : (version : ℕ) (block : Block) (reads : List RowRead) (found : List RowEntry) → block_reads version block.body block.offsets.items ≡ Ok reads → AllByRecursion (λ r. Contains reads (Ok r)) found → AllByRecursion (IsRowOf version block) found
-rows_read version block reads found is each = all_map (λ (r : RowEntry). Contains reads (Ok r)) (IsRowOf version block) (λ r h. (reads, is, h)) found each
+pub rows_read : (version : ℕ) (block : Block) (reads : List RowRead) (found : List RowEntry) → EachIsAByte block.body → block_reads version block.body block.offsets.items ≡ Ok reads → AllByRecursion (λ r. Contains reads (Ok r)) found → AllByRecursion (IsRowOf version block) found
+rows_read version block reads found fits is each = all_map (λ (r : RowEntry). Contains reads (Ok r)) (IsRowOf version block) (λ r h. (fits, reads, is, h)) found each
 
 -- ---- the rows of blocks, one after another
 
@@ -232,7 +233,7 @@ passed_shown a b c asking h e later first (inr (inr u)) = inr (inr u)
 pub at_table : (hs : List SsTableHandle) (i : ℕ) (h : SsTableHandle) → i < length hs → h ≡ get_or hs i h → Contains hs h
 at_table hs i h within is = subst (Contains hs) (sym is) (Contains-get_or hs i h within)
 
-more_reads : (decode : Encode) (asking : Asking) (hs : List SsTableHandle) (reads more : List Act) (r : RowEntry) → BringsRow decode asking hs reads r → BringsRow decode asking hs (reads ++ more) r
+pub more_reads : (decode : Encode) (asking : Asking) (hs : List SsTableHandle) (reads more : List Act) (r : RowEntry) → BringsRow decode asking hs reads r → BringsRow decode asking hs (reads ++ more) r
 more_reads decode asking hs reads more r b = record {
   table = b.table;
   among = b.among;
@@ -246,10 +247,6 @@ more_reads decode asking hs reads more r b = record {
 abbrev Found : Encode → Asking → List SsTableHandle → List RowEntry → List Act → RowEntry → Type 0
 Found decode asking hs newer reads r = Contains newer r ⊎ BringsRow decode asking hs reads r
 
-found_still : (decode : Encode) (asking : Asking) (hs : List SsTableHandle) (newer : List RowEntry) (reads more : List Act) (r : RowEntry) → Found decode asking hs newer reads r → Found decode asking hs newer (reads ++ more) r
-found_still decode asking hs newer reads more r (inl n) = inl n
-found_still decode asking hs newer reads more r (inr b) = inr (more_reads decode asking hs reads more r b)
-
 pub newer_found : (decode : Encode) (asking : Asking) (hs : List SsTableHandle) (newer : List RowEntry) (reads : List Act) → AllByRecursion (λ r. Contains newer r ⊎ BringsRow decode asking hs reads r) newer
 newer_found decode asking hs newer reads = by newer [] refl
   where
@@ -257,23 +254,38 @@ newer_found decode asking hs newer reads = by newer [] refl
     by [] before is = tt
     by (r ∷ rs) before is = (inl (subst (λ (xs : List RowEntry). Contains xs r) (sym is) (contains_here before rs r)), by rs (before ++ (r ∷ [])) (is ∙ sym (append_assoc before (r ∷ []) rs)))
 
-pub rows_on : (a b c : Reach) (asking : Asking) (hs : List SsTableHandle) (h : SsTableHandle) (newer found more all : List RowEntry) → Contains hs h → Made a b (λ reads. AllByRecursion (λ r. Contains newer r ⊎ BringsRow a.meaning.decode asking hs reads r) found) → Made b c (λ reads. AllByRecursion (HasRow b.meaning.decode asking h reads) more) →
-    all ≡ found ++ more → Made a c (λ reads. AllByRecursion (λ r. Contains newer r ⊎ BringsRow a.meaning.decode asking hs reads r) all)
-rows_on a b c asking hs h newer found more all among first last is = (
-  first.0 ++ last.0,
-  call_both a b c first.0 last.0 first.1 last.1,
-  subst (AllByRecursion (Found a.meaning.decode asking hs newer (first.0 ++ last.0))) (sym is)
-      (AllByRecursion-append (Found a.meaning.decode asking hs newer (first.0 ++ last.0)) found more
-      (all_map (Found a.meaning.decode asking hs newer first.0) (Found a.meaning.decode asking hs newer (first.0 ++ last.0)) (found_still a.meaning.decode asking hs newer first.0 last.0) found first.2)
-      (all_map (HasRow a.meaning.decode asking h last.0) (Found a.meaning.decode asking hs newer (first.0 ++ last.0)) (λ r row. inr (record {
-        table = h;
-        among = among;
-        earlier = first.0;
-        acts = last.0;
-        later = [];
-        split = ap (λ (l : List Act). first.0 ++ l) (sym (append-nil last.0));
-        row = row;
-      })) more (subst (λ (m : Meaning). AllByRecursion (HasRow m.decode asking h last.0) more) first.1.meaning last.2))),
+-- each row that was found is a newer one, or was brought
+pub found_rows : (a b : Reach) (asking : Asking) (hs : List SsTableHandle) (newer all : List RowEntry) → Made a b (BringsRows a.meaning.decode asking hs newer all) → Made a b (λ reads. AllByRecursion (λ r. Contains newer r ⊎ BringsRow a.meaning.decode asking hs reads r) all)
+found_rows a b asking hs newer all (reads, call, (more, is, each)) = (
+  reads,
+  call,
+  subst (AllByRecursion (Found a.meaning.decode asking hs newer reads)) (sym is)
+      (AllByRecursion-append (Found a.meaning.decode asking hs newer reads) newer more (newer_found a.meaning.decode asking hs newer reads) (all_map (BringsRow a.meaning.decode asking hs reads) (Found a.meaning.decode asking hs newer reads) (λ r row. inr row) more each)),
+)
+
+pub no_rows : (a : Reach) (asking : Asking) (hs : List SsTableHandle) (newer : List RowEntry) → Made a a (BringsRows a.meaning.decode asking hs newer newer)
+no_rows a asking hs newer = ([], call_none a, ([], sym (append-nil newer), tt))
+
+pub rows_on : (a b c : Reach) (asking : Asking) (hs : List SsTableHandle) (h : SsTableHandle) (newer found more all : List RowEntry) → Contains hs h → Made a b (BringsRows a.meaning.decode asking hs newer found) → Made b c (λ reads. AllByRecursion (HasRow b.meaning.decode asking h reads) more) →
+    all ≡ found ++ more → Made a c (BringsRows a.meaning.decode asking hs newer all)
+rows_on a b c asking hs h newer found more all among (first, f, (some, behind, each)) last is = (
+  first ++ last.0,
+  call_both a b c first last.0 f last.1,
+  (
+    some ++ more,
+    is ∙ ap (λ (l : List RowEntry). l ++ more) behind ∙ append_assoc newer some more,
+    AllByRecursion-append (BringsRow a.meaning.decode asking hs (first ++ last.0)) some more
+        (all_map (BringsRow a.meaning.decode asking hs first) (BringsRow a.meaning.decode asking hs (first ++ last.0)) (λ r row. more_reads a.meaning.decode asking hs first last.0 r row) some each)
+        (all_map (HasRow a.meaning.decode asking h last.0) (BringsRow a.meaning.decode asking hs (first ++ last.0)) (λ r row. record {
+          table = h;
+          among = among;
+          earlier = first;
+          acts = last.0;
+          later = [];
+          split = ap (λ (l : List Act). first ++ l) (sym (append-nil last.0));
+          row = row;
+        }) more (subst (λ (m : Meaning). AllByRecursion (HasRow m.decode asking h last.0) more) f.meaning last.2)),
+  ),
 )
 
 pub damage_on : {X : List Act → Type 0} (a b c : Reach) (asking : Asking) (hs : List SsTableHandle) (h : SsTableHandle) (e : SlateDBError) → Contains hs h → IsLater a.faults b.faults → Made a b X →

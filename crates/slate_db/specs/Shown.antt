@@ -8,7 +8,7 @@
 --     IsOpened decode h acts      the acts are these two, and the index is read
 --     section_at o i      what they say of the section of a block
 --     HasBlock decode h acts block      a block is read from them
---     IsRowOf version block r, RefusesRow version block e      one of a block's rows is read, or is refused, or none of them is read
+--     IsRowOf version block r, RefusesRow version block e      one of the rows of a block, which is bytes, is read, or is refused, or none of them is read
 --     HasRowRead decode h acts r      a row of such a block
 --     HasRow decode by h acts r      the same behind the filters
 --     IsUnreadable e      a refusal of a section, of a part of a table, or of a row
@@ -17,14 +17,17 @@
 --     RefusesFiltersRead decode by h acts e      the filters are refused
 --     Shows decode by h acts e      the filters show the error, or let the query through, and what is read then shows it
 --     BringsRow decode by hs reads r      of some tables one has the row, by reads of its own
+--     BringsRows decode by hs newer all reads      all are newer rows, and behind them such rows
 --     ShowsDamage decode by hs reads e      of some tables one shows the error, by the last reads
 use Rattle.std.specs.Prelude.{◌≡◌, ◌⊎◌, ℕ, ◌≤◌, ◌<◌, true, false, List, [], ◌∷◌, ◌++◌, length, Contains, Option, Ok, Err}
+use Rattle.std.specs.List.{AllByRecursion}
 use Rattle.slate_types.specs.declared.error.SlateDBError.{SlateDBError}
 use Rattle.slate_types.specs.declared.error.SlateDBError.TheVariants.{CorruptTable, ChecksumMismatch, InvalidFilterBlock, InvalidRowFlags}
 use Rattle.slate_types.specs.declared.types.RowEntry.{RowEntry}
 use Rattle.slate_types.specs.declared.filter_policy.FilterQuery.{FilterQuery}
 use Rattle.slate_types.specs.Outside.{Act}
 use Rattle.slate_block.specs.declared.block.Block.{Block}
+use Rattle.slate_block.specs.ReadingLaws.{EachIsAByte}
 use Rattle.slate_block.specs.Walks.{RowRead, block_reads}
 use Rattle.slate_filter.specs.Policy.{Policy}
 use Rattle.slate_table.specs.declared.info.SsTableHandle.{SsTableHandle}
@@ -87,7 +90,7 @@ pub record HasBlock (decode : Encode) (h : SsTableHandle) (acts : List Act) (blo
 -- ---- rows
 
 abbrev pub IsRowOf : ℕ → Block → RowEntry → Type 0
-IsRowOf version block r = (reads : List RowRead) × (block_reads version block.body block.offsets.items ≡ Ok reads) × Contains reads (Ok r)
+IsRowOf version block r = EachIsAByte block.body × (reads : List RowRead) × (block_reads version block.body block.offsets.items ≡ Ok reads) × Contains reads (Ok r)
 
 abbrev pub RefusesRow : ℕ → Block → SlateDBError → Type 0
 RefusesRow version block e =
@@ -140,6 +143,9 @@ pub record BringsRow (decode : Encode) (by : Asking) (hs : List SsTableHandle) (
   pub later : List Act
   pub split : reads ≡ earlier ++ (acts ++ later)
   pub row : HasRow decode by table acts r
+
+abbrev pub BringsRows : Encode → Asking → List SsTableHandle → List RowEntry → List RowEntry → List Act → Type 0
+BringsRows decode by hs newer all reads = (more : List RowEntry) × (all ≡ newer ++ more) × AllByRecursion (BringsRow decode by hs reads) more
 
 pub record ShowsDamage (decode : Encode) (by : Asking) (hs : List SsTableHandle) (reads : List Act) (e : SlateDBError) : Type 0 where
   pub table : SsTableHandle

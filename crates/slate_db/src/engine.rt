@@ -38,6 +38,7 @@ ghost use Rattle.slate_txn.specs.Open.{least_start};
 ghost use Rattle.slate_txn.specs.State.{Tx, is_open, opening, last_of};
 ghost use Rattle.slate_txn.specs.Step.{Reader, noted, reader, step, with_op, with_marks, with_unmarks};
 ghost use Rattle.slate_db.specs.Answered.{AddsTables};
+ghost use Rattle.slate_db.specs.Asked.{Asks, Finds, needs_tables, takes_flushed};
 ghost use Rattle.slate_db.specs.Meaning.{Meaning, IsLawfulMeaning, combine_of, rules_in, rules_of, segments_by};
 ghost use Rattle.slate_db.specs.Frozen.{IsFrozen};
 ghost use Rattle.slate_db.specs.Flushed.{Flushes, IsFlushError, MayPut, NoPlace, NoPlaceToFlush, TooLarge, WantsOperator, events_of_flush, layout_of};
@@ -476,6 +477,13 @@ impl Core {
             let m = (reach env.old).meaning in
             let by : Asking = record { policies = map (λ p. meaning p) policies.now; query = query.now } in
             IsRead by (reach env.old) (reach env.new) self.now (λ row. self.now.floor ≤ at → row ≡ fold_rows (combine_of m key.now) (key_rows (rules_of self.now.settings m) key.now (up_to at self.now.state.commits) ++ reverse own.items)) result }
+        ensures asks { let reach = ⟦<EnvOf<S, M, T> as Outside>⟧.reach in
+            let by : Asking = record { policies = map (λ p. meaning p) policies.now; query = query.now } in
+            Asks by (reach env.old) (reach env.new) self.now }
+        ensures finds { let reach = ⟦<EnvOf<S, M, T> as Outside>⟧.reach in
+            let by : Asking = record { policies = map (λ p. meaning p) policies.now; query = query.now } in
+            let needs = takes_flushed self.now.state (key_rows (rules_of self.now.settings (reach env.old).meaning) key.now (up_to at self.now.state.commits) ++ reverse own.items) in
+            self.now.floor ≤ at → Finds by key.now needs (reach env.old) (reach env.new) self.now result }
         ensures missing { let reach = ⟦<EnvOf<S, M, T> as Outside>⟧.reach in
             let m = (reach env.old).meaning in
             m.combine ≡ None → own.items ≢ [] → IfOk result (λ row. ⊥) }
@@ -518,6 +526,12 @@ impl Core {
             let m = (reach env.old).meaning in
             let by : Asking = record { policies = map (λ p. meaning p) policies.now; query = query.now } in
             (from : Reader) → reader self.now.state id.now ≡ Some from → IsRead by (reach env.old) (reach env.new) self.now (λ row. self.now.floor ≤ at → row ≡ fold_rows (combine_of m key.now) (key_rows (rules_of self.now.settings m) key.now (up_to at self.now.state.commits) ++ map (own_row key.now) (kept from.ops key.now))) result }
+        ensures asks { let reach = ⟦<EnvOf<S, M, T> as Outside>⟧.reach in
+            let by : Asking = record { policies = map (λ p. meaning p) policies.now; query = query.now } in
+            Asks by (reach env.old) (reach env.new) self.now }
+        ensures finds { let reach = ⟦<EnvOf<S, M, T> as Outside>⟧.reach in
+            let by : Asking = record { policies = map (λ p. meaning p) policies.now; query = query.now } in
+            (from : Reader) → reader self.now.state id.now ≡ Some from → self.now.floor ≤ at → Finds by key.now (needs_tables (rules_of self.now.settings (reach env.old).meaning) self.now.state at from.ops key.now) (reach env.old) (reach env.new) self.now result }
         ensures own { let reach = ⟦<EnvOf<S, M, T> as Outside>⟧.reach in
             (t : Tx) (op : WriteOp) → find_named id.now self.now.state.txns ≡ Some t → kept t.ops key.now ≡ op ∷ [] → replaces op ≡ true → IsOwnRead (reach env.old) (reach env.new) (λ row. row ≡ Some (own_row key.now op)) result }
         ensures decided { let reach = ⟦<EnvOf<S, M, T> as Outside>⟧.reach in
@@ -554,6 +568,12 @@ impl Core {
             let policies = map (λ p. meaning p) laws.now.policies.items in
             let by : Asking = record { policies = policies; query = point_query key.now context.now } in
             (from : Reader) → reader self.now.state id.now ≡ Some from → IsRead by (reach env.old) (reach env.new) self.now (λ row. self.now.floor ≤ at → row ≡ fold_rows (combine_of m key.now) (key_rows (rules_of self.now.settings m) key.now (up_to at self.now.state.commits) ++ map (own_row key.now) (kept from.ops key.now))) result }
+        ensures asks { let reach = ⟦<EnvOf<S, M, T> as Outside>⟧.reach in
+            let by : Asking = record { policies = map (λ p. meaning p) laws.now.policies.items; query = point_query key.now context.now } in
+            Asks by (reach env.old) (reach env.new) self.now }
+        ensures finds { let reach = ⟦<EnvOf<S, M, T> as Outside>⟧.reach in
+            let by : Asking = record { policies = map (λ p. meaning p) laws.now.policies.items; query = point_query key.now context.now } in
+            (from : Reader) → reader self.now.state id.now ≡ Some from → self.now.floor ≤ at → Finds by key.now (needs_tables (rules_of self.now.settings (reach env.old).meaning) self.now.state at from.ops key.now) (reach env.old) (reach env.new) self.now result }
         ensures own { let reach = ⟦<EnvOf<S, M, T> as Outside>⟧.reach in
             (t : Tx) (op : WriteOp) → find_named id.now self.now.state.txns ≡ Some t → kept t.ops key.now ≡ op ∷ [] → replaces op ≡ true → IsOwnRead (reach env.old) (reach env.new) (λ row. row ≡ Some (own_row key.now op)) result }
         ensures decided { let reach = ⟦<EnvOf<S, M, T> as Outside>⟧.reach in
@@ -573,8 +593,10 @@ impl Core {
 
     /// What an open transaction or an open snapshot sees at a key, and `None` where that is nothing, as at a key that no row can
     /// have. Own operations lie above the rows at its start, and where one of them decides, no store is asked. A row that is found
-    /// and damage that is shown stand in a table whose filters deny nothing. The answer is recorded in the transaction's transcript;
-    /// a snapshot has none.
+    /// and damage that is shown stand in a table whose filters deny nothing, and where policies are set and the tables answer that
+    /// the journal names, no block is read of one whose filters weren't read before, or deny the key. Where the answer takes a row of a commit that was
+    /// flushed, a block was read that has the key. The answer is recorded in the
+    /// transaction's transcript; a snapshot has none.
     ///
     /// Refuses by `StoreFault`, `BlockTransformError` and `Callback`, each only where its count of faults rose; by
     /// `MergeOperatorMissing`, only where there is no operator and an operand was found, which each own one is that is kept of the
@@ -596,6 +618,12 @@ impl Core {
             let policies = map (λ p. meaning p) laws.now.policies.items in
             let by : Asking = record { policies = policies; query = point_query key.now options.now.filter_context } in
             IsRead by (reach env.old) (reach env.new) self.old (λ a. (g : Segments) → step (rules_in self.old.settings (reach env.old).meaning g) self.old.state (lines.Get id.now key.now) ≡ (self.new.state, Found a)) result }
+        ensures asks { let reach = ⟦<EnvOf<S, M, T> as Outside>⟧.reach in
+            let by : Asking = record { policies = map (λ p. meaning p) laws.now.policies.items; query = point_query key.now options.now.filter_context } in
+            Asks by (reach env.old) (reach env.new) self.old }
+        ensures finds { let reach = ⟦<EnvOf<S, M, T> as Outside>⟧.reach in
+            let by : Asking = record { policies = map (λ p. meaning p) laws.now.policies.items; query = point_query key.now options.now.filter_context } in
+            (from : Reader) → reader self.old.state id.now ≡ Some from → Finds by key.now (needs_tables (rules_of self.old.settings (reach env.old).meaning) self.old.state from.at from.ops key.now) (reach env.old) (reach env.new) self.old result }
         ensures own { let reach = ⟦<EnvOf<S, M, T> as Outside>⟧.reach in
             (t : Tx) (op : WriteOp) → find_named id.now self.old.state.txns ≡ Some t → kept t.ops key.now ≡ op ∷ [] → replaces op ≡ true →
             IsOwnRead (reach env.old) (reach env.new) (λ a. (c : Combine) → a ≡ option_map key_value (shown c (own_row key.now op ∷ []))) result }

@@ -23,11 +23,12 @@ ghost use Rattle.slate_table.specs.IndexReading.{index_keys};
 ghost use Rattle.slate_table.specs.IndexValue.{entries_of};
 ghost use Rattle.slate_table.specs.InfoReading.{seen_info};
 ghost use Rattle.slate_db.specs.Answered.{AnswersFrom};
+ghost use Rattle.slate_db.specs.Asked.{AreBehindFilters, IsFiltersRead, IsReadOf};
 ghost use Rattle.slate_db.specs.Installs.{handles_of};
 ghost use Rattle.slate_mem.specs.Lookup.{newest_first};
 ghost use Rattle.slate_db.specs.Lookup.{AreFilteredAs, AreStoredAs, Extends, FindsBehind, IsStoredAs, IsUnknown};
 ghost use Rattle.slate_db.specs.Model.{Rows};
-ghost use Rattle.slate_db.specs.Shown.{Asking, IsRowOf, IsUnreadable, LetsThrough, RefusesFiltersRead, RefusesRow, HasRow, HasRowRead, Shows, ShowsRead, BringsRow, ShowsDamage};
+ghost use Rattle.slate_db.specs.Shown.{Asking, IsRowOf, IsUnreadable, LetsThrough, RefusesFiltersRead, RefusesRow, HasRow, HasRowRead, Shows, ShowsRead, BringsRows, ShowsDamage};
 
 use crate::flush::ROOT;
 use crate::open_scan::copy_contexts;
@@ -174,6 +175,7 @@ fn lets_through<S: Store, M: MergeOperator, T: BlockTransformer>(
         let by : Asking = record { policies = map (λ p. meaning p) policies.now; query = query.now } in
         IfErr result (λ e. IsFault (reach env.old) (reach env.new) e
         ⊎ Made (reach env.old) (reach env.new) (λ reads. IsUnreadable e × RefusesFiltersRead (reach env.old).meaning.decode by table.now reads e)) }
+    ensures alone { let reach = ⟦<EnvOf<S, M, T> as Outside>⟧.reach in Made (reach env.old) (reach env.new) (AllByRecursion (IsFiltersRead table.now)) }
     ensures reads { let reach = ⟦<EnvOf<S, M, T> as Outside>⟧.reach in OnlyReads (reach env.old) (reach env.new) }
 {
     TableStore::might_match(
@@ -199,6 +201,7 @@ fn newest_of_enclosing<S: Store, M: MergeOperator, T: BlockTransformer>(
     ensures whole { let reach = ⟦<EnvOf<S, M, T> as Outside>⟧.reach in (rows : Rows) (os : Objects) → IsStoredAs (reach env.old).meaning os table.now rows → AnswersFrom os (reach env.old) (reach env.new) → IfErr result (IsFault (reach env.old) (reach env.new)) }
     ensures rows { let reach = ⟦<EnvOf<S, M, T> as Outside>⟧.reach in IfOk result (λ found. Made (reach env.old) (reach env.new) (λ reads. AllByRecursion (HasRowRead (reach env.old).meaning.decode table.now reads) found.items)) }
     ensures cause { let reach = ⟦<EnvOf<S, M, T> as Outside>⟧.reach in IfErr result (λ e. IsFault (reach env.old) (reach env.new) e ⊎ Made (reach env.old) (reach env.new) (λ reads. ShowsRead (reach env.old).meaning.decode table.now reads e) ⊎ IsUnknown table.now.format_version e) }
+    ensures alone { let reach = ⟦<EnvOf<S, M, T> as Outside>⟧.reach in Made (reach env.old) (reach env.new) (AllByRecursion (IsReadOf table.now)) }
     ensures reads { let reach = ⟦<EnvOf<S, M, T> as Outside>⟧.reach in OnlyReads (reach env.old) (reach env.new) }
 {
     let index = TableStore::read_index(alloc, env.store, ROOT, table, &mut env.transformer)?;
@@ -215,7 +218,7 @@ fn newest_of_enclosing<S: Store, M: MergeOperator, T: BlockTransformer>(
     newest_of_blocks(alloc, blocks, table.format_version, key, max_seq)
 }
 
-/// The rows of the key in a table, none where its filters deny the query, which is for the key.
+/// The rows of the key in a table, none where its filters deny the query, which is for the key. Then nothing else of it is read.
 fn newest_of_table<S: Store, M: MergeOperator, T: BlockTransformer>(
     alloc: Global,
     table: &SsTableHandle,
@@ -234,6 +237,9 @@ fn newest_of_table<S: Store, M: MergeOperator, T: BlockTransformer>(
     ensures cause { let reach = ⟦<EnvOf<S, M, T> as Outside>⟧.reach in
         let by : Asking = record { policies = map (λ p. meaning p) policies.now; query = query.now } in
         IfErr result (λ e. IsFault (reach env.old) (reach env.new) e ⊎ Made (reach env.old) (reach env.new) (λ reads. Shows (reach env.old).meaning.decode by table.now reads e) ⊎ IsUnknown table.now.format_version e) }
+    ensures behind { let reach = ⟦<EnvOf<S, M, T> as Outside>⟧.reach in
+        let by : Asking = record { policies = map (λ p. meaning p) policies.now; query = query.now } in
+        Made (reach env.old) (reach env.new) (AreBehindFilters (reach env.old).meaning.decode by (table.now ∷ [])) }
     ensures reads { let reach = ⟦<EnvOf<S, M, T> as Outside>⟧.reach in OnlyReads (reach env.old) (reach env.new) }
 {
     if !encloses(&table.info, key) {
@@ -288,11 +294,14 @@ fn newest_of_tables<S: Store, M: MergeOperator, T: BlockTransformer>(
     ensures extends { IfOk result (λ all. Extends newer.items all.items) }
     ensures rows { let reach = ⟦<EnvOf<S, M, T> as Outside>⟧.reach in
         let by : Asking = record { policies = map (λ p. meaning p) policies.now; query = query.now } in
-        IfOk result (λ all. Made (reach env.old) (reach env.new) (λ reads. AllByRecursion (λ r. Contains newer.items r ⊎ BringsRow (reach env.old).meaning.decode by tables.now reads r) all.items)) }
+        IfOk result (λ all. Made (reach env.old) (reach env.new) (BringsRows (reach env.old).meaning.decode by tables.now newer.items all.items)) }
     ensures cause { let reach = ⟦<EnvOf<S, M, T> as Outside>⟧.reach in
         let by : Asking = record { policies = map (λ p. meaning p) policies.now; query = query.now } in
         IfErr result (λ e. IsFault (reach env.old) (reach env.new) e ⊎ Made (reach env.old) (reach env.new) (λ reads. ShowsDamage (reach env.old).meaning.decode by tables.now reads e)
         ⊎ ((h : SsTableHandle) × Contains tables.now h × IsUnknown h.format_version e)) }
+    ensures behind { let reach = ⟦<EnvOf<S, M, T> as Outside>⟧.reach in
+        let by : Asking = record { policies = map (λ p. meaning p) policies.now; query = query.now } in
+        Made (reach env.old) (reach env.new) (AreBehindFilters (reach env.old).meaning.decode by tables.now) }
     ensures reads { let reach = ⟦<EnvOf<S, M, T> as Outside>⟧.reach in OnlyReads (reach env.old) (reach env.new) }
 {
     let mut found = newer;
@@ -324,11 +333,14 @@ pub fn newest_of_runs<S: Store, M: MergeOperator, T: BlockTransformer>(
     ensures extends { IfOk result (λ all. Extends newer.items all.items) }
     ensures rows { let reach = ⟦<EnvOf<S, M, T> as Outside>⟧.reach in
         let by : Asking = record { policies = map (λ p. meaning p) policies.now; query = query.now } in
-        IfOk result (λ all. Made (reach env.old) (reach env.new) (λ reads. AllByRecursion (λ r. Contains newer.items r ⊎ BringsRow (reach env.old).meaning.decode by (handles_of runs.now) reads r) all.items)) }
+        IfOk result (λ all. Made (reach env.old) (reach env.new) (BringsRows (reach env.old).meaning.decode by (handles_of runs.now) newer.items all.items)) }
     ensures cause { let reach = ⟦<EnvOf<S, M, T> as Outside>⟧.reach in
         let by : Asking = record { policies = map (λ p. meaning p) policies.now; query = query.now } in
         IfErr result (λ e. IsFault (reach env.old) (reach env.new) e ⊎ Made (reach env.old) (reach env.new) (λ reads. ShowsDamage (reach env.old).meaning.decode by (handles_of runs.now) reads e)
         ⊎ ((h : SsTableHandle) × Contains (handles_of runs.now) h × IsUnknown h.format_version e)) }
+    ensures behind { let reach = ⟦<EnvOf<S, M, T> as Outside>⟧.reach in
+        let by : Asking = record { policies = map (λ p. meaning p) policies.now; query = query.now } in
+        Made (reach env.old) (reach env.new) (AreBehindFilters (reach env.old).meaning.decode by (handles_of runs.now)) }
     ensures reads { let reach = ⟦<EnvOf<S, M, T> as Outside>⟧.reach in OnlyReads (reach env.old) (reach env.new) }
 {
     let mut found = newer;

@@ -34,6 +34,6 @@ returns c =
           let known = known_of c.args.version c.args.block.body c.args.block.offsets.items rows is in
           let read : block_rows c.args.version c.args.block.body c.args.block.offsets.items ≡ Ok rows = read_whole c.args.version c.args.block.body c.args.block.offsets.items rows (λ i. search rules) is known in
           c.newest_from-found.ensures.whole rows (c.in_ok-rows.ensures.rows rows read));
-      rows = if_ok c.newest_from-found.result _ _ (λ found h. rows_read c.args.version c.args.block (left_of c.in_ok-rows.rows).reads found.items read_is h) c.newest_from-found.ensures.rows;
+      rows = if_ok c.newest_from-found.result _ _ (λ found h. rows_read c.args.version c.args.block (left_of c.in_ok-rows.rows).reads found.items (λ i. search rules) read_is h) c.newest_from-found.ensures.rows;
       cause = if_err c.newest_from-found.result _ _ (λ e h. walk_cause c.args.version c.args.block (left_of c.in_ok-rows.rows).reads e read_is h) c.newest_from-found.ensures.cause;
     }

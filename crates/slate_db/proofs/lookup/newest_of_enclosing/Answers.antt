@@ -5,6 +5,7 @@ use Rattle.slate_types.proofs.Reaching.{adds_both, reads_of}
 use Rattle.slate_table.specs.IndexValue.{entries_of}
 use Rattle.slate_table.specs.SectionReading.{changed_by}
 use Rattle.slate_db.proofs.Answered.{adds_once, adds_read, answering_first, answering_last}
+use Rattle.slate_db.proofs.Behind.{meanings, once_of, quietly, two_of}
 use Rattle.slate_db.proofs.Blocks.{if_ok, if_err}
 use Rattle.slate_db.proofs.Causes.{read_fault}
 use Rattle.slate_db.proofs.Newest.{newest_same}
@@ -22,6 +23,7 @@ returns-in_err-index g c =
           rw (p.1, p.2) (read_fault _ _ _ (index_whole _ _ _ _ c.args.table.now rows _ _ _ _ _ _ _ stored (answered_by stored a) c.in_err-index.ensures.cause)));
       rows = IfOk-from_err c.from_residual.result _ c.from_residual.ensures.0;
       cause = rw (p.1, p.2) (index_refused _ _ c.args.table.now _ c.read_index.ensures.objects refl c.read_index.ensures.same_encoded c.read_index.ensures.same_decoded c.in_err-index.ensures.cause);
+      alone = once_of _ _ c.args.table.now _ _ c.read_index.ensures.objects (meanings _ _ refl c.read_index.ensures.same_encoded c.read_index.ensures.same_decoded) c.in_err-index.ensures.once;
       reads = reads_of _ _ c.read_index.ensures.objects refl c.read_index.ensures.same_encoded c.read_index.ensures.same_decoded (adds_once _ _ _ _ _ _ c.in_err-index.ensures.once) (record { store = c.read_index.ensures.later; operator = omega arith; transformer = c.read_index.ensures.later_transformer }) refl;
     }
 
@@ -52,6 +54,7 @@ returns-in_err-blocks g c =
         within = c.covering-covered.ensures.within;
         index = c.in_ok-index.ensures.found;
       }) c.read_index.ensures.later c.read_index.ensures.later_transformer c.in_err-blocks.ensures.cause);
+      alone = two_of _ _ c.args.table.now _ _ _ _ _ _ _ c.read_index.ensures.objects c.read_blocks.ensures.objects (meanings _ _ refl (c.read_blocks.ensures.same_encoded ∙ c.read_index.ensures.same_encoded) (c.read_blocks.ensures.same_decoded ∙ c.read_index.ensures.same_decoded)) c.in_ok-index.ensures.found c.in_err-blocks.ensures.once;
       reads = reads_of _ _ (c.read_blocks.ensures.objects ∙ c.read_index.ensures.objects) refl (c.read_blocks.ensures.same_encoded ∙ c.read_index.ensures.same_encoded) (c.read_blocks.ensures.same_decoded ∙ c.read_index.ensures.same_decoded)
           (adds_both _ _ _ (adds_read _ _ _ _ _ _ _ c.in_ok-index.ensures.found) (adds_once _ _ _ _ _ _ c.in_err-blocks.ensures.once)) (record { store = omega (arith, c.read_index.ensures.later, c.read_blocks.ensures.later); operator = omega arith; transformer = omega (arith, c.read_index.ensures.later_transformer, c.read_blocks.ensures.later_transformer) }) refl;
     }
@@ -101,6 +104,7 @@ returns g c =
         within = c.covering-covered.ensures.within;
         index = c.in_ok-index.ensures.found;
       }) c.in_ok-blocks.ensures.count c.in_ok-blocks.ensures.found h) c.newest_of_blocks.ensures.cause;
+      alone = two_of _ _ c.args.table.now _ _ _ _ _ _ _ c.read_index.ensures.objects c.read_blocks.ensures.objects (meanings _ _ refl (c.read_blocks.ensures.same_encoded ∙ c.read_index.ensures.same_encoded) (c.read_blocks.ensures.same_decoded ∙ c.read_index.ensures.same_decoded)) c.in_ok-index.ensures.found (quietly _ _ _ _ _ _ _ c.in_ok-blocks.ensures.found);
       reads = reads_of _ _ (c.read_blocks.ensures.objects ∙ c.read_index.ensures.objects) refl (c.read_blocks.ensures.same_encoded ∙ c.read_index.ensures.same_encoded) (c.read_blocks.ensures.same_decoded ∙ c.read_index.ensures.same_decoded)
           (adds_both _ _ _ (adds_read _ _ _ _ _ _ _ c.in_ok-index.ensures.found) (adds_read _ _ _ _ _ _ _ c.in_ok-blocks.ensures.found)) (record { store = omega (arith, c.read_index.ensures.later, c.read_blocks.ensures.later); operator = omega arith; transformer = omega (arith, c.read_index.ensures.later_transformer, c.read_blocks.ensures.later_transformer) }) refl;
     }

@@ -1,7 +1,6 @@
-use Rattle.std.proofs.Common.{◌≡◌, [], ℕ, ◌+◌, ◌-◌, ◌<◌, drop, get_or, length, rules, sym, ap, ◌∙◌, subst, arith, refl, List}
+use Rattle.std.proofs.Common.{◌≡◌, [], ℕ, ◌+◌, ◌-◌, ◌<◌, drop, get_or, length, map, rules, sym, ap, ◌∙◌, subst, arith, refl, List}
 use Rattle.std.specs.Prelude.{Contains}
 use Rattle.std.proofs.lemmas.Result.{err_from_is_err_and, IfOk-from_err}
-use Rattle.slate_types.proofs.Calls.{call_none}
 use Rattle.slate_types.proofs.OutsideLaws.{counted_earlier}
 use Rattle.slate_types.proofs.Reaching.{reads_none, reads_then}
 use Rattle.slate_types.specs.Outside.{Meaning}
@@ -11,9 +10,10 @@ use Rattle.slate_table.specs.declared.info.SsTableHandle.{SsTableHandle}
 use Rattle.slate_db.specs.Installs.{handles_of}
 use Rattle.slate_db.specs.Lookup.{AreStoredAs}
 use Rattle.slate_db.proofs.Answered.{from_first, from_last}
+use Rattle.slate_db.proofs.Behind.{behind_more, behind_none}
 use Rattle.slate_db.proofs.Filters.{filtered_some}
 use Rattle.slate_db.proofs.RunReads.{FoundSoFar, damage_of_run, handle_among, none_found, rows_of_run, run_found, run_stored, runs_decide, runs_end}
-use Rattle.slate_db.proofs.Shown.{newer_found}
+use Rattle.slate_db.proofs.Shown.{no_rows}
 use Rattle.slate_db.proofs.UnderOwn.{extends_both, extends_none}
 use Rattle.slate_db.proofs.lookup.newest_of_runs.Goals as goal
 use Rattle.slate_db.proofs.lookup.newest_of_runs.Goals.{then-loop-at-test+else-not-is_decided, else-loop-at-test}
@@ -26,8 +26,9 @@ pub loop-at-init : goal.loop-at-init
 loop-at-init g c = record {
   within = omega arith;
   reads = reads_none _;
+  behind = behind_none _ (record { policies = map (λ p. (goal.FilterPolicy-dyn g (p.vtable, p.value)).meaning p.value) c.args.policies.now; query = c.args.query.now }) (handles_of c.args.runs.now);
   extends = extends_none c.args.newer.items;
-  rows = ([], call_none _, newer_found _ _ (handles_of c.args.runs.now) c.args.newer.items []);
+  rows = no_rows _ (record { policies = map (λ p. (goal.FilterPolicy-dyn g (p.vtable, p.value)).meaning p.value) c.args.policies.now; query = c.args.query.now }) (handles_of c.args.runs.now) c.args.newer.items;
   found = λ os filtered answers. none_found (reach_of g.S.Store g.M.MergeOperator g.T.BlockTransformer c.args.env.now).meaning os c.args.runs.now (length c.args.runs.now) c.args.key.now c.args.max_seq c.args.newer.items refl;
 }
 
@@ -44,8 +45,9 @@ loop-at-preserved g c =
     record {
       within = omega (arith, c.loop-at.invariant.within);
       reads = reads_then _ _ _ first last;
+      behind = behind_more _ _ _ (record { policies = map (λ p. (goal.FilterPolicy-dyn g (p.vtable, p.value)).meaning p.value) c.args.policies.now; query = c.args.query.now }) (handles_of c.args.runs.now) c.as_slice.result.now (among c.args.runs.now (c.loop-at.at - 1) run c.as_slice.result.now below c.index-runs-at.is slice) c.loop-at.invariant.behind c.newest_of_tables.ensures.behind;
       extends = extends_both c.args.newer.items c.loop-at.found.items c.in_ok-found.found.items c.loop-at.invariant.extends c.in_ok-found.ensures.extends;
-      rows = rows_of_run _ _ _ _ (handles_of c.args.runs.now) _ c.args.newer.items c.loop-at.found.items c.in_ok-found.found.items (among c.args.runs.now i run c.as_slice.result.now below c.index-runs-at.is slice) c.loop-at.invariant.rows c.in_ok-found.ensures.rows;
+      rows = rows_of_run _ _ _ (record { policies = map (λ p. (goal.FilterPolicy-dyn g (p.vtable, p.value)).meaning p.value) c.args.policies.now; query = c.args.query.now }) (handles_of c.args.runs.now) _ c.args.newer.items c.loop-at.found.items c.in_ok-found.found.items (among c.args.runs.now i run c.as_slice.result.now below c.index-runs-at.is slice) c.loop-at.invariant.rows c.in_ok-found.ensures.rows;
       found = λ os filtered answers. run_found m os c.args.runs.now i run c.args.key.now c.args.max_seq c.args.newer.items c.loop-at.found.items c.in_ok-found.found.items below c.index-runs-at.is
           (subst (λ (j : ℕ). FoundSoFar m os (drop j c.args.runs.now) c.args.key.now c.args.max_seq c.args.newer.items c.loop-at.found.items) next (c.loop-at.invariant.found os filtered (from_first os _ _ _ first last answers)))
           (λ layers are. c.in_ok-found.ensures.found layers os
@@ -66,6 +68,7 @@ returns g c =
       extends = c.loop-at.invariant.extends;
       rows = c.loop-at.invariant.rows;
       cause = tt;
+      behind = c.loop-at.invariant.behind;
       reads = c.loop-at.invariant.reads;
     }
 
@@ -90,5 +93,6 @@ returns-in_err-found g c =
       extends = IfOk-from_err c.from_residual.result _ c.from_residual.ensures.0;
       rows = IfOk-from_err c.from_residual.result _ c.from_residual.ensures.0;
       cause = rw (p.1, p.2) (damage_of_run _ _ _ _ (handles_of c.args.runs.now) _ _ (among c.args.runs.now (c.loop-at.at - 1) run c.as_slice.result.now below c.index-runs-at.is slice) first.later c.loop-at.invariant.rows c.in_err-found.ensures.cause);
+      behind = behind_more _ _ _ (record { policies = map (λ p. (goal.FilterPolicy-dyn g (p.vtable, p.value)).meaning p.value) c.args.policies.now; query = c.args.query.now }) (handles_of c.args.runs.now) c.as_slice.result.now (among c.args.runs.now (c.loop-at.at - 1) run c.as_slice.result.now below c.index-runs-at.is slice) c.loop-at.invariant.behind c.newest_of_tables.ensures.behind;
       reads = reads_then _ _ _ first last;
     }

@@ -1,13 +1,12 @@
-use Rattle.std.proofs.Common.{◌≤◌, ◌⊎◌, drop, length, map}
-use Rattle.std.specs.Prelude.{Contains}
-use Rattle.std.specs.List.{AllByRecursion}
+use Rattle.std.proofs.Common.{◌≤◌, drop, length, map}
 use Rattle.slate_types.specs.Outside.{Objects, OnlyReads}
 use Rattle.slate_types.specs.World.{Made}
 use Rattle.slate_store.specs.Reach.{reach_of}
 use Rattle.slate_db.specs.Answered.{AnswersFrom}
+use Rattle.slate_db.specs.Asked.{AreBehindFilters}
 use Rattle.slate_db.specs.Installs.{handles_of}
 use Rattle.slate_db.specs.Lookup.{AreFilteredAs, Extends}
-use Rattle.slate_db.specs.Shown.{Asking, BringsRow}
+use Rattle.slate_db.specs.Shown.{Asking, BringsRows}
 use Rattle.slate_db.proofs.RunReads.{FoundSoFar}
 use Rattle.slate_db.proofs.lookup.newest_of_runs.Given as goal
 
@@ -19,8 +18,9 @@ invariant-loop-at g l =
     record {
       within : l.at ≤ length l.runs;
       reads : OnlyReads before now;
+      behind : Made before now (AreBehindFilters before.meaning.decode asking (handles_of l.runs));
       extends : Extends l.initial.found.items l.found.items;
-      rows : Made before now (λ reads. AllByRecursion (λ r. Contains l.initial.found.items r ⊎ BringsRow before.meaning.decode asking (handles_of l.runs) reads r) l.found.items);
+      rows : Made before now (BringsRows before.meaning.decode asking (handles_of l.runs) l.initial.found.items l.found.items);
       found : (os : Objects) → AreFilteredAs asking.policies before.meaning os (handles_of l.runs) → AnswersFrom os before now → FoundSoFar before.meaning os (drop l.at l.runs) l.key l.max_seq l.initial.found.items l.found.items;
     }
 

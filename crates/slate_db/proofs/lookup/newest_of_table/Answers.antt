@@ -1,4 +1,4 @@
-use Rattle.std.proofs.Common.{[], ◌∙◌, ◌≡◌, false, true, map, rules, sym}
+use Rattle.std.proofs.Common.{[], ◌∷◌, ◌∙◌, ◌≡◌, false, true, map, rules, sym}
 use Rattle.std.proofs.lemmas.Result.{err_from_is_err_and, IfOk-from_err}
 use Rattle.slate_types.proofs.Calls.{call_none}
 use Rattle.slate_types.proofs.OutsideLaws.{counted_earlier}
@@ -10,6 +10,7 @@ use Rattle.slate_table.specs.Finding.{encloses}
 use Rattle.slate_table.specs.InfoReading.{seen_info}
 use Rattle.slate_db.specs.Shown.{Asking, LetsThrough}
 use Rattle.slate_db.proofs.Answered.{from_last}
+use Rattle.slate_db.proofs.Behind.{behind_filters, behind_none, behind_passed}
 use Rattle.slate_db.proofs.Blocks.{if_ok, if_err}
 use Rattle.slate_db.proofs.Filters.{stored_still}
 use Rattle.slate_db.proofs.Newest.{newest_same}
@@ -26,6 +27,7 @@ returns-then-not-encloses g c =
       whole = λ rows os stored filtered a. tt;
       rows = ([], call_none _, rw c.new.ensures.items tt);
       cause = tt;
+      behind = behind_none _ (record { policies = map (λ p. (goal.FilterPolicy-dyn g (p.vtable, p.value)).meaning p.value) c.args.policies.now; query = c.args.query.now }) (c.args.table.now ∷ []);
       reads = reads_none _;
     }
 
@@ -38,6 +40,7 @@ returns-in_err-passes g c =
       whole = λ rows os stored filtered a. let p = err_from_is_err_and c.from_residual.result c.from_residual.ensures.1 in rw (p.1, p.2) (c.in_err-passes.ensures.whole c.args.key.now rows os c.requires stored filtered a);
       rows = IfOk-from_err c.from_residual.result _ c.from_residual.ensures.0;
       cause = rw (p.1, p.2) (filters_shown _ _ asking c.args.table.now _ c.in_err-passes.ensures.cause);
+      behind = behind_filters _ _ asking c.args.table.now c.lets_through.ensures.alone;
       reads = c.lets_through.ensures.reads;
     }
 
@@ -50,6 +53,7 @@ returns-then-not-passes g c =
       whole = λ rows os stored filtered a. tt;
       rows = (c.in_ok-passes.ensures.passes.0, c.in_ok-passes.ensures.passes.1, rw c.new-none.ensures.items tt);
       cause = tt;
+      behind = behind_filters _ _ (record { policies = map (λ p. (goal.FilterPolicy-dyn g (p.vtable, p.value)).meaning p.value) c.args.policies.now; query = c.args.query.now }) c.args.table.now c.lets_through.ensures.alone;
       reads = c.lets_through.ensures.reads;
     }
 
@@ -71,5 +75,6 @@ returns g c =
           (c.newest_of_enclosing.ensures.whole rows os (stored_still _ _ os c.args.table.now rows first.meaning stored) (from_last os _ _ _ first last a)));
       rows = if_ok c.newest_of_enclosing.result _ _ (λ found h. passed_rows _ _ _ asking c.args.table.now found.items passed h) c.newest_of_enclosing.ensures.rows;
       cause = if_err c.newest_of_enclosing.result _ _ (λ e h. passed_shown _ _ _ asking c.args.table.now e first.later passed h) c.newest_of_enclosing.ensures.cause;
+      behind = behind_passed _ _ _ asking c.args.table.now passed c.newest_of_enclosing.ensures.alone;
       reads = reads_then _ _ _ first last;
     }

@@ -1,13 +1,13 @@
-use Rattle.std.proofs.Common.{◌≡◌, [], ◌+◌, ◌-◌, ◌∙◌, ◌++◌, false, drop, length, rules, ap, arith, inl}
+use Rattle.std.proofs.Common.{◌≡◌, [], ◌+◌, ◌-◌, ◌∙◌, ◌++◌, false, drop, length, map, rules, ap, arith, inl}
 use Rattle.std.proofs.lemmas.Result.{err_from_is_err_and, IfOk-from_err}
-use Rattle.slate_types.proofs.Calls.{call_none}
 use Rattle.slate_types.proofs.OutsideLaws.{counted_earlier}
 use Rattle.slate_types.proofs.Reaching.{reads_none, reads_then}
 use Rattle.slate_mem.specs.Table.{newest}
 use Rattle.slate_mem.specs.Lookup.{is_decided, newest_first}
 use Rattle.slate_db.proofs.Answered.{from_first, from_last}
+use Rattle.slate_db.proofs.Behind.{behind_none, behind_one}
 use Rattle.slate_db.proofs.Filters.{filtered_one}
-use Rattle.slate_db.proofs.Shown.{at_table, damage_on, newer_found, rows_on}
+use Rattle.slate_db.proofs.Shown.{at_table, damage_on, no_rows, rows_on}
 use Rattle.slate_db.proofs.UnderOwn.{behind_begin, behind_decide, behind_end, behind_step, extends_more, extends_none}
 use Rattle.slate_db.proofs.Tables.{as_many, table_as}
 use Rattle.slate_db.proofs.lookup.newest_of_tables.Goals as goal
@@ -17,8 +17,9 @@ pub loop-i-init : goal.loop-i-init
 loop-i-init g c = record {
   within = omega arith;
   reads = reads_none _;
+  behind = behind_none _ (record { policies = map (λ p. (goal.FilterPolicy-dyn g (p.vtable, p.value)).meaning p.value) c.args.policies.now; query = c.args.query.now }) c.args.tables.now;
   extends = extends_none c.args.newer.items;
-  rows = ([], call_none _, newer_found _ _ c.args.tables.now c.args.newer.items []);
+  rows = no_rows _ (record { policies = map (λ p. (goal.FilterPolicy-dyn g (p.vtable, p.value)).meaning p.value) c.args.policies.now; query = c.args.query.now }) c.args.tables.now c.args.newer.items;
   found = λ layers os are filtered answers own above operands h.
       behind_begin c.args.key.now c.args.max_seq own operands (length c.args.tables.now) above c.args.newer.items layers h
       (as_many _ _ _ c.args.tables.now layers are);
@@ -34,8 +35,9 @@ loop-i-preserved g c =
     record {
       within = omega (arith, c.loop-i.invariant.within);
       reads = reads_then _ _ _ first last;
+      behind = behind_one _ _ _ (record { policies = map (λ p. (goal.FilterPolicy-dyn g (p.vtable, p.value)).meaning p.value) c.args.policies.now; query = c.args.query.now }) c.args.tables.now c.index-tables-i.result (at_table c.args.tables.now (c.loop-i.i - 1) c.index-tables-i.result (omega (arith, c.loop-i-test.true, c.loop-i.invariant.within)) c.index-tables-i.is) c.loop-i.invariant.behind c.newest_of_table.ensures.behind;
       extends = extends_more c.args.newer.items c.loop-i.found.items c.in_ok-more.more.items c.append.new.self.items c.loop-i.invariant.extends c.in_ok-append.ensures.items;
-      rows = rows_on _ _ _ _ c.args.tables.now c.index-tables-i.result c.args.newer.items c.loop-i.found.items c.in_ok-more.more.items c.append.new.self.items (at_table c.args.tables.now i c.index-tables-i.result (omega (arith, c.loop-i-test.true, c.loop-i.invariant.within)) c.index-tables-i.is) c.loop-i.invariant.rows c.in_ok-more.ensures.rows c.in_ok-append.ensures.items;
+      rows = rows_on _ _ _ (record { policies = map (λ p. (goal.FilterPolicy-dyn g (p.vtable, p.value)).meaning p.value) c.args.policies.now; query = c.args.query.now }) c.args.tables.now c.index-tables-i.result c.args.newer.items c.loop-i.found.items c.in_ok-more.more.items c.append.new.self.items (at_table c.args.tables.now i c.index-tables-i.result (omega (arith, c.loop-i-test.true, c.loop-i.invariant.within)) c.index-tables-i.is) c.loop-i.invariant.rows c.in_ok-more.ensures.rows c.in_ok-append.ensures.items;
       found = λ layers os are filtered answers own above operands h.
           let at = table_as _ _ os c.args.tables.now layers i c.index-tables-i.result first.meaning are (omega (arith, c.loop-i-test.true, c.loop-i.invariant.within)) c.index-tables-i.is in
           behind_step c.args.key.now c.args.max_seq own operands i above c.loop-i.found.items c.in_ok-more.more.items c.append.new.self.items at.rows layers at.here
@@ -54,6 +56,7 @@ returns g c =
       extends = c.loop-i.invariant.extends;
       rows = c.loop-i.invariant.rows;
       cause = tt;
+      behind = c.loop-i.invariant.behind;
       reads = c.loop-i.invariant.reads;
     }
 
@@ -71,6 +74,7 @@ returns-in_err-more g c =
       extends = IfOk-from_err c.from_residual.result _ c.from_residual.ensures.0;
       rows = IfOk-from_err c.from_residual.result _ c.from_residual.ensures.0;
       cause = rw (p.1, p.2) (damage_on _ _ _ _ c.args.tables.now c.index-tables-i.result _ (at_table c.args.tables.now (c.loop-i.i - 1) c.index-tables-i.result (omega (arith, c.loop-i-test.true, c.loop-i.invariant.within)) c.index-tables-i.is) first.later c.loop-i.invariant.rows c.in_err-more.ensures.cause);
+      behind = behind_one _ _ _ (record { policies = map (λ p. (goal.FilterPolicy-dyn g (p.vtable, p.value)).meaning p.value) c.args.policies.now; query = c.args.query.now }) c.args.tables.now c.index-tables-i.result (at_table c.args.tables.now (c.loop-i.i - 1) c.index-tables-i.result (omega (arith, c.loop-i-test.true, c.loop-i.invariant.within)) c.index-tables-i.is) c.loop-i.invariant.behind c.newest_of_table.ensures.behind;
       reads = reads_then _ _ _ first last;
     }
 
@@ -83,5 +87,6 @@ returns-in_err-append g c =
       extends = IfOk-from_err c.from_residual-in_err-append.result _ c.from_residual-in_err-append.ensures.0;
       rows = IfOk-from_err c.from_residual-in_err-append.result _ c.from_residual-in_err-append.ensures.0;
       cause = rw (p.1, p.2) (inl tt);
+      behind = behind_one _ _ _ (record { policies = map (λ p. (goal.FilterPolicy-dyn g (p.vtable, p.value)).meaning p.value) c.args.policies.now; query = c.args.query.now }) c.args.tables.now c.index-tables-i.result (at_table c.args.tables.now (c.loop-i.i - 1) c.index-tables-i.result (omega (arith, c.loop-i-test.true, c.loop-i.invariant.within)) c.index-tables-i.is) c.loop-i.invariant.behind c.newest_of_table.ensures.behind;
       reads = reads_then _ _ _ c.loop-i.invariant.reads c.newest_of_table.ensures.reads;
     }

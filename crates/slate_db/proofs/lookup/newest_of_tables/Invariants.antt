@@ -1,13 +1,12 @@
-use Rattle.std.proofs.Common.{◌⊎◌, ◌≤◌, List, drop, length, map}
-use Rattle.std.specs.Prelude.{Contains}
-use Rattle.std.specs.List.{AllByRecursion}
+use Rattle.std.proofs.Common.{◌≤◌, List, drop, length, map}
 use Rattle.slate_types.specs.Outside.{Objects, OnlyReads}
 use Rattle.slate_types.specs.World.{Made}
 use Rattle.slate_store.specs.Reach.{reach_of}
 use Rattle.slate_db.specs.Answered.{AnswersFrom}
+use Rattle.slate_db.specs.Asked.{AreBehindFilters}
 use Rattle.slate_db.specs.Lookup.{AreFilteredAs, AreStoredAs, Extends, FindsBehind}
 use Rattle.slate_db.specs.Model.{Rows}
-use Rattle.slate_db.specs.Shown.{Asking, BringsRow}
+use Rattle.slate_db.specs.Shown.{Asking, BringsRows}
 use Rattle.slate_db.proofs.lookup.newest_of_tables.Given as goal
 
 abbrev pub invariant-loop-i : goal.invariant-loop-i
@@ -18,8 +17,9 @@ invariant-loop-i g l =
     record {
       within : l.i ≤ length l.tables;
       reads : OnlyReads before now;
+      behind : Made before now (AreBehindFilters before.meaning.decode asking l.tables);
       extends : Extends l.initial.found.items l.found.items;
-      rows : Made before now (λ reads. AllByRecursion (λ r. Contains l.initial.found.items r ⊎ BringsRow before.meaning.decode asking l.tables reads r) l.found.items);
+      rows : Made before now (BringsRows before.meaning.decode asking l.tables l.initial.found.items l.found.items);
       found : (layers : List Rows) (os : Objects) → AreStoredAs before.meaning os l.tables layers → AreFilteredAs asking.policies before.meaning os l.tables → AnswersFrom os before now →
           FindsBehind l.key l.max_seq (drop l.i layers) l.initial.found.items l.found.items;
     }

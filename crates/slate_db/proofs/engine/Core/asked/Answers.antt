@@ -1,4 +1,4 @@
-use Rattle.std.proofs.Common.{inl, refl, sym, ap, subst}
+use Rattle.std.proofs.Common.{inl, map, refl, sym, ap, subst}
 use Rattle.std.proofs.lemmas.Result.{IfOk-from_err, err_from_is_err_and}
 use Rattle.slate_types.specs.declared.filter_policy.FilterQuery.{FilterQuery}
 use Rattle.slate_types.specs.Outside.{IsCounted, Reach}
@@ -6,6 +6,7 @@ use Rattle.slate_types.proofs.Calls.{call_none}
 use Rattle.slate_types.proofs.Reaching.{reads_none}
 use Rattle.slate_store.specs.Reach.{reach_of}
 use Rattle.slate_table.specs.Filtered.{point_query}
+use Rattle.slate_db.proofs.Behind.{asks_none, asks_so, finds_so}
 use Rattle.slate_db.proofs.Filters.{asked_so}
 use Rattle.slate_db.proofs.engine.Core.asked.Goals as goal
 
@@ -19,6 +20,8 @@ returns-in_err-query g c =
         cause = rw (p.1, p.2) (inl (subst (IsCounted _ _) (sym c.in_err-query.ensures.cause) tt));
         reads = reads_none _;
       };
+      asks = asks_none (record { policies = map (λ p. (goal.FilterPolicy-dyn g (p.vtable, p.value)).meaning p.value) c.args.laws.now.policies.items; query = point_query c.args.key.now c.args.context.now }) _ _ _ (call_none _);
+      finds = λ from found above is needs. IfOk-from_err c.from_residual.result _ c.from_residual.ensures.0;
       own = λ t op found one replaces. record { answer = IfOk-from_err c.from_residual.result _ c.from_residual.ensures.0; cause = rw (p.1, p.2) c.in_err-query.ensures.cause; reached = refl };
       decided = λ t found some. (call_none _, refl);
       folded = λ t found some lawful short. IfOk-from_err c.from_residual.result _ c.from_residual.ensures.0;
@@ -36,6 +39,10 @@ returns g c =
     record {
       read = λ from found. asked_so (λ p. (goal.FilterPolicy-dyn g (p.vtable, p.value)).meaning p.value) c.as_slice.result.now c.args.laws.now.policies.items c.in_ok-query.query query before after c.args.self.now _ c.seen_by.result
           c.as_slice.ensures.value c.in_ok-query.ensures.query (c.seen_by.ensures.read from found);
+      asks = asks_so (λ p. (goal.FilterPolicy-dyn g (p.vtable, p.value)).meaning p.value) c.as_slice.result.now c.args.laws.now.policies.items c.in_ok-query.query query before after c.args.self.now
+          c.as_slice.ensures.value c.in_ok-query.ensures.query c.seen_by.ensures.asks;
+      finds = λ from found above. finds_so (λ p. (goal.FilterPolicy-dyn g (p.vtable, p.value)).meaning p.value) c.as_slice.result.now c.args.laws.now.policies.items c.in_ok-query.query query c.args.key.now _ before after c.args.self.now c.seen_by.result
+          c.as_slice.ensures.value c.in_ok-query.ensures.query (c.seen_by.ensures.finds from found above);
       own = c.seen_by.ensures.own;
       decided = c.seen_by.ensures.decided;
       folded = c.seen_by.ensures.folded;

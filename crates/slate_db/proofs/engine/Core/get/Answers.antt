@@ -4,6 +4,7 @@ use Rattle.std.specs.Prelude.{option_and_then}
 use Rattle.slate_types.specs.declared.types.RowEntry.{RowEntry}
 use Rattle.slate_types.specs.Fold.{IsLawful, KeepsShort, fold_rows}
 use Rattle.slate_types.specs.Outside.{IsCounted}
+use Rattle.slate_types.specs.World.{Made}
 use Rattle.slate_types.specs.Rows.{key_value, hide_tombstone}
 use Rattle.slate_store.specs.Reach.{reach_of}
 use Rattle.slate_types.proofs.Calls.{call_none}
@@ -19,6 +20,8 @@ use Rattle.slate_txn.specs.Reads.{key_rows, up_to}
 use Rattle.slate_txn.specs.Step.{Reader, noted, reader}
 use Rattle.slate_txn.specs.Reply.{Found}
 use Rattle.slate_db.specs.declared.engine.Core.TheInside.{Inside}
+use Rattle.slate_db.specs.Asked.{Asks, ReadsKey, needs_tables}
+use Rattle.slate_db.specs.Installs.{tables_of}
 use Rattle.slate_db.specs.Meaning.{combine_of, rules_of}
 use Rattle.slate_db.specs.Model.{CoreModel}
 use Rattle.slate_db.specs.View.{view_of, unseen_of, IsWholeInside}
@@ -26,6 +29,7 @@ use Rattle.slate_db.specs.Readable.{IsAnswered, IsReadError, decides_own, keeps_
 use Rattle.slate_db.specs.Sound.{IsKept}
 use Rattle.slate_db.specs.Vouched.{IsVouchedFor}
 use Rattle.slate_txn.proofs.NamedLaws.{IsNamed, open_is}
+use Rattle.slate_db.proofs.Behind.{asks_none}
 use Rattle.slate_db.proofs.Notes.{step_get}
 use Rattle.slate_db.proofs.Operands.{own_updated}
 use Rattle.slate_db.proofs.Readers.{floor_at, own_at, start_at, vouched_get}
@@ -52,6 +56,8 @@ returns-in_err-key g c =
         cause = rw (p.1, p.2) (inl tt);
         reads = reads_none _;
       };
+      asks = asks_none (record { policies = map (λ p. (goal.FilterPolicy-dyn g (p.vtable, p.value)).meaning p.value) c.args.laws.now.policies.items; query = point_query c.args.key.now c.args.options.now.filter_context }) _ _ _ (call_none _);
+      finds = λ from found is needs. IfOk-from_err c.from_residual.result _ c.from_residual.ensures.0;
       own = λ t op found one replaces. record { answer = IfOk-from_err c.from_residual.result _ c.from_residual.ensures.0; cause = rw (p.1, p.2) refl; reached = refl };
       decided = λ t found some. (call_none _, refl);
       folded = λ t found some lawful short. IfOk-from_err c.from_residual.result _ c.from_residual.ensures.0;
@@ -67,6 +73,8 @@ returns-in-Err g c =
     record {
       noted = tt;
       read = record { answer = λ is. tt; undamaged = (c.in-Err.ensures.read (open_is _ c.requires).value (open_is _ c.requires).is).undamaged; cause = subst (λ (k : List ℕ). IsReadError (record { policies = map (λ p. (goal.FilterPolicy-dyn g (p.vtable, p.value)).meaning p.value) c.args.laws.now.policies.items; query = point_query k c.args.options.now.filter_context }) (reach_of g.S.Store g.M.MergeOperator g.T.BlockTransformer c.args.env.now) (reach_of g.S.Store g.M.MergeOperator g.T.BlockTransformer c.asked.new.env) c.args.self.now c.in-Err.error) c.in_ok-key.ensures (c.in-Err.ensures.read (open_is _ c.requires).value (open_is _ c.requires).is).cause; reads = (c.asked.ensures.read (open_is _ c.requires).value (open_is _ c.requires).is).reads };
+      asks = subst (λ (k : List ℕ). Asks (record { policies = map (λ p. (goal.FilterPolicy-dyn g (p.vtable, p.value)).meaning p.value) c.args.laws.now.policies.items; query = point_query k c.args.options.now.filter_context }) (reach_of g.S.Store g.M.MergeOperator g.T.BlockTransformer c.args.env.now) (reach_of g.S.Store g.M.MergeOperator g.T.BlockTransformer c.asked.new.env) c.args.self.now) c.in_ok-key.ensures c.asked.ensures.asks;
+      finds = λ from found is needs. tt;
       own = λ t op found one replaces.
           let own = c.in-Err.ensures.own t op found (ap (kept t.ops) c.in_ok-key.ensures ∙ one) replaces in
           record { answer = tt; cause = own.cause; reached = own.reached };
@@ -89,6 +97,8 @@ returns-in-Err-note_get g c =
         cause = inl (subst (IsCounted _ _) (sym c.from.ensures) tt);
         reads = (c.asked.ensures.read (open_is _ c.requires).value (open_is _ c.requires).is).reads;
       };
+      asks = subst (λ (k : List ℕ). Asks (record { policies = map (λ p. (goal.FilterPolicy-dyn g (p.vtable, p.value)).meaning p.value) c.args.laws.now.policies.items; query = point_query k c.args.options.now.filter_context }) (reach_of g.S.Store g.M.MergeOperator g.T.BlockTransformer c.args.env.now) (reach_of g.S.Store g.M.MergeOperator g.T.BlockTransformer c.asked.new.env) c.args.self.now) c.in_ok-key.ensures c.asked.ensures.asks;
+      finds = λ from found is needs. tt;
       own = λ t op found one replaces. record { answer = tt; cause = c.from.ensures; reached = (c.asked.ensures.own t op found (ap (kept t.ops) c.in_ok-key.ensures ∙ one) replaces).reached };
       decided = λ t found some. c.asked.ensures.decided t found (ap (λ (k : List ℕ). decides_own k t.ops) c.in_ok-key.ensures ∙ some);
       folded = λ t found some lawful short. tt;
@@ -163,6 +173,15 @@ returns g c =
         cause = tt;
         reads = (c.asked.ensures.read (open_is _ c.requires).value (open_is _ c.requires).is).reads;
       };
+      asks = subst (λ (k : List ℕ). Asks (record { policies = map (λ p. (goal.FilterPolicy-dyn g (p.vtable, p.value)).meaning p.value) c.args.laws.now.policies.items; query = point_query k c.args.options.now.filter_context }) (reach_of g.S.Store g.M.MergeOperator g.T.BlockTransformer c.args.env.now) (reach_of g.S.Store g.M.MergeOperator g.T.BlockTransformer c.asked.new.env) c.args.self.now) c.in_ok-key.ensures c.asked.ensures.asks;
+      finds = λ from found is needs.
+          let m = (reach_of g.S.Store g.M.MergeOperator g.T.BlockTransformer c.args.env.now).meaning in
+          let r = rules_of c.args.self.now.settings m in
+          let key = c.in_ok-key.ensures in
+          let at = start_at c.self.inside c.args.self.now c.self.view_is c.args.id.now from found c.in-Some.at c.in-Some.ensures in
+          let above = subst (λ n. c.args.self.now.floor ≤ n) (sym at) (floor_at c.self.inside c.args.self.now c.self.view_is c.args.id.now from found c.self.invariant) in
+          subst (λ (j : List ℕ). Made (reach_of g.S.Store g.M.MergeOperator g.T.BlockTransformer c.args.env.now) (reach_of g.S.Store g.M.MergeOperator g.T.BlockTransformer c.asked.new.env) (ReadsKey m.encode j (tables_of c.args.self.now.events))) key
+          (c.in-Ok.ensures.finds from found above is ((λ i. needs_tables r c.args.self.now.state (at i) from.ops (key i)) ∙ needs));
       own = λ t op found one replaces.
           let own = c.in-Ok.ensures.own t op found (ap (kept t.ops) c.in_ok-key.ensures ∙ one) replaces in
           record {

@@ -1,32 +1,44 @@
-use Rattle.std.proofs.Common.{inl, inr, ◌≡◌, ◌⊎◌, ℕ, ◌++◌, List, None, map, false, refl, reverse, sym, ap, subst, ◌∙◌, arith}
+use Rattle.std.proofs.Common.{inl, inr, ◌≡◌, ◌⊎◌, ℕ, ◌≤◌, ◌++◌, List, None, map, true, false, refl, reverse, sym, ap, subst, ◌∙◌, arith}
 use Rattle.std.specs.Prelude.{Contains, IfOk, Option, Result}
 use Rattle.std.proofs.lemmas.List.Elements.{All-contains, All-from_recursion, Contains-append_cases}
 use Rattle.std.proofs.lemmas.Result.{IfOk-from_err, err_from_is_err_and}
 use Rattle.slate_types.specs.declared.error.SlateDBError.{SlateDBError}
 use Rattle.slate_types.specs.declared.filter_policy.PrefixTarget.TheVariants.{Point}
 use Rattle.slate_types.specs.declared.types.RowEntry.{RowEntry}
-use Rattle.slate_types.specs.Fold.{IsLawful, KeepsShort, fold_rows, operator_at}
+use Rattle.std.specs.List.{AllByRecursion}
+use Rattle.slate_types.specs.Fold.{IsLawful, IsShort, KeepsShort, fold_rows, operator_at}
+use Rattle.slate_types.specs.Rows.{operand}
+use Rattle.slate_types.specs.World.{Made}
 use Rattle.slate_types.specs.Outside.{IsCounted, Reach}
 use Rattle.slate_store.specs.Reach.{reach_of}
+use Rattle.slate_types.proofs.Calls.{call_none}
 use Rattle.slate_types.proofs.Reaching.{adds_none, reads_none, reads_of, reads_then}
 use Rattle.slate_mem.specs.Table.{newest}
 use Rattle.slate_filter.specs.Policy.{Policy}
 use Rattle.slate_read.specs.declared.sorted_run.SortedRun.{SortedRun}
 use Rattle.slate_db.specs.Installs.{AreHandles, handles_of, tables_of}
 use Rattle.slate_mem.specs.Lookup.{is_merge_among, newest_first}
+use Rattle.slate_db.specs.Asked.{ReadsKey, takes_flushed}
 use Rattle.slate_db.specs.Lookup.{Extends}
+use Rattle.slate_db.specs.Meaning.{rules_of}
+use Rattle.slate_db.specs.Shown.{Asking}
+use Rattle.slate_txn.specs.Reads.{key_rows, up_to}
 use Rattle.slate_db.specs.Model.{CoreModel, memory}
 use Rattle.slate_db.specs.Readable.{IsAnswered, IsOwnOperand}
 use Rattle.slate_db.specs.Sound.{IsSound}
 use Rattle.slate_db.specs.View.{view_of, unseen_of}
 use Rattle.slate_db.specs.Whole.{IsWhole}
+use Rattle.slate_db.proofs.Behind.{acts_answered, asks_by, asks_none, made_quiet}
 use Rattle.slate_db.proofs.Blocks.{if_ok, if_ok_where, if_err}
 use Rattle.slate_db.proofs.Causes.{fold_fault}
-use Rattle.slate_db.proofs.Shown.{fold_refused, from_memory, journal_damage}
+use Rattle.slate_db.proofs.Shown.{fold_refused, found_rows, from_memory, journal_damage}
 use Rattle.slate_db.proofs.Filters.{filtered_known}
+use Rattle.slate_db.proofs.Finds.{brought_key, if_any, none_brought, some_brought}
 use Rattle.slate_db.proofs.Gets.{found_bases, found_folds, stored_as, Folds}
 use Rattle.slate_db.proofs.Runs.{all_handles}
+use Rattle.slate_db.proofs.Lists.{all_map}
 use Rattle.slate_db.proofs.UnderOwn.{operand_found}
+use Rattle.slate_db.proofs.Versions.{twice}
 use Rattle.slate_db.proofs.engine.Core.seen.Goals as goal
 use Rattle.slate_db.proofs.engine.Core.seen.Given as given
 
@@ -79,6 +91,28 @@ found_is g c is =
     (filtered_known (policies g c) (before g c).meaning is.os (tables_of c.args.self.now.events) (handles_of c.runs.result.now) is.readable.lawful_policies is.readable.filtered (handles g c) is.readable.holds) is.answers c.args.own.items (c.args.self.now.active ++ newest_first c.args.self.now.frozen) c.requires.operands (near g c)
     ∙ ap (λ (k : List ℕ). c.args.own.items ++ newest k c.args.at ((c.args.self.now.active ++ newest_first c.args.self.now.frozen) ++ newest_first (sound g c is).layers)) c.as_slice.ensures
 
+-- a get that needs the tables
+brought : (g : given.Over) (c : goal.After-fold_found g) → c.args.self.now.floor ≤ c.args.at → (is : IsAnswered (policies g c) (before g c) (after g c) c.args.self.now) →
+    takes_flushed c.args.self.now.state (key_rows (rules_of c.args.self.now.settings (before g c).meaning) c.args.key.now (up_to c.args.at c.args.self.now.state.commits) ++ reverse c.args.own.items) ≡ true →
+    Made (before g c) (between g c) (ReadsKey (before g c).meaning.encode c.args.key.now (tables_of c.args.self.now.events))
+brought g c above is needs =
+    let m = (before g c).meaning in
+    let k = c.args.key.now in
+    let asking : Asking = record { policies = policies g c; query = c.args.query.now } in
+    let layers = (sound g c is).layers in
+    let folds : Folds m c.args.self.now k c.args.at c.args.own.items c.in_ok-found.found.items = found_folds m c.args.self.now _ k c.args.at c.args.own.items c.in_ok-found.found.items layers (whole g c) is.readable.lawful is.readable.kept (sound g c is).tables (sound g c is).short above c.requires.keys c.requires.short (found_is g c is) in
+    let keys : AllByRecursion (λ r. r.key ≡ k) c.in_ok-found.found.items = twice (λ r. r.key ≡ k) c.in_ok-found.found.items (all_map (λ (r : RowEntry). (r.key ≡ k) × IsShort (operand r)) (λ (r : RowEntry). r.key ≡ k) (λ r h. h.0) (reverse c.in_ok-found.found.items) folds.are) in
+    let near_is = near g c ∙ ap (λ (x : List ℕ). c.args.own.items ++ newest x c.args.at (c.args.self.now.active ++ newest_first c.args.self.now.frozen)) c.as_slice.ensures in
+    let rows = c.in_ok-found.ensures.rows in
+    let stored = stored_as m c.args.self.now (view_of c.self.inside) (unseen_of c.self.inside) (handles_of c.runs.result.now) is.os layers c.self.view_is (ap handles_of c.runs.ensures) c.self.invariant is.readable.lawful (sound g c is).tables is.readable.holds in
+    let some = some_brought m asking (handles_of c.runs.result.now) rows.0 k c.in_ok-near.near.items c.in_ok-found.found.items
+    (λ same. none_brought m c.args.self.now (unseen_of c.self.inside) k c.args.at c.args.own.items (sound g c is) (whole g c) (is.readable.kept.0 k) above c.requires.own needs (sym (found_is g c is) ∙ same ∙ near_is)) keys rows.2 in
+    (
+      rows.0,
+      rows.1,
+      brought_key m asking is.os (tables_of c.args.self.now.events) (handles_of c.runs.result.now) layers rows.0 k some.0 (handles g c) is.readable.holds stored (acts_answered is.os (before g c) (between g c) rows.0 rows.1 is.answers) some.1 some.2,
+    )
+
 pub returns-in_err-near : goal.returns-in_err-near
 returns-in_err-near g c =
     let p = err_from_is_err_and c.from_residual.result c.from_residual.ensures.1 in
@@ -89,6 +123,8 @@ returns-in_err-near g c =
         cause = rw (p.1, p.2) (inl (subst (IsCounted _ _) (sym c.in_err-near.ensures.cause) tt));
         reads = reads_none _;
       };
+      asks = asks_none (record { policies = map (λ p. (goal.FilterPolicy-dyn g (p.vtable, p.value)).meaning p.value) c.args.policies.now; query = c.args.query.now }) _ _ _ (call_none _);
+      finds = λ above is needs. IfOk-from_err c.from_residual.result _ c.from_residual.ensures.0;
       missing = λ lacks some. IfOk-from_err c.from_residual.result _ c.from_residual.ensures.0;
     }
 
@@ -109,6 +145,8 @@ returns-in_err-found g c =
         cause = rw (p.1, p.2) (journal_damage _ _ _ c.args.self.now (handles_of c.runs.result.now) _ handles c.in_err-found.ensures.cause);
         reads = c.newest_of_runs.ensures.reads;
       };
+      asks = asks_by (record { policies = map (λ p. (goal.FilterPolicy-dyn g (p.vtable, p.value)).meaning p.value) c.args.policies.now; query = c.args.query.now }) _ _ c.args.self.now (handles_of c.runs.result.now) handles c.newest_of_runs.ensures.behind;
+      finds = λ above is needs. IfOk-from_err c.from_residual-in_err-found.result _ c.from_residual-in_err-found.ensures.0;
       missing = λ lacks some. IfOk-from_err c.from_residual-in_err-found.result _ c.from_residual-in_err-found.ensures.0;
     }
 
@@ -128,9 +166,13 @@ returns g c =
             let none : (between g c).meaning.combine ≡ None → is_merge_among c.in_ok-found.found.items ≡ false = λ lacks. found_bases (before g c).meaning c.args.self.now c.args.key.now c.args.at c.args.own.items c.in_ok-found.found.items (sound g c is).layers (same ∙ lacks) is.readable.kept.0 is.readable.kept.2 ((sound g c is).bases (same ∙ lacks)) c.requires.own (found_is g c is) in
             if_err c.fold_found.result _ _ (λ e h. fold_fault _ _ _ (is_merge_among c.in_ok-found.found.items) e tables.later none h) c.fold_found.ensures.cause);
         cause = if_err c.fold_found.result _ _ (λ e h. fold_refused _ (before g c) (between g c) (after g c) c.args.self.now (handles_of c.runs.result.now) c.in_ok-near.near.items c.in_ok-found.found.items e (handles g c) (near_among g c) tables.later refl
-            (λ i. record (between g c).meaning { combine = c.fold_found.ensures.same i }) refl c.in_ok-found.ensures.rows h) c.fold_found.ensures.cause;
+            (λ i. record (between g c).meaning { combine = c.fold_found.ensures.same i }) refl (found_rows _ _ _ (handles_of c.runs.result.now) c.in_ok-near.near.items c.in_ok-found.found.items c.in_ok-found.ensures.rows) h) c.fold_found.ensures.cause;
         reads = reads_then _ _ _ tables (reads_of _ _ refl c.fold_found.ensures.same refl refl (adds_none _) (record { store = omega arith; operator = c.fold_found.ensures.later; transformer = omega arith }) refl);
       };
+      asks = asks_by (record { policies = policies g c; query = c.args.query.now }) (before g c) (after g c) c.args.self.now (handles_of c.runs.result.now) (handles g c)
+          (made_quiet (before g c) (between g c) (after g c) _ refl (λ i. record (between g c).meaning { combine = c.fold_found.ensures.same i }) refl c.newest_of_runs.ensures.behind);
+      finds = λ above is needs. if_any c.fold_found.result
+          (made_quiet (before g c) (between g c) (after g c) _ refl (λ i. record (between g c).meaning { combine = c.fold_found.ensures.same i }) refl (brought g c above is needs));
       missing = λ lacks some. subst (λ (r : Result (Option RowEntry) SlateDBError). IfOk r (λ row. ⊥))
           (sym (c.fold_found.ensures.missing (sym same ∙ lacks)
           (operand_found c.args.own.items (newest c.as_slice.result.now c.args.at (c.args.self.now.active ++ newest_first c.args.self.now.frozen)) c.in_ok-found.found.items c.requires.operands some (subst (λ xs. Extends xs c.in_ok-found.found.items) (near g c) c.in_ok-found.ensures.extends)))) tt;

@@ -1,4 +1,4 @@
-use Rattle.std.proofs.Common.{inl, ◌≡◌, ℕ, List, [], ◌++◌, map, reverse, true, false, Option, Some, refl, sym, ap, subst, ◌∙◌, arith}
+use Rattle.std.proofs.Common.{inl, ◌≡◌, ℕ, ◌-◌, ◌^◌, ◌≤◌, List, [], ◌++◌, map, reverse, true, false, Option, Some, refl, sym, ap, subst, ◌∙◌, arith}
 use Rattle.std.specs.Prelude.{IfOk, IsOkUnless, Ok, Result}
 use Rattle.std.specs.List.{AllByRecursion}
 use Rattle.std.proofs.lemmas.List.Elements.{All-contains, All-from_recursion}
@@ -22,14 +22,18 @@ use Rattle.slate_txn.proofs.NamedLaws.{open_is}
 use Rattle.slate_db.specs.Installs.{AreHandles, handles_of, tables_of}
 use Rattle.slate_db.specs.Meaning.{combine_of, rules_of}
 use Rattle.slate_db.specs.Model.{CoreModel, Rows}
-use Rattle.slate_db.specs.Readable.{IsOwnOperand}
-use Rattle.slate_db.specs.View.{view_of}
+use Rattle.slate_db.specs.Asked.{takes_flushed}
+use Rattle.slate_db.specs.Readable.{IsOwnOperand, decides_own}
+use Rattle.slate_db.specs.Whole.{IsWhole}
+use Rattle.slate_db.specs.View.{unseen_of, view_of}
 use Rattle.slate_db.proofs.Bases.{no_merge_among}
+use Rattle.slate_db.proofs.Behind.{asks_none}
 use Rattle.slate_db.proofs.Blocks.{if_err, if_ok}
 use Rattle.slate_db.proofs.Causes.{fold_fault}
 use Rattle.slate_db.proofs.Gets.{own_pairs}
 use Rattle.slate_db.proofs.NoMerges.{own_bases_of}
-use Rattle.slate_db.proofs.OwnRows.{oldest_first, one_decides, own_decide, own_decided, own_keys, own_merges, own_operands, own_short, own_some, plain_alone}
+use Rattle.slate_db.proofs.Needs.{decided_needs}
+use Rattle.slate_db.proofs.OwnRows.{oldest_first, one_decides, own_decide, own_decided, own_decides, own_keys, own_merges, own_operands, own_short, own_some, plain_alone}
 use Rattle.slate_db.proofs.Readers.{own_fine_of, own_of_reader, own_rows_of}
 use Rattle.slate_db.proofs.Runs.{all_handles}
 use Rattle.slate_db.proofs.Shown.{fold_refused, newer_found}
@@ -50,6 +54,9 @@ seen-requires g c =
       keys = own_keys k who.value.ops own rows;
       short = own_short k who.value.ops own rows (own_fine_of (view_of c.self.inside).state c.args.id.now who.value there c.own_rows.ensures.fine);
     }
+
+pub returns-in_err-own-clause-asks : goal.returns-in_err-own-clause-asks
+returns-in_err-own-clause-asks g c = asks_none (record { policies = map (λ p. (goal.FilterPolicy-dyn g (p.vtable, p.value)).meaning p.value) c.args.policies.now; query = c.args.query.now }) _ _ _ (call_none _)
 
 pub returns-then-is_decided : goal.returns-then-is_decided
 returns-then-is_decided g c =
@@ -74,6 +81,15 @@ returns-then-is_decided g c =
                 (λ i. record before.meaning { combine = c.fold_found.ensures.same i }) refl ([], call_none before, newer_found before.meaning.decode _ (handles_of c.self.inside.layers.runs) own []) h) c.fold_found.ensures.cause;
             reads = reads_of before after refl c.fold_found.ensures.same refl refl (adds_none before.acts) (record { store = omega arith; operator = c.fold_found.ensures.later; transformer = omega arith }) refl;
           };
+      asks = asks_none (record { policies = map (λ p. (goal.FilterPolicy-dyn g (p.vtable, p.value)).meaning p.value) c.args.policies.now; query = c.args.query.now }) before after c.args.self.now (call_quiet before after refl (λ i. record before.meaning { combine = c.fold_found.ensures.same i }) refl);
+      finds = λ from found above is needs.
+          let there : reader (view_of c.self.inside).state c.args.id.now ≡ Some from = ap (λ (v : CoreModel). reader v.state c.args.id.now) c.self.view_is ∙ found in
+          let rows : own ≡ map (own_row k) (reverse (kept from.ops k)) = own_rows_of (view_of c.self.inside).state c.args.id.now from there k own c.in_ok-own.ensures.rows c.in_ok-own.ensures.none in
+          let decided : is_decided own ≡ true = ap is_decided (sym c.deref.ensures.value) ∙ sym c.is_decided.ensures ∙ c.if-is_decided.true in
+          let some : decides_own k from.ops ≡ true = sym (own_decides k from.ops) ∙ ap is_decided (sym rows) ∙ decided in
+          let w : IsWhole c.args.self.now (unseen_of c.self.inside) = subst (λ (v : CoreModel). IsWhole v (unseen_of c.self.inside)) c.self.view_is c.self.invariant in
+          let fits : c.args.self.now.state.flushed ≤ 2 ^ 64 - 2 = (let x = w.log.flushed_within in let y = w.log.last_fits in omega (arith, x, y)) in
+          let clash : true ≡ false = sym needs ∙ decided_needs c.args.self.now.state.flushed k (kept from.ops k) (key_rows (rules_of c.args.self.now.settings before.meaning) k (up_to c.args.at c.args.self.now.state.commits)) fits some in cc;
       own = λ t op found one replaces.
           let there : find_named c.args.id.now c.self.inside.transactions ≡ Some t = ap (λ (v : CoreModel). find_named c.args.id.now v.state.txns) c.self.view_is ∙ found in
           let rows : own ≡ map (own_row k) (reverse (kept t.ops k)) = c.in_ok-own.ensures.rows t there in
@@ -112,6 +128,12 @@ returns g c =
             cause = c.seen.ensures.read.cause;
             reads = c.seen.ensures.read.reads;
           };
+      asks = c.seen.ensures.asks;
+      finds = λ from found above is needs.
+          let there : reader (view_of c.self.inside).state c.args.id.now ≡ Some from = ap (λ (v : CoreModel). reader v.state c.args.id.now) c.self.view_is ∙ found in
+          let rows : own ≡ map (own_row k) (reverse (kept from.ops k)) = own_rows_of (view_of c.self.inside).state c.args.id.now from there k own c.in_ok-own.ensures.rows c.in_ok-own.ensures.none in
+          let older : Rows = key_rows (rules_of c.args.self.now.settings before.meaning) k (up_to c.args.at c.args.self.now.state.commits) in
+          c.seen.ensures.finds above is (ap (λ (xs : Rows). takes_flushed c.args.self.now.state (older ++ xs)) (oldest_first k from.ops own rows) ∙ needs);
       own = λ t op found one replaces.
           let there : find_named c.args.id.now c.self.inside.transactions ≡ Some t = ap (λ (v : CoreModel). find_named c.args.id.now v.state.txns) c.self.view_is ∙ found in
           let clash : true ≡ false = sym (own_decide k t.ops own (c.in_ok-own.ensures.rows t there) (one_decides k t.ops op one replaces)) ∙ undecided in cc;
