@@ -74,7 +74,7 @@ fn segment(alloc: Global, prefix: &'static [u8]) -> Result<bool, SlateDBError> {
 fn tells_segments_apart(alloc: Global) -> bool {
     let is_nested = match segment(alloc, b"a:b:") {
         Err(SlateDBError::InvalidSegmentPrefix { prefix, conflict }) => {
-            prefix.as_slice() == b"a:b:" && conflict.as_slice() == b"a:"
+            prefix.as_slice() == b"a:b:".as_slice() && conflict.as_slice() == b"a:".as_slice()
         }
         _ => false,
     };
