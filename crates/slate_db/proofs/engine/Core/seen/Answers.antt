@@ -106,8 +106,7 @@ brought g c above is needs =
     let rows = c.in_ok-found.ensures.rows in
     let stored = stored_as m c.args.self.now (view_of c.self.inside) (unseen_of c.self.inside) (handles_of c.runs.result.now) is.os layers c.self.view_is (ap handles_of c.runs.ensures) c.self.invariant is.readable.lawful (sound g c is).tables is.readable.holds in
     let some = some_brought m asking (handles_of c.runs.result.now) rows.0 k c.in_ok-near.near.items c.in_ok-found.found.items
-    (λ same. none_brought m c.args.self.now (unseen_of c.self.inside) k c.args.at c.args.own.items (sound g c is) (whole g c) (is.readable.kept.0 k) above c.requires.own needs (sym (found_is g c is) ∙ same ∙ near_is)) keys rows.2 in
-    (
+    (λ same. none_brought m c.args.self.now (unseen_of c.self.inside) k c.args.at c.args.own.items (sound g c is) (whole g c) (is.readable.kept.0 k) above c.requires.own needs (sym (found_is g c is) ∙ same ∙ near_is)) keys rows.2 in (
       rows.0,
       rows.1,
       brought_key m asking is.os (tables_of c.args.self.now.events) (handles_of c.runs.result.now) layers rows.0 k some.0 (handles g c) is.readable.holds stored (acts_answered is.os (before g c) (between g c) rows.0 rows.1 is.answers) some.1 some.2,
