@@ -3,9 +3,12 @@ use crate::listing::{Row, are_rows, one};
 use crate::tables::TABLE;
 use bytes::Bytes;
 use slate_language::Xor;
-use slate_store::{MemoryStore, Store};
-use slate_table::{SsTableInfo, SstFile, SstIndex, SstReader};
-use slate_types::{SlateDBError, Ulid};
+use slate_read::{SegmentMergeIterator, SortedRun, SstIteratorOptions};
+use slate_store::{Env, MemoryStore, Store};
+use slate_table::{SsTableHandle, SsTableInfo, SstFile, SstIndex, SstReader};
+use slate_types::{
+    BytesRange, NoOperator, RowEntry, RowEntryIterator, SlateDBError, Ulid, collect_rows,
+};
 use std::alloc::Global;
 
 const ID: Ulid = Ulid(18446744073709551616);
@@ -135,6 +138,56 @@ fn is_well_with_each(alloc: Global) -> bool {
 #[test]
 fn no_changed_byte_changes_an_answer(rt: HostRuntime) {
     assert!(rt; is_well_with_each(rt.alloc()));
+}
+
+// A run of the table, whose keys begin with a.
+fn run_of_table(alloc: Global, store: MemoryStore) -> Result<SortedRun, SlateDBError> {
+    let mut reader = Reader::new(alloc, "db", store, None)?;
+    let file = reader.open(alloc, ID);
+    drop(reader);
+    let file = file?;
+    let info: Result<_, _> = file.info().clone();
+    drop(file);
+    let table = SsTableHandle {
+        id: ID,
+        info: info?,
+        format_version: 1,
+    };
+    Ok(SortedRun {
+        prefix: Bytes::from_static(b"a"),
+        tables: one(alloc, table),
+    })
+}
+
+fn stored(alloc: Global) -> Option<MemoryStore> {
+    let mut store = MemoryStore::new(alloc, Vec::new(alloc));
+    let put = store.put(alloc, PATH, TABLE).ok();
+    put.and(Some(store))
+}
+
+// The rows that the runs of segments bring: that of the table, and none.
+fn segment_rows(alloc: Global) -> Option<Vec<RowEntry>> {
+    let run = run_of_table(alloc, stored(alloc)?).ok()?;
+    let options = SstIteratorOptions::default();
+    let runs = one(alloc, run);
+    let rows = SegmentMergeIterator::new(alloc, BytesRange::unbounded(), runs, options, &[]);
+    let mut rows = rows.ok()?;
+    let mut store = stored(alloc)?;
+    let mut env: Env<'_, MemoryStore, NoOperator, Xor> = Env {
+        store: &mut store,
+        operator: None,
+        transformer: None,
+    };
+    let begun = rows.init(alloc, &mut env).ok();
+    let found = collect_rows(alloc, &mut rows, &mut env).ok();
+    drop((rows, env));
+    drop(store);
+    begun.and(found)
+}
+
+#[test]
+fn segments_bring_their_rows(rt: HostRuntime) {
+    assert!(rt; are_rows(rt.alloc(), segment_rows(rt.alloc()), ROWS));
 }
 
 // The first call puts the table, and eight read it.
