@@ -7,6 +7,7 @@ use Rattle.slate_types.specs.Outside.{Objects, Counts, IsCounted, IsFault, Reach
 use Rattle.slate_types.specs.World.{Made}
 use Rattle.slate_filter.specs.Policy.{Policy}
 use Rattle.slate_txn.specs.declared.line.Line.{Line}
+use Rattle.slate_mem.specs.KeyTests.{Segments}
 use Rattle.slate_db.specs.Meaning.{Meaning}
 use Rattle.slate_db.specs.Sound.{IsKept}
 use Rattle.slate_db.specs.Parts.{IsTableError}
@@ -23,21 +24,21 @@ use Rattle.slate_script.proofs.SessionStores.{stays-settled}
 -- ---- what a line keeps
 
 -- what holds for parts of each meaning holds for these
-pub stores-at : {V E : Type 0} (result : Result V E) (m : Meaning) (e new : SessionModel) → OnOk result ((n : Meaning) → StoresNothing n e new) → OnOk result (StoresNothing m e new)
-stores-at (Ok v) m e new stores = stores m
-stores-at (Err x) m e new stores = tt
+pub stores-at : {V E : Type 0} (result : Result V E) (m : Meaning) (seg : Segments) (e new : SessionModel) → OnOk result ((n : Meaning) (sg : Segments) → StoresNothing n sg e new) → OnOk result (StoresNothing m seg e new)
+stores-at (Ok v) m seg e new stores = stores m seg
+stores-at (Err x) m seg e new stores = tt
 
-pub keeps-core : {V E : Type 0} (result : Result V E) (m : Meaning) (e new : SessionModel) → OnOk result (StoresNothing m e new) → IsKept m e.core → OnOk result (IsKept m new.core)
-keeps-core (Ok v) m e new stores kept = stores.kept kept
-keeps-core (Err x) m e new stores kept = tt
+pub keeps-core : {V E : Type 0} (result : Result V E) (m : Meaning) (seg : Segments) (e new : SessionModel) → OnOk result (StoresNothing m seg e new) → IsKept m e.core → OnOk result (IsKept m new.core)
+keeps-core (Ok v) m seg e new stores kept = stores.kept kept
+keeps-core (Err x) m seg e new stores kept = tt
 
-pub keeps-settings : {V E : Type 0} (m : Meaning) (result : Result V E) (e new : SessionModel) → OnOk result (StoresNothing m e new) → OnOk result (new.core.settings ≡ e.core.settings)
-keeps-settings m (Ok v) e new stores = stores.settings
-keeps-settings m (Err x) e new stores = tt
+pub keeps-settings : {V E : Type 0} (m : Meaning) (seg : Segments) (result : Result V E) (e new : SessionModel) → OnOk result (StoresNothing m seg e new) → OnOk result (new.core.settings ≡ e.core.settings)
+keeps-settings m seg (Ok v) e new stores = stores.settings
+keeps-settings m seg (Err x) e new stores = tt
 
-pub keeps-settled : {V E : Type 0} (result : Result V E) (policies : List Policy) (m : Meaning) (objects after : Option Objects) (e new : SessionModel) → after ≡ objects → OnOk result (StoresNothing m e new) → IsSettled policies m objects e → OnOk result (IsSettled policies m after new)
-keeps-settled (Ok v) policies m objects after e new same stores settled = subst (λ o. IsSettled policies m o new) (sym same) (stays-settled policies m objects e new stores settled)
-keeps-settled (Err x) policies m objects after e new same stores settled = tt
+pub keeps-settled : {V E : Type 0} (result : Result V E) (policies : List Policy) (m : Meaning) (seg : Segments) (objects after : Option Objects) (e new : SessionModel) → after ≡ objects → OnOk result (StoresNothing m seg e new) → IsSettled policies m seg objects e → OnOk result (IsSettled policies m seg after new)
+keeps-settled (Ok v) policies m seg objects after e new same stores settled = subst (λ o. IsSettled policies m seg o new) (sym same) (stays-settled policies m seg objects e new stores settled)
+keeps-settled (Err x) policies m seg objects after e new same stores settled = tt
 
 -- ---- which errors
 

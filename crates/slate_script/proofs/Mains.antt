@@ -72,8 +72,8 @@ words-are s transformer is = by s.operator transformer ∙ ap (parts s.operator)
     by (Some o) None = refl
     by (Some o) (Some x) = refl
 
-pub rules-are : (s : Settings) (transformer : Option Xor) → option_map (λ x. x.mask) transformer ≡ s.mask → run_rules s.options (words-mean s.operator transformer) ≡ main_rules s
-rules-are s transformer is = ap (run_rules s.options) (words-are s transformer is)
+pub rules-are : (s : Settings) (transformer : Option Xor) → option_map (λ x. x.mask) transformer ≡ s.mask → run_rules s.options (words-mean s.operator transformer) None ≡ main_rules s
+rules-are s transformer is = ap (λ m. run_rules s.options m None) (words-are s transformer is)
 
 -- ---- words that name a script of the run's own
 

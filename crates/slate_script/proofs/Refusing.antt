@@ -1,12 +1,13 @@
 -- Why a write or a commit is refused, and that its refusals are answered.
-use Rattle.std.proofs.Common.{◌≡◌, ℕ, Bool, true, false, ◌<◌, ◌+◌, ◌⊎◌, inl, inr, List, [], ◌∷◌, map, reverse, Option, Some, None, is_some, option_map, Result, Ok, Err, ℤ, sym, ◌∙◌, subst, arith}
+use Rattle.std.proofs.Common.{◌≡◌, ℕ, Bool, true, false, ◌<◌, ◌+◌, ◌⊎◌, inl, inr, List, [], ◌∷◌, ◌++◌, map, find, reverse, Option, Some, None, is_none, is_some, option_map, Result, Ok, Err, ℤ, sym, ◌∙◌, subst, arith}
 use Rattle.std.specs.Prelude.{IfErr, not, ◌&&◌}
 use Rattle.slate_types.specs.declared.error.SlateDBError.{SlateDBError}
 use Rattle.slate_types.specs.declared.error.SlateDBError.TheVariants as errors
 use Rattle.slate_types.specs.Outside.{Counts, IsCounted}
+use Rattle.slate_types.specs.Keys.{keys_set}
 use Rattle.slate_mem.specs.Batch.{Ops, batch_keys, kept}
 use Rattle.slate_mem.specs.BatchModel.{BatchModel, holds_merge}
-use Rattle.slate_mem.specs.KeyTests.{first_other, key_refusal, test_refusals, ttl_refusal}
+use Rattle.slate_mem.specs.KeyTests.{Segments, first_other, key_refusal, nest, nest_refusal, nest_refusals, prefix_of_len, prefixes, segment_refusal, test_refusals, ttl_refusal}
 use Rattle.slate_mem.specs.Refusals.{first_refusal, when}
 use Rattle.slate_mem.specs.RowOf.{op_expiry}
 use Rattle.slate_txn.specs.HandedOver.{IsConflict}
@@ -25,23 +26,51 @@ ttl-refuses k (x ∷ xs) e h = by (first_other x xs) h
     by None is = cc
     by (Some y) is = subst IsRefusal (some-error (errors.IncompatibleMergeTtls k x y) e is) tt
 
-key-refuses : (default_millis : Option ℕ) (now : ℤ) (ops : Ops) (k : List ℕ) (e : SlateDBError) → key_refusal None default_millis now ops k ≡ Some e → IsRefusal e
-key-refuses default_millis now ops k e h = ttl-refuses k (reverse (map (op_expiry default_millis now) (kept ops k))) e h
-
-keys-refuse : (default_millis : Option ℕ) (now : ℤ) (ops : Ops) (ks : List (List ℕ)) (e : SlateDBError) → first_refusal (map (key_refusal None default_millis now ops) ks) ≡ Some e → IsRefusal e
-keys-refuse default_millis now ops [] e h = cc
-keys-refuse default_millis now ops (k ∷ ks) e h = by (key_refusal None default_millis now ops k) (key-refuses default_millis now ops k) (keys-refuse default_millis now ops ks e) h
+segment-refuses : (segments : Segments) (k : List ℕ) (e : SlateDBError) → segment_refusal segments k ≡ Some e → IsRefusal e
+segment-refuses None k e h = cc
+segment-refuses (Some f) k e h = by (is_none (prefix_of_len k (f k))) h
   where
-    by : (o : Option SlateDBError) → ((x : SlateDBError) → o ≡ Some x → IsRefusal x) → (first_refusal (map (key_refusal None default_millis now ops) ks) ≡ Some e → IsRefusal e) → first_refusal (o ∷ map (key_refusal None default_millis now ops) ks) ≡ Some e → IsRefusal e
+    by : (b : Bool) → when b (errors.EmptySegmentPrefix k) ≡ Some e → IsRefusal e
+    by true is = subst IsRefusal (some-error (errors.EmptySegmentPrefix k) e is) tt
+    by false is = cc
+
+key-refuses : (segments : Segments) (default_millis : Option ℕ) (now : ℤ) (ops : Ops) (k : List ℕ) (e : SlateDBError) → key_refusal segments default_millis now ops k ≡ Some e → IsRefusal e
+key-refuses segments default_millis now ops k e h = by (segment_refusal segments k) (segment-refuses segments k e) h
+  where
+    by : (o : Option SlateDBError) → (o ≡ Some e → IsRefusal e) → first_refusal (o ∷ ttl_refusal k (reverse (map (op_expiry default_millis now) (kept ops k))) ∷ []) ≡ Some e → IsRefusal e
+    by None here is = ttl-refuses k (reverse (map (op_expiry default_millis now) (kept ops k))) e is
+    by (Some x) here is = here is
+
+keys-refuse : (segments : Segments) (default_millis : Option ℕ) (now : ℤ) (ops : Ops) (ks : List (List ℕ)) (e : SlateDBError) → first_refusal (map (key_refusal segments default_millis now ops) ks) ≡ Some e → IsRefusal e
+keys-refuse segments default_millis now ops [] e h = cc
+keys-refuse segments default_millis now ops (k ∷ ks) e h = by (key_refusal segments default_millis now ops k) (key-refuses segments default_millis now ops k e) (keys-refuse segments default_millis now ops ks e) h
+  where
+    by : (o : Option SlateDBError) → (o ≡ Some e → IsRefusal e) → (first_refusal (map (key_refusal segments default_millis now ops) ks) ≡ Some e → IsRefusal e) → first_refusal (o ∷ map (key_refusal segments default_millis now ops) ks) ≡ Some e → IsRefusal e
     by None here later is = later is
-    by (Some x) here later is = here e is
+    by (Some x) here later is = here is
 
-tests-refuse : (has held : Bool) (default_millis : Option ℕ) (now : ℤ) (ops : Ops) (e : SlateDBError) → first_refusal (test_refusals has held None default_millis now ops) ≡ Some e → IsRefusal e
-tests-refuse has held default_millis now ops e h = by (held && not has) h
+nests-refuse : (all ps : List (List ℕ)) (e : SlateDBError) → first_refusal (map (nest_refusal all) ps) ≡ Some e → IsRefusal e
+nests-refuse all [] e h = cc
+nests-refuse all (p ∷ ps) e h = by (find (nest p) all) (nests-refuse all ps e) h
   where
-    by : (b : Bool) → first_refusal (when b errors.MergeOperatorMissing ∷ map (key_refusal None default_millis now ops) (batch_keys ops)) ≡ Some e → IsRefusal e
+    by : (o : Option (List ℕ)) → (first_refusal (map (nest_refusal all) ps) ≡ Some e → IsRefusal e) → first_refusal (option_map (λ q. errors.InvalidSegmentPrefix p q) o ∷ map (nest_refusal all) ps) ≡ Some e → IsRefusal e
+    by None later is = later is
+    by (Some q) later is = subst IsRefusal (some-error (errors.InvalidSegmentPrefix p q) e is) tt
+
+either-refuses : (xs ys : List (Option SlateDBError)) (e : SlateDBError) → (first_refusal xs ≡ Some e → IsRefusal e) → (first_refusal ys ≡ Some e → IsRefusal e) → first_refusal (xs ++ ys) ≡ Some e → IsRefusal e
+either-refuses [] ys e f g h = g h
+either-refuses (None ∷ xs) ys e f g h = either-refuses xs ys e f g h
+either-refuses (Some x ∷ xs) ys e f g h = f h
+
+tests-refuse : (has held : Bool) (segments : Segments) (recorded : List (List ℕ)) (default_millis : Option ℕ) (now : ℤ) (ops : Ops) (e : SlateDBError) →
+    first_refusal (test_refusals has held segments default_millis now ops ++ nest_refusals recorded (prefixes segments ops)) ≡ Some e → IsRefusal e
+tests-refuse has held segments recorded default_millis now ops e h =
+    either-refuses (test_refusals has held segments default_millis now ops) (nest_refusals recorded (prefixes segments ops)) e (by (held && not has))
+    (nests-refuse (keys_set (recorded ++ prefixes segments ops)) (keys_set (prefixes segments ops)) e) h
+  where
+    by : (b : Bool) → first_refusal (when b errors.MergeOperatorMissing ∷ map (key_refusal segments default_millis now ops) (batch_keys ops)) ≡ Some e → IsRefusal e
     by true is = subst IsRefusal (some-error errors.MergeOperatorMissing e is) tt
-    by false is = keys-refuse default_millis now ops (batch_keys ops) e is
+    by false is = keys-refuse segments default_millis now ops (batch_keys ops) e is
 
 conflict-refuses : (o : Option ℕ) (e : SlateDBError) → IsConflict o e → IsRefusal e
 conflict-refuses None e h = absurd h
@@ -51,20 +80,20 @@ conflict-refuses (Some n) e h = subst IsRefusal (sym h) tt
 abbrev IsPassedOn : SlateDBError → Result Answer SlateDBError → Type 0
 IsPassedOn error result = IfErr result (λ e. (e ≡ error) × (IsRefusal error → ⊥))
 
-pub write-cause : {B C : Type 0} (before after : Counts) (session : SessionModel) (combine : Option C) (default_millis : Option ℕ) (now : ℤ) (batch : BatchModel) (error : SlateDBError) (result : Result Answer SlateDBError) → IsPassedOn error result →
-    IsCounted before after error ⊎ ((error ≡ errors.SequenceExhausted) × B) ⊎ ((error ≡ errors.LimitReached LIMIT) × (LIMIT < weight session.core + 1)) ⊎ (batch_refusal combine default_millis now batch ≡ Some error) →
+pub write-cause : {B C : Type 0} (before after : Counts) (session : SessionModel) (combine : Option C) (segments : Segments) (recorded : List (List ℕ)) (default_millis : Option ℕ) (now : ℤ) (batch : BatchModel) (error : SlateDBError) (result : Result Answer SlateDBError) → IsPassedOn error result →
+    IsCounted before after error ⊎ ((error ≡ errors.SequenceExhausted) × B) ⊎ ((error ≡ errors.LimitReached LIMIT) × (LIMIT < weight session.core + 1)) ⊎ (batch_refusal combine segments recorded default_millis now batch ≡ Some error) →
     IfErr result (λ e. IsCounted before after e ⊎ IsLimit session e)
-write-cause before after session combine default_millis now batch error (Ok a) other cause = tt
-write-cause before after session combine default_millis now batch error (Err x) other (inl fault) = inl (subst (IsCounted before after) (sym other.0) fault)
-write-cause before after session combine default_millis now batch error (Err x) other (inr (inl exhausted)) = absurd (other.1 (subst IsRefusal (sym exhausted.0) tt))
-write-cause before after session combine default_millis now batch error (Err x) other (inr (inr (inl (is, past)))) = inr (LIMIT, other.0 ∙ is, inl (omega (arith, past)))
-write-cause before after session combine default_millis now batch error (Err x) other (inr (inr (inr refused))) = absurd (other.1 (tests-refuse (is_some combine) batch.held_merge default_millis now batch.ops error refused))
+write-cause before after session combine segments recorded default_millis now batch error (Ok a) other cause = tt
+write-cause before after session combine segments recorded default_millis now batch error (Err x) other (inl fault) = inl (subst (IsCounted before after) (sym other.0) fault)
+write-cause before after session combine segments recorded default_millis now batch error (Err x) other (inr (inl exhausted)) = absurd (other.1 (subst IsRefusal (sym exhausted.0) tt))
+write-cause before after session combine segments recorded default_millis now batch error (Err x) other (inr (inr (inl (is, past)))) = inr (LIMIT, other.0 ∙ is, inl (omega (arith, past)))
+write-cause before after session combine segments recorded default_millis now batch error (Err x) other (inr (inr (inr refused))) = absurd (other.1 (tests-refuse (is_some combine) batch.held_merge segments recorded default_millis now batch.ops error refused))
 
-pub commit-cause : {B C : Type 0} (before after : Counts) (session : SessionModel) (conflict : Option ℕ) (combine : Option C) (default_millis : Option ℕ) (now : ℤ) (last : ℕ) (ops : Ops) (error : SlateDBError) (result : Result Answer SlateDBError) →
-    IsPassedOn error result → IsCounted before after error ⊎ IsConflict conflict error ⊎ ((error ≡ errors.SequenceExhausted) × B) ⊎ IsTestRefusal combine default_millis now last conflict ops error →
+pub commit-cause : {B C : Type 0} (before after : Counts) (session : SessionModel) (conflict : Option ℕ) (combine : Option C) (segments : Segments) (recorded : List (List ℕ)) (default_millis : Option ℕ) (now : ℤ) (last : ℕ) (ops : Ops) (error : SlateDBError) (result : Result Answer SlateDBError) →
+    IsPassedOn error result → IsCounted before after error ⊎ IsConflict conflict error ⊎ ((error ≡ errors.SequenceExhausted) × B) ⊎ IsTestRefusal combine segments recorded default_millis now last conflict ops error →
     IfErr result (λ e. IsCounted before after e ⊎ IsLimit session e)
-commit-cause before after session conflict combine default_millis now last ops error (Ok a) other cause = tt
-commit-cause before after session conflict combine default_millis now last ops error (Err x) other (inl fault) = inl (subst (IsCounted before after) (sym other.0) fault)
-commit-cause before after session conflict combine default_millis now last ops error (Err x) other (inr (inl clash)) = absurd (other.1 (conflict-refuses conflict error clash))
-commit-cause before after session conflict combine default_millis now last ops error (Err x) other (inr (inr (inl exhausted))) = absurd (other.1 (subst IsRefusal (sym exhausted.0) tt))
-commit-cause before after session conflict combine default_millis now last ops error (Err x) other (inr (inr (inr refused))) = absurd (other.1 (tests-refuse (is_some combine) (holds_merge ops) default_millis now ops error refused.is))
+commit-cause before after session conflict combine segments recorded default_millis now last ops error (Ok a) other cause = tt
+commit-cause before after session conflict combine segments recorded default_millis now last ops error (Err x) other (inl fault) = inl (subst (IsCounted before after) (sym other.0) fault)
+commit-cause before after session conflict combine segments recorded default_millis now last ops error (Err x) other (inr (inl clash)) = absurd (other.1 (conflict-refuses conflict error clash))
+commit-cause before after session conflict combine segments recorded default_millis now last ops error (Err x) other (inr (inr (inl exhausted))) = absurd (other.1 (subst IsRefusal (sym exhausted.0) tt))
+commit-cause before after session conflict combine segments recorded default_millis now last ops error (Err x) other (inr (inr (inr refused))) = absurd (other.1 (tests-refuse (is_some combine) (holds_merge ops) segments recorded default_millis now ops error refused.is))

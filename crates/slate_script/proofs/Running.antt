@@ -11,10 +11,12 @@ use Rattle.slate_txn.specs.declared.line.Line.TheVariants as lines
 use Rattle.slate_txn.specs.Settings.{settings_of}
 use Rattle.slate_txn.specs.State.{Rules, State}
 use Rattle.slate_txn.specs.Step.{step, after, answers}
+use Rattle.slate_mem.specs.KeyTests.{Segments}
 use Rattle.slate_db.specs.Installs.{HoldsTables, tables_of}
-use Rattle.slate_db.specs.Meaning.{Meaning, rules_of}
+use Rattle.slate_db.specs.Meaning.{Meaning, rules_in}
 use Rattle.slate_db.specs.Parts.{IsTableError}
 use Rattle.slate_db.specs.Readable.{AreFiltered}
+use Rattle.slate_db.specs.Segmented.{IsSegmented}
 use Rattle.slate_db.specs.Sound.{IsKept}
 use Rattle.slate_language.specs.declared.reply.Answer.{Answer}
 use Rattle.slate_language.specs.Parse.{parse}
@@ -30,19 +32,19 @@ use Rattle.slate_language.specs.Grammar.{IsLine}
 use Rattle.slate_script.proofs.Answered.{one-reply}
 use Rattle.slate_language.proofs.ParseOnly.{parse-only}
 
-pub is-settled : {policies : List Policy} {m : Meaning} {r : Rules} {parts : Meaning} {objects : Option Objects} {e : SessionModel} → IsRunning policies m r parts objects e → IsSettled policies parts objects e
-is-settled {policies = policies} {objects = objects} {e = e} h = subst (λ (x : Meaning). IsSettled policies x objects e) (sym h.meaning) h.settled
+pub is-settled : {policies : List Policy} {m : Meaning} {seg : Segments} {r : Rules} {parts : Meaning} {objects : Option Objects} {e : SessionModel} → IsRunning policies m seg r parts objects e → IsSettled policies parts seg objects e
+is-settled {policies = policies} {seg = seg} {objects = objects} {e = e} h = subst (λ (x : Meaning). IsSettled policies x seg objects e) (sym h.meaning) h.settled
 
-pub its-rules : {policies : List Policy} {m : Meaning} {r : Rules} {parts : Meaning} {objects : Option Objects} {e : SessionModel} → IsRunning policies m r parts objects e → rules_of e.core.settings parts ≡ r
-its-rules {e = e} h = ap (rules_of e.core.settings) h.meaning ∙ h.rules
+pub its-rules : {policies : List Policy} {m : Meaning} {seg : Segments} {r : Rules} {parts : Meaning} {objects : Option Objects} {e : SessionModel} → IsRunning policies m seg r parts objects e → rules_in e.core.settings parts seg ≡ r
+its-rules {seg = seg} {e = e} h = ap (λ x. rules_in e.core.settings x seg) h.meaning ∙ h.rules
 
 -- a line later
-pub runs-on : {policies : List Policy} {m : Meaning} {r : Rules} {parts now : Meaning} {objects after : Option Objects} {e new : SessionModel} → IsRunning policies m r parts objects e → now ≡ parts → new.core.settings ≡ e.core.settings →
-    IsSettled policies parts after new → IsRunning policies m r now after new
-runs-on {policies = policies} {m = m} {after = after} {new = new} h same settings settled = record {
+pub runs-on : {policies : List Policy} {m : Meaning} {seg : Segments} {r : Rules} {parts now : Meaning} {objects after : Option Objects} {e new : SessionModel} → IsRunning policies m seg r parts objects e → now ≡ parts → new.core.settings ≡ e.core.settings →
+    IsSettled policies parts seg after new → IsRunning policies m seg r now after new
+runs-on {policies = policies} {m = m} {seg = seg} {after = after} {new = new} h same settings settled = record {
   meaning = same ∙ h.meaning;
-  rules = ap (λ x. rules_of x m) settings ∙ h.rules;
-  settled = subst (λ (x : Meaning). IsSettled policies x after new) h.meaning settled;
+  rules = ap (λ x. rules_in x m seg) settings ∙ h.rules;
+  settled = subst (λ (x : Meaning). IsSettled policies x seg after new) h.meaning settled;
 }
 
 -- ---- one line
@@ -59,35 +61,36 @@ silent-says r s l silent = let none = sym silent in λ i. flat_map reply_line (a
 one-after : (r : Rules) (s : State) (l : List ℕ) (line : Line) → is_silent l ≡ false → parse l ≡ Some line → after_lines r s (l ∷ []) ≡ (step r s line).0
 one-after r s l line loud is = λ i. after r s (onto_meanings (loud i) (is i) [])
 
-pub line-stands : {policies : List Policy} {m : Meaning} {r : Rules} {parts : Meaning} {objects : Option Objects} {e new : SessionModel} (l : List ℕ) (line : Line) (a : Answer) → IsRunning policies m r parts objects e → is_silent l ≡ false → parse l ≡ Some line →
-    (IsSettled policies parts objects e → AnswersAs parts e new line (Ok a)) → (s : State) → StandsFor e s → StandsFor new (after_lines r s (l ∷ []))
+pub line-stands : {policies : List Policy} {m : Meaning} {seg : Segments} {r : Rules} {parts : Meaning} {objects : Option Objects} {e new : SessionModel} (l : List ℕ) (line : Line) (a : Answer) → IsRunning policies m seg r parts objects e → is_silent l ≡ false → parse l ≡ Some line →
+    (IsSettled policies parts seg objects e → AnswersAs parts seg e new line (Ok a)) → (s : State) → StandsFor e s → StandsFor new (after_lines r s (l ∷ []))
 line-stands {r = r} {new = new} l line a h loud is steps s stands =
     subst (StandsFor new) (sym (one-after r s l line loud is)) (subst (λ x. StandsFor new (step x s line).0) (its-rules h) (steps (is-settled h) s stands).0)
 
-pub line-reply : {policies : List Policy} {m : Meaning} {r : Rules} {parts : Meaning} {objects : Option Objects} {e new : SessionModel} (l : List ℕ) (line : Line) (a : Answer) → IsRunning policies m r parts objects e → is_silent l ≡ false → parse l ≡ Some line →
-    (IsSettled policies parts objects e → AnswersAs parts e new line (Ok a)) → (s : State) → StandsFor e s → reply_line (reply_of a) ≡ replies_from r s (l ∷ [])
+pub line-reply : {policies : List Policy} {m : Meaning} {seg : Segments} {r : Rules} {parts : Meaning} {objects : Option Objects} {e new : SessionModel} (l : List ℕ) (line : Line) (a : Answer) → IsRunning policies m seg r parts objects e → is_silent l ≡ false → parse l ≡ Some line →
+    (IsSettled policies parts seg objects e → AnswersAs parts seg e new line (Ok a)) → (s : State) → StandsFor e s → reply_line (reply_of a) ≡ replies_from r s (l ∷ [])
 line-reply {r = r} l line a h loud is steps s stands =
     ap reply_line ((steps (is-settled h) s stands).1 ∙ ap (λ x. as_shown (step x s line).1) (its-rules h)) ∙ shown-line (step r s line).1 ∙ sym (one-reply r s l line loud is)
 
 pub silent-counts : (t : Tally) (r : Rules) (s : State) (l : List ℕ) → is_silent l ≡ true → t ≡ tallied t (answers r s (meanings (l ∷ [])))
 silent-counts t r s l silent = let none = sym silent in λ i. tallied t (answers r s (onto_meanings (none i) (parse l) []))
 
-pub line-counts : {policies : List Policy} {m : Meaning} {r : Rules} {parts : Meaning} {objects : Option Objects} {e new : SessionModel} (t : Tally) (l : List ℕ) (line : Line) (a : Answer) → IsRunning policies m r parts objects e → is_silent l ≡ false → parse l ≡ Some line →
-    (IsSettled policies parts objects e → AnswersAs parts e new line (Ok a)) → (s : State) → StandsFor e s → counted t (reply_of a) ≡ tallied t (answers r s (meanings (l ∷ [])))
+pub line-counts : {policies : List Policy} {m : Meaning} {seg : Segments} {r : Rules} {parts : Meaning} {objects : Option Objects} {e new : SessionModel} (t : Tally) (l : List ℕ) (line : Line) (a : Answer) → IsRunning policies m seg r parts objects e → is_silent l ≡ false → parse l ≡ Some line →
+    (IsSettled policies parts seg objects e → AnswersAs parts seg e new line (Ok a)) → (s : State) → StandsFor e s → counted t (reply_of a) ≡ tallied t (answers r s (meanings (l ∷ [])))
 line-counts {r = r} t l line a h loud is steps s stands =
     ap (counted t) ((steps (is-settled h) s stands).1 ∙ ap (λ x. as_shown (step x s line).1) (its-rules h)) ∙ counted-shown t (step r s line).1
     ∙ sym (λ i. tallied t (answers r s (onto_meanings (loud i) (is i) [])))
 
 -- ---- the beginning
 
-pub begins : (policies : List Policy) (m : Meaning) (o : Options) (objects : Option Objects) (e : SessionModel) → Premises policies m objects → e.core.settings ≡ settings_of o → e.core.events ≡ [] → ((n : Meaning) → IsKept n e.core) → IsRunning policies m (run_rules o m) m objects e
-begins policies m o objects e p settings none kept = record {
+pub begins : (policies : List Policy) (m : Meaning) (seg : Segments) (o : Options) (objects : Option Objects) (e : SessionModel) → Premises policies m objects → e.core.settings ≡ settings_of o → e.core.events ≡ [] → ((n : Meaning) → IsKept n e.core) → ((sg : Segments) → IsSegmented sg e.core) → IsRunning policies m seg (run_rules o m seg) m objects e
+begins policies m seg o objects e p settings none kept segmented = record {
   meaning = refl;
-  rules = ap (λ x. rules_of x m) settings;
+  rules = ap (λ x. rules_in x m seg) settings;
   settled = record {
     lawful_policies = p.lawful_policies;
     lawful = p.lawful;
     kept = kept m;
+    segmented = segmented seg;
     tables = subst (HasTables objects) (sym none) (record { holds = subst (λ os. HoldsTables os []) (sym p.empty) tt; numbered = tt; few = omega arith });
     filtered = subst (λ es. AreFiltered m.encode policies (tables_of es)) (sym none) tt;
   };

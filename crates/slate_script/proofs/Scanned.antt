@@ -16,6 +16,7 @@ use Rattle.slate_types.specs.World.{World, Made, Sees}
 use Rattle.slate_types.proofs.Calls.{call_none, call_both, no_more_both, sees_first, sees_last}
 use Rattle.slate_types.proofs.Reaching.{fault_earlier}
 use Rattle.slate_filter.specs.Policy.{Policy}
+use Rattle.slate_mem.specs.KeyTests.{Segments}
 use Rattle.slate_txn.specs.declared.event.TranscriptStep.{TranscriptStep}
 use Rattle.slate_txn.specs.declared.event.TranscriptStep.TheVariants as steps
 use Rattle.slate_txn.specs.declared.line.ScanStep.{ScanStep}
@@ -28,7 +29,7 @@ use Rattle.slate_txn.specs.Reply.{RowsAre}
 use Rattle.slate_txn.specs.State.{Rules, Tx}
 use Rattle.slate_txn.specs.Step.{Reader, is_scan, noted, reader, scan, scan_walked, step}
 use Rattle.slate_db.specs.declared.scan.TxnIterator.{TxnIterator}
-use Rattle.slate_db.specs.Meaning.{Meaning, rules_of}
+use Rattle.slate_db.specs.Meaning.{rules_in, Meaning, rules_of}
 use Rattle.slate_db.specs.Model.{CoreModel}
 use Rattle.slate_db.specs.Readable.{IsAnswered}
 use Rattle.slate_db.specs.Scans.{IsOpenScan, IsRefusedByScan, IsScanError, IsScanOf, Leaves, LeavesIn, ScanRefuses, id_of, number_of, scan_of}
@@ -285,15 +286,15 @@ scan_whole policies a b c k l m id order range sts x y rows some h f = record {
         f.notes ∙ (λ i. let v = h.notes i in record v { state = noted v.state (h.names.named i) f.ts })
         ∙ ap (λ s. record k { state = s }) (noted_both k.state id (steps.Scan order range ∷ []) f.ts)
 
-    answers : IsAnswered policies a c k → step (rules_of k.settings a.meaning) k.state (lines.Scan id order range.start range.end sts) ≡ (m.state, RowsAre rows)
-    answers is =
+    answers : (seg : Segments) → IsAnswered policies a c k → step (rules_in k.settings a.meaning seg) k.state (lines.Scan id order range.start range.end sts) ≡ (m.state, RowsAre rows)
+    answers seg is =
         ap (λ b. scan r k.state id order (cond b None (Some range)) sts (reader k.state id)) some
         ∙ ap (scan r k.state id order (Some range) sts) h.found
         ∙ ap (scan_walked k.state id order range) (sym noted-is)
         ∙ (λ i. ((sym (ap (λ (v : CoreModel). v.state) notes)) i, RowsAre (sym f.hands i)))
       where
         r : Rules
-        r = rules_of k.settings a.meaning
+        r = rules_in k.settings a.meaning seg
 
         seen : List RowEntry
         seen = rows_seen r k.state.commits h.from.at h.from.ops order range

@@ -3,6 +3,9 @@ use Rattle.std.proofs.Common.{◌≡◌, ℕ, ◌+◌, ◌≤◌, inl, inr, List
 use Rattle.std.proofs.lemmas.List.{length-append}
 use Rattle.std.specs.Prelude.{OnErr}
 use Rattle.slate_mem.specs.Batch.{Ops, kept_ops}
+use Rattle.slate_mem.specs.KeyTests.{Segments}
+use Rattle.slate_txn.specs.declared.event.TranscriptStep.{TranscriptStep}
+use Rattle.slate_txn.specs.Step.{noted}
 use Rattle.slate_txn.specs.declared.event.Event.{Event}
 use Rattle.slate_txn.specs.declared.event.Event.TheVariants as events
 use Rattle.slate_txn.specs.Conflict.{tracked_writes}
@@ -14,12 +17,14 @@ use Rattle.slate_db.specs.Installs.{runs_in, runs_of}
 use Rattle.slate_db.specs.Meaning.{Meaning}
 use Rattle.slate_db.specs.Model.{CoreModel, IsSame, Rows}
 use Rattle.slate_db.specs.Operated.{operated}
+use Rattle.slate_db.specs.Segmented.{IsSegmented}
 use Rattle.slate_db.specs.Sound.{IsKept}
 use Rattle.slate_db.specs.Written.{IsWritten}
 use Rattle.slate_types.specs.declared.error.SlateDBError.{SlateDBError}
 use Rattle.slate_language.specs.declared.reply.Answer.{Answer}
 use Rattle.slate_script.specs.Session.{SessionModel, StoresNothing}
 use Rattle.slate_db.proofs.RunsOf.{runs_same}
+use Rattle.slate_db.proofs.Segmenting.{segmented_as}
 
 pub record Leaves (old new : CoreModel) : Type 0 where
   pub settings : new.settings ≡ old.settings
@@ -85,8 +90,8 @@ closes-ended old new id is = record {
   flushed = ap (λ (c : CoreModel). c.state.flushed) is;
 }
 
-closes-as : (old new : CoreModel) (id : List ℕ) (n : Option ℕ) (now : ℤ) (t : Tx) (rows : Rows) → new ≡ after_commit old id n now t rows new.spare → Closes old new id
-closes-as old new id n now t rows is = record {
+closes-as : (old new : CoreModel) (id : List ℕ) (n : Option ℕ) (now : ℤ) (t : Tx) (rows : Rows) (segments : List (List ℕ)) → new ≡ record (after_commit old id n now t rows new.spare) { segments = segments } → Closes old new id
+closes-as old new id n now t rows segments is = record {
   settings = ap (λ (c : CoreModel). c.settings) is;
   event = events.Commit id n now (kept_ops t.ops) (tracked_writes t) t.transcript;
   events = ap (λ (c : CoreModel). c.events) is;
@@ -97,8 +102,8 @@ closes-as old new id n now t rows is = record {
 }
 
 pub closes-committed : (old new : CoreModel) (id : List ℕ) (n : Option ℕ) (now : ℤ) (t : Tx) → IsCommitted old new id n now t → Closes old new id
-closes-committed old new id None now t (none, is) = closes-as old new id None now t old.active is
-closes-committed old new id (Some n) now t is = closes-as old new id (Some n) now t new.active is
+closes-committed old new id None now t (none, is) = closes-as old new id None now t old.active old.segments is
+closes-committed old new id (Some n) now t is = closes-as old new id (Some n) now t new.active new.segments is
 
 pub leaves-closed : (old new : CoreModel) (id : List ℕ) → Closes old new id → Leaves old new
 leaves-closed old new id h = leaves-one old new h.event h.settings h.events h.none
@@ -126,15 +131,24 @@ kept-spare m c n k = (
 pub kept-same : (m : Meaning) (old new : CoreModel) → IsSame old new → IsKept m old → IsKept m new
 kept-same m old new is k = subst (λ (c : CoreModel). IsKept m c) (sym is) (kept-spare m old new.spare k)
 
-pub stores-by : (m : Meaning) (e : SessionModel) (core : CoreModel) (names snapshot_names : List (List ℕ × List ℕ)) (now : ℤ) → Leaves e.core core → (IsKept m e.core → IsKept m core) →
-    StoresNothing m e (record { core = core; names = names; snapshot_names = snapshot_names; now = now })
-stores-by m e core names snapshot_names now leaves kept = record { settings = leaves.settings; runs = leaves.runs; later = leaves.later; kept = kept }
+-- ---- the segments, where no commit is added
 
--- for parts of each meaning
-pub stores : (e : SessionModel) (core : CoreModel) (names snapshot_names : List (List ℕ × List ℕ)) (now : ℤ) → Leaves e.core core → ((m : Meaning) → IsKept m e.core → IsKept m core) →
-    (m : Meaning) → StoresNothing m e (record { core = core; names = names; snapshot_names = snapshot_names; now = now })
-stores e core names snapshot_names now leaves kept m = stores-by m e core names snapshot_names now leaves (kept m)
+pub segmented-ran : {T : Type 0} (ran : Result T SlateDBError) (old new : CoreModel) (id : List ℕ) (f : Tx → Tx) → OnOk ran (new ≡ operated old id f) → OnErr ran (new ≡ old) → (seg : Segments) → IsSegmented seg old → IsSegmented seg new
+segmented-ran (Ok t) old new id f is same seg h = segmented_as seg old new (ap (λ (c : CoreModel). c.segments) is) (ap (λ (c : CoreModel). c.state.commits) is) h
+segmented-ran (Err x) old new id f is same seg h = segmented_as seg old new (ap (λ (c : CoreModel). c.segments) same) (ap (λ (c : CoreModel). c.state.commits) same) h
 
-pub stores-where : {F : Meaning → Type 0} (result : Result Answer SlateDBError) → ((m : Meaning) → F m) → OnOk result ((m : Meaning) → F m)
+pub segmented-noted : (old new : CoreModel) (id : List ℕ) (ts : List TranscriptStep) → new ≡ record old { state = noted old.state id ts } → (seg : Segments) → IsSegmented seg old → IsSegmented seg new
+segmented-noted old new id ts is seg h = segmented_as seg old new (ap (λ (c : CoreModel). c.segments) is) (ap (λ (c : CoreModel). c.state.commits) is) h
+
+pub stores-by : (m : Meaning) (seg : Segments) (e : SessionModel) (core : CoreModel) (names snapshot_names : List (List ℕ × List ℕ)) (now : ℤ) → Leaves e.core core → (IsKept m e.core → IsKept m core) → (IsSegmented seg e.core → IsSegmented seg core) →
+    StoresNothing m seg e (record { core = core; names = names; snapshot_names = snapshot_names; now = now })
+stores-by m seg e core names snapshot_names now leaves kept segmented = record { settings = leaves.settings; runs = leaves.runs; later = leaves.later; kept = kept; segmented = segmented }
+
+-- for parts of each meaning, and each segments
+pub stores : (e : SessionModel) (core : CoreModel) (names snapshot_names : List (List ℕ × List ℕ)) (now : ℤ) → Leaves e.core core → ((m : Meaning) → IsKept m e.core → IsKept m core) → ((seg : Segments) → IsSegmented seg e.core → IsSegmented seg core) →
+    (m : Meaning) (seg : Segments) → StoresNothing m seg e (record { core = core; names = names; snapshot_names = snapshot_names; now = now })
+stores e core names snapshot_names now leaves kept segmented m seg = stores-by m seg e core names snapshot_names now leaves (kept m) (segmented seg)
+
+pub stores-where : {F : Meaning → Segments → Type 0} (result : Result Answer SlateDBError) → ((m : Meaning) (seg : Segments) → F m seg) → OnOk result ((m : Meaning) (seg : Segments) → F m seg)
 stores-where (Ok a) h = h
 stores-where (Err x) h = tt

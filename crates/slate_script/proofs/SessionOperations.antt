@@ -10,6 +10,7 @@ use Rattle.slate_types.specs.Outside.{Counts, IsCounted}
 use Rattle.slate_mem.specs.Refusals.{first_refusal, op_refusal}
 use Rattle.slate_mem.specs.declared.WriteOp.{WriteOp}
 use Rattle.slate_mem.specs.declared.WriteOp.TheVariants as ops
+use Rattle.slate_mem.specs.KeyTests.{Segments}
 use Rattle.slate_txn.specs.declared.line.Line.{Line}
 use Rattle.slate_txn.specs.declared.line.Line.TheVariants as lines
 use Rattle.slate_txn.specs.Conflict.{tracked_writes}
@@ -19,7 +20,7 @@ use Rattle.slate_txn.specs.Reply as replies
 use Rattle.slate_txn.specs.Reply.{Reply}
 use Rattle.slate_txn.specs.State.{Rules, Tx, State}
 use Rattle.slate_txn.specs.Step.{step, of_open, refused_or, closed, commit, as_commit, with_op, with_marks, with_unmarks, with_reply}
-use Rattle.slate_db.specs.Meaning.{Meaning, rules_of}
+use Rattle.slate_db.specs.Meaning.{Meaning, rules_in}
 use Rattle.slate_db.specs.Model.{CoreModel, at}
 use Rattle.slate_language.specs.declared.reply.Answer.{Answer}
 use Rattle.slate_language.specs.declared.reply.Answer.TheVariants as answers
@@ -69,68 +70,79 @@ changed-as e core name id refusal f a names known stepped s h =
 
 -- ---- the lines
 
-pub put-unknown : (m : Meaning) (e : SessionModel) (name k v : List ℕ) (ttl : Ttl) → find_named name e.names ≡ None → AnswersAs m e e (lines.Put name k v ttl) (Ok (answers.Refused (errors.UnknownTransaction name)))
-put-unknown m e name k v ttl none = changed-unknown e name (op_refusal k (ops.Put v (record { ttl = ttl }))) (with_op k (ops.Put v (record { ttl = ttl }))) none
+pub put-unknown : (m : Meaning) (seg : Segments) (e : SessionModel) (name k v : List ℕ) (ttl : Ttl) → find_named name e.names ≡ None → AnswersAs m seg e e (lines.Put name k v ttl) (Ok (answers.Refused (errors.UnknownTransaction name)))
+put-unknown m seg e name k v ttl none = changed-unknown e name (op_refusal k (ops.Put v (record { ttl = ttl }))) (with_op k (ops.Put v (record { ttl = ttl }))) none
 
-pub merge-unknown : (m : Meaning) (e : SessionModel) (name k v : List ℕ) (ttl : Ttl) → find_named name e.names ≡ None → AnswersAs m e e (lines.Merge name k v ttl) (Ok (answers.Refused (errors.UnknownTransaction name)))
-merge-unknown m e name k v ttl none =
-    changed-unknown e name (first_refusal (operator_refusal (rules_of e.core.settings m) ∷ op_refusal k (ops.Merge v (record { ttl = ttl })) ∷ [])) (with_op k (ops.Merge v (record { ttl = ttl }))) none
+pub merge-unknown : (m : Meaning) (seg : Segments) (e : SessionModel) (name k v : List ℕ) (ttl : Ttl) → find_named name e.names ≡ None → AnswersAs m seg e e (lines.Merge name k v ttl) (Ok (answers.Refused (errors.UnknownTransaction name)))
+merge-unknown m seg e name k v ttl none =
+    changed-unknown e name (first_refusal (operator_refusal (rules_in e.core.settings m seg) ∷ op_refusal k (ops.Merge v (record { ttl = ttl })) ∷ [])) (with_op k (ops.Merge v (record { ttl = ttl }))) none
 
-pub delete-unknown : (m : Meaning) (e : SessionModel) (name k : List ℕ) → find_named name e.names ≡ None → AnswersAs m e e (lines.Delete name k) (Ok (answers.Refused (errors.UnknownTransaction name)))
-delete-unknown m e name k none = changed-unknown e name (op_refusal k ops.Delete) (with_op k ops.Delete) none
+pub delete-unknown : (m : Meaning) (seg : Segments) (e : SessionModel) (name k : List ℕ) → find_named name e.names ≡ None → AnswersAs m seg e e (lines.Delete name k) (Ok (answers.Refused (errors.UnknownTransaction name)))
+delete-unknown m seg e name k none = changed-unknown e name (op_refusal k ops.Delete) (with_op k ops.Delete) none
 
-pub mark-unknown : (m : Meaning) (e : SessionModel) (name : List ℕ) (ks : List (List ℕ)) → find_named name e.names ≡ None → AnswersAs m e e (lines.Mark name ks) (Ok (answers.Refused (errors.UnknownTransaction name)))
-mark-unknown m e name ks none = changed-unknown e name None (with_marks ks) none
+pub mark-unknown : (m : Meaning) (seg : Segments) (e : SessionModel) (name : List ℕ) (ks : List (List ℕ)) → find_named name e.names ≡ None → AnswersAs m seg e e (lines.Mark name ks) (Ok (answers.Refused (errors.UnknownTransaction name)))
+mark-unknown m seg e name ks none = changed-unknown e name None (with_marks ks) none
 
-pub unmark-unknown : (m : Meaning) (e : SessionModel) (name : List ℕ) (ks : List (List ℕ)) → find_named name e.names ≡ None → AnswersAs m e e (lines.Unmark name ks) (Ok (answers.Refused (errors.UnknownTransaction name)))
-unmark-unknown m e name ks none = changed-unknown e name None (with_unmarks ks) none
+pub unmark-unknown : (m : Meaning) (seg : Segments) (e : SessionModel) (name : List ℕ) (ks : List (List ℕ)) → find_named name e.names ≡ None → AnswersAs m seg e e (lines.Unmark name ks) (Ok (answers.Refused (errors.UnknownTransaction name)))
+unmark-unknown m seg e name ks none = changed-unknown e name None (with_unmarks ks) none
 
 -- the line's answer is the model's where the core's reply is the answer's
-abbrev pub AnswersBy : Meaning → SessionModel → CoreModel → Line → Line → Type 0
-AnswersBy m e core line named = (a : Answer) → ◌≡◌ {A = State × Reply} (step (rules_of e.core.settings m) e.core.state line) (core.state, reply_of a) → AnswersAs m e (record e { core = core }) named (Ok a)
+abbrev pub AnswersBy : Meaning → Segments → SessionModel → CoreModel → Line → Line → Type 0
+AnswersBy m seg e core line named = (a : Answer) → ◌≡◌ {A = State × Reply} (step (rules_in e.core.settings m seg) e.core.state line) (core.state, reply_of a) → AnswersAs m seg e (record e { core = core }) named (Ok a)
 
-pub put-as : (m : Meaning) (e : SessionModel) (core : CoreModel) (name id k v : List ℕ) (ttl : Ttl) → AreNames e.names e.core.state.txns → find_named name e.names ≡ Some id → AnswersBy m e core (lines.Put id k v ttl) (lines.Put name k v ttl)
-put-as m e core name id k v ttl names known a stepped = changed-as e core name id (op_refusal k (ops.Put v (record { ttl = ttl }))) (with_op k (ops.Put v (record { ttl = ttl }))) a names known stepped
+pub put-as : (m : Meaning) (seg : Segments) (e : SessionModel) (core : CoreModel) (name id k v : List ℕ) (ttl : Ttl) → AreNames e.names e.core.state.txns → find_named name e.names ≡ Some id → AnswersBy m seg e core (lines.Put id k v ttl) (lines.Put name k v ttl)
+put-as m seg e core name id k v ttl names known a stepped = changed-as e core name id (op_refusal k (ops.Put v (record { ttl = ttl }))) (with_op k (ops.Put v (record { ttl = ttl }))) a names known stepped
 
-pub merge-as : (m : Meaning) (e : SessionModel) (core : CoreModel) (name id k v : List ℕ) (ttl : Ttl) → AreNames e.names e.core.state.txns → find_named name e.names ≡ Some id → AnswersBy m e core (lines.Merge id k v ttl) (lines.Merge name k v ttl)
-merge-as m e core name id k v ttl names known a stepped =
-    changed-as e core name id (first_refusal (operator_refusal (rules_of e.core.settings m) ∷ op_refusal k (ops.Merge v (record { ttl = ttl })) ∷ [])) (with_op k (ops.Merge v (record { ttl = ttl }))) a names known stepped
+pub merge-as : (m : Meaning) (seg : Segments) (e : SessionModel) (core : CoreModel) (name id k v : List ℕ) (ttl : Ttl) → AreNames e.names e.core.state.txns → find_named name e.names ≡ Some id → AnswersBy m seg e core (lines.Merge id k v ttl) (lines.Merge name k v ttl)
+merge-as m seg e core name id k v ttl names known a stepped =
+    changed-as e core name id (first_refusal (operator_refusal (rules_in e.core.settings m seg) ∷ op_refusal k (ops.Merge v (record { ttl = ttl })) ∷ [])) (with_op k (ops.Merge v (record { ttl = ttl }))) a names known stepped
 
-pub delete-as : (m : Meaning) (e : SessionModel) (core : CoreModel) (name id k : List ℕ) → AreNames e.names e.core.state.txns → find_named name e.names ≡ Some id → AnswersBy m e core (lines.Delete id k) (lines.Delete name k)
-delete-as m e core name id k names known a stepped = changed-as e core name id (op_refusal k ops.Delete) (with_op k ops.Delete) a names known stepped
+pub delete-as : (m : Meaning) (seg : Segments) (e : SessionModel) (core : CoreModel) (name id k : List ℕ) → AreNames e.names e.core.state.txns → find_named name e.names ≡ Some id → AnswersBy m seg e core (lines.Delete id k) (lines.Delete name k)
+delete-as m seg e core name id k names known a stepped = changed-as e core name id (op_refusal k ops.Delete) (with_op k ops.Delete) a names known stepped
 
-pub mark-as : (m : Meaning) (e : SessionModel) (core : CoreModel) (name id : List ℕ) (ks : List (List ℕ)) → AreNames e.names e.core.state.txns → find_named name e.names ≡ Some id → AnswersBy m e core (lines.Mark id ks) (lines.Mark name ks)
-mark-as m e core name id ks names known a stepped = changed-as e core name id None (with_marks ks) a names known stepped
+pub mark-as : (m : Meaning) (seg : Segments) (e : SessionModel) (core : CoreModel) (name id : List ℕ) (ks : List (List ℕ)) → AreNames e.names e.core.state.txns → find_named name e.names ≡ Some id → AnswersBy m seg e core (lines.Mark id ks) (lines.Mark name ks)
+mark-as m seg e core name id ks names known a stepped = changed-as e core name id None (with_marks ks) a names known stepped
 
-pub unmark-as : (m : Meaning) (e : SessionModel) (core : CoreModel) (name id : List ℕ) (ks : List (List ℕ)) → AreNames e.names e.core.state.txns → find_named name e.names ≡ Some id → AnswersBy m e core (lines.Unmark id ks) (lines.Unmark name ks)
-unmark-as m e core name id ks names known a stepped = changed-as e core name id None (with_unmarks ks) a names known stepped
+pub unmark-as : (m : Meaning) (seg : Segments) (e : SessionModel) (core : CoreModel) (name id : List ℕ) (ks : List (List ℕ)) → AreNames e.names e.core.state.txns → find_named name e.names ≡ Some id → AnswersBy m seg e core (lines.Unmark id ks) (lines.Unmark name ks)
+unmark-as m seg e core name id ks names known a stepped = changed-as e core name id None (with_unmarks ks) a names known stepped
 
 -- ---- an operation that ran
 
-abbrev Stepped : Meaning → SessionModel → Line → CoreModel → Reply → Type 0
-Stepped m e line core reply = ◌≡◌ {A = State × Reply} (step (rules_of e.core.settings m) e.core.state line) (core.state, reply)
+abbrev Stepped : Meaning → Segments → SessionModel → Line → CoreModel → Reply → Type 0
+Stepped m seg e line core reply = ◌≡◌ {A = State × Reply} (step (rules_in e.core.settings m seg) e.core.state line) (core.state, reply)
 
-pub ran-by : {T : Type 0} (m : Meaning) (e : SessionModel) (core : CoreModel) (line named : Line) (ran : Result T SlateDBError) (result : Result Answer SlateDBError) → AnswersBy m e core line named →
-    OnOk ran (Stepped m e line core replies.Done) → IfErr ran (λ x. (x ≡ errors.OutOfMemory) ⊎ Stepped m e line e.core (replies.Refused x)) → OnErr ran (core ≡ e.core) → IsDone ran result →
-    AnswersAs m e (record e { core = core }) named result
-ran-by m e core line named (Ok t) result model ok err same is = subst (λ r. AnswersAs m e (record e { core = core }) named r) (sym is.done) (model answers.Done ok)
-ran-by m e core line named (Err x) (Err y) model ok err same is = λ s h. tt
-ran-by m e core line named (Err x) (Ok a) model ok err same is = by err
+pub ran-by : {T : Type 0} (m : Meaning) (seg : Segments) (e : SessionModel) (core : CoreModel) (line named : Line) (ran : Result T SlateDBError) (result : Result Answer SlateDBError) → AnswersBy m seg e core line named →
+    OnOk ran (Stepped m seg e line core replies.Done) → IfErr ran (λ x. (x ≡ errors.OutOfMemory) ⊎ Stepped m seg e line e.core (replies.Refused x)) → OnErr ran (core ≡ e.core) → IsDone ran result →
+    AnswersAs m seg e (record e { core = core }) named result
+ran-by m seg e core line named (Ok t) result model ok err same is = subst (λ r. AnswersAs m seg e (record e { core = core }) named r) (sym is.done) (model answers.Done ok)
+ran-by m seg e core line named (Err x) (Err y) model ok err same is = λ s h. tt
+ran-by m seg e core line named (Err x) (Ok a) model ok err same is = by err
   where
-    by : (x ≡ errors.OutOfMemory) ⊎ Stepped m e line e.core (replies.Refused x) → AnswersAs m e (record e { core = core }) named (Ok a)
+    by : (x ≡ errors.OutOfMemory) ⊎ Stepped m seg e line e.core (replies.Refused x) → AnswersAs m seg e (record e { core = core }) named (Ok a)
     by (inl memory) = absurd (subst IsRefusal memory is.refusal)
-    by (inr stepped) = model a (subst (λ (c : CoreModel). Stepped m e line c (reply_of a)) (sym same) (subst (λ reply. Stepped m e line e.core reply) (sym is.reply) stepped))
+    by (inr stepped) = model a (subst (λ (c : CoreModel). Stepped m seg e line c (reply_of a)) (sym same) (subst (λ reply. Stepped m seg e line e.core reply) (sym is.reply) stepped))
 
 -- where the core's steps are had for each meaning
-pub ran-as : {T : Type 0} (m : Meaning) (e : SessionModel) (core : CoreModel) (line named : Line) (ran : Result T SlateDBError) (result : Result Answer SlateDBError) → AnswersBy m e core line named →
-    OnOk ran ((n : Meaning) → Stepped n e line core replies.Done) → IfErr ran (λ x. (x ≡ errors.OutOfMemory) ⊎ ((n : Meaning) → Stepped n e line e.core (replies.Refused x))) → OnErr ran (core ≡ e.core) → IsDone ran result →
-    AnswersAs m e (record e { core = core }) named result
-ran-as m e core line named (Ok t) result model ok err same is = ran-by m e core line named (Ok t) result model (ok m) tt tt is
-ran-as m e core line named (Err x) result model ok err same is = ran-by m e core line named (Err x) result model tt (by err) same is
+pub ran-as : {T : Type 0} (m : Meaning) (seg : Segments) (e : SessionModel) (core : CoreModel) (line named : Line) (ran : Result T SlateDBError) (result : Result Answer SlateDBError) → AnswersBy m seg e core line named →
+    OnOk ran ((n : Meaning) (sg : Segments) → Stepped n sg e line core replies.Done) → IfErr ran (λ x. (x ≡ errors.OutOfMemory) ⊎ ((n : Meaning) (sg : Segments) → Stepped n sg e line e.core (replies.Refused x))) → OnErr ran (core ≡ e.core) → IsDone ran result →
+    AnswersAs m seg e (record e { core = core }) named result
+ran-as m seg e core line named (Ok t) result model ok err same is = ran-by m seg e core line named (Ok t) result model (ok m seg) tt tt is
+ran-as m seg e core line named (Err x) result model ok err same is = ran-by m seg e core line named (Err x) result model tt (by err) same is
   where
-    by : (x ≡ errors.OutOfMemory) ⊎ ((n : Meaning) → Stepped n e line e.core (replies.Refused x)) → (x ≡ errors.OutOfMemory) ⊎ Stepped m e line e.core (replies.Refused x)
+    by : (x ≡ errors.OutOfMemory) ⊎ ((n : Meaning) (sg : Segments) → Stepped n sg e line e.core (replies.Refused x)) → (x ≡ errors.OutOfMemory) ⊎ Stepped m seg e line e.core (replies.Refused x)
     by (inl memory) = inl memory
-    by (inr stepped) = inr (stepped m)
+    by (inr stepped) = inr (stepped m seg)
+
+-- where they are had for each segments
+pub ran-in : {T : Type 0} (m : Meaning) (seg : Segments) (e : SessionModel) (core : CoreModel) (line named : Line) (ran : Result T SlateDBError) (result : Result Answer SlateDBError) → AnswersBy m seg e core line named →
+    OnOk ran ((sg : Segments) → Stepped m sg e line core replies.Done) → IfErr ran (λ x. (x ≡ errors.OutOfMemory) ⊎ ((sg : Segments) → Stepped m sg e line e.core (replies.Refused x))) → OnErr ran (core ≡ e.core) → IsDone ran result →
+    AnswersAs m seg e (record e { core = core }) named result
+ran-in m seg e core line named (Ok t) result model ok err same is = ran-by m seg e core line named (Ok t) result model (ok seg) tt tt is
+ran-in m seg e core line named (Err x) result model ok err same is = ran-by m seg e core line named (Err x) result model tt (by err) same is
+  where
+    by : (x ≡ errors.OutOfMemory) ⊎ ((sg : Segments) → Stepped m sg e line e.core (replies.Refused x)) → (x ≡ errors.OutOfMemory) ⊎ Stepped m seg e line e.core (replies.Refused x)
+    by (inl memory) = inl memory
+    by (inr stepped) = inr (stepped seg)
 
 pub ran-cause : {T : Type 0} (L : SlateDBError → Type 0) (ran : Result T SlateDBError) (result : Result Answer SlateDBError) → IsDone ran result → IfErr ran (λ x. (x ≡ errors.OutOfMemory) ⊎ IsRefusal x) →
     IfErr result (λ x. (x ≡ errors.OutOfMemory) ⊎ L x)
@@ -143,7 +155,7 @@ ran-cause L (Err x) (Err y) is (inl memory) = inl (is.other.0 ∙ memory)
 ran-cause L (Err x) (Err y) is (inr refusal) = absurd (is.other.1 refusal)
 
 -- one that only memory refuses
-pub memory-refuses : {T : Type 0} (F : Meaning → SlateDBError → Type 0) (ran : Result T SlateDBError) → IfErr ran (λ x. x ≡ errors.OutOfMemory) → IfErr ran (λ x. (x ≡ errors.OutOfMemory) ⊎ ((n : Meaning) → F n x))
+pub memory-refuses : {T : Type 0} (F : Meaning → Segments → SlateDBError → Type 0) (ran : Result T SlateDBError) → IfErr ran (λ x. x ≡ errors.OutOfMemory) → IfErr ran (λ x. (x ≡ errors.OutOfMemory) ⊎ ((n : Meaning) (sg : Segments) → F n sg x))
 memory-refuses F (Ok t) cause = tt
 memory-refuses F (Err x) cause = inl cause
 
@@ -165,9 +177,9 @@ merge-cause A (Err x) k op (inr (inr refused)) = inr (op-refusals k op x refused
 
 -- ---- commit
 
-pub commit-unknown : (m : Meaning) (e : SessionModel) (name : List ℕ) → find_named name e.names ≡ None → AnswersAs m e e (lines.Commit name) (Ok (answers.Refused (errors.UnknownTransaction name)))
-commit-unknown m e name none s h =
-    subst (λ o. IsStep e (of_open s name o (commit (rules_of e.core.settings m) s name)) (answers.Refused (errors.UnknownTransaction name)))
+pub commit-unknown : (m : Meaning) (seg : Segments) (e : SessionModel) (name : List ℕ) → find_named name e.names ≡ None → AnswersAs m seg e e (lines.Commit name) (Ok (answers.Refused (errors.UnknownTransaction name)))
+commit-unknown m seg e name none s h =
+    subst (λ o. IsStep e (of_open s name o (commit (rules_in e.core.settings m seg) s name)) (answers.Refused (errors.UnknownTransaction name)))
     (sym (h.txns name ∙ ap (under e.core.state.txns) none)) (h, refl)
 
 -- the commits and the moment are all that it reads beside the transaction
@@ -189,15 +201,15 @@ commit-frame r s txns snapshots flushed name id t = by (commit_refusal r s t) t.
     by None [] = refl
     by None (o ∷ os) = refl
 
-pub commit-as : (m : Meaning) (e : SessionModel) (core : CoreModel) (fewer : List (List ℕ × List ℕ)) (name id : List ℕ) (a : Answer) → NamesStand e.names e.snapshot_names e.core.state.txns e.core.state.snapshots → find_named name e.names ≡ Some id →
+pub commit-as : (m : Meaning) (seg : Segments) (e : SessionModel) (core : CoreModel) (fewer : List (List ℕ × List ℕ)) (name id : List ℕ) (a : Answer) → NamesStand e.names e.snapshot_names e.core.state.txns e.core.state.snapshots → find_named name e.names ≡ Some id →
     core.state.txns ≡ without id e.core.state.txns → core.state.snapshots ≡ e.core.state.snapshots → core.state.flushed ≡ e.core.state.flushed → ((q : List ℕ) → find_named q fewer ≡ cond (bytes_eq name q) None (find_named q e.names)) →
-    ◌≡◌ {A = State × Reply} (step (rules_of e.core.settings m) (at e.now e.core.state) (lines.Commit id)) (at e.now core.state, reply_of a) →
-    AnswersAs m e (record e { core = core; names = fewer }) (lines.Commit name) (Ok a)
-commit-as m e core fewer name id a stand known txns snapshots flushed updates stepped s h =
+    ◌≡◌ {A = State × Reply} (step (rules_in e.core.settings m seg) (at e.now e.core.state) (lines.Commit id)) (at e.now core.state, reply_of a) →
+    AnswersAs m seg e (record e { core = core; names = fewer }) (lines.Commit name) (Ok a)
+commit-as m seg e core fewer name id a stand known txns snapshots flushed updates stepped s h =
     subst (λ (p : State × Reply). IsStep after p a) (sym made) (stands, shown-of a)
   where
     r : Rules
-    r = rules_of e.core.settings m
+    r = rules_in e.core.settings m seg
 
     from : State
     from = at e.now e.core.state
@@ -233,14 +245,14 @@ commit-as m e core fewer name id a stand known txns snapshots flushed updates st
     }
 
 -- a refused commit
-pub refused-as : (m : Meaning) (before after : Counts) (e : SessionModel) (core : CoreModel) (fewer : List (List ℕ × List ℕ)) (name id : List ℕ) (error : SlateDBError) (result : Result Answer SlateDBError) →
-    ((a : Answer) → ◌≡◌ {A = State × Reply} (step (rules_of e.core.settings m) (at e.now e.core.state) (lines.Commit id)) (at e.now core.state, reply_of a) → AnswersAs m e (record e { core = core; names = fewer }) (lines.Commit name) (Ok a)) →
+pub refused-as : (m : Meaning) (seg : Segments) (before after : Counts) (e : SessionModel) (core : CoreModel) (fewer : List (List ℕ × List ℕ)) (name id : List ℕ) (error : SlateDBError) (result : Result Answer SlateDBError) →
+    ((a : Answer) → ◌≡◌ {A = State × Reply} (step (rules_in e.core.settings m seg) (at e.now e.core.state) (lines.Commit id)) (at e.now core.state, reply_of a) → AnswersAs m seg e (record e { core = core; names = fewer }) (lines.Commit name) (Ok a)) →
     IfOk result (λ a. reply_of a ≡ replies.Refused error) → OnOk result (IsRefusal error) →
-    IsCounted before after error ⊎ (◌≡◌ {A = State × Reply} (step (rules_of e.core.settings m) (at e.now e.core.state) (lines.Commit id)) (at e.now core.state, replies.Refused error)) →
-    AnswersAs m e (record e { core = core; names = fewer }) (lines.Commit name) result
-refused-as m before after e core fewer name id error (Err x) model is refusal cause = λ s h. tt
-refused-as m before after e core fewer name id error (Ok a) model is refusal (inl fault) = absurd (fault-unanswered before after error fault refusal)
-refused-as m before after e core fewer name id error (Ok a) model is refusal (inr stepped) = model a (stepped ∙ ap (λ reply. (at e.now core.state, reply)) (sym is))
+    IsCounted before after error ⊎ (◌≡◌ {A = State × Reply} (step (rules_in e.core.settings m seg) (at e.now e.core.state) (lines.Commit id)) (at e.now core.state, replies.Refused error)) →
+    AnswersAs m seg e (record e { core = core; names = fewer }) (lines.Commit name) result
+refused-as m seg before after e core fewer name id error (Err x) model is refusal cause = λ s h. tt
+refused-as m seg before after e core fewer name id error (Ok a) model is refusal (inl fault) = absurd (fault-unanswered before after error fault refusal)
+refused-as m seg before after e core fewer name id error (Ok a) model is refusal (inr stepped) = model a (stepped ∙ ap (λ reply. (at e.now core.state, reply)) (sym is))
 
 -- ---- a moment, as a commit is given it
 
@@ -248,8 +260,8 @@ pub commit-moment : (r : Rules) (old new : CoreModel) (id : List ℕ) (reply : R
     ◌≡◌ {A = State × Reply} (step r (at now old.state) (lines.Commit id)) (at now new.state, reply)
 commit-moment r old new id reply is h = subst (λ t. ◌≡◌ {A = State × Reply} (step r (at t old.state) (lines.Commit id)) (at t new.state, reply)) is h
 
-pub refused-moment : {A : Type 0} (m : Meaning) (old new : CoreModel) (id : List ℕ) (e : SlateDBError) {given now : ℤ} → given ≡ now →
-    A ⊎ (◌≡◌ {A = State × Reply} (step (rules_of old.settings m) (at given old.state) (lines.Commit id)) (at given new.state, replies.Refused e)) →
-    A ⊎ (◌≡◌ {A = State × Reply} (step (rules_of old.settings m) (at now old.state) (lines.Commit id)) (at now new.state, replies.Refused e))
-refused-moment m old new id e is (inl a) = inl a
-refused-moment m old new id e is (inr h) = inr (commit-moment (rules_of old.settings m) old new id (replies.Refused e) is h)
+pub refused-moment : {A : Type 0} (m : Meaning) (seg : Segments) (old new : CoreModel) (id : List ℕ) (e : SlateDBError) {given now : ℤ} → given ≡ now →
+    A ⊎ (◌≡◌ {A = State × Reply} (step (rules_in old.settings m seg) (at given old.state) (lines.Commit id)) (at given new.state, replies.Refused e)) →
+    A ⊎ (◌≡◌ {A = State × Reply} (step (rules_in old.settings m seg) (at now old.state) (lines.Commit id)) (at now new.state, replies.Refused e))
+refused-moment m seg old new id e is (inl a) = inl a
+refused-moment m seg old new id e is (inr h) = inr (commit-moment (rules_in old.settings m seg) old new id (replies.Refused e) is h)

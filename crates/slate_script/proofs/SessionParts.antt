@@ -7,6 +7,7 @@ use Rattle.slate_types.specs.declared.error.SlateDBError.TheVariants.{MergeOpera
 use Rattle.slate_types.specs.Outside.{Objects, IsFault, Reach}
 use Rattle.slate_filter.specs.Policy.{Policy}
 use Rattle.slate_table.specs.TableBuilding.{max_blocks}
+use Rattle.slate_mem.specs.KeyTests.{Segments}
 use Rattle.slate_db.specs.Answered.{AnswersFrom}
 use Rattle.slate_db.specs.Flushed.{IsFlushError, Layout, events_of_flush}
 use Rattle.slate_db.specs.Installs.{HoldsTables}
@@ -55,10 +56,10 @@ get-shown by before after c e (inr made) error = made
 
 -- ---- what a settled session reads
 
-pub true-answered : (policies : List Policy) (before after : Reach) (os : Objects) (e : SessionModel) → IsSettled policies before.meaning (Some os) e → AnswersFrom os before after → IsAnswered policies before after e.core
+pub true-answered : (policies : List Policy) {seg : Segments} (before after : Reach) (os : Objects) (e : SessionModel) → IsSettled policies before.meaning seg (Some os) e → AnswersFrom os before after → IsAnswered policies before after e.core
 true-answered policies before after os e settled answers = record { os = os; readable = record { lawful = settled.lawful; lawful_policies = settled.lawful_policies; filtered = settled.filtered; kept = settled.kept; holds = settled.tables.holds }; answers = answers }
 
-pub settled-answered : (policies : List Policy) (before after : Reach) (e : SessionModel) → IsSettledIn policies before e → IsAnswered policies before after e.core
+pub settled-answered : (policies : List Policy) {seg : Segments} (before after : Reach) (e : SessionModel) → IsSettledIn policies seg before e → IsAnswered policies before after e.core
 settled-answered policies before after e settled = by before.objects refl settled.tables.holds
   where
     by : (objects : Option Objects) → before.objects ≡ objects → HoldsTables objects e.core.events → IsAnswered policies before after e.core

@@ -12,6 +12,7 @@ use Rattle.slate_types.specs.Keys.{behind, is_refused, prefix_end, prefix_start,
 use Rattle.slate_script.proofs.BeginsLaws.{begins-in}
 use Rattle.slate_types.specs.Outside.{IsFault, Reach}
 use Rattle.slate_types.specs.World.{Made}
+use Rattle.slate_mem.specs.KeyTests.{Segments}
 use Rattle.slate_txn.specs.declared.event.TranscriptStep.{TranscriptStep}
 use Rattle.slate_txn.specs.declared.event.TranscriptStep.TheVariants as steps
 use Rattle.slate_txn.specs.declared.line.ScanStep.{ScanStep}
@@ -22,7 +23,7 @@ use Rattle.slate_txn.specs.Reply.{Reply}
 use Rattle.slate_txn.specs.State.{Commit, Rules, State}
 use Rattle.slate_txn.specs.Step.{Reader, noted, reader, scan, scan_walked, step}
 use Rattle.slate_db.proofs.RowDamage.{scan_kind}
-use Rattle.slate_db.specs.Meaning.{Meaning, rules_of}
+use Rattle.slate_db.specs.Meaning.{Meaning, rules_in}
 use Rattle.slate_db.specs.Model.{CoreModel}
 use Rattle.slate_db.specs.Parts.{IsTableError}
 use Rattle.slate_db.specs.Scans.{IsRefusedByScan, IsScanError}
@@ -63,29 +64,29 @@ begins_behind p start end given (Some r) asked is = λ q k e within.
 
 -- ---- scans
 
-pub scan-refused : (m : Meaning) (e : SessionModel) (name : List ℕ) (order : IterationOrder) (range : Option BytesRange) (sts : List ScanStep) (o : Option (List ℕ)) → ReadsUnder e name o → o ≡ None →
-    ScansAs m e e name order range sts (Ok (answers.Refused (errors.UnknownTransaction name)))
-scan-refused m e name order range sts o reads none s h =
-    subst (λ p. IsStep e (scan (rules_of e.core.settings m) s name order range sts p) (answers.Refused (errors.UnknownTransaction name)))
+pub scan-refused : (m : Meaning) (seg : Segments) (e : SessionModel) (name : List ℕ) (order : IterationOrder) (range : Option BytesRange) (sts : List ScanStep) (o : Option (List ℕ)) → ReadsUnder e name o → o ≡ None →
+    ScansAs m seg e e name order range sts (Ok (answers.Refused (errors.UnknownTransaction name)))
+scan-refused m seg e name order range sts o reads none s h =
+    subst (λ p. IsStep e (scan (rules_in e.core.settings m seg) s name order range sts p) (answers.Refused (errors.UnknownTransaction name)))
     (sym (reads s h ∙ ap (reader_under e.core.state) none)) (h, refl)
 
 -- a range that is none
-pub range-refused : (m : Meaning) (e : SessionModel) (name id : List ℕ) (order : IterationOrder) (given : Option BytesRange) (sts : List ScanStep) (o : Option (List ℕ)) → ReadsUnder e name o → IfSome o (λ i. IsSome (reader e.core.state i)) → o ≡ Some id → given ≡ None →
-    ScansAs m e e name order given sts (Ok (answers.Refused errors.InvalidRange))
-range-refused m e name id order given sts o reads live is none s h = by (reader e.core.state id) refl (subst (λ p. IfSome p (λ i. IsSome (reader e.core.state i))) is live)
+pub range-refused : (m : Meaning) (seg : Segments) (e : SessionModel) (name id : List ℕ) (order : IterationOrder) (given : Option BytesRange) (sts : List ScanStep) (o : Option (List ℕ)) → ReadsUnder e name o → IfSome o (λ i. IsSome (reader e.core.state i)) → o ≡ Some id → given ≡ None →
+    ScansAs m seg e e name order given sts (Ok (answers.Refused errors.InvalidRange))
+range-refused m seg e name id order given sts o reads live is none s h = by (reader e.core.state id) refl (subst (λ p. IfSome p (λ i. IsSome (reader e.core.state i))) is live)
   where
-    by : (p : Option Reader) → reader e.core.state id ≡ p → IsSome p → IsStep e (scan (rules_of e.core.settings m) s name order given sts (reader s name)) (answers.Refused errors.InvalidRange)
+    by : (p : Option Reader) → reader e.core.state id ≡ p → IsSome p → IsStep e (scan (rules_in e.core.settings m seg) s name order given sts (reader s name)) (answers.Refused errors.InvalidRange)
     by None there some = cc
     by (Some from) there some =
-        subst (λ q. IsStep e (scan (rules_of e.core.settings m) s name order given sts q) (answers.Refused errors.InvalidRange)) (sym (reads s h ∙ ap (reader_under e.core.state) is ∙ there))
-        (subst (λ range. IsStep e (scan (rules_of e.core.settings m) s name order range sts (Some from)) (answers.Refused errors.InvalidRange)) (sym none) (h, refl))
+        subst (λ q. IsStep e (scan (rules_in e.core.settings m seg) s name order given sts q) (answers.Refused errors.InvalidRange)) (sym (reads s h ∙ ap (reader_under e.core.state) is ∙ there))
+        (subst (λ range. IsStep e (scan (rules_in e.core.settings m seg) s name order range sts (Some from)) (answers.Refused errors.InvalidRange)) (sym none) (h, refl))
 
 -- the core's answer is the model's
-pub scan-found : (m : Meaning) (e : SessionModel) (core : CoreModel) (name id : List ℕ) (order : IterationOrder) (given : Option BytesRange) (range : BytesRange) (sts : List ScanStep) (rows : List KeyValue) (a : Answer) →
+pub scan-found : (m : Meaning) (seg : Segments) (e : SessionModel) (core : CoreModel) (name id : List ℕ) (order : IterationOrder) (given : Option BytesRange) (range : BytesRange) (sts : List ScanStep) (rows : List KeyValue) (a : Answer) →
     NamesStand e.names e.snapshot_names e.core.state.txns e.core.state.snapshots → reader_id e name ≡ Some id → given ≡ Some range → is_refused range.start range.end ≡ false →
-    step (rules_of e.core.settings m) e.core.state (lines.Scan id order range.start range.end sts) ≡ (core.state, replies.RowsAre rows) → reply_of a ≡ replies.RowsAre rows →
-    ScansAs m e (record e { core = core }) name order given sts (Ok a)
-scan-found m e core name id order given range sts rows a stand known some fits stepped is s h =
+    step (rules_in e.core.settings m seg) e.core.state (lines.Scan id order range.start range.end sts) ≡ (core.state, replies.RowsAre rows) → reply_of a ≡ replies.RowsAre rows →
+    ScansAs m seg e (record e { core = core }) name order given sts (Ok a)
+scan-found m seg e core name id order given range sts rows a stand known some fits stepped is s h =
     subst (λ o. IsStep after (scan r s name order given sts o) a) (sym reads.here)
     (subst (λ q. IsStep after (scan r s name order q sts (Some reads.from)) a) (sym some) (
       reads.notes (steps.Scan order range ∷ taken s.commits) core (sym (ap (λ p. p.0) core-step) ∙ noted-same),
@@ -93,7 +94,7 @@ scan-found m e core name id order given range sts rows a stand known some fits s
     ))
   where
     r : Rules
-    r = rules_of e.core.settings m
+    r = rules_in e.core.settings m seg
 
     c : State
     c = e.core.state

@@ -19,6 +19,7 @@ use Rattle.slate_mem.specs.Batch.{Ops, batch_keys}
 use Rattle.slate_mem.specs.Refusals.{first_refusal, when, op_refusal}
 use Rattle.slate_mem.specs.declared.WriteOp.{WriteOp}
 use Rattle.slate_mem.specs.declared.WriteOp.TheVariants.{Put, Delete, Merge}
+use Rattle.slate_mem.specs.KeyTests.{Segments}
 use Rattle.slate_txn.specs.declared.event.TranscriptStep.{TranscriptStep}
 use Rattle.slate_txn.specs.declared.event.TranscriptStep.TheVariants as steps
 use Rattle.slate_txn.specs.declared.line.Line.TheVariants as lines
@@ -29,7 +30,7 @@ use Rattle.slate_txn.specs.Refusals.{write_refusal}
 use Rattle.slate_txn.specs.Step.{Reader, step, closed, noted, get, get_found, reader, reader_or_snapshot, refused_or, tx_reader, with_reply, as_commit}
 use Rattle.slate_txn.specs.Reply as replies
 use Rattle.slate_txn.specs.Reply.{Reply}
-use Rattle.slate_db.specs.Meaning.{Meaning, rules_of}
+use Rattle.slate_db.specs.Meaning.{Meaning, rules_in}
 use Rattle.slate_db.specs.Model.{CoreModel, IsSame, at}
 use Rattle.slate_db.specs.Log.{LIMIT}
 use Rattle.slate_language.specs.declared.reply.Answer.{Answer}
@@ -91,28 +92,28 @@ plain-meaning = record { combine = None; encode = λ bytes. bytes; decode = λ b
 
 -- ---- the moment
 
-pub now-set : (m : Meaning) (e : SessionModel) (moment : ℤ) → AnswersAs m e (record e { now = moment }) (lines.Now moment) (Ok (answers.NowIs moment))
-now-set m e moment s h = (record { commits = h.commits; txns = h.txns; once = h.once; snapshots = h.snapshots; snapshots_once = h.snapshots_once; moment = refl; flushed = h.flushed }, refl)
+pub now-set : (m : Meaning) (seg : Segments) (e : SessionModel) (moment : ℤ) → AnswersAs m seg e (record e { now = moment }) (lines.Now moment) (Ok (answers.NowIs moment))
+now-set m seg e moment s h = (record { commits = h.commits; txns = h.txns; once = h.once; snapshots = h.snapshots; snapshots_once = h.snapshots_once; moment = refl; flushed = h.flushed }, refl)
 
 -- ---- begin
 
-pub begin-refused : (m : Meaning) (e : SessionModel) (name : List ℕ) (level : IsolationLevel) (o : Option (List ℕ)) → ReadsUnder e name o → IfSome o (λ id. IsSome (reader e.core.state id)) → is_some o ≡ true →
-    AnswersAs m e e (lines.Begin name level) (Ok (answers.Refused (errors.DuplicateTransaction name)))
-begin-refused m e name level o reads live some s h =
-    subst (λ b. IsStep e (cond b (s, replies.Refused (errors.DuplicateTransaction name)) (record s { txns = set_named name (begun level (last (rules_of e.core.settings m) s)) s.txns }, replies.Begun name (last (rules_of e.core.settings m) s)))
+pub begin-refused : (m : Meaning) (seg : Segments) (e : SessionModel) (name : List ℕ) (level : IsolationLevel) (o : Option (List ℕ)) → ReadsUnder e name o → IfSome o (λ id. IsSome (reader e.core.state id)) → is_some o ≡ true →
+    AnswersAs m seg e e (lines.Begin name level) (Ok (answers.Refused (errors.DuplicateTransaction name)))
+begin-refused m seg e name level o reads live some s h =
+    subst (λ b. IsStep e (cond b (s, replies.Refused (errors.DuplicateTransaction name)) (record s { txns = set_named name (begun level (last (rules_in e.core.settings m seg) s)) s.txns }, replies.Begun name (last (rules_in e.core.settings m seg) s)))
     (answers.Refused (errors.DuplicateTransaction name)))
     (sym (is-open e s name o h reads live some)) (h, refl)
 
-pub begin-opens : (m : Meaning) (e : SessionModel) (core : CoreModel) (more : Names) (name id : List ℕ) (level : IsolationLevel) (n : ℕ) (o : Option (List ℕ)) → NamesStand e.names e.snapshot_names e.core.state.txns e.core.state.snapshots → o ≡ reader_id e name → ReadsUnder e name o → is_some o ≡ false →
-    Fresh (rules_of e.core.settings m) e.core.state core.state id level n → ((q : List ℕ) → find_named q more ≡ cond (bytes_eq name q) (Some id) (find_named q e.names)) →
-    AnswersAs m e (record e { core = core; names = more }) (lines.Begin name level) (Ok (answers.Begun name n))
-begin-opens m e core more name id level n o stand id-is reads shut fresh updates s h =
+pub begin-opens : (m : Meaning) (seg : Segments) (e : SessionModel) (core : CoreModel) (more : Names) (name id : List ℕ) (level : IsolationLevel) (n : ℕ) (o : Option (List ℕ)) → NamesStand e.names e.snapshot_names e.core.state.txns e.core.state.snapshots → o ≡ reader_id e name → ReadsUnder e name o → is_some o ≡ false →
+    Fresh (rules_in e.core.settings m seg) e.core.state core.state id level n → ((q : List ℕ) → find_named q more ≡ cond (bytes_eq name q) (Some id) (find_named q e.names)) →
+    AnswersAs m seg e (record e { core = core; names = more }) (lines.Begin name level) (Ok (answers.Begun name n))
+begin-opens m seg e core more name id level n o stand id-is reads shut fresh updates s h =
     subst (λ b. IsStep after (cond b (s, replies.Refused (errors.DuplicateTransaction name)) (record s { txns = set_named name (begun level (last r s)) s.txns }, replies.Begun name (last r s))) (answers.Begun name n))
     (sym (is-shut e s name o h reads shut))
     (subst (λ k. IsStep after (record s { txns = set_named name (begun level k) s.txns }, replies.Begun name k) (answers.Begun name n)) lasts (stands, refl))
   where
     r : Rules
-    r = rules_of e.core.settings m
+    r = rules_in e.core.settings m seg
 
     after : SessionModel
     after = record e { core = core; names = more }
@@ -142,23 +143,23 @@ begin-opens m e core more name id level n o stand id-is reads shut fresh updates
 
 -- ---- snapshot
 
-pub snapshot-refused : (m : Meaning) (e : SessionModel) (name : List ℕ) (o : Option (List ℕ)) → ReadsUnder e name o → IfSome o (λ id. IsSome (reader e.core.state id)) → is_some o ≡ true →
-    AnswersAs m e e (lines.Snapshot name) (Ok (answers.Refused (errors.DuplicateTransaction name)))
-snapshot-refused m e name o reads live some s h =
-    subst (λ b. IsStep e (cond b (s, replies.Refused (errors.DuplicateTransaction name)) (record s { snapshots = set_named name (last (rules_of e.core.settings m) s) s.snapshots }, replies.SnapshotAt name (last (rules_of e.core.settings m) s)))
+pub snapshot-refused : (m : Meaning) (seg : Segments) (e : SessionModel) (name : List ℕ) (o : Option (List ℕ)) → ReadsUnder e name o → IfSome o (λ id. IsSome (reader e.core.state id)) → is_some o ≡ true →
+    AnswersAs m seg e e (lines.Snapshot name) (Ok (answers.Refused (errors.DuplicateTransaction name)))
+snapshot-refused m seg e name o reads live some s h =
+    subst (λ b. IsStep e (cond b (s, replies.Refused (errors.DuplicateTransaction name)) (record s { snapshots = set_named name (last (rules_in e.core.settings m seg) s) s.snapshots }, replies.SnapshotAt name (last (rules_in e.core.settings m seg) s)))
     (answers.Refused (errors.DuplicateTransaction name)))
     (sym (is-open e s name o h reads live some)) (h, refl)
 
-pub snapshot-opens : (m : Meaning) (e : SessionModel) (core : CoreModel) (more : Names) (name id : List ℕ) (n : ℕ) (o : Option (List ℕ)) → NamesStand e.names e.snapshot_names e.core.state.txns e.core.state.snapshots → o ≡ reader_id e name → ReadsUnder e name o → is_some o ≡ false →
-    FreshSnapshot (rules_of e.core.settings m) e.core.state core.state id n → ((q : List ℕ) → find_named q more ≡ cond (bytes_eq name q) (Some id) (find_named q e.snapshot_names)) →
-    AnswersAs m e (record e { core = core; snapshot_names = more }) (lines.Snapshot name) (Ok (answers.SnapshotAt name n))
-snapshot-opens m e core more name id n o stand id-is reads shut fresh updates s h =
+pub snapshot-opens : (m : Meaning) (seg : Segments) (e : SessionModel) (core : CoreModel) (more : Names) (name id : List ℕ) (n : ℕ) (o : Option (List ℕ)) → NamesStand e.names e.snapshot_names e.core.state.txns e.core.state.snapshots → o ≡ reader_id e name → ReadsUnder e name o → is_some o ≡ false →
+    FreshSnapshot (rules_in e.core.settings m seg) e.core.state core.state id n → ((q : List ℕ) → find_named q more ≡ cond (bytes_eq name q) (Some id) (find_named q e.snapshot_names)) →
+    AnswersAs m seg e (record e { core = core; snapshot_names = more }) (lines.Snapshot name) (Ok (answers.SnapshotAt name n))
+snapshot-opens m seg e core more name id n o stand id-is reads shut fresh updates s h =
     subst (λ b. IsStep after (cond b (s, replies.Refused (errors.DuplicateTransaction name)) (record s { snapshots = set_named name (last r s) s.snapshots }, replies.SnapshotAt name (last r s))) (answers.SnapshotAt name n))
     (sym (is-shut e s name o h reads shut))
     (subst (λ k. IsStep after (record s { snapshots = set_named name k s.snapshots }, replies.SnapshotAt name k) (answers.SnapshotAt name n)) lasts (stands, refl))
   where
     r : Rules
-    r = rules_of e.core.settings m
+    r = rules_in e.core.settings m seg
 
     after : SessionModel
     after = record e { core = core; snapshot_names = more }
@@ -185,9 +186,9 @@ snapshot-opens m e core more name id n o stand id-is reads shut fresh updates s 
 
 -- ---- rollback
 
-pub rollback-refused : (m : Meaning) (e : SessionModel) (name : List ℕ) → find_named name e.names ≡ None → find_named name e.snapshot_names ≡ None →
-    AnswersAs m e e (lines.Rollback name) (Ok (answers.Refused (errors.UnknownTransaction name)))
-rollback-refused m e name none unshown s h =
+pub rollback-refused : (m : Meaning) (seg : Segments) (e : SessionModel) (name : List ℕ) → find_named name e.names ≡ None → find_named name e.snapshot_names ≡ None →
+    AnswersAs m seg e e (lines.Rollback name) (Ok (answers.Refused (errors.UnknownTransaction name)))
+rollback-refused m seg e name none unshown s h =
     let begun : find_named name s.txns ≡ None = under_none name s.txns e.names e.core.state.txns h.txns none in
     let shown : find_named name s.snapshots ≡ None = under_none name s.snapshots e.snapshot_names e.core.state.snapshots h.snapshots unshown in
     let shut : is_open s name ≡ false = (λ i. is_some (begun i) || is_some (shown i)) in
@@ -204,10 +205,10 @@ under-some : {X : Type 0} (name id : List ℕ) (named : List (List ℕ × X)) (n
 under-some name id named names ps h are known = subst IsSome (sym (h name ∙ ap (under ps) known)) (are.opened name id known)
 
 -- a transaction's name is no snapshot's
-pub rollback-closes : (m : Meaning) (e : SessionModel) (core : CoreModel) (fewer : Names) (name id : List ℕ) → NamesStand e.names e.snapshot_names e.core.state.txns e.core.state.snapshots → find_named name e.names ≡ Some id →
+pub rollback-closes : (m : Meaning) (seg : Segments) (e : SessionModel) (core : CoreModel) (fewer : Names) (name id : List ℕ) → NamesStand e.names e.snapshot_names e.core.state.txns e.core.state.snapshots → find_named name e.names ≡ Some id →
     core.state ≡ record e.core.state { txns = without id e.core.state.txns } → ((q : List ℕ) → find_named q fewer ≡ cond (bytes_eq name q) None (find_named q e.names)) →
-    AnswersAs m e (record e { core = core; names = fewer }) (lines.Rollback name) (Ok answers.Done)
-rollback-closes m e core fewer name id stand known is updates s h =
+    AnswersAs m seg e (record e { core = core; names = fewer }) (lines.Rollback name) (Ok answers.Done)
+rollback-closes m seg e core fewer name id stand known is updates s h =
     subst (λ b. IsStep after (cond b (closed s name, replies.Done) (s, replies.Refused (errors.UnknownTransaction name))) answers.Done)
     (sym (opened-by (find_named name s.txns) (find_named name s.snapshots) (inl (under-some name id s.txns e.names e.core.state.txns h.txns stand.transactions known)))) (stands, refl)
   where
@@ -228,10 +229,10 @@ rollback-closes m e core fewer name id stand known is updates s h =
       flushed = h.flushed ∙ ap (λ (c : State). c.flushed) (sym is);
     }
 
-pub rollback-releases : (m : Meaning) (e : SessionModel) (core : CoreModel) (fewer : Names) (name id : List ℕ) → NamesStand e.names e.snapshot_names e.core.state.txns e.core.state.snapshots → find_named name e.snapshot_names ≡ Some id →
+pub rollback-releases : (m : Meaning) (seg : Segments) (e : SessionModel) (core : CoreModel) (fewer : Names) (name id : List ℕ) → NamesStand e.names e.snapshot_names e.core.state.txns e.core.state.snapshots → find_named name e.snapshot_names ≡ Some id →
     core.state ≡ record e.core.state { snapshots = without id e.core.state.snapshots } → ((q : List ℕ) → find_named q fewer ≡ cond (bytes_eq name q) None (find_named q e.snapshot_names)) →
-    AnswersAs m e (record e { core = core; snapshot_names = fewer }) (lines.Rollback name) (Ok answers.Done)
-rollback-releases m e core fewer name id stand known is updates s h =
+    AnswersAs m seg e (record e { core = core; snapshot_names = fewer }) (lines.Rollback name) (Ok answers.Done)
+rollback-releases m seg e core fewer name id stand known is updates s h =
     subst (λ b. IsStep after (cond b (closed s name, replies.Done) (s, replies.Refused (errors.UnknownTransaction name))) answers.Done)
     (sym (opened-by (find_named name s.txns) (find_named name s.snapshots) (inr (under-some name id s.snapshots e.snapshot_names e.core.state.snapshots h.snapshots stand.shown known)))) (stands, refl)
   where
@@ -361,23 +362,23 @@ open-under e name (Some id) stand is = is-read e name id stand (sym is)
 
 -- ---- get
 
-pub get-refused : (m : Meaning) (e : SessionModel) (name k : List ℕ) (o : Option (List ℕ)) → ReadsUnder e name o → o ≡ None → AnswersAs m e e (lines.Get name k) (Ok (answers.Refused (errors.UnknownTransaction name)))
-get-refused m e name k o reads none s h =
-    subst (λ p. IsStep e (get (rules_of e.core.settings m) s name k p) (answers.Refused (errors.UnknownTransaction name))) (sym (reads s h ∙ ap (reader_under e.core.state) none)) (h, refl)
+pub get-refused : (m : Meaning) (seg : Segments) (e : SessionModel) (name k : List ℕ) (o : Option (List ℕ)) → ReadsUnder e name o → o ≡ None → AnswersAs m seg e e (lines.Get name k) (Ok (answers.Refused (errors.UnknownTransaction name)))
+get-refused m seg e name k o reads none s h =
+    subst (λ p. IsStep e (get (rules_in e.core.settings m seg) s name k p) (answers.Refused (errors.UnknownTransaction name))) (sym (reads s h ∙ ap (reader_under e.core.state) none)) (h, refl)
 
 found-same : (a b : Option KeyValue) → replies.Found a ≡ replies.Found b → a ≡ b
 found-same a b h = cc
 
 -- the core's answer is the model's
-pub get-found : (m : Meaning) (e : SessionModel) (core : CoreModel) (name id k : List ℕ) (row : Option KeyValue) → NamesStand e.names e.snapshot_names e.core.state.txns e.core.state.snapshots → reader_id e name ≡ Some id →
-    step (rules_of e.core.settings m) e.core.state (lines.Get id k) ≡ (core.state, replies.Found row) →
-    AnswersAs m e (record e { core = core }) (lines.Get name k) (Ok (answers.Found row))
-get-found m e core name id k row stand known stepped s h =
+pub get-found : (m : Meaning) (seg : Segments) (e : SessionModel) (core : CoreModel) (name id k : List ℕ) (row : Option KeyValue) → NamesStand e.names e.snapshot_names e.core.state.txns e.core.state.snapshots → reader_id e name ≡ Some id →
+    step (rules_in e.core.settings m seg) e.core.state (lines.Get id k) ≡ (core.state, replies.Found row) →
+    AnswersAs m seg e (record e { core = core }) (lines.Get name k) (Ok (answers.Found row))
+get-found m seg e core name id k row stand known stepped s h =
     subst (λ o. IsStep after (get r s name k o) (answers.Found row)) (sym reads.here)
     (reads.notes (steps.Get k (option_map key_value (seen r s.commits reads.from.at reads.from.ops k)) ∷ []) core (sym (ap (λ p. p.0) core-step) ∙ noted-same), ap replies.Found row-is)
   where
     r : Rules
-    r = rules_of e.core.settings m
+    r = rules_in e.core.settings m seg
 
     after : SessionModel
     after = record e { core = core }
@@ -416,9 +417,9 @@ pub stands-is : (e : SessionModel) (s : State) → StandsFor e s → record (at 
 stands-is e s h = let cs = sym h.commits in let ns = sym h.moment in λ i. record { commits = cs i; txns = s.txns; snapshots = s.snapshots; now = ns i; flushed = s.flushed }
 
 -- the core's step of a write is the model's
-pub write-as : (m : Meaning) (e : SessionModel) (core : CoreModel) (ops : Ops) (a : Answer) → core.state.txns ≡ e.core.state.txns → core.state.snapshots ≡ e.core.state.snapshots → core.state.flushed ≡ e.core.state.flushed →
-    step (rules_of e.core.settings m) (at e.now e.core.state) (lines.Write ops) ≡ (at e.now core.state, reply_of a) → AnswersAs m e (record e { core = core }) (lines.Write ops) (Ok a)
-write-as m e core ops a txns snapshots flushed stepped s h =
+pub write-as : (m : Meaning) (seg : Segments) (e : SessionModel) (core : CoreModel) (ops : Ops) (a : Answer) → core.state.txns ≡ e.core.state.txns → core.state.snapshots ≡ e.core.state.snapshots → core.state.flushed ≡ e.core.state.flushed →
+    step (rules_in e.core.settings m seg) (at e.now e.core.state) (lines.Write ops) ≡ (at e.now core.state, reply_of a) → AnswersAs m seg e (record e { core = core }) (lines.Write ops) (Ok a)
+write-as m seg e core ops a txns snapshots flushed stepped s h =
     subst (λ (p : State × Reply). IsStep (record e { core = core }) p a) (sym made) (
       record {
         commits = refl;
@@ -433,7 +434,7 @@ write-as m e core ops a txns snapshots flushed stepped s h =
     )
   where
     r : Rules
-    r = rules_of e.core.settings m
+    r = rules_in e.core.settings m seg
 
     made : step r s (lines.Write ops) ≡ (record (at e.now core.state) { txns = s.txns; snapshots = s.snapshots; flushed = s.flushed }, reply_of a)
     made =
@@ -446,10 +447,10 @@ first-of (None ∷ es) fs e h = first-of es fs e h
 first-of (Some x ∷ es) fs e h = h
 
 -- an operation is refused
-pub write-refused : (m : Meaning) (e : SessionModel) (ops : Ops) (error : SlateDBError) (a : Answer) → first_refusal (map (λ o. op_refusal o.0 o.1) ops) ≡ Some error → reply_of a ≡ replies.Refused error →
-    AnswersAs m e e (lines.Write ops) (Ok a)
-write-refused m e ops error a refused is s h =
-    subst (λ o. IsStep e (refused_or o s (with_reply replies.Written (as_commit (rules_of e.core.settings m) s ops (batch_keys ops)))) a)
+pub write-refused : (m : Meaning) (seg : Segments) (e : SessionModel) (ops : Ops) (error : SlateDBError) (a : Answer) → first_refusal (map (λ o. op_refusal o.0 o.1) ops) ≡ Some error → reply_of a ≡ replies.Refused error →
+    AnswersAs m seg e e (lines.Write ops) (Ok a)
+write-refused m seg e ops error a refused is s h =
+    subst (λ o. IsStep e (refused_or o s (with_reply replies.Written (as_commit (rules_in e.core.settings m seg) s ops (batch_keys ops)))) a)
     (sym (first-of (map (λ o. op_refusal o.0 o.1) ops) _ error refused)) (h, is)
 
 -- ---- freeze and flush
@@ -463,9 +464,9 @@ flushed-same a b h = cc
 lasts : (e : SessionModel) (s : State) (r : Rules) → StandsFor e s → last r e.core.state ≡ last r s
 lasts e s r h = ap (last_of r.start_seq) (sym h.commits)
 
-pub freeze-as : (m : Meaning) (e : SessionModel) (core : CoreModel) (n : ℕ) → step (rules_of e.core.settings m) e.core.state lines.Freeze ≡ (core.state, replies.Frozen n) →
-    AnswersAs m e (record e { core = core }) lines.Freeze (Ok (answers.Frozen n))
-freeze-as m e core n stepped s h = (
+pub freeze-as : (m : Meaning) (seg : Segments) (e : SessionModel) (core : CoreModel) (n : ℕ) → step (rules_in e.core.settings m seg) e.core.state lines.Freeze ≡ (core.state, replies.Frozen n) →
+    AnswersAs m seg e (record e { core = core }) lines.Freeze (Ok (answers.Frozen n))
+freeze-as m seg e core n stepped s h = (
   record {
     commits = h.commits ∙ ap (λ (c : State). c.commits) is;
     txns = under_same _ _ _ _ h.txns (ap (λ (c : State). c.txns) is);
@@ -475,15 +476,15 @@ freeze-as m e core n stepped s h = (
     moment = h.moment;
     flushed = h.flushed ∙ ap (λ (c : State). c.flushed) is;
   },
-  ap replies.Frozen (frozen-same _ n (ap (λ p. p.1) stepped) ∙ lasts e s (rules_of e.core.settings m) h),
+  ap replies.Frozen (frozen-same _ n (ap (λ p. p.1) stepped) ∙ lasts e s (rules_in e.core.settings m seg) h),
 )
   where
     is : e.core.state ≡ core.state
     is = ap (λ p. p.0) stepped
 
-pub flush-as : (m : Meaning) (e : SessionModel) (core : CoreModel) (n : ℕ) → step (rules_of e.core.settings m) e.core.state lines.Flush ≡ (core.state, replies.Flushed n) →
-    AnswersAs m e (record e { core = core }) lines.Flush (Ok (answers.Flushed n))
-flush-as m e core n stepped s h = (
+pub flush-as : (m : Meaning) (seg : Segments) (e : SessionModel) (core : CoreModel) (n : ℕ) → step (rules_in e.core.settings m seg) e.core.state lines.Flush ≡ (core.state, replies.Flushed n) →
+    AnswersAs m seg e (record e { core = core }) lines.Flush (Ok (answers.Flushed n))
+flush-as m seg e core n stepped s h = (
   record {
     commits = h.commits ∙ ap (λ (c : State). c.commits) is;
     txns = under_same _ _ _ _ h.txns (ap (λ (c : State). c.txns) is);
@@ -497,7 +498,7 @@ flush-as m e core n stepped s h = (
 )
   where
     r : Rules
-    r = rules_of e.core.settings m
+    r = rules_in e.core.settings m seg
 
     is : record e.core.state { flushed = last r e.core.state } ≡ core.state
     is = ap (λ p. p.0) stepped
@@ -515,28 +516,28 @@ fault-unanswered before after (errors.Callback message) fault refusal = refusal
 fault-unanswered before after errors.BlockTransformError fault refusal = refusal
 fault-unanswered before after e fault refusal = fault
 
-refused-commit : (m : Meaning) (before after : Counts) (e : SessionModel) (core : CoreModel) (ops : Ops) (error : SlateDBError) (a : Answer) → IsSame e.core core → reply_of a ≡ replies.Refused error → IsRefusal error →
-    IsCounted before after error ⊎ ((error ≡ errors.LimitReached LIMIT) ⊎ (step (rules_of e.core.settings m) (at e.now e.core.state) (lines.Write ops) ≡ (at e.now e.core.state, replies.Refused error))) →
-    AnswersAs m e (record e { core = core }) (lines.Write ops) (Ok a)
-refused-commit m before after e core ops error a same is refusal (inl fault) = absurd (fault-unanswered before after error fault refusal)
-refused-commit m before after e core ops error a same is refusal (inr (inl limit)) = absurd (subst IsRefusal limit refusal)
-refused-commit m before after e core ops error a same is refusal (inr (inr stepped)) =
-    write-as m e core ops a (ap (λ (c : CoreModel). c.state.txns) same) (ap (λ (c : CoreModel). c.state.snapshots) same) (ap (λ (c : CoreModel). c.state.flushed) same)
+refused-commit : (m : Meaning) (seg : Segments) (before after : Counts) (e : SessionModel) (core : CoreModel) (ops : Ops) (error : SlateDBError) (a : Answer) → IsSame e.core core → reply_of a ≡ replies.Refused error → IsRefusal error →
+    IsCounted before after error ⊎ ((error ≡ errors.LimitReached LIMIT) ⊎ (step (rules_in e.core.settings m seg) (at e.now e.core.state) (lines.Write ops) ≡ (at e.now e.core.state, replies.Refused error))) →
+    AnswersAs m seg e (record e { core = core }) (lines.Write ops) (Ok a)
+refused-commit m seg before after e core ops error a same is refusal (inl fault) = absurd (fault-unanswered before after error fault refusal)
+refused-commit m seg before after e core ops error a same is refusal (inr (inl limit)) = absurd (subst IsRefusal limit refusal)
+refused-commit m seg before after e core ops error a same is refusal (inr (inr stepped)) =
+    write-as m seg e core ops a (ap (λ (c : CoreModel). c.state.txns) same) (ap (λ (c : CoreModel). c.state.snapshots) same) (ap (λ (c : CoreModel). c.state.flushed) same)
     (stepped ∙ (let s = sym same in let r = sym is in λ i. (at e.now ((s i).state), r i)))
 
-pub commit-refused : (m : Meaning) (before after : Counts) (e : SessionModel) (core : CoreModel) (ops : Ops) (error : SlateDBError) (result : Result Answer SlateDBError) → IsSame e.core core →
+pub commit-refused : (m : Meaning) (seg : Segments) (before after : Counts) (e : SessionModel) (core : CoreModel) (ops : Ops) (error : SlateDBError) (result : Result Answer SlateDBError) → IsSame e.core core →
     IfOk result (λ a. reply_of a ≡ replies.Refused error) → OnOk result (IsRefusal error) →
-    IsCounted before after error ⊎ ((error ≡ errors.LimitReached LIMIT) ⊎ (step (rules_of e.core.settings m) (at e.now e.core.state) (lines.Write ops) ≡ (at e.now e.core.state, replies.Refused error))) →
-    AnswersAs m e (record e { core = core }) (lines.Write ops) result
-commit-refused m before after e core ops error (Ok a) same is refusal cause = refused-commit m before after e core ops error a same is refusal cause
-commit-refused m before after e core ops error (Err x) same is refusal cause = λ s h. tt
+    IsCounted before after error ⊎ ((error ≡ errors.LimitReached LIMIT) ⊎ (step (rules_in e.core.settings m seg) (at e.now e.core.state) (lines.Write ops) ≡ (at e.now e.core.state, replies.Refused error))) →
+    AnswersAs m seg e (record e { core = core }) (lines.Write ops) result
+commit-refused m seg before after e core ops error (Ok a) same is refusal cause = refused-commit m seg before after e core ops error a same is refusal cause
+commit-refused m seg before after e core ops error (Err x) same is refusal cause = λ s h. tt
 
-pub batch-refused : (m : Meaning) (e : SessionModel) (ops : Ops) (error : SlateDBError) (result : Result Answer SlateDBError) →
+pub batch-refused : (m : Meaning) (seg : Segments) (e : SessionModel) (ops : Ops) (error : SlateDBError) (result : Result Answer SlateDBError) →
     IfOk result (λ a. reply_of a ≡ replies.Refused error) → OnOk result (IsRefusal error) →
-    (error ≡ errors.OutOfMemory) ⊎ (first_refusal (map (λ o. op_refusal o.0 o.1) ops) ≡ Some error) → AnswersAs m e e (lines.Write ops) result
-batch-refused m e ops error (Ok a) is refusal (inl memory) = absurd (subst IsRefusal memory refusal)
-batch-refused m e ops error (Ok a) is refusal (inr refused) = write-refused m e ops error a refused is
-batch-refused m e ops error (Err x) is refusal cause = λ s h. tt
+    (error ≡ errors.OutOfMemory) ⊎ (first_refusal (map (λ o. op_refusal o.0 o.1) ops) ≡ Some error) → AnswersAs m seg e e (lines.Write ops) result
+batch-refused m seg e ops error (Ok a) is refusal (inl memory) = absurd (subst IsRefusal memory refusal)
+batch-refused m seg e ops error (Ok a) is refusal (inr refused) = write-refused m seg e ops error a refused is
+batch-refused m seg e ops error (Err x) is refusal cause = λ s h. tt
 
 -- a cause that is had for all operations
 pub at-ops : {A B : Type 0} {F : Ops → Type 0} (ops : Ops) {O P : Ops → Type 0} → O ops → P ops → A ⊎ (B ⊎ ((os : Ops) → O os → P os → F os)) → A ⊎ (B ⊎ F ops)

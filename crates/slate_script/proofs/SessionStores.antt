@@ -9,6 +9,7 @@ use Rattle.slate_filter.specs.Policy.{Policy, filters_of}
 use Rattle.slate_table.specs.Parts.{Encode}
 use Rattle.slate_table.specs.Table.{IsTableOf, cut}
 use Rattle.slate_table.proofs.CutLaws.{cut_keeps}
+use Rattle.slate_mem.specs.KeyTests.{Segments}
 use Rattle.slate_txn.specs.declared.event.Event.{Event}
 use Rattle.slate_txn.specs.declared.event.Event.TheVariants as events
 use Rattle.slate_db.specs.Flushed.{AreTablesAt, IsFlushed, idle, stored, Layout, with_tables}
@@ -18,6 +19,7 @@ use Rattle.slate_db.specs.Meaning.{Meaning}
 use Rattle.slate_db.specs.Model.{CoreModel, Rows}
 use Rattle.slate_db.specs.Readable.{AreFiltered}
 use Rattle.slate_db.specs.Log.{LIMIT}
+use Rattle.slate_db.specs.Segmented.{IsSegmented}
 use Rattle.slate_db.specs.Sound.{IsKept}
 use Rattle.slate_script.specs.Session.{SessionModel, HasTables, IsSettled, StoresNothing}
 use Rattle.slate_db.proofs.Runs.{are_placed}
@@ -124,25 +126,27 @@ flushed-filtered m layout old mid new n before after frozen flushed h = by flush
         subst (AreFiltered m.encode layout.policies) (sym (ap (λ (c : CoreModel). tables_of c.events) is ∙ tables-more mid.events (events.Install n ts)))
         (filtered-both m.encode layout.policies (tables_of mid.events) ts here (built-filtered m.encode layout _ 0 made.parts ts made.built))
 
-pub flush-settled : (m : Meaning) (layout : Layout) (objects after : Option Objects) (e : SessionModel) (mid core : CoreModel) (n : ℕ) → IsFrozen e.core mid → IsFlushed m layout mid core n objects after → length e.core.events ≤ LIMIT →
-    (IsKept m e.core → IsKept m core) → IsSettled layout.policies m objects e → IsSettled layout.policies m after (record e { core = core })
-flush-settled m layout objects after e mid core n frozen flushed room kept h = record {
+pub flush-settled : (m : Meaning) (seg : Segments) (layout : Layout) (objects after : Option Objects) (e : SessionModel) (mid core : CoreModel) (n : ℕ) → IsFrozen e.core mid → IsFlushed m layout mid core n objects after → length e.core.events ≤ LIMIT →
+    (IsKept m e.core → IsKept m core) → (IsSegmented seg e.core → IsSegmented seg core) → IsSettled layout.policies m seg objects e → IsSettled layout.policies m seg after (record e { core = core })
+flush-settled m seg layout objects after e mid core n frozen flushed room kept segmented h = record {
   lawful_policies = h.lawful_policies;
   lawful = h.lawful;
   kept = kept h.kept;
+  segmented = segmented h.segmented;
   tables = flushed-tables m layout e.core mid core n objects after frozen flushed room h.tables;
   filtered = flushed-filtered m layout e.core mid core n objects after frozen flushed h.filtered;
 }
 
 -- what a line leaves that stores nothing
-pub tables-still : {m : Meaning} (e new : SessionModel) → StoresNothing m e new → tables_of new.core.events ≡ tables_of e.core.events
+pub tables-still : {m : Meaning} {seg : Segments} (e new : SessionModel) → StoresNothing m seg e new → tables_of new.core.events ≡ tables_of e.core.events
 tables-still e new s = same-tables new.core.events e.core.events s.runs
 
-pub stays-settled : (policies : List Policy) (m : Meaning) (objects : Option Objects) (e new : SessionModel) → StoresNothing m e new → IsSettled policies m objects e → IsSettled policies m objects new
-stays-settled policies m objects e new s h = record {
+pub stays-settled : (policies : List Policy) (m : Meaning) (seg : Segments) (objects : Option Objects) (e new : SessionModel) → StoresNothing m seg e new → IsSettled policies m seg objects e → IsSettled policies m seg objects new
+stays-settled policies m seg objects e new s h = record {
   lawful_policies = h.lawful_policies;
   lawful = h.lawful;
   kept = s.kept h.kept;
+  segmented = s.segmented h.segmented;
   tables = record {
     holds = by objects h.tables.holds;
     numbered = subst (NumberedFrom 1) (sym s.runs) h.tables.numbered;

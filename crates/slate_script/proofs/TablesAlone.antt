@@ -17,13 +17,14 @@ use Rattle.slate_table.specs.Paths.{path_of, table_id}
 use Rattle.slate_table.specs.Stored.{HoldRows, by_seq}
 use Rattle.slate_table.specs.Table.{IsTable}
 use Rattle.slate_table.proofs.CutLaws.{built_has}
+use Rattle.slate_mem.specs.KeyTests.{Segments}
 use Rattle.slate_txn.specs.declared.event.Event.TheVariants as events
 use Rattle.slate_txn.specs.Reads.{state_at}
 use Rattle.slate_txn.specs.State.{Rules, State}
 use Rattle.slate_db.specs.Flushed.{AreTablesAt, IsFlushed, IsTableAt, Layout, TakesTables, idle, stored, with_tables}
 use Rattle.slate_db.specs.Frozen.{IsFrozen}
 use Rattle.slate_db.specs.Installs.{root, runs_of}
-use Rattle.slate_db.specs.Meaning.{Meaning, combine_of, rules_of}
+use Rattle.slate_db.specs.Meaning.{Meaning, combine_of, rules_in}
 use Rattle.slate_db.specs.Model.{CoreModel, Rows, versions_in}
 use Rattle.slate_db.specs.Sound.{AreTables}
 use Rattle.slate_db.specs.StoredState.{StoresState}
@@ -198,14 +199,14 @@ flush-alone m layout old mid new n before after frozen flushed few room h = by f
 
 -- ---- lines that store nothing, and the beginning
 
-pub stays-alone : {n : Meaning} (m : Meaning) (layout : Layout) (objects after : Option Objects) (e new : SessionModel) → after ≡ objects → StoresNothing n e new → HasTablesAlone m layout objects (runs_of e.core.events) → HasTablesAlone m layout after (runs_of new.core.events)
+pub stays-alone : {n : Meaning} {seg : Segments} (m : Meaning) (layout : Layout) (objects after : Option Objects) (e new : SessionModel) → after ≡ objects → StoresNothing n seg e new → HasTablesAlone m layout objects (runs_of e.core.events) → HasTablesAlone m layout after (runs_of new.core.events)
 stays-alone m layout objects after e new same stores h =
     subst (HasTablesAlone m layout after) (sym stores.runs) (subst (λ o. HasTablesAlone m layout o (runs_of e.core.events)) (sym same) h)
 
-pub stays-where : {V E : Type 0} (n : Meaning) (result : Result V E) (m : Meaning) (layout : Layout) (objects after : Option Objects) (e new : SessionModel) → after ≡ objects → OnOk result (StoresNothing n e new) →
+pub stays-where : {V E : Type 0} (n : Meaning) (seg : Segments) (result : Result V E) (m : Meaning) (layout : Layout) (objects after : Option Objects) (e new : SessionModel) → after ≡ objects → OnOk result (StoresNothing n seg e new) →
     HasTablesAlone m layout objects (runs_of e.core.events) → OnOk result (HasTablesAlone m layout after (runs_of new.core.events))
-stays-where n (Ok v) m layout objects after e new same stores h = stays-alone m layout objects after e new same stores h
-stays-where n (Err x) m layout objects after e new same stores h = tt
+stays-where n seg (Ok v) m layout objects after e new same stores h = stays-alone m layout objects after e new same stores h
+stays-where n seg (Err x) m layout objects after e new same stores h = tt
 
 pub begins-alone : (m : Meaning) (layout : Layout) (objects : Option Objects) (e : SessionModel) → IsEmpty objects → e.core.events ≡ [] → HasTablesAlone m layout objects (runs_of e.core.events)
 begins-alone m layout objects e empty none = subst (λ es. HasTablesAlone m layout objects (runs_of es)) (sym none)
@@ -213,9 +214,9 @@ begins-alone m layout objects e empty none = subst (λ es. HasTablesAlone m layo
 
 -- ---- the end
 
-pub stored-state : (m : Meaning) (r : Rules) (layout : Layout) (objects : Option Objects) (e : SessionModel) (s : State) → rules_of e.core.settings m ≡ r → StoresState m e.core → StandsFor e s →
+pub stored-state : (m : Meaning) (seg : Segments) (r : Rules) (layout : Layout) (objects : Option Objects) (e : SessionModel) (s : State) → rules_in e.core.settings m seg ≡ r → StoresState m e.core → StandsFor e s →
     HasTablesAlone m layout objects (runs_of e.core.events) → IsStoredState m r layout objects s
-stored-state m r layout objects e s rules stores stands h = record {
+stored-state m seg r layout objects e s rules stores stands h = record {
   os = h.os;
   told = h.told;
   each = each-as _ (IsTableObject m layout) (λ o p. p.0) h.os h.each;

@@ -11,6 +11,7 @@ use Rattle.slate_types.specs.World.{Made}
 use Rattle.slate_store.specs.Store.{Act, with_object}
 use Rattle.slate_filter.specs.Policy.{Policy}
 use Rattle.slate_table.specs.Paths.{path_of}
+use Rattle.slate_mem.specs.KeyTests.{Segments}
 use Rattle.slate_txn.specs.declared.event.Event.TheVariants as events
 use Rattle.slate_txn.specs.declared.line.Line.{Line}
 use Rattle.slate_txn.specs.declared.line.Line.TheVariants as lines
@@ -21,6 +22,7 @@ use Rattle.slate_db.specs.Installs.{root, tables_of}
 use Rattle.slate_db.specs.Meaning.{Meaning}
 use Rattle.slate_db.specs.Model.{CoreModel}
 use Rattle.slate_db.specs.Parts.{IsTableError}
+use Rattle.slate_db.specs.Segmented.{IsSegmented}
 use Rattle.slate_db.specs.Sound.{IsKept}
 use Rattle.slate_db.specs.Log.{LIMIT}
 use Rattle.slate_script.specs.Session.{SessionModel, IsSettled, StoresNothing}
@@ -53,19 +55,19 @@ true-behind os (a ∷ acts) more h = true-behind (after_act os a) acts more h.1
 
 -- ---- one line
 
-pub follows-itself : (policies : List Policy) (m : Meaning) (os : Objects) (e : SessionModel) (acts : Option (List Act)) → IsSettled policies m (Some os) e → Follows policies m os e acts acts
-follows-itself policies m os e acts settled known is = ([], is ∙ ap (λ (l : List Act). Some l) (sym (append-nil known)), settled)
+pub follows-itself : (policies : List Policy) (m : Meaning) (seg : Segments) (os : Objects) (e : SessionModel) (acts : Option (List Act)) → IsSettled policies m seg (Some os) e → Follows policies m seg os e acts acts
+follows-itself policies m seg os e acts settled known is = ([], is ∙ ap (λ (l : List Act). Some l) (sym (append-nil known)), settled)
 
-pub follows-still : {V E : Type 0} (result : Result V E) (policies : List Policy) (m : Meaning) (os : Objects) (e new : SessionModel) (acts : Option (List Act)) → OnOk result (StoresNothing m e new) → IsSettled policies m (Some os) e → OnOk result (Follows policies m os new acts acts)
-follows-still (Ok v) policies m os e new acts stores settled = follows-itself policies m os new acts (stays-settled policies m (Some os) e new stores settled)
-follows-still (Err x) policies m os e new acts stores settled = tt
+pub follows-still : {V E : Type 0} (result : Result V E) (policies : List Policy) (m : Meaning) (seg : Segments) (os : Objects) (e new : SessionModel) (acts : Option (List Act)) → OnOk result (StoresNothing m seg e new) → IsSettled policies m seg (Some os) e → OnOk result (Follows policies m seg os new acts acts)
+follows-still (Ok v) policies m seg os e new acts stores settled = follows-itself policies m seg os new acts (stays-settled policies m seg (Some os) e new stores settled)
+follows-still (Err x) policies m seg os e new acts stores settled = tt
 
-pub follows-reads : {V E : Type 0} (result : Result V E) (policies : List Policy) (m : Meaning) (os : Objects) (e new : SessionModel) (before after : Option (List Act)) → AddsReads before after → OnOk result (StoresNothing m e new) → IsSettled policies m (Some os) e →
-    OnOk result (Follows policies m os new before after)
-follows-reads (Ok v) policies m os e new before after adds stores settled = λ known is.
+pub follows-reads : {V E : Type 0} (result : Result V E) (policies : List Policy) (m : Meaning) (seg : Segments) (os : Objects) (e new : SessionModel) (before after : Option (List Act)) → AddsReads before after → OnOk result (StoresNothing m seg e new) → IsSettled policies m seg (Some os) e →
+    OnOk result (Follows policies m seg os new before after)
+follows-reads (Ok v) policies m seg os e new before after adds stores settled = λ known is.
     let r = adds known is in
-    (r.0, r.1, subst (λ (x : Objects). IsSettled policies m (Some x) new) (sym (reads-keep os r.0 r.2)) (stays-settled policies m (Some os) e new stores settled))
-follows-reads (Err x) policies m os e new before after adds stores settled = tt
+    (r.0, r.1, subst (λ (x : Objects). IsSettled policies m seg (Some x) new) (sym (reads-keep os r.0 r.2)) (stays-settled policies m seg (Some os) e new stores settled))
+follows-reads (Err x) policies m seg os e new before after adds stores settled = tt
 
 -- the puts of tables, as acts
 abbrev put-acts : List (Ulid × List ℕ) → List Act
@@ -91,9 +93,9 @@ puts-are (t ∷ ts) before = (
     more [] t = refl
     more (u ∷ us) t = ap (λ (acts : List Act). Act.put (path_of root u.0.0) u.1 ∷ acts) (more us t)
 
-pub follows-flush : (m : Meaning) (layout : Layout) (os : Objects) (objects left : Option Objects) (e : SessionModel) (mid core : CoreModel) (n : ℕ) (before after : Option (List Act)) → IsFrozen e.core mid → IsFlushed m layout mid core n objects left →
-    AddsTables (tables_of e.core.events) (tables_of core.events) before after → length e.core.events ≤ LIMIT → (IsKept m e.core → IsKept m core) → IsSettled layout.policies m (Some os) e → Follows layout.policies m os (record e { core = core }) before after
-follows-flush m layout os objects left e mid core n before after frozen flushed (us, grown, acts) room kept settled known told = by flushed
+pub follows-flush : (m : Meaning) (seg : Segments) (layout : Layout) (os : Objects) (objects left : Option Objects) (e : SessionModel) (mid core : CoreModel) (n : ℕ) (before after : Option (List Act)) → IsFrozen e.core mid → IsFlushed m layout mid core n objects left →
+    AddsTables (tables_of e.core.events) (tables_of core.events) before after → length e.core.events ≤ LIMIT → (IsKept m e.core → IsKept m core) → (IsSegmented seg e.core → IsSegmented seg core) → IsSettled layout.policies m seg (Some os) e → Follows layout.policies m seg os (record e { core = core }) before after
+follows-flush m seg layout os objects left e mid core n before after frozen flushed (us, grown, acts) room kept segmented settled known told = by flushed
   where
     new : SessionModel
     new = record e { core = core }
@@ -101,20 +103,20 @@ follows-flush m layout os objects left e mid core n before after frozen flushed 
     same : tables_of mid.events ≡ tables_of e.core.events
     same = same-tables mid.events e.core.events (leaves-frozen e.core mid frozen).runs
 
-    settles : (ts : List (Ulid × List ℕ)) → us ≡ ts → IsSettled layout.policies m (Some (with_tables os ts)) new → (more : List Act) × (after ≡ Some (known ++ more)) × IsSettled layout.policies m (Some (after_acts os more)) new
+    settles : (ts : List (Ulid × List ℕ)) → us ≡ ts → IsSettled layout.policies m seg (Some (with_tables os ts)) new → (more : List Act) × (after ≡ Some (known ++ more)) × IsSettled layout.policies m seg (Some (after_acts os more)) new
     settles ts it s = (
       put-acts us,
       puts-told us before after known acts told,
-      subst (λ (x : Objects). IsSettled layout.policies m (Some x) new) (sym (puts-objects os us ∙ ap (with_tables os) it)) s,
+      subst (λ (x : Objects). IsSettled layout.policies m seg (Some x) new) (sym (puts-objects os us ∙ ap (with_tables os) it)) s,
     )
 
-    by : IsFlushed m layout mid core n objects left → (more : List Act) × (after ≡ Some (known ++ more)) × IsSettled layout.policies m (Some (after_acts os more)) new
+    by : IsFlushed m layout mid core n objects left → (more : List Act) × (after ≡ Some (known ++ more)) × IsSettled layout.policies m seg (Some (after_acts os more)) new
     by (idle none is untouched) =
         settles [] (append_cancel_left (tables_of e.core.events) us [] (sym grown ∙ ap (λ (c : CoreModel). tables_of c.events) is ∙ same ∙ sym (append-nil (tables_of e.core.events))))
-        (flush-settled m layout (Some os) (Some os) e mid core n frozen (idle none is refl) room kept settled)
+        (flush-settled m seg layout (Some os) (Some os) e mid core n frozen (idle none is refl) room kept segmented settled)
     by (stored ts is made takes) =
         settles ts (append_cancel_left (tables_of e.core.events) us ts (sym grown ∙ ap (λ (c : CoreModel). tables_of c.events) is ∙ tables-more mid.events (events.Install n ts) ∙ ap (λ xs. xs ++ ts) same))
-        (flush-settled m layout (Some os) (Some (with_tables os ts)) e mid core n frozen (stored ts is made refl) room kept settled)
+        (flush-settled m seg layout (Some os) (Some (with_tables os ts)) e mid core n frozen (stored ts is made refl) room kept segmented settled)
 
 -- ---- damage
 
@@ -126,14 +128,14 @@ untrue-get (Err e) os before after a b adds truthful = λ damage known is.
 
 -- ---- one line after others
 
-pub follows-on : (policies : List Policy) (m : Meaning) (e new : SessionModel) (first middle last : Option (List Act)) → Follows policies m [] e first middle → ((os : Objects) → IsSettled policies m (Some os) e → Follows policies m os new middle last) → Follows policies m [] new first last
-follows-on policies m e new first middle last f g known is =
+pub follows-on : (policies : List Policy) (m : Meaning) (seg : Segments) (e new : SessionModel) (first middle last : Option (List Act)) → Follows policies m seg [] e first middle → ((os : Objects) → IsSettled policies m seg (Some os) e → Follows policies m seg os new middle last) → Follows policies m seg [] new first last
+follows-on policies m seg e new first middle last f g known is =
     let a = f known is in
     let b = g (after_acts [] a.0) a.2 (known ++ a.0) a.1 in
-    (a.0 ++ b.0, b.1 ∙ ap (λ (l : List Act). Some l) (append_assoc known a.0 b.0), subst (λ (os : Objects). IsSettled policies m (Some os) new) (sym (after-both [] a.0 b.0)) b.2)
+    (a.0 ++ b.0, b.1 ∙ ap (λ (l : List Act). Some l) (append_assoc known a.0 b.0), subst (λ (os : Objects). IsSettled policies m seg (Some os) new) (sym (after-both [] a.0 b.0)) b.2)
 
-pub untrue-on : (policies : List Policy) (m : Meaning) (e : SessionModel) (first middle last : Option (List Act)) → Follows policies m [] e first middle → ((os : Objects) → IsSettled policies m (Some os) e → IsUntrue os middle last) → IsUntrue [] first last
-untrue-on policies m e first middle last f g known is =
+pub untrue-on : (policies : List Policy) (m : Meaning) (seg : Segments) (e : SessionModel) (first middle last : Option (List Act)) → Follows policies m seg [] e first middle → ((os : Objects) → IsSettled policies m seg (Some os) e → IsUntrue os middle last) → IsUntrue [] first last
+untrue-on policies m seg e first middle last f g known is =
     let a = f known is in
     let b = g (after_acts [] a.0) a.2 (known ++ a.0) a.1 in
     (a.0 ++ b.0, b.1 ∙ ap (λ (l : List Act). Some l) (append_assoc known a.0 b.0), λ true. b.2 (true-behind [] a.0 b.0 true))
@@ -153,9 +155,9 @@ puts-both acts [] us h k = k
 puts-both acts (t ∷ ts) us h k = (h.0, puts-both acts ts us h.1 k)
 
 -- where nothing was put
-pub stores-none : {V : Type 0} (m : Meaning) (result : Result V SlateDBError) (e new : SessionModel) (before after : Option (List Act)) → AddsReads before after → OnOk result (StoresNothing m e new) → OnOk result (PutsTables (tables_of e.core.events) (tables_of new.core.events) before after)
-stores-none m (Ok v) e new before after adds stores = λ known is. let r = adds known is in (r.0, [], r.1, tables-still e new stores ∙ sym (append-nil (tables_of e.core.events)), tt)
-stores-none m (Err x) e new before after adds stores = tt
+pub stores-none : {V : Type 0} (m : Meaning) (seg : Segments) (result : Result V SlateDBError) (e new : SessionModel) (before after : Option (List Act)) → AddsReads before after → OnOk result (StoresNothing m seg e new) → OnOk result (PutsTables (tables_of e.core.events) (tables_of new.core.events) before after)
+stores-none m seg (Ok v) e new before after adds stores = λ known is. let r = adds known is in (r.0, [], r.1, tables-still e new stores ∙ sym (append-nil (tables_of e.core.events)), tt)
+stores-none m seg (Err x) e new before after adds stores = tt
 
 pub stores-added : (old new : List (Ulid × List ℕ)) (before after : Option (List Act)) → AddsTables old new before after → PutsTables old new before after
 stores-added old new before after (ts, grown, acts) known is = (put-acts ts, ts, puts-told ts before after known acts is, grown, puts-are ts [])

@@ -1,5 +1,5 @@
 -- What a run makes of a script.
---     run_rules o m      what the model knows of the options and of the parts
+--     run_rules o m seg      what the model knows of the options, of the parts and of the segments
 --     Premises policies m objects      the policies of filters and the parts are lawful, and the store is honest and was empty
 --     is_line l, first_other ls      a line that is silent or means something; the number, from 1, of the first that is neither
 --     lines_taken script      the lines that a run can take: of a script that is too long, the whole lines within the limit
@@ -27,13 +27,14 @@ use Rattle.slate_filter.specs.Policy.{Policy}
 use Rattle.slate_table.specs.Filtered.{AreLawful}
 use Rattle.slate_txn.specs.Settings.{settings_of}
 use Rattle.slate_txn.specs.State.{Rules}
-use Rattle.slate_db.specs.Meaning.{Meaning, IsLawfulMeaning, rules_of}
+use Rattle.slate_mem.specs.KeyTests.{Segments}
+use Rattle.slate_db.specs.Meaning.{Meaning, IsLawfulMeaning, rules_in}
 use Rattle.slate_db.specs.Parts.{IsTableError}
 use Rattle.slate_language.specs.Parse.{parse}
 use Rattle.slate_language.specs.Replies.{is_silent, replies, replies_to, IsWellFormed}
 
-abbrev pub run_rules : Options → Meaning → Rules
-run_rules o m = rules_of (settings_of o) m
+abbrev pub run_rules : Options → Meaning → Segments → Rules
+run_rules o m seg = rules_in (settings_of o) m seg
 
 pub record Premises (policies : List Policy) (m : Meaning) (objects : Option Objects) : Type 0 where
   pub lawful_policies : AreLawful policies

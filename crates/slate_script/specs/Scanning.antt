@@ -6,7 +6,7 @@
 --     HasScanned policies before after c d id order range sts rows      a line's scan was opened and walked over
 --     BeginsWith prefix range      where a prefix is given, each key of the range begins with it
 --     EndsBelow p      p doesn't end with byte 255
---     ScansAs m e new name order range sts result      the answer is that of the model's scan of the range, where bounds leave one
+--     ScansAs m seg e new name order range sts result      the answer is that of the model's scan of the range, where bounds leave one
 use Rattle.std.specs.Prelude.{◌≡◌, ◌≢◌, ◌⊎◌, ℕ, ◌-◌, nat_eq, true, List, ◌∷◌, ◌++◌, length, slice_get, Option, Some, Result, IfOk}
 use Rattle.std.specs.List.{starts_with}
 use Rattle.slate_types.specs.declared.bytes_range.BytesRange.{BytesRange}
@@ -19,6 +19,7 @@ use Rattle.slate_types.specs.Outside.{IsFault, Reach}
 use Rattle.slate_types.specs.Refusing.{NoMore}
 use Rattle.slate_types.specs.World.{World, Made, Sees}
 use Rattle.slate_filter.specs.Policy.{Policy}
+use Rattle.slate_mem.specs.KeyTests.{Segments}
 use Rattle.slate_txn.specs.declared.event.TranscriptStep.{TranscriptStep}
 use Rattle.slate_txn.specs.declared.event.TranscriptStep.TheVariants as steps
 use Rattle.slate_txn.specs.declared.line.ScanStep.{ScanStep}
@@ -28,7 +29,7 @@ use Rattle.slate_txn.specs.Reply.{RowsAre}
 use Rattle.slate_txn.specs.State.{State}
 use Rattle.slate_txn.specs.Step.{noted, reader, scan, step}
 use Rattle.slate_db.specs.declared.scan.TxnIterator.{TxnIterator}
-use Rattle.slate_db.specs.Meaning.{Meaning, rules_of}
+use Rattle.slate_db.specs.Meaning.{Meaning, rules_in}
 use Rattle.slate_db.specs.Model.{CoreModel}
 use Rattle.slate_db.specs.Readable.{IsAnswered}
 use Rattle.slate_db.specs.Scans.{IsScanOf, Leaves, ScanRefuses, id_of, number_of, scan_of}
@@ -58,7 +59,7 @@ pub record HasScanned (policies : List Policy) (before after : Reach) (c d : Cor
   pub ts : List TranscriptStep
   pub notes : d ≡ record c { state = noted c.state id (steps.Scan order range ∷ ts) }
   pub kept : (m : Meaning) → IsKept m c → IsKept m d
-  pub answers : IsAnswered policies before after c → step (rules_of c.settings before.meaning) c.state (lines.Scan id order range.start range.end sts) ≡ (d.state, RowsAre rows)
+  pub answers : (seg : Segments) → IsAnswered policies before after c → step (rules_in c.settings before.meaning seg) c.state (lines.Scan id order range.start range.end sts) ≡ (d.state, RowsAre rows)
 
 abbrev pub BeginsWith : Option (List ℕ) → BytesRange → Type 0
 BeginsWith prefix range = (p k : List ℕ) → prefix ≡ Some p → in_range range k ≡ true → starts_with nat_eq k p ≡ true
@@ -66,6 +67,6 @@ BeginsWith prefix range = (p k : List ℕ) → prefix ≡ Some p → in_range ra
 abbrev pub EndsBelow : List ℕ → Type 0
 EndsBelow p = slice_get p (length p - 1) ≢ Some 255
 
-abbrev pub ScansAs : Meaning → SessionModel → SessionModel → List ℕ → IterationOrder → Option BytesRange → List ScanStep → Result Answer SlateDBError → Type 0
-ScansAs m before after name order range sts result =
-    (s : State) → StandsFor before s → IfOk result (IsStep after (scan (rules_of before.core.settings m) s name order range sts (reader s name)))
+abbrev pub ScansAs : Meaning → Segments → SessionModel → SessionModel → List ℕ → IterationOrder → Option BytesRange → List ScanStep → Result Answer SlateDBError → Type 0
+ScansAs m seg before after name order range sts result =
+    (s : State) → StandsFor before s → IfOk result (IsStep after (scan (rules_in before.core.settings m seg) s name order range sts (reader s name)))

@@ -8,28 +8,29 @@
 --     AreUnder named names ps      of the model's names each has what is open under its id
 --     StandsFor e s      the session answers as the model does in the state s
 --     IsStep e stepped a      an answer is the model's, as it is shown, and what the session becomes is the model's too
---     AnswersAs m before after line result      so is the answer to the line, for what the parts mean
+--     AnswersAs m seg before after line result      so is the answer to the line, for what the parts and the segments mean
 --     HasTables objects es      the store holds the journal's tables, and no two lie at one path
 --     IsTableUpTo m layout n o      an object is a table that a flush put, and there were no more flushes than these
 --     HasTablesAlone m layout objects runs      the store holds nothing but the tables of these installs, and for each key its rows by sequence are theirs
---     IsSettled policies m objects e      policies and parts are lawful, what is kept of the rows holds, so does this, and the tables have the filters of the policies
---     IsSettledIn policies reach e      the same of what a call reaches
---     IsRunning policies m r parts objects e      the same for rules of a run, whose parts mean what they did
+--     IsSettled policies m seg objects e      policies and parts are lawful, what is kept of the rows and of the segments holds, so does this, and the tables have the filters of the policies
+--     IsSettledIn policies seg reach e      the same of what a call reaches
+--     IsRunning policies m seg r parts objects e      the same for rules of a run, whose parts mean what they did
 --     own_load txns, held_load e      how many own operations open transactions have; the same with the rows in memory
 --     line_load line, Grows line old new      how many operations a line has; no more than so do its events, its rows and its own operations grow
 --     IsFull e, IsLimit e error      the journal or memory has passed what no script fills; a limit was reached, so one of them has
 --     IsRefusal error      a line that writes is answered so; a read or a flush that wants an operator ends the run
 --     IsDone ran result      an operation that ran is answered by its end, and a refused one by its refusal
 --     has_moment line      a line that sets the moment sets one
---     StoresNothing m old new      what a line keeps that stores nothing
+--     StoresNothing m seg old new      what a line keeps that stores nothing
 use Rattle.std.specs.Prelude.{◌≡◌, ℕ, ◌+◌, ◌-◌, ◌^◌, ◌<◌, ◌⊎◌, Bool, true, ◌≤◌, List, flat_map, length, sum_by, Option, Some, None, Result, Ok, IfOk, IfErr, OnOk, IsSome, ℤ}
 use Rattle.std.specs.List.{AllByRecursion}
 use Rattle.std.specs.Option.{option_or}
 use Rattle.slate_types.specs.declared.error.SlateDBError.{SlateDBError}
-use Rattle.slate_types.specs.declared.error.SlateDBError.TheVariants.{TransactionConflict, EmptyKey, KeyTooLong, ValueTooLong, SequenceExhausted, MergeOperatorMissing, IncompatibleMergeTtls, LimitReached}
+use Rattle.slate_types.specs.declared.error.SlateDBError.TheVariants.{TransactionConflict, EmptyKey, KeyTooLong, ValueTooLong, SequenceExhausted, MergeOperatorMissing, IncompatibleMergeTtls, EmptySegmentPrefix, InvalidSegmentPrefix, LimitReached}
 use Rattle.slate_types.specs.declared.types.Ulid.{Ulid}
 use Rattle.slate_types.specs.Outside.{Objects, Reach}
 use Rattle.slate_filter.specs.Policy.{Policy}
+use Rattle.slate_mem.specs.KeyTests.{Segments}
 use Rattle.slate_table.specs.Filtered.{AreLawful}
 use Rattle.slate_table.specs.Stored.{HoldRows, by_seq}
 use Rattle.slate_txn.specs.declared.event.Event.{Event}
@@ -42,10 +43,11 @@ use Rattle.slate_txn.specs.Step.{Reader, reader, step}
 use Rattle.slate_db.specs.Flushed.{Layout}
 use Rattle.slate_db.specs.Load.{load, weight}
 use Rattle.slate_db.specs.Installs.{HoldsTables, NumberedFrom, runs_of, tables_of}
-use Rattle.slate_db.specs.Meaning.{Meaning, IsLawfulMeaning, rules_of}
+use Rattle.slate_db.specs.Meaning.{Meaning, IsLawfulMeaning, rules_in}
 use Rattle.slate_db.specs.Model.{CoreModel, Rows, versions_in}
 use Rattle.slate_types.specs.Rows.{of_key}
 use Rattle.slate_db.specs.Readable.{AreFiltered}
+use Rattle.slate_db.specs.Segmented.{IsSegmented}
 use Rattle.slate_db.specs.Sound.{IsKept, AreTables}
 use Rattle.slate_db.specs.Layers.{AreRising}
 use Rattle.slate_db.specs.Log.{LIMIT}
@@ -104,8 +106,8 @@ pub record StandsFor (e : SessionModel) (s : State) : Type 0 where
 abbrev pub IsStep : SessionModel → State × Reply → Answer → Type 0
 IsStep e stepped a = StandsFor e stepped.0 × (reply_of a ≡ as_shown stepped.1)
 
-abbrev pub AnswersAs : Meaning → SessionModel → SessionModel → Line → Result Answer SlateDBError → Type 0
-AnswersAs m before after line result = (s : State) → StandsFor before s → IfOk result (IsStep after (step (rules_of before.core.settings m) s line))
+abbrev pub AnswersAs : Meaning → Segments → SessionModel → SessionModel → Line → Result Answer SlateDBError → Type 0
+AnswersAs m seg before after line result = (s : State) → StandsFor before s → IfOk result (IsStep after (step (rules_in before.core.settings m seg) s line))
 
 -- objects: what the store tells; flushes are numbered, and the tables of each have places
 pub record HasTables (objects : Option Objects) (es : List Event) : Type 0 where
@@ -127,15 +129,16 @@ pub record HasTablesAlone (m : Meaning) (layout : Layout) (objects : Option Obje
   pub held : HoldRows m.encode os rows
   pub sorted : (k : List ℕ) → AreRising (versions_in k layers) → by_seq (of_key k rows) ≡ versions_in k layers
 
-pub record IsSettled (policies : List Policy) (m : Meaning) (objects : Option Objects) (e : SessionModel) : Type 0 where
+pub record IsSettled (policies : List Policy) (m : Meaning) (seg : Segments) (objects : Option Objects) (e : SessionModel) : Type 0 where
   pub lawful_policies : AreLawful policies
   pub lawful : IsLawfulMeaning m
   pub kept : IsKept m e.core
+  pub segmented : IsSegmented seg e.core
   pub tables : HasTables objects e.core.events
   pub filtered : AreFiltered m.encode policies (tables_of e.core.events)
 
-abbrev pub IsSettledIn : List Policy → Reach → SessionModel → Type 0
-IsSettledIn policies reach e = IsSettled policies reach.meaning reach.objects e
+abbrev pub IsSettledIn : List Policy → Segments → Reach → SessionModel → Type 0
+IsSettledIn policies seg reach e = IsSettled policies reach.meaning seg reach.objects e
 
 -- ---- how much a session holds
 
@@ -174,6 +177,8 @@ IsRefusal (ValueTooLong n) = Unit {0}
 IsRefusal SequenceExhausted = Unit {0}
 IsRefusal MergeOperatorMissing = Unit {0}
 IsRefusal (IncompatibleMergeTtls k a b) = Unit {0}
+IsRefusal (EmptySegmentPrefix k) = Unit {0}
+IsRefusal (InvalidSegmentPrefix p q) = Unit {0}
 IsRefusal _ = ⊥
 
 pub record IsDone {T : Type 0} (ran : Result T SlateDBError) (result : Result Answer SlateDBError) : Type 0 where
@@ -183,17 +188,18 @@ pub record IsDone {T : Type 0} (ran : Result T SlateDBError) (result : Result An
   pub other : IfErr ran (λ e. IfErr result (λ x. (x ≡ e) × (IsRefusal e → ⊥)))
 
 -- what a line that stores nothing keeps, for parts of this meaning
-pub record StoresNothing (m : Meaning) (old new : SessionModel) : Type 0 where
+pub record StoresNothing (m : Meaning) (seg : Segments) (old new : SessionModel) : Type 0 where
   pub settings : new.core.settings ≡ old.core.settings
   pub runs : runs_of new.core.events ≡ runs_of old.core.events
   pub later : length old.core.events ≤ length new.core.events
   pub kept : IsKept m old.core → IsKept m new.core
+  pub segmented : IsSegmented seg old.core → IsSegmented seg new.core
 
 -- parts: what the parts mean that are handed in
-pub record IsRunning (policies : List Policy) (m : Meaning) (r : Rules) (parts : Meaning) (objects : Option Objects) (e : SessionModel) : Type 0 where
+pub record IsRunning (policies : List Policy) (m : Meaning) (seg : Segments) (r : Rules) (parts : Meaning) (objects : Option Objects) (e : SessionModel) : Type 0 where
   pub meaning : parts ≡ m
-  pub rules : rules_of e.core.settings m ≡ r
-  pub settled : IsSettled policies m objects e
+  pub rules : rules_in e.core.settings m seg ≡ r
+  pub settled : IsSettled policies m seg objects e
 
 -- the moment of a line that sets it is one
 abbrev pub has_moment : Line → Bool

@@ -2,7 +2,7 @@
 --     after_act os act, after_acts os acts      the objects once a put stands at its path; the same of several acts
 --     AreTrue os acts      each read was answered by the objects as they were by then
 --     IsUntrue os before after      behind the acts from before a store that tells its acts told of some that aren't so
---     Follows policies m os e before after      behind those a session is settled over the objects as the acts left them
+--     Follows policies m seg os e before after      behind those a session is settled over the objects as the acts left them
 --     ArePut acts ts      each of the tables was put by one of the acts
 --     PutsTables old new before after      of two lists of tables the second has those of the first and more, which were put by the acts in between
 --     asking_for policies k      what the get of a line asks filters
@@ -19,6 +19,7 @@ use Rattle.slate_store.specs.Store.{Act, with_object}
 use Rattle.slate_txn.specs.declared.line.Line.{Line}
 use Rattle.slate_txn.specs.declared.line.Line.TheVariants as lines
 use Rattle.slate_filter.specs.Policy.{Policy}
+use Rattle.slate_mem.specs.KeyTests.{Segments}
 use Rattle.slate_table.specs.Filtered.{point_query}
 use Rattle.slate_table.specs.Paths.{path_of}
 use Rattle.slate_db.specs.Answered.{AnswersAct}
@@ -46,8 +47,8 @@ AreTrue os (a ∷ acts) = AnswersAct os a × AreTrue (after_act os a) acts
 abbrev pub IsUntrue : Objects → Option (List Act) → Option (List Act) → Type 0
 IsUntrue os before after = (known : List Act) → before ≡ Some known → (more : List Act) × (after ≡ Some (known ++ more)) × (AreTrue os more → ⊥)
 
-abbrev pub Follows : List Policy → Meaning → Objects → SessionModel → Option (List Act) → Option (List Act) → Type 0
-Follows policies m os e before after = (known : List Act) → before ≡ Some known → (more : List Act) × (after ≡ Some (known ++ more)) × IsSettled policies m (Some (after_acts os more)) e
+abbrev pub Follows : List Policy → Meaning → Segments → Objects → SessionModel → Option (List Act) → Option (List Act) → Type 0
+Follows policies m seg os e before after = (known : List Act) → before ≡ Some known → (more : List Act) × (after ≡ Some (known ++ more)) × IsSettled policies m seg (Some (after_acts os more)) e
 
 abbrev pub ArePut : List Act → List (Ulid × List ℕ) → Type 0
 ArePut acts ts = AllByRecursion (λ t. Contains acts (Act.put (path_of root t.0.0) t.1)) ts

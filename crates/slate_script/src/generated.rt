@@ -100,11 +100,11 @@ pub fn run_generated<W: Sink, S: Store, M: MergeOperator, T: BlockTransformer, X
     ensures told { let reach = ⟦<EnvOf<S, M, T> as Outside>⟧.reach in
         let policies = map (λ p. meaning (p.vtable, p.value)) laws.now.policies.items in
         (before : List ℕ) → W.content sink.old ≡ Some before → Premises policies (reach env.old).meaning (reach env.old).objects →
-        HasTold (summary (run_rules laws.now.options (reach env.old).meaning) (generate rounds seed)) before (W.content sink.new) result }
+        HasTold (summary (run_rules laws.now.options (reach env.old).meaning (segments_by X.lengths laws.now.segments)) (generate rounds seed)) before (W.content sink.new) result }
     ensures stored { let reach = ⟦<EnvOf<S, M, T> as Outside>⟧.reach in
         let policies = map (λ p. meaning (p.vtable, p.value)) laws.now.policies.items in
         Premises policies (reach env.old).meaning (reach env.old).objects →
-        OnOk result (IsStoredState (reach env.old).meaning (run_rules laws.now.options (reach env.old).meaning) (layout_of laws.now.options policies (segments_by X.lengths laws.now.segments)) (reach env.new).objects (after_lines (run_rules laws.now.options (reach env.old).meaning) opening (lines_of (generate rounds seed)))) }
+        OnOk result (IsStoredState (reach env.old).meaning (run_rules laws.now.options (reach env.old).meaning (segments_by X.lengths laws.now.segments)) (layout_of laws.now.options policies (segments_by X.lengths laws.now.segments)) (reach env.new).objects (after_lines (run_rules laws.now.options (reach env.old).meaning (segments_by X.lengths laws.now.segments)) opening (lines_of (generate rounds seed)))) }
 
     // errors: each has its cause, and no fault is passed over
     ensures outside { IfErr result (λ e. IsOutside e) }

@@ -69,11 +69,11 @@ pub fn run_script<
     ensures said { let reach = ⟦<EnvOf<S, M, T> as Outside>⟧.reach in
         let policies = map (λ p. meaning (p.vtable, p.value)) laws.now.policies.items in
         (script before : List ℕ) → R.left source.old ≡ Some script → W.content sink.old ≡ Some before → Premises policies (reach env.old).meaning (reach env.old).objects →
-        HasSaid (run_rules laws.now.options (reach env.old).meaning) script (R.left source.new) before (W.content sink.new) result }
+        HasSaid (run_rules laws.now.options (reach env.old).meaning (segments_by X.lengths laws.now.segments)) script (R.left source.new) before (W.content sink.new) result }
     ensures stored { let reach = ⟦<EnvOf<S, M, T> as Outside>⟧.reach in
         let policies = map (λ p. meaning (p.vtable, p.value)) laws.now.policies.items in
         (script : List ℕ) → R.left source.old ≡ Some script → Premises policies (reach env.old).meaning (reach env.old).objects →
-        OnOk result (IsStoredState (reach env.old).meaning (run_rules laws.now.options (reach env.old).meaning) (layout_of laws.now.options policies (segments_by X.lengths laws.now.segments)) (reach env.new).objects (after_lines (run_rules laws.now.options (reach env.old).meaning) opening (lines_of script))) }
+        OnOk result (IsStoredState (reach env.old).meaning (run_rules laws.now.options (reach env.old).meaning (segments_by X.lengths laws.now.segments)) (layout_of laws.now.options policies (segments_by X.lengths laws.now.segments)) (reach env.new).objects (after_lines (run_rules laws.now.options (reach env.old).meaning (segments_by X.lengths laws.now.segments)) opening (lines_of script))) }
     ensures read { (script : List ℕ) → R.left source.old ≡ Some script → HasRead script (R.left source.new) result }
 
     // errors: each has its cause, and no fault is passed over
@@ -123,15 +123,15 @@ pub(crate) fn answer_lines<
     ensures said { let reach = ⟦<EnvOf<S, M, T> as Outside>⟧.reach in
         let policies = map (λ p. meaning (p.vtable, p.value)) laws.now.policies.items in
         (script before : List ℕ) → R.left source.old ≡ Some script → W.content sink.old ≡ Some before → Premises policies (reach env.old).meaning (reach env.old).objects →
-        HasSaid (run_rules laws.now.options (reach env.old).meaning) script (R.left source.new) before (W.content sink.new) result }
+        HasSaid (run_rules laws.now.options (reach env.old).meaning (segments_by X.lengths laws.now.segments)) script (R.left source.new) before (W.content sink.new) result }
     ensures counted { let reach = ⟦<EnvOf<S, M, T> as Outside>⟧.reach in
         let policies = map (λ p. meaning (p.vtable, p.value)) laws.now.policies.items in
         (script : List ℕ) → R.left source.old ≡ Some script → Premises policies (reach env.old).meaning (reach env.old).objects →
-        OnOk result (tally.new ≡ tallied tally.old (answers (run_rules laws.now.options (reach env.old).meaning) opening (meanings (lines_of script)))) }
+        OnOk result (tally.new ≡ tallied tally.old (answers (run_rules laws.now.options (reach env.old).meaning (segments_by X.lengths laws.now.segments)) opening (meanings (lines_of script)))) }
     ensures stored { let reach = ⟦<EnvOf<S, M, T> as Outside>⟧.reach in
         let policies = map (λ p. meaning (p.vtable, p.value)) laws.now.policies.items in
         (script : List ℕ) → R.left source.old ≡ Some script → Premises policies (reach env.old).meaning (reach env.old).objects →
-        OnOk result (IsStoredState (reach env.old).meaning (run_rules laws.now.options (reach env.old).meaning) (layout_of laws.now.options policies (segments_by X.lengths laws.now.segments)) (reach env.new).objects (after_lines (run_rules laws.now.options (reach env.old).meaning) opening (lines_of script))) }
+        OnOk result (IsStoredState (reach env.old).meaning (run_rules laws.now.options (reach env.old).meaning (segments_by X.lengths laws.now.segments)) (layout_of laws.now.options policies (segments_by X.lengths laws.now.segments)) (reach env.new).objects (after_lines (run_rules laws.now.options (reach env.old).meaning (segments_by X.lengths laws.now.segments)) opening (lines_of script))) }
     ensures read { (script : List ℕ) → R.left source.old ≡ Some script → HasRead script (R.left source.new) result }
 
     // errors: each has its cause, and no fault is passed over
@@ -207,34 +207,34 @@ fn answer_line<W: Sink, S: Store, M: MergeOperator, T: BlockTransformer, X: Pref
     ensures meant { OnOk result (IsTrue (is_line line.now)) }
     ensures running { let reach = ⟦<EnvOf<S, M, T> as Outside>⟧.reach in
         let policies = map (λ p. meaning (p.vtable, p.value)) laws.now.policies.items in
-        (m : Meaning) (r : Rules) → IsRunning policies m r (reach env.old).meaning (reach env.old).objects session.old → OnOk result (IsRunning policies m r (reach env.new).meaning (reach env.new).objects session.new) }
+        (m : Meaning) (r : Rules) → IsRunning policies m (segments_by X.lengths laws.now.segments) r (reach env.old).meaning (reach env.old).objects session.old → OnOk result (IsRunning policies m (segments_by X.lengths laws.now.segments) r (reach env.new).meaning (reach env.new).objects session.new) }
     ensures stands { let reach = ⟦<EnvOf<S, M, T> as Outside>⟧.reach in
         let policies = map (λ p. meaning (p.vtable, p.value)) laws.now.policies.items in
-        (m : Meaning) (r : Rules) → IsRunning policies m r (reach env.old).meaning (reach env.old).objects session.old → (s : State) → StandsFor session.old s → OnOk result (StandsFor session.new (after_lines r s (line.now ∷ []))) }
+        (m : Meaning) (r : Rules) → IsRunning policies m (segments_by X.lengths laws.now.segments) r (reach env.old).meaning (reach env.old).objects session.old → (s : State) → StandsFor session.old s → OnOk result (StandsFor session.new (after_lines r s (line.now ∷ []))) }
     ensures answered { let reach = ⟦<EnvOf<S, M, T> as Outside>⟧.reach in
         let policies = map (λ p. meaning (p.vtable, p.value)) laws.now.policies.items in
-        (m : Meaning) (r : Rules) → IsRunning policies m r (reach env.old).meaning (reach env.old).objects session.old → (s : State) (before : List ℕ) → StandsFor session.old s → W.content sink.old ≡ Some before →
+        (m : Meaning) (r : Rules) → IsRunning policies m (segments_by X.lengths laws.now.segments) r (reach env.old).meaning (reach env.old).objects session.old → (s : State) (before : List ℕ) → StandsFor session.old s → W.content sink.old ≡ Some before →
         OnOk result (W.content sink.new ≡ Some (before ++ replies_from r s (line.now ∷ []))) }
     ensures counted { let reach = ⟦<EnvOf<S, M, T> as Outside>⟧.reach in
         let policies = map (λ p. meaning (p.vtable, p.value)) laws.now.policies.items in
-        (m : Meaning) (r : Rules) → IsRunning policies m r (reach env.old).meaning (reach env.old).objects session.old → (s : State) → StandsFor session.old s →
+        (m : Meaning) (r : Rules) → IsRunning policies m (segments_by X.lengths laws.now.segments) r (reach env.old).meaning (reach env.old).objects session.old → (s : State) → StandsFor session.old s →
         OnOk result (tally.new ≡ tallied tally.old (answers r s (meanings (line.now ∷ [])))) }
     ensures grows { OnOk result ((weight session.new.core ≤ weight session.old.core + 2) × (held_load session.new ≤ held_load session.old + length line.now)) }
     ensures alone { let reach = ⟦<EnvOf<S, M, T> as Outside>⟧.reach in
         let policies = map (λ p. meaning (p.vtable, p.value)) laws.now.policies.items in
-        (m : Meaning) (r : Rules) → IsRunning policies m r (reach env.old).meaning (reach env.old).objects session.old → HasTablesAlone m (layout_of laws.now.options policies (segments_by X.lengths laws.now.segments)) (reach env.old).objects (runs_of session.old.core.events) →
+        (m : Meaning) (r : Rules) → IsRunning policies m (segments_by X.lengths laws.now.segments) r (reach env.old).meaning (reach env.old).objects session.old → HasTablesAlone m (layout_of laws.now.options policies (segments_by X.lengths laws.now.segments)) (reach env.old).objects (runs_of session.old.core.events) →
         OnOk result (HasTablesAlone m (layout_of laws.now.options policies (segments_by X.lengths laws.now.segments)) (reach env.new).objects (runs_of session.new.core.events)) }
     ensures cause { IfErr result (λ e. (e ≡ SlateDBError.OutOfMemory) ⊎ (e ≡ SlateDBError.WriteFault) ⊎ ((e ≡ SlateDBError.ScriptSyntax number) × (is_line line.now ≡ false)) ⊎ IsPartError e ⊎ IsLimit session.old e) }
     ensures part { let reach = ⟦<EnvOf<S, M, T> as Outside>⟧.reach in IfErr result (λ e. IsPartError e → IsPartCause (reach env.old).faults (reach env.new).faults e) }
     ensures undamaged { let reach = ⟦<EnvOf<S, M, T> as Outside>⟧.reach in
         let policies = map (λ p. meaning (p.vtable, p.value)) laws.now.policies.items in
-        (m : Meaning) (r : Rules) → IsRunning policies m r (reach env.old).meaning (reach env.old).objects session.old → IfErr result (λ e. IsTableError e → ⊥) }
+        (m : Meaning) (r : Rules) → IsRunning policies m (segments_by X.lengths laws.now.segments) r (reach env.old).meaning (reach env.old).objects session.old → IfErr result (λ e. IsTableError e → ⊥) }
     ensures follows { let reach = ⟦<EnvOf<S, M, T> as Outside>⟧.reach in
         let policies = map (λ p. meaning (p.vtable, p.value)) laws.now.policies.items in
-        (os : Objects) → IsSettled policies (reach env.old).meaning (Some os) session.old → OnOk result (Follows policies (reach env.old).meaning os session.new (reach env.old).acts (reach env.new).acts) }
+        (os : Objects) → IsSettled policies (reach env.old).meaning (segments_by X.lengths laws.now.segments) (Some os) session.old → OnOk result (Follows policies (reach env.old).meaning (segments_by X.lengths laws.now.segments) os session.new (reach env.old).acts (reach env.new).acts) }
     ensures untrue { let reach = ⟦<EnvOf<S, M, T> as Outside>⟧.reach in
         let policies = map (λ p. meaning (p.vtable, p.value)) laws.now.policies.items in
-        (os : Objects) → IsSettled policies (reach env.old).meaning (Some os) session.old → IfErr result (λ e. IsTableError e → IsUntrue os (reach env.old).acts (reach env.new).acts) }
+        (os : Objects) → IsSettled policies (reach env.old).meaning (segments_by X.lengths laws.now.segments) (Some os) session.old → IfErr result (λ e. IsTableError e → IsUntrue os (reach env.old).acts (reach env.new).acts) }
     ensures tables { let reach = ⟦<EnvOf<S, M, T> as Outside>⟧.reach in OnOk result (PutsTables (tables_of session.old.core.events) (tables_of session.new.core.events) (reach env.old).acts (reach env.new).acts) }
     ensures core_kept { let reach = ⟦<EnvOf<S, M, T> as Outside>⟧.reach in IsKept (reach env.old).meaning session.old.core → OnOk result (IsKept (reach env.old).meaning session.new.core) }
     ensures shown { let reach = ⟦<EnvOf<S, M, T> as Outside>⟧.reach in
@@ -243,7 +243,7 @@ fn answer_line<W: Sink, S: Store, M: MergeOperator, T: BlockTransformer, X: Pref
     ensures write_fault { result ≡ Err SlateDBError.WriteFault → Rose (W.faults sink.old) (W.faults sink.new) × IsTrue (is_line line.now) }
     ensures begun { let reach = ⟦<EnvOf<S, M, T> as Outside>⟧.reach in
         let policies = map (λ p. meaning (p.vtable, p.value)) laws.now.policies.items in
-        (m : Meaning) (r : Rules) → IsRunning policies m r (reach env.old).meaning (reach env.old).objects session.old → (s : State) (before : List ℕ) → StandsFor session.old s → W.content sink.old ≡ Some before → result ≡ Err SlateDBError.WriteFault →
+        (m : Meaning) (r : Rules) → IsRunning policies m (segments_by X.lengths laws.now.segments) r (reach env.old).meaning (reach env.old).objects session.old → (s : State) (before : List ℕ) → StandsFor session.old s → W.content sink.old ≡ Some before → result ≡ Err SlateDBError.WriteFault →
         (n : ℕ) × (n < length (replies_from r s (line.now ∷ []))) × (W.content sink.new ≡ Some (before ++ take n (replies_from r s (line.now ∷ [])))) }
     ensures still { OnOk result (W.faults sink.new ≡ W.faults sink.old) }
     ensures puts { let reach = ⟦<EnvOf<S, M, T> as Outside>⟧.reach in Puts (reach env.old) (reach env.new) }

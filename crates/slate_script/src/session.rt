@@ -10,6 +10,7 @@ ghost use Rattle.slate_types.specs.declared.config.Ttl.{Ttl};
 ghost use Rattle.slate_filter.specs.Laws.{AreValidNames};
 ghost use Rattle.slate_mem.specs.Batch.{Ops};
 ghost use Rattle.slate_mem.specs.BatchModel.{IsBatchOf};
+ghost use Rattle.slate_mem.specs.KeyTests.{Segments};
 ghost use Rattle.slate_mem.specs.Refusals.{first_refusal, op_refusal};
 ghost use Rattle.slate_txn.specs.declared.line.ScanStep.{ScanStep};
 ghost use Rattle.slate_txn.specs.Named.{find_named};
@@ -24,6 +25,7 @@ ghost use Rattle.slate_db.specs.Meaning.{Meaning, IsLawfulMeaning, segments_by};
 ghost use Rattle.slate_db.specs.Parts.{IsTableError};
 ghost use Rattle.slate_db.specs.Readable.{IsAnswered, IsReadError};
 ghost use Rattle.slate_db.specs.Scans.{IsScanError};
+ghost use Rattle.slate_db.specs.Segmented.{IsSegmented};
 ghost use Rattle.slate_db.specs.Sound.{IsKept, IsOperable};
 ghost use Rattle.slate_db.specs.StoredState.{StoresState};
 ghost use Rattle.slate_db.specs.Log.{AreFine};
@@ -88,6 +90,7 @@ impl Session {
         ensures settings { result.core.settings ≡ settings_of options.now }
         ensures events { result.core.events ≡ [] }
         ensures kept { (m : Meaning) → IsKept m result.core }
+        ensures segmented { (seg : Segments) → IsSegmented seg result.core }
         ensures holds { (weight result.core ≡ 0) × (held_load result ≡ 0) }
     {
         Session {
@@ -114,18 +117,18 @@ impl Session {
         requires names { AreValidNames (map (λ p. (meaning (p.vtable, p.value)).name) laws.now.policies.items) }
         ensures step { let reach = ⟦<EnvOf<S, M, T> as Outside>⟧.reach in
             let policies = map (λ p. meaning (p.vtable, p.value)) laws.now.policies.items in
-            IsSettledIn policies (reach env.old) self.old →
-            AnswersAs (reach env.old).meaning self.old self.new line result }
+            IsSettledIn policies (segments_by X.lengths laws.now.segments) (reach env.old) self.old →
+            AnswersAs (reach env.old).meaning (segments_by X.lengths laws.now.segments) self.old self.new line result }
         ensures settings { OnOk result (self.new.core.settings ≡ self.old.core.settings) }
         ensures grows { OnOk result (Grows line self.old self.new) }
         ensures kept { let reach = ⟦<EnvOf<S, M, T> as Outside>⟧.reach in
             let policies = map (λ p. meaning (p.vtable, p.value)) laws.now.policies.items in
-            IsSettledIn policies (reach env.old) self.old →
-            OnOk result (IsSettled policies (reach env.old).meaning (reach env.new).objects self.new) }
+            IsSettledIn policies (segments_by X.lengths laws.now.segments) (reach env.old) self.old →
+            OnOk result (IsSettled policies (reach env.old).meaning (segments_by X.lengths laws.now.segments) (reach env.new).objects self.new) }
         ensures core_kept { let reach = ⟦<EnvOf<S, M, T> as Outside>⟧.reach in IsKept (reach env.old).meaning self.old.core → OnOk result (IsKept (reach env.old).meaning self.new.core) }
         ensures alone { let reach = ⟦<EnvOf<S, M, T> as Outside>⟧.reach in
             let policies = map (λ p. meaning (p.vtable, p.value)) laws.now.policies.items in
-            IsSettledIn policies (reach env.old) self.old → HasTablesAlone (reach env.old).meaning (layout_of laws.now.options policies (segments_by X.lengths laws.now.segments)) (reach env.old).objects (runs_of self.old.core.events) →
+            IsSettledIn policies (segments_by X.lengths laws.now.segments) (reach env.old) self.old → HasTablesAlone (reach env.old).meaning (layout_of laws.now.options policies (segments_by X.lengths laws.now.segments)) (reach env.old).objects (runs_of self.old.core.events) →
             OnOk result (HasTablesAlone (reach env.old).meaning (layout_of laws.now.options policies (segments_by X.lengths laws.now.segments)) (reach env.new).objects (runs_of self.new.core.events)) }
         ensures cause { let reach = ⟦<EnvOf<S, M, T> as Outside>⟧.reach in IfErr result (λ e. IsFault (reach env.old) (reach env.new) e ⊎ IsLimit self.old e ⊎ IsTableError e) }
         ensures shown { let reach = ⟦<EnvOf<S, M, T> as Outside>⟧.reach in
@@ -133,15 +136,15 @@ impl Session {
             IsKept (reach env.old).meaning self.old.core → IfErr result (λ e. IsTableError e → Made (reach env.old) (reach env.new) (λ reads. IsRefusedAt policies line (reach env.old).meaning self.old.core reads e)) }
         ensures undamaged { let reach = ⟦<EnvOf<S, M, T> as Outside>⟧.reach in
             let policies = map (λ p. meaning (p.vtable, p.value)) laws.now.policies.items in
-            IsSettledIn policies (reach env.old) self.old →
+            IsSettledIn policies (segments_by X.lengths laws.now.segments) (reach env.old) self.old →
             IfErr result (λ e. IsFault (reach env.old) (reach env.new) e ⊎ IsLimit self.old e) }
         ensures follows { let reach = ⟦<EnvOf<S, M, T> as Outside>⟧.reach in
             let policies = map (λ p. meaning (p.vtable, p.value)) laws.now.policies.items in
-            (os : Objects) → IsSettled policies (reach env.old).meaning (Some os) self.old → OnOk result (Follows policies (reach env.old).meaning os self.new (reach env.old).acts (reach env.new).acts) }
+            (os : Objects) → IsSettled policies (reach env.old).meaning (segments_by X.lengths laws.now.segments) (Some os) self.old → OnOk result (Follows policies (reach env.old).meaning (segments_by X.lengths laws.now.segments) os self.new (reach env.old).acts (reach env.new).acts) }
         ensures tables { let reach = ⟦<EnvOf<S, M, T> as Outside>⟧.reach in OnOk result (PutsTables (tables_of self.old.core.events) (tables_of self.new.core.events) (reach env.old).acts (reach env.new).acts) }
         ensures untrue { let reach = ⟦<EnvOf<S, M, T> as Outside>⟧.reach in
             let policies = map (λ p. meaning (p.vtable, p.value)) laws.now.policies.items in
-            (os : Objects) → IsSettled policies (reach env.old).meaning (Some os) self.old → IfErr result (λ e. IsTableError e → IsUntrue os (reach env.old).acts (reach env.new).acts) }
+            (os : Objects) → IsSettled policies (reach env.old).meaning (segments_by X.lengths laws.now.segments) (Some os) self.old → IfErr result (λ e. IsTableError e → IsUntrue os (reach env.old).acts (reach env.new).acts) }
         ensures puts { let reach = ⟦<EnvOf<S, M, T> as Outside>⟧.reach in Puts (reach env.old) (reach env.new) }
     {
         match line {
@@ -184,8 +187,8 @@ impl Session {
         requires no_write { (ops : Ops) → line ≢ Line.Write ops }
         requires no_merge { (name key value : List ℕ) (ttl : Ttl) → line ≢ Line.Merge name key value ttl }
         requires no_commit { (name : List ℕ) → line ≢ Line.Commit name }
-        ensures step { (m : Meaning) → AnswersAs m self.old self.new line result }
-        ensures stores { OnOk result ((m : Meaning) → StoresNothing m self.old self.new) }
+        ensures step { (m : Meaning) (seg : Segments) → AnswersAs m seg self.old self.new line result }
+        ensures stores { OnOk result ((m : Meaning) (seg : Segments) → StoresNothing m seg self.old self.new) }
         ensures grows { OnOk result (Grows line self.old self.new) }
         ensures cause { IfErr result (λ e. (e ≡ SlateDBError.OutOfMemory) ⊎ IsLimit self.old e) }
     {
@@ -234,8 +237,8 @@ impl Session {
 
     /// Opens the name at the last commit, as a transaction.
     fn begin(&mut self, name: Bytes, level: IsolationLevel) -> Result<Answer, SlateDBError>
-        ensures step { (m : Meaning) → AnswersAs m self.old self.new (Line.Begin name level) result }
-        ensures stores { OnOk result ((m : Meaning) → StoresNothing m self.old self.new) }
+        ensures step { (m : Meaning) (seg : Segments) → AnswersAs m seg self.old self.new (Line.Begin name level) result }
+        ensures stores { OnOk result ((m : Meaning) (seg : Segments) → StoresNothing m seg self.old self.new) }
         ensures grows { OnOk result (Grows (Line.Begin name level) self.old self.new) }
         ensures cause { IfErr result (λ e. (e ≡ SlateDBError.OutOfMemory) ⊎ IsLimit self.old e) }
     {
@@ -250,8 +253,8 @@ impl Session {
 
     /// Opens the name at the last commit, as a snapshot.
     fn snapshot(&mut self, name: Bytes) -> Result<Answer, SlateDBError>
-        ensures step { (m : Meaning) → AnswersAs m self.old self.new (Line.Snapshot name) result }
-        ensures stores { OnOk result ((m : Meaning) → StoresNothing m self.old self.new) }
+        ensures step { (m : Meaning) (seg : Segments) → AnswersAs m seg self.old self.new (Line.Snapshot name) result }
+        ensures stores { OnOk result ((m : Meaning) (seg : Segments) → StoresNothing m seg self.old self.new) }
         ensures grows { OnOk result (Grows (Line.Snapshot name) self.old self.new) }
         ensures cause { IfErr result (λ e. (e ≡ SlateDBError.OutOfMemory) ⊎ IsLimit self.old e) }
     {
@@ -275,8 +278,8 @@ impl Session {
         ensures step { let reach = ⟦<EnvOf<S, M, T> as Outside>⟧.reach in
             let policies = map (λ p. meaning (p.vtable, p.value)) laws.now.policies.items in
             IsAnswered policies (reach env.old) (reach env.new) self.old.core →
-            AnswersAs (reach env.old).meaning self.old self.new (Line.Get name key) result }
-        ensures stores { OnOk result ((m : Meaning) → StoresNothing m self.old self.new) }
+            (seg : Segments) → AnswersAs (reach env.old).meaning seg self.old self.new (Line.Get name key) result }
+        ensures stores { OnOk result ((m : Meaning) (seg : Segments) → StoresNothing m seg self.old self.new) }
         ensures grows { OnOk result (Grows (Line.Get name key) self.old self.new) }
         ensures cause { let reach = ⟦<EnvOf<S, M, T> as Outside>⟧.reach in
             let policies = map (λ p. meaning (p.vtable, p.value)) laws.now.policies.items in
@@ -312,8 +315,8 @@ impl Session {
         ensures step { let reach = ⟦<EnvOf<S, M, T> as Outside>⟧.reach in
             let policies = map (λ p. meaning (p.vtable, p.value)) laws.now.policies.items in
             IsAnswered policies (reach env.old) (reach env.new) self.old.core →
-            AnswersAs (reach env.old).meaning self.old self.new (Line.Scan name order start end steps) result }
-        ensures stores { OnOk result ((m : Meaning) → StoresNothing m self.old self.new) }
+            (seg : Segments) → AnswersAs (reach env.old).meaning seg self.old self.new (Line.Scan name order start end steps) result }
+        ensures stores { OnOk result ((m : Meaning) (seg : Segments) → StoresNothing m seg self.old self.new) }
         ensures grows { OnOk result (Grows (Line.Scan name order start end steps) self.old self.new) }
         ensures cause { let reach = ⟦<EnvOf<S, M, T> as Outside>⟧.reach in IfErr result (IsScanError (reach env.old) (reach env.new) self.old.core) }
         ensures undamaged { let reach = ⟦<EnvOf<S, M, T> as Outside>⟧.reach in
@@ -341,8 +344,8 @@ impl Session {
         ensures step { let reach = ⟦<EnvOf<S, M, T> as Outside>⟧.reach in
             let policies = map (λ p. meaning (p.vtable, p.value)) laws.now.policies.items in
             IsAnswered policies (reach env.old) (reach env.new) self.old.core →
-            AnswersAs (reach env.old).meaning self.old self.new (Line.Prefix name order prefix start end steps) result }
-        ensures stores { OnOk result ((m : Meaning) → StoresNothing m self.old self.new) }
+            (seg : Segments) → AnswersAs (reach env.old).meaning seg self.old self.new (Line.Prefix name order prefix start end steps) result }
+        ensures stores { OnOk result ((m : Meaning) (seg : Segments) → StoresNothing m seg self.old self.new) }
         ensures grows { OnOk result (Grows (Line.Prefix name order prefix start end steps) self.old self.new) }
         ensures cause { let reach = ⟦<EnvOf<S, M, T> as Outside>⟧.reach in IfErr result (IsScanError (reach env.old) (reach env.new) self.old.core) }
         ensures undamaged { let reach = ⟦<EnvOf<S, M, T> as Outside>⟧.reach in
@@ -380,8 +383,8 @@ impl Session {
         ensures step { let reach = ⟦<EnvOf<S, M, T> as Outside>⟧.reach in
             let policies = map (λ p. meaning (p.vtable, p.value)) laws.now.policies.items in
             IsAnswered policies (reach env.old) (reach env.new) self.old.core →
-            ScansAs (reach env.old).meaning self.old self.new name order range steps result }
-        ensures stores { OnOk result ((m : Meaning) → StoresNothing m self.old self.new) }
+            (seg : Segments) → ScansAs (reach env.old).meaning seg self.old self.new name order range steps result }
+        ensures stores { OnOk result ((m : Meaning) (seg : Segments) → StoresNothing m seg self.old self.new) }
         ensures grows { (line : Line) → line_load line ≡ 0 → OnOk result (Grows line self.old self.new) }
         ensures cause { let reach = ⟦<EnvOf<S, M, T> as Outside>⟧.reach in IfErr result (IsScanError (reach env.old) (reach env.new) self.old.core) }
         ensures undamaged { let reach = ⟦<EnvOf<S, M, T> as Outside>⟧.reach in
@@ -419,8 +422,8 @@ impl Session {
 
     /// Closes the name: its transaction ends, or its snapshot is released.
     fn rollback(&mut self, name: Bytes) -> Answer
-        ensures step { (m : Meaning) → AnswersAs m self.old self.new (Line.Rollback name) (Ok result) }
-        ensures stores { (m : Meaning) → StoresNothing m self.old self.new }
+        ensures step { (m : Meaning) (seg : Segments) → AnswersAs m seg self.old self.new (Line.Rollback name) (Ok result) }
+        ensures stores { (m : Meaning) (seg : Segments) → StoresNothing m seg self.old self.new }
         ensures grows { Grows (Line.Rollback name) self.old self.new }
     {
         let Some(id) = self.names.remove(&name) else {
@@ -433,8 +436,8 @@ impl Session {
     /// Closes the name, which is no transaction's.
     fn release(&mut self, name: Bytes) -> Answer
         requires { find_named name self.old.names ≡ None }
-        ensures step { (m : Meaning) → AnswersAs m self.old self.new (Line.Rollback name) (Ok result) }
-        ensures stores { (m : Meaning) → StoresNothing m self.old self.new }
+        ensures step { (m : Meaning) (seg : Segments) → AnswersAs m seg self.old self.new (Line.Rollback name) (Ok result) }
+        ensures stores { (m : Meaning) (seg : Segments) → StoresNothing m seg self.old self.new }
         ensures grows { Grows (Line.Rollback name) self.old self.new }
     {
         let Some(id) = self.snapshot_names.remove(&name) else {
@@ -452,8 +455,8 @@ impl Session {
         value: Bytes,
         ttl: Ttl,
     ) -> Result<Answer, SlateDBError>
-        ensures step { (m : Meaning) → AnswersAs m self.old self.new (Line.Put name key value ttl) result }
-        ensures stores { OnOk result ((m : Meaning) → StoresNothing m self.old self.new) }
+        ensures step { (m : Meaning) (seg : Segments) → AnswersAs m seg self.old self.new (Line.Put name key value ttl) result }
+        ensures stores { OnOk result ((m : Meaning) (seg : Segments) → StoresNothing m seg self.old self.new) }
         ensures grows { OnOk result (Grows (Line.Put name key value ttl) self.old self.new) }
         ensures cause { IfErr result (λ e. (e ≡ SlateDBError.OutOfMemory) ⊎ IsLimit self.old e) }
     {
@@ -479,8 +482,8 @@ impl Session {
         ttl: Ttl,
         env: &mut Env<'_, S, M, T>,
     ) -> Result<Answer, SlateDBError>
-        ensures step { let reach = ⟦<EnvOf<S, M, T> as Outside>⟧.reach in AnswersAs (reach env.old).meaning self.old self.new (Line.Merge name key value ttl) result }
-        ensures stores { let reach = ⟦<EnvOf<S, M, T> as Outside>⟧.reach in OnOk result (StoresNothing (reach env.old).meaning self.old self.new) }
+        ensures step { let reach = ⟦<EnvOf<S, M, T> as Outside>⟧.reach in (seg : Segments) → AnswersAs (reach env.old).meaning seg self.old self.new (Line.Merge name key value ttl) result }
+        ensures stores { let reach = ⟦<EnvOf<S, M, T> as Outside>⟧.reach in OnOk result ((seg : Segments) → StoresNothing (reach env.old).meaning seg self.old self.new) }
         ensures grows { OnOk result (Grows (Line.Merge name key value ttl) self.old self.new) }
         ensures cause { let reach = ⟦<EnvOf<S, M, T> as Outside>⟧.reach in IfErr result (λ e. IsFault (reach env.old) (reach env.new) e ⊎ IsLimit self.old e) }
         ensures reads { let reach = ⟦<EnvOf<S, M, T> as Outside>⟧.reach in OnlyReads (reach env.old) (reach env.new) }
@@ -504,8 +507,8 @@ impl Session {
 
     /// Puts a delete of the key among the own operations of the name's transaction.
     fn delete(&mut self, name: Bytes, key: Bytes) -> Result<Answer, SlateDBError>
-        ensures step { (m : Meaning) → AnswersAs m self.old self.new (Line.Delete name key) result }
-        ensures stores { OnOk result ((m : Meaning) → StoresNothing m self.old self.new) }
+        ensures step { (m : Meaning) (seg : Segments) → AnswersAs m seg self.old self.new (Line.Delete name key) result }
+        ensures stores { OnOk result ((m : Meaning) (seg : Segments) → StoresNothing m seg self.old self.new) }
         ensures grows { OnOk result (Grows (Line.Delete name key) self.old self.new) }
         ensures cause { IfErr result (λ e. (e ≡ SlateDBError.OutOfMemory) ⊎ IsLimit self.old e) }
     {
@@ -522,8 +525,8 @@ impl Session {
 
     /// Makes the keys part of what the commit of the name's transaction conflicts by.
     fn mark(&mut self, name: Bytes, keys: KeyList) -> Result<Answer, SlateDBError>
-        ensures step { (m : Meaning) → AnswersAs m self.old self.new (Line.Mark name keys) result }
-        ensures stores { OnOk result ((m : Meaning) → StoresNothing m self.old self.new) }
+        ensures step { (m : Meaning) (seg : Segments) → AnswersAs m seg self.old self.new (Line.Mark name keys) result }
+        ensures stores { OnOk result ((m : Meaning) (seg : Segments) → StoresNothing m seg self.old self.new) }
         ensures grows { OnOk result (Grows (Line.Mark name keys) self.old self.new) }
         ensures cause { IfErr result (λ e. (e ≡ SlateDBError.OutOfMemory) ⊎ IsLimit self.old e) }
     {
@@ -540,8 +543,8 @@ impl Session {
 
     /// Takes the keys out of what the commit of the name's transaction tracks.
     fn unmark(&mut self, name: Bytes, keys: KeyList) -> Result<Answer, SlateDBError>
-        ensures step { (m : Meaning) → AnswersAs m self.old self.new (Line.Unmark name keys) result }
-        ensures stores { OnOk result ((m : Meaning) → StoresNothing m self.old self.new) }
+        ensures step { (m : Meaning) (seg : Segments) → AnswersAs m seg self.old self.new (Line.Unmark name keys) result }
+        ensures stores { OnOk result ((m : Meaning) (seg : Segments) → StoresNothing m seg self.old self.new) }
         ensures grows { OnOk result (Grows (Line.Unmark name keys) self.old self.new) }
         ensures cause { IfErr result (λ e. (e ≡ SlateDBError.OutOfMemory) ⊎ IsLimit self.old e) }
     {
@@ -564,8 +567,8 @@ impl Session {
         laws: &Laws<X>,
     ) -> Result<Answer, SlateDBError>
         ensures step { let reach = ⟦<EnvOf<S, M, T> as Outside>⟧.reach in IsOperable (reach env.old).meaning self.old.core →
-            AnswersAs (reach env.old).meaning self.old self.new (Line.Commit name) result }
-        ensures stores { let reach = ⟦<EnvOf<S, M, T> as Outside>⟧.reach in OnOk result (StoresNothing (reach env.old).meaning self.old self.new) }
+            IsSegmented (segments_by X.lengths laws.now.segments) self.old.core → AnswersAs (reach env.old).meaning (segments_by X.lengths laws.now.segments) self.old self.new (Line.Commit name) result }
+        ensures stores { let reach = ⟦<EnvOf<S, M, T> as Outside>⟧.reach in OnOk result (StoresNothing (reach env.old).meaning (segments_by X.lengths laws.now.segments) self.old self.new) }
         ensures grows { OnOk result (Grows (Line.Commit name) self.old self.new) }
         ensures cause { let reach = ⟦<EnvOf<S, M, T> as Outside>⟧.reach in IfErr result (λ e. IsFault (reach env.old) (reach env.new) e ⊎ IsLimit self.old e) }
         ensures reads { let reach = ⟦<EnvOf<S, M, T> as Outside>⟧.reach in OnlyReads (reach env.old) (reach env.new) }
@@ -582,7 +585,7 @@ impl Session {
 
     /// The commits so far.
     fn journal(&self) -> Result<Answer, SlateDBError>
-        ensures step { (m : Meaning) → AnswersAs m self.entry.now self.entry.now Line.Journal result }
+        ensures step { (m : Meaning) (seg : Segments) → AnswersAs m seg self.entry.now self.entry.now Line.Journal result }
         ensures cause { IsOkUnless result SlateDBError.OutOfMemory }
     {
         let entries = entries(self.alloc, self.core.journal().as_slice())?;
@@ -596,8 +599,10 @@ impl Session {
         env: &mut Env<'_, S, M, T>,
         laws: &Laws<X>,
     ) -> Result<Answer, SlateDBError>
-        ensures step { let reach = ⟦<EnvOf<S, M, T> as Outside>⟧.reach in AnswersAs (reach env.old).meaning self.old self.new (Line.Write ops) result }
-        ensures stores { let reach = ⟦<EnvOf<S, M, T> as Outside>⟧.reach in OnOk result (StoresNothing (reach env.old).meaning self.old self.new) }
+        ensures step { let reach = ⟦<EnvOf<S, M, T> as Outside>⟧.reach in
+            let seg = segments_by X.lengths laws.now.segments in
+            IsSegmented seg self.old.core → AnswersAs (reach env.old).meaning seg self.old self.new (Line.Write ops) result }
+        ensures stores { let reach = ⟦<EnvOf<S, M, T> as Outside>⟧.reach in OnOk result (StoresNothing (reach env.old).meaning (segments_by X.lengths laws.now.segments) self.old self.new) }
         ensures grows { OnOk result (Grows (Line.Write ops) self.old self.new) }
         ensures cause { let reach = ⟦<EnvOf<S, M, T> as Outside>⟧.reach in IfErr result (λ e. IsFault (reach env.old) (reach env.new) e ⊎ IsLimit self.old e) }
         ensures reads { let reach = ⟦<EnvOf<S, M, T> as Outside>⟧.reach in OnlyReads (reach env.old) (reach env.new) }
@@ -614,8 +619,8 @@ impl Session {
 
     /// Moves the rows in memory aside for a flush.
     fn freeze(&mut self) -> Result<Answer, SlateDBError>
-        ensures step { (m : Meaning) → AnswersAs m self.old self.new Line.Freeze result }
-        ensures stores { OnOk result ((m : Meaning) → StoresNothing m self.old self.new) }
+        ensures step { (m : Meaning) (seg : Segments) → AnswersAs m seg self.old self.new Line.Freeze result }
+        ensures stores { OnOk result ((m : Meaning) (seg : Segments) → StoresNothing m seg self.old self.new) }
         ensures grows { OnOk result (Grows Line.Freeze self.old self.new) }
         ensures cause { IfErr result (λ e. (e ≡ SlateDBError.OutOfMemory) ⊎ IsLimit self.old e) }
     {
@@ -631,21 +636,21 @@ impl Session {
     ) -> Result<Answer, SlateDBError>
         requires valid { IsValid laws.now.options }
         requires names { AreValidNames (map (λ p. (meaning (p.vtable, p.value)).name) laws.now.policies.items) }
-        ensures step { (m : Meaning) → AnswersAs m self.old self.new Line.Flush result }
+        ensures step { (m : Meaning) (seg : Segments) → AnswersAs m seg self.old self.new Line.Flush result }
         ensures settings { OnOk result (self.new.core.settings ≡ self.old.core.settings) }
         ensures grows { OnOk result (Grows Line.Flush self.old self.new) }
         ensures kept { let reach = ⟦<EnvOf<S, M, T> as Outside>⟧.reach in
             let policies = map (λ p. meaning (p.vtable, p.value)) laws.now.policies.items in
-            IsSettledIn policies (reach env.old) self.old →
-            OnOk result (IsSettled policies (reach env.old).meaning (reach env.new).objects self.new) }
+            IsSettledIn policies (segments_by X.lengths laws.now.segments) (reach env.old) self.old →
+            OnOk result (IsSettled policies (reach env.old).meaning (segments_by X.lengths laws.now.segments) (reach env.new).objects self.new) }
         ensures core_kept { let reach = ⟦<EnvOf<S, M, T> as Outside>⟧.reach in IsKept (reach env.old).meaning self.old.core → OnOk result (IsKept (reach env.old).meaning self.new.core) }
         ensures alone { let reach = ⟦<EnvOf<S, M, T> as Outside>⟧.reach in
             let policies = map (λ p. meaning (p.vtable, p.value)) laws.now.policies.items in
-            IsSettledIn policies (reach env.old) self.old → HasTablesAlone (reach env.old).meaning (layout_of laws.now.options policies (segments_by X.lengths laws.now.segments)) (reach env.old).objects (runs_of self.old.core.events) →
+            IsSettledIn policies (segments_by X.lengths laws.now.segments) (reach env.old) self.old → HasTablesAlone (reach env.old).meaning (layout_of laws.now.options policies (segments_by X.lengths laws.now.segments)) (reach env.old).objects (runs_of self.old.core.events) →
             OnOk result (HasTablesAlone (reach env.old).meaning (layout_of laws.now.options policies (segments_by X.lengths laws.now.segments)) (reach env.new).objects (runs_of self.new.core.events)) }
         ensures follows { let reach = ⟦<EnvOf<S, M, T> as Outside>⟧.reach in
             let policies = map (λ p. meaning (p.vtable, p.value)) laws.now.policies.items in
-            (os : Objects) → IsSettled policies (reach env.old).meaning (Some os) self.old → OnOk result (Follows policies (reach env.old).meaning os self.new (reach env.old).acts (reach env.new).acts) }
+            (os : Objects) → IsSettled policies (reach env.old).meaning (segments_by X.lengths laws.now.segments) (Some os) self.old → OnOk result (Follows policies (reach env.old).meaning (segments_by X.lengths laws.now.segments) os self.new (reach env.old).acts (reach env.new).acts) }
         ensures tables { let reach = ⟦<EnvOf<S, M, T> as Outside>⟧.reach in OnOk result (PutsTables (tables_of self.old.core.events) (tables_of self.new.core.events) (reach env.old).acts (reach env.new).acts) }
         ensures cause { let reach = ⟦<EnvOf<S, M, T> as Outside>⟧.reach in IfErr result (λ e. IsFault (reach env.old) (reach env.new) e ⊎ IsLimit self.old e ⊎ (e ≡ SlateDBError.MergeOperatorMissing)) }
         ensures operable { let reach = ⟦<EnvOf<S, M, T> as Outside>⟧.reach in IsKept (reach env.old).meaning self.old.core → IfErr result (λ e. IsFault (reach env.old) (reach env.new) e ⊎ IsLimit self.old e) }
@@ -740,7 +745,9 @@ fn refused(error: SlateDBError) -> Result<Answer, SlateDBError>
         | SlateDBError::ValueTooLong { .. }
         | SlateDBError::SequenceExhausted
         | SlateDBError::MergeOperatorMissing
-        | SlateDBError::IncompatibleMergeTtls { .. } => Ok(Answer::Refused(error)),
+        | SlateDBError::IncompatibleMergeTtls { .. }
+        | SlateDBError::EmptySegmentPrefix { .. }
+        | SlateDBError::InvalidSegmentPrefix { .. } => Ok(Answer::Refused(error)),
         other => Err(other),
     }
 }

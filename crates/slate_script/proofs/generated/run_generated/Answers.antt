@@ -2,6 +2,7 @@ use Rattle.std.proofs.Common.{◌≡◌, Some, Err, inr, refl, ap, subst, ◌∙
 use Rattle.slate_store.specs.Lines.{lines_of}
 use Rattle.slate_txn.specs.State.{opening}
 use Rattle.slate_txn.specs.Step.{answers}
+use Rattle.slate_db.specs.Meaning.{segments_by}
 use Rattle.slate_db.specs.Parts.{meaning_of}
 use Rattle.slate_language.specs.Generate.{generate, summary}
 use Rattle.slate_language.specs.Replies.{meanings, IsWellFormed}
@@ -17,7 +18,7 @@ use Rattle.slate_script.proofs.generated.run_generated.Goals as goal
 pub returns-in-Ok : goal.returns-in-Ok
 returns-in-Ok g c =
     let m = meaning_of g.M.MergeOperator.combine g.T.BlockTransformer.encoded g.T.BlockTransformer.decoded c.args.env.now.operator c.args.env.now.transformer in
-    let r = run_rules c.args.laws.now.options m in
+    let r = run_rules c.args.laws.now.options m (segments_by g.X.PrefixExtractor.lengths c.args.laws.now.segments) in
     let script = generate c.args.rounds c.args.seed in
     let left : Some c.new-source.result ≡ Some script = ap Some (c.new-source.ensures ∙ c.in_ok-script.ensures.script) in
     let formed : IsWellFormed script = generated-formed c.args.rounds c.args.seed c.requires.few in
@@ -42,7 +43,7 @@ returns-in-Ok g c =
 pub returns : goal.returns
 returns g c =
     let m = meaning_of g.M.MergeOperator.combine g.T.BlockTransformer.encoded g.T.BlockTransformer.decoded c.args.env.now.operator c.args.env.now.transformer in
-    let r = run_rules c.args.laws.now.options m in
+    let r = run_rules c.args.laws.now.options m (segments_by g.X.PrefixExtractor.lengths c.args.laws.now.segments) in
     let script = generate c.args.rounds c.args.seed in
     let left : Some c.new-source.result ≡ Some script = ap Some (c.new-source.ensures ∙ c.in_ok-script.ensures.script) in
     let formed : IsWellFormed script = generated-formed c.args.rounds c.args.seed c.requires.few in

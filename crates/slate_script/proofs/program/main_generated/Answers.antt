@@ -27,7 +27,7 @@ returns-in-Ok g c =
           let given = map (λ p. (goal.FilterPolicy-dyn g (p.vtable, p.value)).meaning p.value) c.args.policies.items in
           let objects = g.S.Store.objects c.run_generated-ran.new.env.store.now in
           subst (λ t. IsStoredState (parts_of c.args.generated.now.settings) (main_rules c.args.generated.now.settings) (layout_of o given None) (g.S.Store.objects t) (after_lines (main_rules c.args.generated.now.settings) opening (lines_of (generate c.args.generated.now.rounds c.args.generated.now.seed)))) (sym (c.store-1.given.1 (sym c.in-Ok.ensures.puts.store)))
-          (subst (λ (x : Meaning). IsStoredState x (run_rules o x) (layout_of o given None) objects (after_lines (run_rules o x) opening (lines_of (generate c.args.generated.now.rounds c.args.generated.now.seed)))) (words-are c.args.generated.now.settings c.transformer_of.result c.transformer_of.ensures)
+          (subst (λ (x : Meaning). IsStoredState x (run_rules o x None) (layout_of o given None) objects (after_lines (run_rules o x None) opening (lines_of (generate c.args.generated.now.rounds c.args.generated.now.seed)))) (words-are c.args.generated.now.settings c.transformer_of.result c.transformer_of.ensures)
           (c.in-Ok.ensures.stored (premises _ c.args.generated.now.settings.operator c.transformer_of.result _ lawful_policies empty))));
       write_fault = λ six. absurd (omega (arith, six));
       store_fault = λ seven. absurd (omega (arith, seven));

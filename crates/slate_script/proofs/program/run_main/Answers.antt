@@ -64,7 +64,7 @@ returns-in-Ok g c =
           subst (λ t. ends (parts_of s) s (used ws given) (g.S.Store.objects t)) (sym (c.store-1.given.1 (sym c.in-Ok.ensures.puts.store)))
           (subst (λ (ps : List Policy). ends (parts_of s) s ps objects) c.keep_used-kept-2.ensures
           (subst (λ (t : Settings). ends (parts_of t) t kept objects) same
-          (subst (λ (x : Meaning). IsStoredState x (run_rules c.in-Some-parse_words.settings.options x) (layout_of c.in-Some-parse_words.settings.options kept None) objects (after_lines (run_rules c.in-Some-parse_words.settings.options x) opening (lines_of script))) (words-are c.in-Some-parse_words.settings c.transformer_of.result c.transformer_of.ensures)
+          (subst (λ (x : Meaning). IsStoredState x (run_rules c.in-Some-parse_words.settings.options x None) (layout_of c.in-Some-parse_words.settings.options kept None) objects (after_lines (run_rules c.in-Some-parse_words.settings.options x None) opening (lines_of script))) (words-are c.in-Some-parse_words.settings c.transformer_of.result c.transformer_of.ensures)
           (c.in-Ok.ensures.stored script is (premises _ c.in-Some-parse_words.settings.operator c.transformer_of.result _ (fit lawful_policies) empty))))));
       read = λ script other is zero. (c.in-Ok.ensures.read script is).whole;
       no_error = λ script other is zero. (c.in-Ok.ensures.read script is).no_error;

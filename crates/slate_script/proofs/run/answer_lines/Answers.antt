@@ -45,16 +45,16 @@ loop-line-init g c =
     let policies = map (λ p. (goal.FilterPolicy-dyn g (p.vtable, p.value)).meaning p.value) c.args.laws.now.policies.items in
     record {
       told = λ script is.
-          begin (Premises policies (meaning_of g.M.MergeOperator.combine g.T.BlockTransformer.encoded g.T.BlockTransformer.decoded c.args.env.now.operator c.args.env.now.transformer) (g.S.Store.objects c.args.env.now.store.now)) (run_rules c.args.laws.now.options (meaning_of g.M.MergeOperator.combine g.T.BlockTransformer.encoded g.T.BlockTransformer.decoded c.args.env.now.operator c.args.env.now.transformer)) script (g.R.Source.left c.args.source.now) (g.W.Sink.content c.args.sink.now) c.args.tally.now c.new-lines.result c.new-session.result is c.new-lines.ensures.held c.new-lines.ensures.given c.new-session.ensures.opens;
+          begin (Premises policies (meaning_of g.M.MergeOperator.combine g.T.BlockTransformer.encoded g.T.BlockTransformer.decoded c.args.env.now.operator c.args.env.now.transformer) (g.S.Store.objects c.args.env.now.store.now)) (run_rules c.args.laws.now.options (meaning_of g.M.MergeOperator.combine g.T.BlockTransformer.encoded g.T.BlockTransformer.decoded c.args.env.now.operator c.args.env.now.transformer) (segments_by g.X.PrefixExtractor.lengths c.args.laws.now.segments)) script (g.R.Source.left c.args.source.now) (g.W.Sink.content c.args.sink.now) c.args.tally.now c.new-lines.result c.new-session.result is c.new-lines.ensures.held c.new-lines.ensures.given c.new-session.ensures.opens;
       counted = omega arith;
       within = let none : c.new-lines.result.given ≡ 0 = c.new-lines.ensures.given in omega (arith, none);
       weighs = omega (arith, c.new-session.ensures.holds.0);
       loads = omega (arith, c.new-session.ensures.holds.1);
-      running = λ premises. begins policies (meaning_of g.M.MergeOperator.combine g.T.BlockTransformer.encoded g.T.BlockTransformer.decoded c.args.env.now.operator c.args.env.now.transformer) c.args.laws.now.options (g.S.Store.objects c.args.env.now.store.now) c.new-session.result premises c.new-session.ensures.settings c.new-session.ensures.events c.new-session.ensures.kept;
+      running = λ premises. begins policies (meaning_of g.M.MergeOperator.combine g.T.BlockTransformer.encoded g.T.BlockTransformer.decoded c.args.env.now.operator c.args.env.now.transformer) (segments_by g.X.PrefixExtractor.lengths c.args.laws.now.segments) c.args.laws.now.options (g.S.Store.objects c.args.env.now.store.now) c.new-session.result premises c.new-session.ensures.settings c.new-session.ensures.events c.new-session.ensures.kept c.new-session.ensures.segmented;
       kept = c.new-session.ensures.kept (meaning_of g.M.MergeOperator.combine g.T.BlockTransformer.encoded g.T.BlockTransformer.decoded c.args.env.now.operator c.args.env.now.transformer);
       alone = λ premises. begins-alone (meaning_of g.M.MergeOperator.combine g.T.BlockTransformer.encoded g.T.BlockTransformer.decoded c.args.env.now.operator c.args.env.now.transformer) (layout_of c.args.laws.now.options policies (segments_by g.X.PrefixExtractor.lengths c.args.laws.now.segments)) (g.S.Store.objects c.args.env.now.store.now) c.new-session.result premises.empty c.new-session.ensures.events;
-      followed = λ lawful_policies lawful. follows-itself policies (meaning_of g.M.MergeOperator.combine g.T.BlockTransformer.encoded g.T.BlockTransformer.decoded c.args.env.now.operator c.args.env.now.transformer) [] c.new-session.result (g.S.Store.acts c.args.env.now.store.now)
-          (begins policies (meaning_of g.M.MergeOperator.combine g.T.BlockTransformer.encoded g.T.BlockTransformer.decoded c.args.env.now.operator c.args.env.now.transformer) c.args.laws.now.options (Some []) c.new-session.result (record { lawful_policies = lawful_policies; lawful = lawful; empty = refl }) c.new-session.ensures.settings c.new-session.ensures.events c.new-session.ensures.kept).settled;
+      followed = λ lawful_policies lawful. follows-itself policies (meaning_of g.M.MergeOperator.combine g.T.BlockTransformer.encoded g.T.BlockTransformer.decoded c.args.env.now.operator c.args.env.now.transformer) (segments_by g.X.PrefixExtractor.lengths c.args.laws.now.segments) [] c.new-session.result (g.S.Store.acts c.args.env.now.store.now)
+          (begins policies (meaning_of g.M.MergeOperator.combine g.T.BlockTransformer.encoded g.T.BlockTransformer.decoded c.args.env.now.operator c.args.env.now.transformer) (segments_by g.X.PrefixExtractor.lengths c.args.laws.now.segments) c.args.laws.now.options (Some []) c.new-session.result (record { lawful_policies = lawful_policies; lawful = lawful; empty = refl }) c.new-session.ensures.settings c.new-session.ensures.events c.new-session.ensures.kept c.new-session.ensures.segmented).settled;
       stored = subst (λ (es : List Event). PutsTables [] (tables_of es) (g.S.Store.acts c.args.env.now.store.now) (g.S.Store.acts c.args.env.now.store.now)) (sym c.new-session.ensures.events) (stores-itself [] (g.S.Store.acts c.args.env.now.store.now));
       source_later = omega arith;
       sink_later = omega arith;
@@ -77,11 +77,11 @@ returns-in-Err g c =
             let kind : c.in-Err.error ≡ ReadFault = same-error c.in-Err.error ReadFault (Err c.in-Err.error) refl fault in
             let at = c.loop-line.invariant.told script is in
             let told = c.in-Err.ensures.told at.left at.rest in
-            (told.0, replies_to (run_rules c.args.laws.now.options (meaning_of g.M.MergeOperator.combine g.T.BlockTransformer.encoded g.T.BlockTransformer.decoded c.args.env.now.operator c.args.env.now.transformer)) (lines_of at.done), told.1, at.said premises before told-is, reader-source c.next.new.self told.0 at told.2 (c.in-Err.ensures.read_fault (ap Err kind)).1));
+            (told.0, replies_to (run_rules c.args.laws.now.options (meaning_of g.M.MergeOperator.combine g.T.BlockTransformer.encoded g.T.BlockTransformer.decoded c.args.env.now.operator c.args.env.now.transformer) (segments_by g.X.PrefixExtractor.lengths c.args.laws.now.segments)) (lines_of at.done), told.1, at.said premises before told-is, reader-source c.next.new.self told.0 at told.2 (c.in-Err.ensures.read_fault (ap Err kind)).1));
         by_sink = (λ fault.
             absurd (reader-not-write c.in-Err.error c.in-Err.ensures.cause (same-error c.in-Err.error WriteFault (Err c.in-Err.error) refl fault)));
         by_part = (let at = c.loop-line.invariant.told script is in
-            (λ which. (replies_to (run_rules c.args.laws.now.options (meaning_of g.M.MergeOperator.combine g.T.BlockTransformer.encoded g.T.BlockTransformer.decoded c.args.env.now.operator c.args.env.now.transformer)) (lines_of at.done), at.said premises before told-is, reader-memory at)));
+            (λ which. (replies_to (run_rules c.args.laws.now.options (meaning_of g.M.MergeOperator.combine g.T.BlockTransformer.encoded g.T.BlockTransformer.decoded c.args.env.now.operator c.args.env.now.transformer) (segments_by g.X.PrefixExtractor.lengths c.args.laws.now.segments)) (lines_of at.done), at.said premises before told-is, reader-memory at)));
       };
       counted = λ script is premises. tt;
       stored = λ script is premises. tt;
@@ -150,15 +150,15 @@ returns-in-Err-answer_line g c =
         by_sink = (λ fault.
             let kind : c.in-Err-answer_line.error ≡ WriteFault = same-error c.in-Err-answer_line.error WriteFault (Err c.in-Err-answer_line.error) refl fault in
             let took = took-told (λ v. v.items) c.in-Ok-Some.field-0 c.in-Ok-Some.line c.as_slice.result.now (g.R.Source.left c.next.new.source) c.next.new.self c.in-Ok-Some.ensures.told c.in-Ok-Some.ensures.within c.in-Ok-Some.field-0-is c.as_slice.ensures.value (c.loop-line.invariant.told script is) in
-            let done = replies_to (run_rules c.args.laws.now.options (meaning_of g.M.MergeOperator.combine g.T.BlockTransformer.encoded g.T.BlockTransformer.decoded c.args.env.now.operator c.args.env.now.transformer)) (lines_of took.done) in
-            let state = after_lines (run_rules c.args.laws.now.options (meaning_of g.M.MergeOperator.combine g.T.BlockTransformer.encoded g.T.BlockTransformer.decoded c.args.env.now.operator c.args.env.now.transformer)) opening (lines_of took.done) in
-            let reply = replies_from (run_rules c.args.laws.now.options (meaning_of g.M.MergeOperator.combine g.T.BlockTransformer.encoded g.T.BlockTransformer.decoded c.args.env.now.operator c.args.env.now.transformer)) state (c.as_slice.result.now ∷ []) in
+            let done = replies_to (run_rules c.args.laws.now.options (meaning_of g.M.MergeOperator.combine g.T.BlockTransformer.encoded g.T.BlockTransformer.decoded c.args.env.now.operator c.args.env.now.transformer) (segments_by g.X.PrefixExtractor.lengths c.args.laws.now.segments)) (lines_of took.done) in
+            let state = after_lines (run_rules c.args.laws.now.options (meaning_of g.M.MergeOperator.combine g.T.BlockTransformer.encoded g.T.BlockTransformer.decoded c.args.env.now.operator c.args.env.now.transformer) (segments_by g.X.PrefixExtractor.lengths c.args.laws.now.segments)) opening (lines_of took.done) in
+            let reply = replies_from (run_rules c.args.laws.now.options (meaning_of g.M.MergeOperator.combine g.T.BlockTransformer.encoded g.T.BlockTransformer.decoded c.args.env.now.operator c.args.env.now.transformer) (segments_by g.X.PrefixExtractor.lengths c.args.laws.now.segments)) state (c.as_slice.result.now ∷ []) in
             let begun : (n : ℕ) × (n < length reply) × (g.W.Sink.content c.answer_line.new.sink ≡ Some ((before ++ done) ++ take n reply)) =
-            c.in-Err-answer_line.ensures.begun (meaning_of g.M.MergeOperator.combine g.T.BlockTransformer.encoded g.T.BlockTransformer.decoded c.args.env.now.operator c.args.env.now.transformer) (run_rules c.args.laws.now.options (meaning_of g.M.MergeOperator.combine g.T.BlockTransformer.encoded g.T.BlockTransformer.decoded c.args.env.now.operator c.args.env.now.transformer)) (c.loop-line.invariant.running premises) state (before ++ done) (took.session premises) (took.said premises before told-is) (ap Err kind) in
+            c.in-Err-answer_line.ensures.begun (meaning_of g.M.MergeOperator.combine g.T.BlockTransformer.encoded g.T.BlockTransformer.decoded c.args.env.now.operator c.args.env.now.transformer) (run_rules c.args.laws.now.options (meaning_of g.M.MergeOperator.combine g.T.BlockTransformer.encoded g.T.BlockTransformer.decoded c.args.env.now.operator c.args.env.now.transformer) (segments_by g.X.PrefixExtractor.lengths c.args.laws.now.segments)) (c.loop-line.invariant.running premises) state (before ++ done) (took.session premises) (took.said premises before told-is) (ap Err kind) in
             (done ++ take begun.0 reply, begun.2 ∙ ap Some (append_assoc before done (take begun.0 reply)), line-sink begun.0 took (c.in-Err-answer_line.ensures.write_fault (ap Err kind)).1 begun.1));
         by_part = (let took = took-told (λ v. v.items) c.in-Ok-Some.field-0 c.in-Ok-Some.line c.as_slice.result.now (g.R.Source.left c.next.new.source) c.next.new.self c.in-Ok-Some.ensures.told c.in-Ok-Some.ensures.within c.in-Ok-Some.field-0-is c.as_slice.ensures.value (c.loop-line.invariant.told script is) in
             (λ which. (
-              replies_to (run_rules c.args.laws.now.options (meaning_of g.M.MergeOperator.combine g.T.BlockTransformer.encoded g.T.BlockTransformer.decoded c.args.env.now.operator c.args.env.now.transformer)) (lines_of took.done),
+              replies_to (run_rules c.args.laws.now.options (meaning_of g.M.MergeOperator.combine g.T.BlockTransformer.encoded g.T.BlockTransformer.decoded c.args.env.now.operator c.args.env.now.transformer) (segments_by g.X.PrefixExtractor.lengths c.args.laws.now.segments)) (lines_of took.done),
               untouched c.in-Err-answer_line.error (g.W.Sink.content c.loop-line.sink) (g.W.Sink.content c.answer_line.new.sink) c.in-Err-answer_line.ensures.unanswered which ∙ took.said premises before told-is,
               line-memory took,
             )));
@@ -191,10 +191,10 @@ returns-in-Err-answer_line g c =
             rose-from _ _ _ c.loop-line.invariant.puts.later.transformer (transformer-rose (counts_of (g.S.Store.faults c.loop-line.env.store.now) g.M.MergeOperator.faults g.T.BlockTransformer.faults c.loop-line.env.operator c.loop-line.env.transformer) (counts_of (g.S.Store.faults c.answer_line.new.env.store.now) g.M.MergeOperator.faults g.T.BlockTransformer.faults c.answer_line.new.env.operator c.answer_line.new.env.transformer) c.in-Err-answer_line.error kind (c.in-Err-answer_line.ensures.part (subst IsPartError (sym kind) tt))));
       };
       undamaged = (λ premises.
-          (c.in-Err-answer_line.ensures.undamaged (meaning_of g.M.MergeOperator.combine g.T.BlockTransformer.encoded g.T.BlockTransformer.decoded c.args.env.now.operator c.args.env.now.transformer) (run_rules c.args.laws.now.options (meaning_of g.M.MergeOperator.combine g.T.BlockTransformer.encoded g.T.BlockTransformer.decoded c.args.env.now.operator c.args.env.now.transformer)) (c.loop-line.invariant.running premises)));
+          (c.in-Err-answer_line.ensures.undamaged (meaning_of g.M.MergeOperator.combine g.T.BlockTransformer.encoded g.T.BlockTransformer.decoded c.args.env.now.operator c.args.env.now.transformer) (run_rules c.args.laws.now.options (meaning_of g.M.MergeOperator.combine g.T.BlockTransformer.encoded g.T.BlockTransformer.decoded c.args.env.now.operator c.args.env.now.transformer) (segments_by g.X.PrefixExtractor.lengths c.args.laws.now.segments)) (c.loop-line.invariant.running premises)));
       untrue = (λ lawful_policies lawful.
-          (λ damage. untrue-on policies (meaning_of g.M.MergeOperator.combine g.T.BlockTransformer.encoded g.T.BlockTransformer.decoded c.args.env.now.operator c.args.env.now.transformer) c.loop-line.session (g.S.Store.acts c.args.env.now.store.now) (g.S.Store.acts c.loop-line.env.store.now) (g.S.Store.acts c.answer_line.new.env.store.now) (c.loop-line.invariant.followed lawful_policies lawful)
-          (subst (λ (m : Meaning). (os : Objects) → IsSettled policies m (Some os) c.loop-line.session → IsUntrue os (g.S.Store.acts c.loop-line.env.store.now) (g.S.Store.acts c.answer_line.new.env.store.now)) c.loop-line.invariant.puts.meaning (λ os settled. c.in-Err-answer_line.ensures.untrue os settled damage))));
+          (λ damage. untrue-on policies (meaning_of g.M.MergeOperator.combine g.T.BlockTransformer.encoded g.T.BlockTransformer.decoded c.args.env.now.operator c.args.env.now.transformer) (segments_by g.X.PrefixExtractor.lengths c.args.laws.now.segments) c.loop-line.session (g.S.Store.acts c.args.env.now.store.now) (g.S.Store.acts c.loop-line.env.store.now) (g.S.Store.acts c.answer_line.new.env.store.now) (c.loop-line.invariant.followed lawful_policies lawful)
+          (subst (λ (m : Meaning). (os : Objects) → IsSettled policies m (segments_by g.X.PrefixExtractor.lengths c.args.laws.now.segments) (Some os) c.loop-line.session → IsUntrue os (g.S.Store.acts c.loop-line.env.store.now) (g.S.Store.acts c.answer_line.new.env.store.now)) c.loop-line.invariant.puts.meaning (λ os settled. c.in-Err-answer_line.ensures.untrue os settled damage))));
       shown = λ damage. shown-at-end policies _ _ _ c.loop-line.session.core c.in-Err-answer_line.error c.loop-line.invariant.puts.meaning c.loop-line.invariant.stored
           (c.in-Err-answer_line.ensures.shown (subst (λ (x : Meaning). IsKept x c.loop-line.session.core) (sym c.loop-line.invariant.puts.meaning) c.loop-line.invariant.kept) damage);
       complete = (λ script is formed premises none.
@@ -202,7 +202,7 @@ returns-in-Err-answer_line g c =
           let by = line-error c.in-Err-answer_line.error took (its-cause g c) in
           (only-memory c.in-Err-answer_line.error (line-complete script c.as_slice.result.now (c.loop-line.number + 1) c.in-Err-answer_line.error by (its-cause g c) formed (λ h. none.sink_still (rose-from _ _ _ c.loop-line.invariant.sink_later (c.in-Err-answer_line.ensures.write_fault (ap Err h)).0)))
           (λ part. no-part (counts_of (g.S.Store.faults c.loop-line.env.store.now) g.M.MergeOperator.faults g.T.BlockTransformer.faults c.loop-line.env.operator c.loop-line.env.transformer) (counts_of (g.S.Store.faults c.answer_line.new.env.store.now) g.M.MergeOperator.faults g.T.BlockTransformer.faults c.answer_line.new.env.operator c.answer_line.new.env.transformer) c.in-Err-answer_line.error (λ h. none.store (rose-from _ _ _ c.loop-line.invariant.puts.later.store h)) (λ h. none.operator (rose-from _ _ _ c.loop-line.invariant.puts.later.operator h)) (λ h. none.transformer (rose-from _ _ _ c.loop-line.invariant.puts.later.transformer h))
-          (c.in-Err-answer_line.ensures.undamaged (meaning_of g.M.MergeOperator.combine g.T.BlockTransformer.encoded g.T.BlockTransformer.decoded c.args.env.now.operator c.args.env.now.transformer) (run_rules c.args.laws.now.options (meaning_of g.M.MergeOperator.combine g.T.BlockTransformer.encoded g.T.BlockTransformer.decoded c.args.env.now.operator c.args.env.now.transformer)) (c.loop-line.invariant.running premises)) part (c.in-Err-answer_line.ensures.part part))));
+          (c.in-Err-answer_line.ensures.undamaged (meaning_of g.M.MergeOperator.combine g.T.BlockTransformer.encoded g.T.BlockTransformer.decoded c.args.env.now.operator c.args.env.now.transformer) (run_rules c.args.laws.now.options (meaning_of g.M.MergeOperator.combine g.T.BlockTransformer.encoded g.T.BlockTransformer.decoded c.args.env.now.operator c.args.env.now.transformer) (segments_by g.X.PrefixExtractor.lengths c.args.laws.now.segments)) (c.loop-line.invariant.running premises)) part (c.in-Err-answer_line.ensures.part part))));
       source_still = inr (unless-error c.in-Ok-Some.field-0 ReadFault c.in-Ok-Some.ensures.still ∙ c.loop-line.invariant.source_still);
       sink_still = error-is-or c.in-Err-answer_line.error WriteFault (Err c.in-Err-answer_line.error) refl c.in-Err-answer_line.ensures.uncounted (λ h. h ∙ c.loop-line.invariant.sink_still);
       later = (omega (arith, c.loop-line.invariant.source_later, c.next.ensures.later), omega (arith, c.loop-line.invariant.sink_later, c.answer_line.ensures.later));
@@ -216,13 +216,13 @@ loop-line-preserved g c =
     let policies = map (λ p. (goal.FilterPolicy-dyn g (p.vtable, p.value)).meaning p.value) c.args.laws.now.policies.items in
     record {
       told = λ script is.
-          answer-it (Premises policies (meaning_of g.M.MergeOperator.combine g.T.BlockTransformer.encoded g.T.BlockTransformer.decoded c.args.env.now.operator c.args.env.now.transformer) (g.S.Store.objects c.args.env.now.store.now)) (run_rules c.args.laws.now.options (meaning_of g.M.MergeOperator.combine g.T.BlockTransformer.encoded g.T.BlockTransformer.decoded c.args.env.now.operator c.args.env.now.transformer)) script c.as_slice.result.now (g.R.Source.left c.next.new.source) (g.W.Sink.content c.args.sink.now) (g.W.Sink.content c.loop-line.sink) (g.W.Sink.content c.answer_line.new.sink)
+          answer-it (Premises policies (meaning_of g.M.MergeOperator.combine g.T.BlockTransformer.encoded g.T.BlockTransformer.decoded c.args.env.now.operator c.args.env.now.transformer) (g.S.Store.objects c.args.env.now.store.now)) (run_rules c.args.laws.now.options (meaning_of g.M.MergeOperator.combine g.T.BlockTransformer.encoded g.T.BlockTransformer.decoded c.args.env.now.operator c.args.env.now.transformer) (segments_by g.X.PrefixExtractor.lengths c.args.laws.now.segments)) script c.as_slice.result.now (g.R.Source.left c.next.new.source) (g.W.Sink.content c.args.sink.now) (g.W.Sink.content c.loop-line.sink) (g.W.Sink.content c.answer_line.new.sink)
           c.args.tally.now c.loop-line.tally c.answer_line.new.tally c.next.new.self (c.loop-line.number + 1) c.loop-line.session c.answer_line.new.session
           (took-told (λ v. v.items) c.in-Ok-Some.field-0 c.in-Ok-Some.line c.as_slice.result.now (g.R.Source.left c.next.new.source) c.next.new.self c.in-Ok-Some.ensures.told c.in-Ok-Some.ensures.within c.in-Ok-Some.field-0-is c.as_slice.ensures.value (c.loop-line.invariant.told script is))
           c.in-Ok.ensures.meant
-          (λ premises. c.in-Ok.ensures.stands (meaning_of g.M.MergeOperator.combine g.T.BlockTransformer.encoded g.T.BlockTransformer.decoded c.args.env.now.operator c.args.env.now.transformer) (run_rules c.args.laws.now.options (meaning_of g.M.MergeOperator.combine g.T.BlockTransformer.encoded g.T.BlockTransformer.decoded c.args.env.now.operator c.args.env.now.transformer)) (c.loop-line.invariant.running premises))
-          (λ premises. c.in-Ok.ensures.answered (meaning_of g.M.MergeOperator.combine g.T.BlockTransformer.encoded g.T.BlockTransformer.decoded c.args.env.now.operator c.args.env.now.transformer) (run_rules c.args.laws.now.options (meaning_of g.M.MergeOperator.combine g.T.BlockTransformer.encoded g.T.BlockTransformer.decoded c.args.env.now.operator c.args.env.now.transformer)) (c.loop-line.invariant.running premises))
-          (λ premises. c.in-Ok.ensures.counted (meaning_of g.M.MergeOperator.combine g.T.BlockTransformer.encoded g.T.BlockTransformer.decoded c.args.env.now.operator c.args.env.now.transformer) (run_rules c.args.laws.now.options (meaning_of g.M.MergeOperator.combine g.T.BlockTransformer.encoded g.T.BlockTransformer.decoded c.args.env.now.operator c.args.env.now.transformer)) (c.loop-line.invariant.running premises));
+          (λ premises. c.in-Ok.ensures.stands (meaning_of g.M.MergeOperator.combine g.T.BlockTransformer.encoded g.T.BlockTransformer.decoded c.args.env.now.operator c.args.env.now.transformer) (run_rules c.args.laws.now.options (meaning_of g.M.MergeOperator.combine g.T.BlockTransformer.encoded g.T.BlockTransformer.decoded c.args.env.now.operator c.args.env.now.transformer) (segments_by g.X.PrefixExtractor.lengths c.args.laws.now.segments)) (c.loop-line.invariant.running premises))
+          (λ premises. c.in-Ok.ensures.answered (meaning_of g.M.MergeOperator.combine g.T.BlockTransformer.encoded g.T.BlockTransformer.decoded c.args.env.now.operator c.args.env.now.transformer) (run_rules c.args.laws.now.options (meaning_of g.M.MergeOperator.combine g.T.BlockTransformer.encoded g.T.BlockTransformer.decoded c.args.env.now.operator c.args.env.now.transformer) (segments_by g.X.PrefixExtractor.lengths c.args.laws.now.segments)) (c.loop-line.invariant.running premises))
+          (λ premises. c.in-Ok.ensures.counted (meaning_of g.M.MergeOperator.combine g.T.BlockTransformer.encoded g.T.BlockTransformer.decoded c.args.env.now.operator c.args.env.now.transformer) (run_rules c.args.laws.now.options (meaning_of g.M.MergeOperator.combine g.T.BlockTransformer.encoded g.T.BlockTransformer.decoded c.args.env.now.operator c.args.env.now.transformer) (segments_by g.X.PrefixExtractor.lengths c.args.laws.now.segments)) (c.loop-line.invariant.running premises));
       counted =
           let further : c.loop-line.lines.given < c.next.new.self.given = subst (λ o. IfSome o (λ _. c.loop-line.lines.given < c.next.new.self.given)) c.in-Ok-Some.field-0-is c.in-Ok-Some.ensures.further in
           omega (arith, c.loop-line.invariant.counted);
@@ -232,12 +232,12 @@ loop-line-preserved g c =
           let taken : c.loop-line.lines.given + length c.in-Ok-Some.line.items ≤ c.next.new.self.given = subst (λ o. IfSome o (λ l. c.loop-line.lines.given + length l.items ≤ c.next.new.self.given)) c.in-Ok-Some.field-0-is c.in-Ok-Some.ensures.counted in
           let line : length c.as_slice.result.now ≡ length c.in-Ok-Some.line.items = ap length c.as_slice.ensures.value in
           omega (arith, c.in-Ok.ensures.grows.1, c.loop-line.invariant.loads, taken, line);
-      running = λ premises. c.in-Ok.ensures.running (meaning_of g.M.MergeOperator.combine g.T.BlockTransformer.encoded g.T.BlockTransformer.decoded c.args.env.now.operator c.args.env.now.transformer) (run_rules c.args.laws.now.options (meaning_of g.M.MergeOperator.combine g.T.BlockTransformer.encoded g.T.BlockTransformer.decoded c.args.env.now.operator c.args.env.now.transformer)) (c.loop-line.invariant.running premises);
+      running = λ premises. c.in-Ok.ensures.running (meaning_of g.M.MergeOperator.combine g.T.BlockTransformer.encoded g.T.BlockTransformer.decoded c.args.env.now.operator c.args.env.now.transformer) (run_rules c.args.laws.now.options (meaning_of g.M.MergeOperator.combine g.T.BlockTransformer.encoded g.T.BlockTransformer.decoded c.args.env.now.operator c.args.env.now.transformer) (segments_by g.X.PrefixExtractor.lengths c.args.laws.now.segments)) (c.loop-line.invariant.running premises);
       kept = subst (λ (x : Meaning). IsKept x c.answer_line.new.session.core) c.loop-line.invariant.puts.meaning
           (c.in-Ok.ensures.core_kept (subst (λ (x : Meaning). IsKept x c.loop-line.session.core) (sym c.loop-line.invariant.puts.meaning) c.loop-line.invariant.kept));
-      alone = λ premises. c.in-Ok.ensures.alone (meaning_of g.M.MergeOperator.combine g.T.BlockTransformer.encoded g.T.BlockTransformer.decoded c.args.env.now.operator c.args.env.now.transformer) (run_rules c.args.laws.now.options (meaning_of g.M.MergeOperator.combine g.T.BlockTransformer.encoded g.T.BlockTransformer.decoded c.args.env.now.operator c.args.env.now.transformer)) (c.loop-line.invariant.running premises) (c.loop-line.invariant.alone premises);
-      followed = λ lawful_policies lawful. follows-on policies (meaning_of g.M.MergeOperator.combine g.T.BlockTransformer.encoded g.T.BlockTransformer.decoded c.args.env.now.operator c.args.env.now.transformer) c.loop-line.session c.answer_line.new.session (g.S.Store.acts c.args.env.now.store.now) (g.S.Store.acts c.loop-line.env.store.now) (g.S.Store.acts c.answer_line.new.env.store.now) (c.loop-line.invariant.followed lawful_policies lawful)
-          (subst (λ (m : Meaning). (os : Objects) → IsSettled policies m (Some os) c.loop-line.session → Follows policies m os c.answer_line.new.session (g.S.Store.acts c.loop-line.env.store.now) (g.S.Store.acts c.answer_line.new.env.store.now)) c.loop-line.invariant.puts.meaning c.in-Ok.ensures.follows);
+      alone = λ premises. c.in-Ok.ensures.alone (meaning_of g.M.MergeOperator.combine g.T.BlockTransformer.encoded g.T.BlockTransformer.decoded c.args.env.now.operator c.args.env.now.transformer) (run_rules c.args.laws.now.options (meaning_of g.M.MergeOperator.combine g.T.BlockTransformer.encoded g.T.BlockTransformer.decoded c.args.env.now.operator c.args.env.now.transformer) (segments_by g.X.PrefixExtractor.lengths c.args.laws.now.segments)) (c.loop-line.invariant.running premises) (c.loop-line.invariant.alone premises);
+      followed = λ lawful_policies lawful. follows-on policies (meaning_of g.M.MergeOperator.combine g.T.BlockTransformer.encoded g.T.BlockTransformer.decoded c.args.env.now.operator c.args.env.now.transformer) (segments_by g.X.PrefixExtractor.lengths c.args.laws.now.segments) c.loop-line.session c.answer_line.new.session (g.S.Store.acts c.args.env.now.store.now) (g.S.Store.acts c.loop-line.env.store.now) (g.S.Store.acts c.answer_line.new.env.store.now) (c.loop-line.invariant.followed lawful_policies lawful)
+          (subst (λ (m : Meaning). (os : Objects) → IsSettled policies m (segments_by g.X.PrefixExtractor.lengths c.args.laws.now.segments) (Some os) c.loop-line.session → Follows policies m (segments_by g.X.PrefixExtractor.lengths c.args.laws.now.segments) os c.answer_line.new.session (g.S.Store.acts c.loop-line.env.store.now) (g.S.Store.acts c.answer_line.new.env.store.now)) c.loop-line.invariant.puts.meaning c.in-Ok.ensures.follows);
       stored = stores-on (tables_of c.loop-line.session.core.events) (tables_of c.answer_line.new.session.core.events) _ _ _ c.loop-line.invariant.stored c.in-Ok.ensures.tables;
       source_later = omega (arith, c.next.ensures.later);
       sink_later = omega (arith, c.answer_line.ensures.later);
@@ -264,17 +264,17 @@ returns g c =
         by_part = (tt);
       };
       counted = (λ script is premises.
-          let r = run_rules c.args.laws.now.options (meaning_of g.M.MergeOperator.combine g.T.BlockTransformer.encoded g.T.BlockTransformer.decoded c.args.env.now.operator c.args.env.now.transformer) in
+          let r = run_rules c.args.laws.now.options (meaning_of g.M.MergeOperator.combine g.T.BlockTransformer.encoded g.T.BlockTransformer.decoded c.args.env.now.operator c.args.env.now.transformer) (segments_by g.X.PrefixExtractor.lengths c.args.laws.now.segments) in
           let at = c.loop-line.invariant.told script is in
           let end = end-told (λ v. v.items) c.in-Ok-None.field-0 (g.R.Source.left c.next.new.source) c.next.new.self c.in-Ok-None.ensures.told c.in-Ok-None.field-0-is at in
           subst (λ bs. c.loop-line.tally ≡ tallied c.args.tally.now (answers r opening (meanings (lines_of bs)))) (sym (end-there c.next.new.self end.0 at end.2).0) (at.counts premises));
       stored = (λ script is premises.
           let m = meaning_of g.M.MergeOperator.combine g.T.BlockTransformer.encoded g.T.BlockTransformer.decoded c.args.env.now.operator c.args.env.now.transformer in
-          let r = run_rules c.args.laws.now.options m in
+          let r = run_rules c.args.laws.now.options m (segments_by g.X.PrefixExtractor.lengths c.args.laws.now.segments) in
           let at = c.loop-line.invariant.told script is in
           let end = end-told (λ v. v.items) c.in-Ok-None.field-0 (g.R.Source.left c.next.new.source) c.next.new.self c.in-Ok-None.ensures.told c.in-Ok-None.field-0-is at in
           let running = c.loop-line.invariant.running premises in
-          stored-state m r (layout_of c.args.laws.now.options policies (segments_by g.X.PrefixExtractor.lengths c.args.laws.now.segments)) (g.S.Store.objects c.loop-line.env.store.now) c.loop-line.session (after_lines r opening (lines_of script)) running.rules
+          stored-state m (segments_by g.X.PrefixExtractor.lengths c.args.laws.now.segments) r (layout_of c.args.laws.now.options policies (segments_by g.X.PrefixExtractor.lengths c.args.laws.now.segments)) (g.S.Store.objects c.loop-line.env.store.now) c.loop-line.session (after_lines r opening (lines_of script)) running.rules
           (c.close-2.ensures.stores m running.settled.lawful running.settled.kept)
           (subst (λ bs. StandsFor c.loop-line.session (after_lines r opening (lines_of bs))) (sym (end-there c.next.new.self end.0 at end.2).0) (at.session premises))
           (c.loop-line.invariant.alone premises));

@@ -22,21 +22,21 @@ invariant-loop-line g l =
     record {
       told : (script : List ℕ) → g.R.Source.left l.initial.source ≡ Some script
           → IsAt (Premises policies before.meaning before.objects)
-          (run_rules l.laws.options before.meaning)
+          (run_rules l.laws.options before.meaning (segments_by g.X.PrefixExtractor.lengths l.laws.segments))
           script (g.R.Source.left l.source) (g.W.Sink.content l.initial.sink) (g.W.Sink.content l.sink) l.initial.tally l.tally l.lines l.number l.session;
       counted : l.number ≤ l.lines.given;
       within : l.lines.given ≤ script_limit;
       weighs : weight l.session.core ≤ l.number + l.number;
       loads : held_load l.session ≤ l.lines.given;
       running : Premises policies before.meaning before.objects
-          → IsRunning policies before.meaning
-          (run_rules l.laws.options before.meaning)
+          → IsRunning policies before.meaning (segments_by g.X.PrefixExtractor.lengths l.laws.segments)
+          (run_rules l.laws.options before.meaning (segments_by g.X.PrefixExtractor.lengths l.laws.segments))
           now.meaning now.objects l.session;
       kept : IsKept before.meaning l.session.core;
       alone : Premises policies before.meaning before.objects
           → HasTablesAlone before.meaning
           (layout_of l.laws.options policies (segments_by g.X.PrefixExtractor.lengths l.laws.segments)) now.objects (runs_of l.session.core.events);
-      followed : AreLawful policies → IsLawfulMeaning before.meaning → Follows policies before.meaning [] l.session before.acts now.acts;
+      followed : AreLawful policies → IsLawfulMeaning before.meaning → Follows policies before.meaning (segments_by g.X.PrefixExtractor.lengths l.laws.segments) [] l.session before.acts now.acts;
       stored : PutsTables [] (tables_of l.session.core.events) before.acts now.acts;
       source_later : g.R.Source.faults l.initial.source ≤ g.R.Source.faults l.source;
       sink_later : g.W.Sink.faults l.initial.sink ≤ g.W.Sink.faults l.sink;

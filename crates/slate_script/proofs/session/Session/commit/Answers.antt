@@ -9,7 +9,8 @@ use Rattle.slate_txn.specs.State.{Tx}
 use Rattle.slate_txn.specs.Reply.{Committed}
 use Rattle.slate_txn.specs.declared.line.Line.TheVariants as lines
 use Rattle.slate_db.specs.Installs.{runs_of}
-use Rattle.slate_db.specs.Meaning.{rules_of}
+use Rattle.slate_db.specs.Meaning.{rules_in, segments_by}
+use Rattle.slate_db.specs.Segmented.{IsSegmented}
 use Rattle.slate_db.specs.Parts.{counts_of, meaning_of}
 use Rattle.slate_db.specs.Sound.{IsKept, IsOperable}
 use Rattle.slate_language.specs.declared.reply.Answer.{Answer}
@@ -31,19 +32,21 @@ use Rattle.slate_script.proofs.session.Session.commit.Goals.{in-Ok, in-Err}
 pub returns-in_default : goal.returns-in_default
 returns-in_default g c =
     record {
-      step = (λ operable.
+      step = (λ operable segmented.
+          let seg = (segments_by g.X.PrefixExtractor.lengths c.args.laws.now.segments) in
           let m = meaning_of g.M.MergeOperator.combine g.T.BlockTransformer.encoded g.T.BlockTransformer.decoded c.args.env.now.operator c.args.env.now.transformer in
           let before : SessionModel = record { core = c.self.inside.core; names = c.self.inside.names.entries; snapshot_names = c.self.inside.snapshot_names.entries; now = c.self.inside.now } in
           let none : find_named c.args.name before.names ≡ None = find_named-lookup c.args.name before.names ∙ sym c.in_default.ensures.value in
-          subst (λ (v : SessionModel). AnswersAs m v (record before { names = c.remove.new.self.entries }) (lines.Commit c.args.name) (Ok (answers.Refused (errors.UnknownTransaction c.args.name)))) c.self.view_is
-          (subst (λ (ns : List (List ℕ × List ℕ)). AnswersAs m before (record before { names = ns }) (lines.Commit c.args.name) (Ok (answers.Refused (errors.UnknownTransaction c.args.name)))) (sym c.in_default.ensures.unchanged)
-          (commit-unknown m before c.args.name none)));
+          subst (λ (v : SessionModel). AnswersAs m seg v (record before { names = c.remove.new.self.entries }) (lines.Commit c.args.name) (Ok (answers.Refused (errors.UnknownTransaction c.args.name)))) c.self.view_is
+          (subst (λ (ns : List (List ℕ × List ℕ)). AnswersAs m seg before (record before { names = ns }) (lines.Commit c.args.name) (Ok (answers.Refused (errors.UnknownTransaction c.args.name)))) (sym c.in_default.ensures.unchanged)
+          (commit-unknown m seg before c.args.name none)));
       stores = (let same : length c.self.inside.core.events ≡ length c.args.self.now.core.events = ap (λ (v : SessionModel). length v.core.events) c.self.view_is in
           record {
             settings = ap (λ (v : SessionModel). v.core.settings) c.self.view_is;
             runs = ap (λ (v : SessionModel). runs_of v.core.events) c.self.view_is;
             later = omega (arith, same);
             kept = λ k. subst (λ (v : SessionModel). IsKept (meaning_of g.M.MergeOperator.combine g.T.BlockTransformer.encoded g.T.BlockTransformer.decoded c.args.env.now.operator c.args.env.now.transformer) v.core) (sym c.self.view_is) k;
+            segmented = λ k. subst (λ (v : SessionModel). IsSegmented (segments_by g.X.PrefixExtractor.lengths c.args.laws.now.segments) v.core) (sym c.self.view_is) k;
           });
       grows = (let before : SessionModel = record { core = c.self.inside.core; names = c.self.inside.names.entries; snapshot_names = c.self.inside.snapshot_names.entries; now = c.self.inside.now } in
           subst (λ (v : SessionModel). Grows (lines.Commit c.args.name) v (record before { names = c.remove.new.self.entries })) c.self.view_is (omega arith, omega arith));
@@ -72,11 +75,13 @@ invariant_of-self-2 g c =
     )
 
 pub returns-clause-step : goal.returns-clause-step
-returns-clause-step g c = λ operable.
+returns-clause-step g c = λ operable segmented.
+    let seg = (segments_by g.X.PrefixExtractor.lengths c.args.laws.now.segments) in
     let m = meaning_of g.M.MergeOperator.combine g.T.BlockTransformer.encoded g.T.BlockTransformer.decoded c.args.env.now.operator c.args.env.now.transformer in
     let old-counts = counts_of (g.S.Store.faults c.args.env.now.store.now) g.M.MergeOperator.faults g.T.BlockTransformer.faults c.args.env.now.operator c.args.env.now.transformer in
     let new-counts = counts_of (g.S.Store.faults c.commit.new.env.store.now) g.M.MergeOperator.faults g.T.BlockTransformer.faults c.commit.new.env.operator c.commit.new.env.transformer in
     let before : SessionModel = record { core = c.self.inside.core; names = c.self.inside.names.entries; snapshot_names = c.self.inside.snapshot_names.entries; now = c.self.inside.now } in
+    let held : IsSegmented seg before.core = subst (λ (v : SessionModel). IsSegmented seg v.core) (sym c.self.view_is) segmented in
     let id = c.in-Some.id in
     let known : find_named c.args.name before.names ≡ Some id = find_named-lookup c.args.name before.names ∙ sym c.in-Some.ensures.value in
     let t : IsNamed (find_named id before.core.state.txns) = named-of (find_named id before.core.state.txns) (c.self.invariant.0.transactions.opened c.args.name id known) in
@@ -86,21 +91,22 @@ returns-clause-step g c = λ operable.
     ] in
     let updates : (q : List ℕ) → find_named q c.remove.new.self.entries ≡ cond (bytes_eq c.args.name q) None (find_named q before.names) = λ q. named-after c.args.name q None before.names c.remove.new.self.entries (c.remove.ensures.updates.0 q) in
     let after : SessionModel = record before { core = c.commit.new.self; names = c.remove.new.self.entries } in
-    subst (λ (v : SessionModel). AnswersAs m v after (lines.Commit c.args.name) c.match-commit.result) c.self.view_is
+    subst (λ (v : SessionModel). AnswersAs m seg v after (lines.Commit c.args.name) c.match-commit.result) c.self.view_is
     (elim c.match-commit.branch [
-      | in-Ok w ↦ subst (λ (r : Result Answer SlateDBError). AnswersAs m before after (lines.Commit c.args.name) r) (sym w.result-is)
-          (commit-as m before c.commit.new.self c.remove.new.self.entries c.args.name id (answers.Committed w.in-Ok.seq) c.self.invariant.0 known closed.txns closed.snapshots closed.flushed updates
-          (commit-moment (rules_of before.core.settings m) before.core c.commit.new.self id (Committed w.in-Ok.seq) (given-moment c.self.inside.now c.self.invariant.1) w.in-Ok.ensures.step))
-      | in-Err w ↦ subst (λ (r : Result Answer SlateDBError). AnswersAs m before after (lines.Commit c.args.name) r) (sym w.result-is)
-          (refused-as m old-counts new-counts before c.commit.new.self c.remove.new.self.entries c.args.name id w.in-Err.error w.refused.result
-          (λ a. commit-as m before c.commit.new.self c.remove.new.self.entries c.args.name id a c.self.invariant.0 known closed.txns closed.snapshots closed.flushed updates)
+      | in-Ok w ↦ subst (λ (r : Result Answer SlateDBError). AnswersAs m seg before after (lines.Commit c.args.name) r) (sym w.result-is)
+          (commit-as m seg before c.commit.new.self c.remove.new.self.entries c.args.name id (answers.Committed w.in-Ok.seq) c.self.invariant.0 known closed.txns closed.snapshots closed.flushed updates
+          (commit-moment (rules_in before.core.settings m seg) before.core c.commit.new.self id (Committed w.in-Ok.seq) (given-moment c.self.inside.now c.self.invariant.1) (w.in-Ok.ensures.step held)))
+      | in-Err w ↦ subst (λ (r : Result Answer SlateDBError). AnswersAs m seg before after (lines.Commit c.args.name) r) (sym w.result-is)
+          (refused-as m seg old-counts new-counts before c.commit.new.self c.remove.new.self.entries c.args.name id w.in-Err.error w.refused.result
+          (λ a. commit-as m seg before c.commit.new.self c.remove.new.self.entries c.args.name id a c.self.invariant.0 known closed.txns closed.snapshots closed.flushed updates)
           w.refused.ensures.reply w.refused.ensures.answered
-          (refused-moment m before.core c.commit.new.self id w.in-Err.error (given-moment c.self.inside.now c.self.invariant.1)
-          (w.in-Err.ensures.refused (subst (λ (v : SessionModel). IsOperable m v.core) (sym c.self.view_is) operable))))
+          (refused-moment m seg before.core c.commit.new.self id w.in-Err.error (given-moment c.self.inside.now c.self.invariant.1)
+          (w.in-Err.ensures.refused (subst (λ (v : SessionModel). IsOperable m v.core) (sym c.self.view_is) operable) held)))
     ])
 
 pub returns-clause-stores : goal.returns-clause-stores
 returns-clause-stores g c =
+    let seg = (segments_by g.X.PrefixExtractor.lengths c.args.laws.now.segments) in
     let before : SessionModel = record { core = c.self.inside.core; names = c.self.inside.names.entries; snapshot_names = c.self.inside.snapshot_names.entries; now = c.self.inside.now } in
     let id = c.in-Some.id in
     let known : find_named c.args.name before.names ≡ Some id = find_named-lookup c.args.name before.names ∙ sym c.in-Some.ensures.value in
@@ -110,8 +116,8 @@ returns-clause-stores g c =
       | in-Err w ↦ closes-ended before.core c.commit.new.self id w.in-Err.ensures.ended
     ] in
     let m = meaning_of g.M.MergeOperator.combine g.T.BlockTransformer.encoded g.T.BlockTransformer.decoded c.args.env.now.operator c.args.env.now.transformer in
-    subst (λ (v : SessionModel). OnOk c.match-commit.result (StoresNothing m v (record before { core = c.commit.new.self; names = c.remove.new.self.entries }))) c.self.view_is
-    (always c.match-commit.result (stores-by m before c.commit.new.self c.remove.new.self.entries before.snapshot_names before.now (leaves-closed before.core c.commit.new.self id closed) c.commit.ensures.kept))
+    subst (λ (v : SessionModel). OnOk c.match-commit.result (StoresNothing m seg v (record before { core = c.commit.new.self; names = c.remove.new.self.entries }))) c.self.view_is
+    (always c.match-commit.result (stores-by m seg before c.commit.new.self c.remove.new.self.entries before.snapshot_names before.now (leaves-closed before.core c.commit.new.self id closed) c.commit.ensures.kept c.commit.ensures.segmented))
 
 pub returns-clause-grows : goal.returns-clause-grows
 returns-clause-grows g c =
@@ -140,7 +146,7 @@ returns-clause-cause g c =
     (elim c.match-commit.branch [
       | in-Ok w ↦ subst (λ (r : Result Answer SlateDBError). IfErr r (λ e. IsCounted old new e ⊎ IsLimit before e)) (sym w.result-is) tt
       | in-Err w ↦ subst (λ (r : Result Answer SlateDBError). IfErr r (λ e. IsCounted old new e ⊎ IsLimit before e)) (sym w.result-is)
-          (commit-cause old new before (conflict before.core.state.commits t.value) m.combine _ _ _ t.value.ops w.in-Err.error w.refused.result w.refused.ensures.other (w.in-Err.ensures.cause t.value t.is))
+          (commit-cause old new before (conflict before.core.state.commits t.value) m.combine _ _ _ _ _ t.value.ops w.in-Err.error w.refused.result w.refused.ensures.other (w.in-Err.ensures.cause t.value t.is))
     ])
 
 pub returns-clause-reads : goal.returns-clause-reads

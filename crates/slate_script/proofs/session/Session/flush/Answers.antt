@@ -25,10 +25,10 @@ pub returns : goal.returns
 returns g c =
     let policies = map (λ p. (goal.FilterPolicy-dyn g (p.vtable, p.value)).meaning p.value) c.args.laws.now.policies.items in
     record {
-      step = (λ m.
+      step = (λ m seg.
           let before : SessionModel = record { core = c.self.inside.core; names = c.self.inside.names.entries; snapshot_names = c.self.inside.snapshot_names.entries; now = c.self.inside.now } in
-          subst (λ (v : SessionModel). AnswersAs m v (record before { core = c.flush.new.self }) lines.Flush (Ok (answers.Flushed c.in_ok-seq.seq))) c.self.view_is
-          (flush-as m before c.flush.new.self c.in_ok-seq.seq (c.in_ok-seq.ensures.step m)));
+          subst (λ (v : SessionModel). AnswersAs m seg v (record before { core = c.flush.new.self }) lines.Flush (Ok (answers.Flushed c.in_ok-seq.seq))) c.self.view_is
+          (flush-as m seg before c.flush.new.self c.in_ok-seq.seq (c.in_ok-seq.ensures.step m seg)));
       settings = c.flush.ensures.settings ∙ ap (λ (v : SessionModel). v.core.settings) c.self.view_is;
       grows = (let before : SessionModel = record { core = c.self.inside.core; names = c.self.inside.names.entries; snapshot_names = c.self.inside.snapshot_names.entries; now = c.self.inside.now } in
           subst (λ (v : SessionModel). Grows lines.Flush v (record before { core = c.flush.new.self })) c.self.view_is
@@ -39,11 +39,11 @@ returns g c =
           let m = meaning_of g.M.MergeOperator.combine g.T.BlockTransformer.encoded g.T.BlockTransformer.decoded c.args.env.now.operator c.args.env.now.transformer in
           let went : c.flush.result ≡ Ok c.in_ok-seq.seq = grind (arith, c.branch-seq.ensures, c.in_ok-seq.is) in
           let old = g.S.Store.objects c.args.env.now.store.now in
-          flush-settled m (layout_of c.args.laws.now.options policies (segments_by g.X.PrefixExtractor.lengths c.args.laws.now.segments)) old (g.S.Store.objects c.flush.new.env.store.now) before c.in_ok-seq.ensures.installed.0 c.flush.new.self c.in_ok-seq.seq
+          flush-settled m (segments_by g.X.PrefixExtractor.lengths c.args.laws.now.segments) (layout_of c.args.laws.now.options policies (segments_by g.X.PrefixExtractor.lengths c.args.laws.now.segments)) old (g.S.Store.objects c.flush.new.env.store.now) before c.in_ok-seq.ensures.installed.0 c.flush.new.self c.in_ok-seq.seq
           c.in_ok-seq.ensures.installed.1 c.in_ok-seq.ensures.installed.2
           (has-room LIMIT _ _ _ c.flush.result c.in_ok-seq.seq (LimitReached LIMIT) went c.flush.ensures.limit)
-          c.flush.ensures.kept
-          (subst (λ (v : SessionModel). IsSettled policies m old v) (sym c.self.view_is) settled));
+          c.flush.ensures.kept (c.flush.ensures.segmented (segments_by g.X.PrefixExtractor.lengths c.args.laws.now.segments))
+          (subst (λ (v : SessionModel). IsSettled policies m (segments_by g.X.PrefixExtractor.lengths c.args.laws.now.segments) old v) (sym c.self.view_is) settled));
       core_kept = λ kept. c.flush.ensures.kept (subst (λ (v : SessionModel). IsKept (meaning_of g.M.MergeOperator.combine g.T.BlockTransformer.encoded g.T.BlockTransformer.decoded c.args.env.now.operator c.args.env.now.transformer) v.core) (sym c.self.view_is) kept);
       alone = (λ settled alone.
           let m = meaning_of g.M.MergeOperator.combine g.T.BlockTransformer.encoded g.T.BlockTransformer.decoded c.args.env.now.operator c.args.env.now.transformer in
@@ -52,18 +52,18 @@ returns g c =
           let old = g.S.Store.objects c.args.env.now.store.now in
           flush-alone m layout c.self.inside.core c.in_ok-seq.ensures.installed.0 c.flush.new.self c.in_ok-seq.seq old (g.S.Store.objects c.flush.new.env.store.now)
           c.in_ok-seq.ensures.installed.1 c.in_ok-seq.ensures.installed.2
-          (subst (λ (v : SessionModel). IsSettled policies m old v) (sym c.self.view_is) settled).tables.few
+          (subst (λ (v : SessionModel). IsSettled policies m (segments_by g.X.PrefixExtractor.lengths c.args.laws.now.segments) old v) (sym c.self.view_is) settled).tables.few
           (has-room LIMIT _ _ _ c.flush.result c.in_ok-seq.seq (LimitReached LIMIT) went c.flush.ensures.limit)
           (subst (λ (v : SessionModel). HasTablesAlone m layout old (runs_of v.core.events)) (sym c.self.view_is) alone));
       follows = (λ os settled.
           let before : SessionModel = record { core = c.self.inside.core; names = c.self.inside.names.entries; snapshot_names = c.self.inside.snapshot_names.entries; now = c.self.inside.now } in
           let m = meaning_of g.M.MergeOperator.combine g.T.BlockTransformer.encoded g.T.BlockTransformer.decoded c.args.env.now.operator c.args.env.now.transformer in
           let went : c.flush.result ≡ Ok c.in_ok-seq.seq = grind (arith, c.branch-seq.ensures, c.in_ok-seq.is) in
-          follows-flush m (layout_of c.args.laws.now.options policies (segments_by g.X.PrefixExtractor.lengths c.args.laws.now.segments)) os _ _ before c.in_ok-seq.ensures.installed.0 c.flush.new.self c.in_ok-seq.seq (g.S.Store.acts c.args.env.now.store.now) (g.S.Store.acts c.flush.new.env.store.now)
+          follows-flush m (segments_by g.X.PrefixExtractor.lengths c.args.laws.now.segments) (layout_of c.args.laws.now.options policies (segments_by g.X.PrefixExtractor.lengths c.args.laws.now.segments)) os _ _ before c.in_ok-seq.ensures.installed.0 c.flush.new.self c.in_ok-seq.seq (g.S.Store.acts c.args.env.now.store.now) (g.S.Store.acts c.flush.new.env.store.now)
           c.in_ok-seq.ensures.installed.1 c.in_ok-seq.ensures.installed.2 c.in_ok-seq.ensures.acts
           (has-room LIMIT _ _ _ c.flush.result c.in_ok-seq.seq (LimitReached LIMIT) went c.flush.ensures.limit)
-          c.flush.ensures.kept
-          (subst (λ (v : SessionModel). IsSettled policies m (Some os) v) (sym c.self.view_is) settled));
+          c.flush.ensures.kept (c.flush.ensures.segmented (segments_by g.X.PrefixExtractor.lengths c.args.laws.now.segments))
+          (subst (λ (v : SessionModel). IsSettled policies m (segments_by g.X.PrefixExtractor.lengths c.args.laws.now.segments) (Some os) v) (sym c.self.view_is) settled));
       tables = stores-added _ _ _ _ (subst (λ (v : SessionModel). AddsTables (tables_of v.core.events) (tables_of c.flush.new.self.events) (g.S.Store.acts c.args.env.now.store.now) (g.S.Store.acts c.flush.new.env.store.now)) c.self.view_is c.in_ok-seq.ensures.acts);
       cause = tt;
       operable = λ kept. tt;
@@ -75,7 +75,7 @@ returns-in_err-seq g c =
     let policies = map (λ p. (goal.FilterPolicy-dyn g (p.vtable, p.value)).meaning p.value) c.args.laws.now.policies.items in
     let p = err_from_is_err_and c.from_residual.result c.from_residual.ensures.1 in
     record {
-      step = λ m s stands. IfOk-from_err c.from_residual.result _ c.from_residual.ensures.0;
+      step = λ m seg s stands. IfOk-from_err c.from_residual.result _ c.from_residual.ensures.0;
       settings = IfOk-from_err c.from_residual.result _ c.from_residual.ensures.0;
       grows = IfOk-from_err c.from_residual.result _ c.from_residual.ensures.0;
       kept = λ settled. IfOk-from_err c.from_residual.result _ c.from_residual.ensures.0;

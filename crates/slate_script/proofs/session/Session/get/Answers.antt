@@ -1,6 +1,7 @@
 use Rattle.std.proofs.Common.{◌≡◌, ℕ, List, length, Option, Ok, refl, sym, ap, subst, ◌∙◌, arith, map}
 use Rattle.std.specs.Prelude.{IfSome, IsSome}
 use Rattle.std.proofs.lemmas.Result.{err_from_is_err_and, IfOk-from_err}
+use Rattle.slate_mem.specs.KeyTests.{Segments}
 use Rattle.slate_store.specs.Reach.{reach_of}
 use Rattle.slate_types.proofs.Reaching.{reads_none}
 use Rattle.slate_txn.specs.Reply as replies
@@ -9,13 +10,14 @@ use Rattle.slate_txn.specs.State.{State}
 use Rattle.slate_txn.specs.Step.{reader, step}
 use Rattle.slate_txn.specs.declared.line.Line.TheVariants as lines
 use Rattle.slate_db.specs.Installs.{runs_of}
-use Rattle.slate_db.specs.Meaning.{Meaning, rules_of}
+use Rattle.slate_db.specs.Meaning.{Meaning, rules_in}
 use Rattle.slate_db.specs.Model.{CoreModel}
 use Rattle.slate_db.specs.Parts.{meaning_of}
 use Rattle.slate_db.specs.Readable.{IsAnswered, IsReadError}
 use Rattle.slate_language.specs.declared.reply.Answer.TheVariants as answers
 use Rattle.slate_script.specs.Session.{SessionModel, AnswersAs, Grows, NamesStand, StoresNothing, reader_id}
 use Rattle.slate_script.specs.Told.{asking_for}
+use Rattle.slate_script.proofs.SessionLeaves.{segmented-noted}
 use Rattle.slate_script.proofs.SessionNames.{names-updated}
 use Rattle.slate_script.proofs.SessionSteps.{get-refused, get-found}
 use Rattle.slate_script.proofs.Growth.{grows, takes-noted}
@@ -24,10 +26,10 @@ use Rattle.slate_script.proofs.session.Session.get.Goals as goal
 pub returns-in_default : goal.returns-in_default
 returns-in_default g c =
     record {
-      step = (λ is.
+      step = (λ is seg.
           let m = meaning_of g.M.MergeOperator.combine g.T.BlockTransformer.encoded g.T.BlockTransformer.decoded c.args.env.now.operator c.args.env.now.transformer in
-          get-refused m c.args.self.now c.args.name c.args.key c.reader_id.result c.reader_id.ensures.reads c.in_default.is);
-      stores = λ m. record { settings = refl; runs = refl; later = omega arith; kept = λ k. k };
+          get-refused m seg c.args.self.now c.args.name c.args.key c.reader_id.result c.reader_id.ensures.reads c.in_default.is);
+      stores = λ m seg. record { settings = refl; runs = refl; later = omega arith; kept = λ k. k; segmented = λ k. k };
       grows = (omega arith, omega arith);
       cause = tt;
       undamaged = λ is. tt;
@@ -50,19 +52,19 @@ pub returns : goal.returns
 returns g c =
     let policies = map (λ p. (goal.FilterPolicy-dyn g (p.vtable, p.value)).meaning p.value) c.args.laws.now.policies.items in
     record {
-      step = (λ is.
+      step = (λ is seg.
           let before : SessionModel = record { core = c.self.inside.core; names = c.self.inside.names.entries; snapshot_names = c.self.inside.snapshot_names.entries; now = c.self.inside.now } in
           let m = meaning_of g.M.MergeOperator.combine g.T.BlockTransformer.encoded g.T.BlockTransformer.decoded c.args.env.now.operator c.args.env.now.transformer in
           let old = reach_of g.S.Store g.M.MergeOperator g.T.BlockTransformer c.args.env.now in
           let new = reach_of g.S.Store g.M.MergeOperator g.T.BlockTransformer c.get-read.new.env in
-          let stepped = c.in_ok-row.ensures.read.answer (subst (λ (v : SessionModel). IsAnswered policies old new v.core) (sym c.self.view_is) is) in
-          subst (λ (v : SessionModel). AnswersAs m v (record before { core = c.get-read.new.self }) (lines.Get c.args.name c.args.key) (Ok (answers.Found c.in_ok-row.row))) c.self.view_is
-          (get-found m before c.get-read.new.self c.args.name c.in-Some.id c.args.key c.in_ok-row.row c.self.invariant.0 (ap (λ (v : SessionModel). reader_id v c.args.name) c.self.view_is ∙ sym c.reader_id.ensures.id ∙ c.in-Some.is)
-          (subst (λ (k : List ℕ). ◌≡◌ {A = State × Reply} (step (rules_of c.self.inside.core.settings m) c.self.inside.core.state (lines.Get c.in-Some.id k)) (c.get-read.new.self.state, replies.Found c.in_ok-row.row)) c.as_slice.ensures stepped)));
+          let stepped = c.in_ok-row.ensures.read.answer (subst (λ (v : SessionModel). IsAnswered policies old new v.core) (sym c.self.view_is) is) seg in
+          subst (λ (v : SessionModel). AnswersAs m seg v (record before { core = c.get-read.new.self }) (lines.Get c.args.name c.args.key) (Ok (answers.Found c.in_ok-row.row))) c.self.view_is
+          (get-found m seg before c.get-read.new.self c.args.name c.in-Some.id c.args.key c.in_ok-row.row c.self.invariant.0 (ap (λ (v : SessionModel). reader_id v c.args.name) c.self.view_is ∙ sym c.reader_id.ensures.id ∙ c.in-Some.is)
+          (subst (λ (k : List ℕ). ◌≡◌ {A = State × Reply} (step (rules_in c.self.inside.core.settings m seg) c.self.inside.core.state (lines.Get c.in-Some.id k)) (c.get-read.new.self.state, replies.Found c.in_ok-row.row)) c.as_slice.ensures stepped)));
       stores = (let before : SessionModel = record { core = c.self.inside.core; names = c.self.inside.names.entries; snapshot_names = c.self.inside.snapshot_names.entries; now = c.self.inside.now } in
           let same : length c.get-read.new.self.events ≡ length c.self.inside.core.events = ap (λ (v : CoreModel). length v.events) c.in_ok-row.ensures.noted in
-          subst (λ (v : SessionModel). (m : Meaning) → StoresNothing m v (record before { core = c.get-read.new.self })) c.self.view_is
-          (λ m. record { settings = c.get-read.ensures.settings; runs = ap (λ (v : CoreModel). runs_of v.events) c.in_ok-row.ensures.noted; later = omega (arith, same); kept = c.get-read.ensures.kept m }));
+          subst (λ (v : SessionModel). (m : Meaning) (seg : Segments) → StoresNothing m seg v (record before { core = c.get-read.new.self })) c.self.view_is
+          (λ m seg. record { settings = c.get-read.ensures.settings; runs = ap (λ (v : CoreModel). runs_of v.events) c.in_ok-row.ensures.noted; later = omega (arith, same); kept = c.get-read.ensures.kept m; segmented = segmented-noted c.self.inside.core c.get-read.new.self c.in-Some.id _ c.in_ok-row.ensures.noted seg }));
       grows = (let before : SessionModel = record { core = c.self.inside.core; names = c.self.inside.names.entries; snapshot_names = c.self.inside.snapshot_names.entries; now = c.self.inside.now } in
           subst (λ (v : SessionModel). Grows (lines.Get c.args.name c.args.key) v (record before { core = c.get-read.new.self })) c.self.view_is
           (grows before c.get-read.new.self before.names before.snapshot_names before.now (lines.Get c.args.name c.args.key) 0 (omega arith)
@@ -77,7 +79,7 @@ returns-in_err-row g c =
     let policies = map (λ p. (goal.FilterPolicy-dyn g (p.vtable, p.value)).meaning p.value) c.args.laws.now.policies.items in
     let p = err_from_is_err_and c.from_residual.result c.from_residual.ensures.1 in
     record {
-      step = λ is s stands. IfOk-from_err c.from_residual.result _ c.from_residual.ensures.0;
+      step = λ is seg s stands. IfOk-from_err c.from_residual.result _ c.from_residual.ensures.0;
       stores = IfOk-from_err c.from_residual.result _ c.from_residual.ensures.0;
       grows = IfOk-from_err c.from_residual.result _ c.from_residual.ensures.0;
       cause = (let old = reach_of g.S.Store g.M.MergeOperator g.T.BlockTransformer c.args.env.now in

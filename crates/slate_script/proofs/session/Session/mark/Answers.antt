@@ -1,4 +1,5 @@
 use Rattle.std.proofs.Common.{◌≡◌, ℕ, List, None, Some, Ok, OnOk, refl, sym, subst, ◌∙◌, arith}
+use Rattle.slate_mem.specs.KeyTests.{Segments}
 use Rattle.slate_txn.specs.Named.{find_named}
 use Rattle.slate_txn.specs.declared.line.Line.TheVariants as lines
 use Rattle.slate_txn.specs.Step.{with_marks}
@@ -9,19 +10,19 @@ use Rattle.slate_script.specs.Session.{SessionModel, AnswersAs, Grows, IsLimit, 
 use Rattle.slate_script.proofs.NamesLaws.{find_named-lookup}
 use Rattle.slate_script.proofs.SessionNames.{names-ran}
 use Rattle.slate_script.proofs.SessionOperations.{mark-unknown, mark-as, ran-as, ran-cause, memory-refuses, memory-cause}
-use Rattle.slate_script.proofs.SessionLeaves.{leaves-ran, stores, stores-where}
+use Rattle.slate_script.proofs.SessionLeaves.{leaves-ran, segmented-ran, stores, stores-where}
 use Rattle.slate_script.proofs.Growth.{grows, grows-where, takes-ran}
 use Rattle.slate_script.proofs.session.Session.mark.Goals as goal
 
 pub returns-in_default : goal.returns-in_default
 returns-in_default c =
     record {
-      step = (λ m.
+      step = (λ m seg.
           let before : SessionModel = record { core = c.self.inside.core; names = c.self.inside.names.entries; snapshot_names = c.self.inside.snapshot_names.entries; now = c.self.inside.now } in
           let none : find_named c.args.name before.names ≡ None = find_named-lookup c.args.name before.names ∙ sym c.in_default.ensures.value in
-          subst (λ (v : SessionModel). AnswersAs m v v (lines.Mark c.args.name c.args.keys) (Ok (answers.Refused (errors.UnknownTransaction c.args.name)))) c.self.view_is
-          (mark-unknown m before c.args.name c.args.keys none));
-      stores = λ m. record { settings = refl; runs = refl; later = omega arith; kept = λ k. k };
+          subst (λ (v : SessionModel). AnswersAs m seg v v (lines.Mark c.args.name c.args.keys) (Ok (answers.Refused (errors.UnknownTransaction c.args.name)))) c.self.view_is
+          (mark-unknown m seg before c.args.name c.args.keys none));
+      stores = λ m seg. record { settings = refl; runs = refl; later = omega arith; kept = λ k. k; segmented = λ k. k };
       grows = (omega arith, omega arith);
       cause = tt;
     }
@@ -38,18 +39,18 @@ invariant_of-self c = (
 pub returns : goal.returns
 returns c =
     record {
-      step = (λ m.
+      step = (λ m seg.
           let before : SessionModel = record { core = c.self.inside.core; names = c.self.inside.names.entries; snapshot_names = c.self.inside.snapshot_names.entries; now = c.self.inside.now } in
           let known : find_named c.args.name before.names ≡ Some c.in-Some.id.now = find_named-lookup c.args.name c.self.inside.names.entries ∙ sym c.in-Some.ensures.value in
-          subst (λ (v : SessionModel). AnswersAs m v (record before { core = c.mark_read-mark.new.self }) (lines.Mark c.args.name c.args.keys) c.done.result) c.self.view_is
-          (subst (λ (x : List (List ℕ)). AnswersAs m before (record before { core = c.mark_read-mark.new.self }) (lines.Mark c.args.name x) c.done.result) c.as_slice.ensures
-          (ran-as m before c.mark_read-mark.new.self (lines.Mark c.in-Some.id.now c.as_slice.result.now) (lines.Mark c.args.name c.as_slice.result.now) c.mark_read-mark.result c.done.result
-          (mark-as m before c.mark_read-mark.new.self c.args.name c.in-Some.id.now c.as_slice.result.now c.self.invariant.0.transactions known)
+          subst (λ (v : SessionModel). AnswersAs m seg v (record before { core = c.mark_read-mark.new.self }) (lines.Mark c.args.name c.args.keys) c.done.result) c.self.view_is
+          (subst (λ (x : List (List ℕ)). AnswersAs m seg before (record before { core = c.mark_read-mark.new.self }) (lines.Mark c.args.name x) c.done.result) c.as_slice.ensures
+          (ran-as m seg before c.mark_read-mark.new.self (lines.Mark c.in-Some.id.now c.as_slice.result.now) (lines.Mark c.args.name c.as_slice.result.now) c.mark_read-mark.result c.done.result
+          (mark-as m seg before c.mark_read-mark.new.self c.args.name c.in-Some.id.now c.as_slice.result.now c.self.invariant.0.transactions known)
           c.mark_read-mark.ensures.step (memory-refuses _ c.mark_read-mark.result c.mark_read-mark.ensures.cause) c.mark_read-mark.ensures.same c.done.ensures)));
       stores = (let before : SessionModel = record { core = c.self.inside.core; names = c.self.inside.names.entries; snapshot_names = c.self.inside.snapshot_names.entries; now = c.self.inside.now } in
-          subst (λ (v : SessionModel). OnOk c.done.result ((m : Meaning) → StoresNothing m v (record before { core = c.mark_read-mark.new.self }))) c.self.view_is
+          subst (λ (v : SessionModel). OnOk c.done.result ((m : Meaning) (seg : Segments) → StoresNothing m seg v (record before { core = c.mark_read-mark.new.self }))) c.self.view_is
           (stores-where c.done.result (stores before c.mark_read-mark.new.self before.names before.snapshot_names before.now
-          (leaves-ran c.mark_read-mark.result c.self.inside.core c.mark_read-mark.new.self c.in-Some.id.now (with_marks c.as_slice.result.now) c.mark_read-mark.ensures.taken c.mark_read-mark.ensures.same) c.mark_read-mark.ensures.kept)));
+          (leaves-ran c.mark_read-mark.result c.self.inside.core c.mark_read-mark.new.self c.in-Some.id.now (with_marks c.as_slice.result.now) c.mark_read-mark.ensures.taken c.mark_read-mark.ensures.same) c.mark_read-mark.ensures.kept (segmented-ran c.mark_read-mark.result c.self.inside.core c.mark_read-mark.new.self c.in-Some.id.now (with_marks c.as_slice.result.now) c.mark_read-mark.ensures.taken c.mark_read-mark.ensures.same))));
       grows = (let before : SessionModel = record { core = c.self.inside.core; names = c.self.inside.names.entries; snapshot_names = c.self.inside.snapshot_names.entries; now = c.self.inside.now } in
           subst (λ (v : SessionModel). OnOk c.done.result (Grows (lines.Mark c.args.name c.args.keys) v (record before { core = c.mark_read-mark.new.self }))) c.self.view_is
           (subst (λ (x : List (List ℕ)). OnOk c.done.result (Grows (lines.Mark c.args.name x) before (record before { core = c.mark_read-mark.new.self }))) c.as_slice.ensures

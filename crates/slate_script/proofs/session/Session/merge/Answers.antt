@@ -12,8 +12,8 @@ use Rattle.slate_db.specs.Parts.{counts_of, meaning_of}
 use Rattle.slate_script.specs.Session.{SessionModel, AnswersAs, Grows, IsLimit, StoresNothing}
 use Rattle.slate_script.proofs.NamesLaws.{find_named-lookup}
 use Rattle.slate_script.proofs.SessionNames.{names-ran}
-use Rattle.slate_script.proofs.SessionOperations.{merge-unknown, merge-as, ran-by, ran-cause, merge-cause}
-use Rattle.slate_script.proofs.SessionLeaves.{leaves-ran, stores-by}
+use Rattle.slate_script.proofs.SessionOperations.{merge-unknown, merge-as, ran-in, ran-cause, merge-cause}
+use Rattle.slate_script.proofs.SessionLeaves.{leaves-ran, segmented-ran, stores-by}
 use Rattle.slate_script.proofs.LineEnds.{memory-or-limit}
 use Rattle.slate_script.proofs.Running.{always}
 use Rattle.slate_script.proofs.Growth.{grows, grows-where, takes-ran, own-op}
@@ -22,12 +22,13 @@ use Rattle.slate_script.proofs.session.Session.merge.Goals as goal
 pub returns-in_default : goal.returns-in_default
 returns-in_default g c =
     record {
-      step = (let m = meaning_of g.M.MergeOperator.combine g.T.BlockTransformer.encoded g.T.BlockTransformer.decoded c.args.env.now.operator c.args.env.now.transformer in
+      step = (λ seg.
+          let m = meaning_of g.M.MergeOperator.combine g.T.BlockTransformer.encoded g.T.BlockTransformer.decoded c.args.env.now.operator c.args.env.now.transformer in
           let before : SessionModel = record { core = c.self.inside.core; names = c.self.inside.names.entries; snapshot_names = c.self.inside.snapshot_names.entries; now = c.self.inside.now } in
           let none : find_named c.args.name before.names ≡ None = find_named-lookup c.args.name before.names ∙ sym c.in_default.ensures.value in
-          subst (λ (v : SessionModel). AnswersAs m v v (lines.Merge c.args.name c.args.key c.args.value c.args.ttl) (Ok (answers.Refused (errors.UnknownTransaction c.args.name)))) c.self.view_is
-          (merge-unknown m before c.args.name c.args.key c.args.value c.args.ttl none));
-      stores = record { settings = refl; runs = refl; later = omega arith; kept = λ k. k };
+          subst (λ (v : SessionModel). AnswersAs m seg v v (lines.Merge c.args.name c.args.key c.args.value c.args.ttl) (Ok (answers.Refused (errors.UnknownTransaction c.args.name)))) c.self.view_is
+          (merge-unknown m seg before c.args.name c.args.key c.args.value c.args.ttl none));
+      stores = λ seg. record { settings = refl; runs = refl; later = omega arith; kept = λ k. k; segmented = λ k. k };
       grows = (omega arith, omega arith);
       cause = tt;
       reads = reads_none _;
@@ -45,20 +46,22 @@ invariant_of-self g c = (
 pub returns : goal.returns
 returns g c =
     record {
-      step = (let m = meaning_of g.M.MergeOperator.combine g.T.BlockTransformer.encoded g.T.BlockTransformer.decoded c.args.env.now.operator c.args.env.now.transformer in
+      step = (λ seg.
+          let m = meaning_of g.M.MergeOperator.combine g.T.BlockTransformer.encoded g.T.BlockTransformer.decoded c.args.env.now.operator c.args.env.now.transformer in
           let before : SessionModel = record { core = c.self.inside.core; names = c.self.inside.names.entries; snapshot_names = c.self.inside.snapshot_names.entries; now = c.self.inside.now } in
           let known : find_named c.args.name before.names ≡ Some c.in-Some.id.now = find_named-lookup c.args.name c.self.inside.names.entries ∙ sym c.in-Some.ensures.value in
-          subst (λ (v : SessionModel). AnswersAs m v (record before { core = c.merge-merge.new.self }) (lines.Merge c.args.name c.args.key c.args.value c.args.ttl) c.done.result) c.self.view_is
-          (subst (λ (x : List ℕ). AnswersAs m before (record before { core = c.merge-merge.new.self }) (lines.Merge c.args.name c.args.key x c.args.ttl) c.done.result) c.as_slice-2.ensures
-          (subst (λ (x : List ℕ). AnswersAs m before (record before { core = c.merge-merge.new.self }) (lines.Merge c.args.name x c.as_slice-2.result.now c.args.ttl) c.done.result) c.as_slice.ensures
-          (ran-by m before c.merge-merge.new.self (lines.Merge c.in-Some.id.now c.as_slice.result.now c.as_slice-2.result.now c.args.ttl) (lines.Merge c.args.name c.as_slice.result.now c.as_slice-2.result.now c.args.ttl) c.merge-merge.result c.done.result
-          (merge-as m before c.merge-merge.new.self c.args.name c.in-Some.id.now c.as_slice.result.now c.as_slice-2.result.now c.args.ttl c.self.invariant.0.transactions known)
+          subst (λ (v : SessionModel). AnswersAs m seg v (record before { core = c.merge-merge.new.self }) (lines.Merge c.args.name c.args.key c.args.value c.args.ttl) c.done.result) c.self.view_is
+          (subst (λ (x : List ℕ). AnswersAs m seg before (record before { core = c.merge-merge.new.self }) (lines.Merge c.args.name c.args.key x c.args.ttl) c.done.result) c.as_slice-2.ensures
+          (subst (λ (x : List ℕ). AnswersAs m seg before (record before { core = c.merge-merge.new.self }) (lines.Merge c.args.name x c.as_slice-2.result.now c.args.ttl) c.done.result) c.as_slice.ensures
+          (ran-in m seg before c.merge-merge.new.self (lines.Merge c.in-Some.id.now c.as_slice.result.now c.as_slice-2.result.now c.args.ttl) (lines.Merge c.args.name c.as_slice.result.now c.as_slice-2.result.now c.args.ttl) c.merge-merge.result c.done.result
+          (merge-as m seg before c.merge-merge.new.self c.args.name c.in-Some.id.now c.as_slice.result.now c.as_slice-2.result.now c.args.ttl c.self.invariant.0.transactions known)
           c.merge-merge.ensures.step c.merge-merge.ensures.refused c.merge-merge.ensures.same c.done.ensures))));
-      stores = (let m = meaning_of g.M.MergeOperator.combine g.T.BlockTransformer.encoded g.T.BlockTransformer.decoded c.args.env.now.operator c.args.env.now.transformer in
+      stores = always c.done.result (λ seg.
+          let m = meaning_of g.M.MergeOperator.combine g.T.BlockTransformer.encoded g.T.BlockTransformer.decoded c.args.env.now.operator c.args.env.now.transformer in
           let before : SessionModel = record { core = c.self.inside.core; names = c.self.inside.names.entries; snapshot_names = c.self.inside.snapshot_names.entries; now = c.self.inside.now } in
-          subst (λ (v : SessionModel). OnOk c.done.result (StoresNothing m v (record before { core = c.merge-merge.new.self }))) c.self.view_is
-          (always c.done.result (stores-by m before c.merge-merge.new.self before.names before.snapshot_names before.now
-          (leaves-ran c.merge-merge.result c.self.inside.core c.merge-merge.new.self c.in-Some.id.now (with_op c.as_slice.result.now (ops.Merge c.as_slice-2.result.now (record { ttl = c.args.ttl }))) c.merge-merge.ensures.taken c.merge-merge.ensures.same) c.merge-merge.ensures.kept)));
+          subst (λ (v : SessionModel). StoresNothing m seg v (record before { core = c.merge-merge.new.self })) c.self.view_is
+          (stores-by m seg before c.merge-merge.new.self before.names before.snapshot_names before.now
+          (leaves-ran c.merge-merge.result c.self.inside.core c.merge-merge.new.self c.in-Some.id.now (with_op c.as_slice.result.now (ops.Merge c.as_slice-2.result.now (record { ttl = c.args.ttl }))) c.merge-merge.ensures.taken c.merge-merge.ensures.same) c.merge-merge.ensures.kept (segmented-ran c.merge-merge.result c.self.inside.core c.merge-merge.new.self c.in-Some.id.now (with_op c.as_slice.result.now (ops.Merge c.as_slice-2.result.now (record { ttl = c.args.ttl }))) c.merge-merge.ensures.taken c.merge-merge.ensures.same seg)));
       grows = (let before : SessionModel = record { core = c.self.inside.core; names = c.self.inside.names.entries; snapshot_names = c.self.inside.snapshot_names.entries; now = c.self.inside.now } in
           subst (λ (v : SessionModel). OnOk c.done.result (Grows (lines.Merge c.args.name c.args.key c.args.value c.args.ttl) v (record before { core = c.merge-merge.new.self }))) c.self.view_is
           (subst (λ (x : List ℕ). OnOk c.done.result (Grows (lines.Merge c.args.name c.args.key x c.args.ttl) before (record before { core = c.merge-merge.new.self }))) c.as_slice-2.ensures

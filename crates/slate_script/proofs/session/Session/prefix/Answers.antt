@@ -15,10 +15,10 @@ scan_range-requires-clause-prefix g c = λ κs lives.
     begins_behind c.args.prefix c.args.start c.args.end c.asked.result c.in-Ok.range c.asked.ensures (c.in-Ok.ensures.range ∙ ap (λ p. prefix_subrange p c.args.start c.args.end) c.as_slice.ensures)
 
 pub returns-clause-step : goal.returns-clause-step
-returns-clause-step g c = λ is.
+returns-clause-step g c = λ is seg.
     let m = meaning_of g.M.MergeOperator.combine g.T.BlockTransformer.encoded g.T.BlockTransformer.decoded c.args.env.now.operator c.args.env.now.transformer in
     let composed : c.in-Ok.range ≡ prefix_subrange c.args.prefix c.args.start c.args.end = c.in-Ok.ensures.range ∙ ap (λ p. prefix_subrange p c.args.start c.args.end) c.as_slice.ensures in
-    subst (λ (o : Option BytesRange). ScansAs m c.args.self.now c.scan_range.new.self c.args.name c.args.order o c.args.steps c.scan_range.result) composed (c.scan_range.ensures.step is)
+    subst (λ (o : Option BytesRange). ScansAs m seg c.args.self.now c.scan_range.new.self c.args.name c.args.order o c.args.steps c.scan_range.result) composed (c.scan_range.ensures.step is seg)
 
 pub returns-clause-grows : goal.returns-clause-grows
 returns-clause-grows g c = c.scan_range.ensures.grows (lines.Prefix c.args.name c.args.order c.args.prefix c.args.start c.args.end c.args.steps) refl

@@ -1,4 +1,5 @@
 use Rattle.std.proofs.Common.{◌≡◌, ℕ, List, None, Some, Ok, OnOk, refl, sym, subst, ◌∙◌, arith}
+use Rattle.slate_mem.specs.KeyTests.{Segments}
 use Rattle.slate_mem.specs.declared.WriteOp.TheVariants as ops
 use Rattle.slate_txn.specs.Named.{find_named}
 use Rattle.slate_txn.specs.declared.line.Line.TheVariants as lines
@@ -10,19 +11,19 @@ use Rattle.slate_script.specs.Session.{SessionModel, AnswersAs, Grows, IsLimit, 
 use Rattle.slate_script.proofs.NamesLaws.{find_named-lookup}
 use Rattle.slate_script.proofs.SessionNames.{names-ran}
 use Rattle.slate_script.proofs.SessionOperations.{put-unknown, put-as, ran-as, ran-cause, op-cause}
-use Rattle.slate_script.proofs.SessionLeaves.{leaves-ran, stores, stores-where}
+use Rattle.slate_script.proofs.SessionLeaves.{leaves-ran, segmented-ran, stores, stores-where}
 use Rattle.slate_script.proofs.Growth.{grows, grows-where, takes-ran, own-op}
 use Rattle.slate_script.proofs.session.Session.put.Goals as goal
 
 pub returns-in_default : goal.returns-in_default
 returns-in_default c =
     record {
-      step = (λ m.
+      step = (λ m seg.
           let before : SessionModel = record { core = c.self.inside.core; names = c.self.inside.names.entries; snapshot_names = c.self.inside.snapshot_names.entries; now = c.self.inside.now } in
           let none : find_named c.args.name before.names ≡ None = find_named-lookup c.args.name before.names ∙ sym c.in_default.ensures.value in
-          subst (λ (v : SessionModel). AnswersAs m v v (lines.Put c.args.name c.args.key c.args.value c.args.ttl) (Ok (answers.Refused (errors.UnknownTransaction c.args.name)))) c.self.view_is
-          (put-unknown m before c.args.name c.args.key c.args.value c.args.ttl none));
-      stores = λ m. record { settings = refl; runs = refl; later = omega arith; kept = λ k. k };
+          subst (λ (v : SessionModel). AnswersAs m seg v v (lines.Put c.args.name c.args.key c.args.value c.args.ttl) (Ok (answers.Refused (errors.UnknownTransaction c.args.name)))) c.self.view_is
+          (put-unknown m seg before c.args.name c.args.key c.args.value c.args.ttl none));
+      stores = λ m seg. record { settings = refl; runs = refl; later = omega arith; kept = λ k. k; segmented = λ k. k };
       grows = (omega arith, omega arith);
       cause = tt;
     }
@@ -39,19 +40,19 @@ invariant_of-self c = (
 pub returns : goal.returns
 returns c =
     record {
-      step = (λ m.
+      step = (λ m seg.
           let before : SessionModel = record { core = c.self.inside.core; names = c.self.inside.names.entries; snapshot_names = c.self.inside.snapshot_names.entries; now = c.self.inside.now } in
           let known : find_named c.args.name before.names ≡ Some c.in-Some.id.now = find_named-lookup c.args.name c.self.inside.names.entries ∙ sym c.in-Some.ensures.value in
-          subst (λ (v : SessionModel). AnswersAs m v (record before { core = c.put-put.new.self }) (lines.Put c.args.name c.args.key c.args.value c.args.ttl) c.done.result) c.self.view_is
-          (subst (λ (x : List ℕ). AnswersAs m before (record before { core = c.put-put.new.self }) (lines.Put c.args.name c.args.key x c.args.ttl) c.done.result) c.as_slice-2.ensures
-          (subst (λ (x : List ℕ). AnswersAs m before (record before { core = c.put-put.new.self }) (lines.Put c.args.name x c.as_slice-2.result.now c.args.ttl) c.done.result) c.as_slice.ensures
-          (ran-as m before c.put-put.new.self (lines.Put c.in-Some.id.now c.as_slice.result.now c.as_slice-2.result.now c.args.ttl) (lines.Put c.args.name c.as_slice.result.now c.as_slice-2.result.now c.args.ttl) c.put-put.result c.done.result
-          (put-as m before c.put-put.new.self c.args.name c.in-Some.id.now c.as_slice.result.now c.as_slice-2.result.now c.args.ttl c.self.invariant.0.transactions known)
+          subst (λ (v : SessionModel). AnswersAs m seg v (record before { core = c.put-put.new.self }) (lines.Put c.args.name c.args.key c.args.value c.args.ttl) c.done.result) c.self.view_is
+          (subst (λ (x : List ℕ). AnswersAs m seg before (record before { core = c.put-put.new.self }) (lines.Put c.args.name c.args.key x c.args.ttl) c.done.result) c.as_slice-2.ensures
+          (subst (λ (x : List ℕ). AnswersAs m seg before (record before { core = c.put-put.new.self }) (lines.Put c.args.name x c.as_slice-2.result.now c.args.ttl) c.done.result) c.as_slice.ensures
+          (ran-as m seg before c.put-put.new.self (lines.Put c.in-Some.id.now c.as_slice.result.now c.as_slice-2.result.now c.args.ttl) (lines.Put c.args.name c.as_slice.result.now c.as_slice-2.result.now c.args.ttl) c.put-put.result c.done.result
+          (put-as m seg before c.put-put.new.self c.args.name c.in-Some.id.now c.as_slice.result.now c.as_slice-2.result.now c.args.ttl c.self.invariant.0.transactions known)
           c.put-put.ensures.step c.put-put.ensures.refused c.put-put.ensures.same c.done.ensures))));
       stores = (let before : SessionModel = record { core = c.self.inside.core; names = c.self.inside.names.entries; snapshot_names = c.self.inside.snapshot_names.entries; now = c.self.inside.now } in
-          subst (λ (v : SessionModel). OnOk c.done.result ((m : Meaning) → StoresNothing m v (record before { core = c.put-put.new.self }))) c.self.view_is
+          subst (λ (v : SessionModel). OnOk c.done.result ((m : Meaning) (seg : Segments) → StoresNothing m seg v (record before { core = c.put-put.new.self }))) c.self.view_is
           (stores-where c.done.result (stores before c.put-put.new.self before.names before.snapshot_names before.now
-          (leaves-ran c.put-put.result c.self.inside.core c.put-put.new.self c.in-Some.id.now (with_op c.as_slice.result.now (ops.Put c.as_slice-2.result.now (record { ttl = c.args.ttl }))) c.put-put.ensures.taken c.put-put.ensures.same) c.put-put.ensures.kept)));
+          (leaves-ran c.put-put.result c.self.inside.core c.put-put.new.self c.in-Some.id.now (with_op c.as_slice.result.now (ops.Put c.as_slice-2.result.now (record { ttl = c.args.ttl }))) c.put-put.ensures.taken c.put-put.ensures.same) c.put-put.ensures.kept (segmented-ran c.put-put.result c.self.inside.core c.put-put.new.self c.in-Some.id.now (with_op c.as_slice.result.now (ops.Put c.as_slice-2.result.now (record { ttl = c.args.ttl }))) c.put-put.ensures.taken c.put-put.ensures.same))));
       grows = (let before : SessionModel = record { core = c.self.inside.core; names = c.self.inside.names.entries; snapshot_names = c.self.inside.snapshot_names.entries; now = c.self.inside.now } in
           subst (λ (v : SessionModel). OnOk c.done.result (Grows (lines.Put c.args.name c.args.key c.args.value c.args.ttl) v (record before { core = c.put-put.new.self }))) c.self.view_is
           (subst (λ (x : List ℕ). OnOk c.done.result (Grows (lines.Put c.args.name c.args.key x c.args.ttl) before (record before { core = c.put-put.new.self }))) c.as_slice-2.ensures

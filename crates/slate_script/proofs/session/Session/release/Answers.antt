@@ -1,11 +1,13 @@
 use Rattle.std.proofs.Common.{length, arith, ◌≡◌, None, Some, Ok, List, ℕ, refl, sym, subst, ◌∙◌, ap}
+use Rattle.slate_mem.specs.KeyTests.{Segments}
+use Rattle.slate_db.specs.Segmented.{IsSegmented}
 use Rattle.slate_db.specs.Sound.{IsKept}
 use Rattle.slate_db.specs.Installs.{runs_of}
 use Rattle.slate_txn.specs.Named.{find_named}
 use Rattle.slate_txn.specs.State.{State}
 use Rattle.slate_txn.specs.declared.event.Event.TheVariants as events
 use Rattle.slate_txn.specs.declared.line.Line.TheVariants as lines
-use Rattle.slate_db.specs.Meaning.{Meaning, rules_of}
+use Rattle.slate_db.specs.Meaning.{Meaning, rules_in}
 use Rattle.slate_language.specs.declared.reply.Answer.TheVariants as answers
 use Rattle.slate_types.specs.declared.error.SlateDBError.TheVariants as errors
 use Rattle.slate_script.specs.Session.{SessionModel, AnswersAs, Grows, NamesStand, StoresNothing}
@@ -19,19 +21,20 @@ use Rattle.slate_script.proofs.session.Session.release.Goals as goal
 pub returns-in_default : goal.returns-in_default
 returns-in_default c =
     record {
-      step = (λ m.
+      step = (λ m seg.
           let before : SessionModel = record { core = c.self.inside.core; names = c.self.inside.names.entries; snapshot_names = c.self.inside.snapshot_names.entries; now = c.self.inside.now } in
           let none : find_named c.args.name before.names ≡ None = ap (λ (v : SessionModel). find_named c.args.name v.names) c.self.view_is ∙ c.requires in
           let unshown : find_named c.args.name before.snapshot_names ≡ None = find_named-lookup c.args.name before.snapshot_names ∙ sym c.in_default.ensures.value in
-          subst (λ (v : SessionModel). AnswersAs m v (record before { snapshot_names = c.remove.new.self.entries }) (lines.Rollback c.args.name) (Ok (answers.Refused (errors.UnknownTransaction c.args.name)))) c.self.view_is
-          (subst (λ (ns : List (List ℕ × List ℕ)). AnswersAs m before (record before { snapshot_names = ns }) (lines.Rollback c.args.name) (Ok (answers.Refused (errors.UnknownTransaction c.args.name)))) (sym c.in_default.ensures.unchanged)
-          (rollback-refused m before c.args.name none unshown)));
+          subst (λ (v : SessionModel). AnswersAs m seg v (record before { snapshot_names = c.remove.new.self.entries }) (lines.Rollback c.args.name) (Ok (answers.Refused (errors.UnknownTransaction c.args.name)))) c.self.view_is
+          (subst (λ (ns : List (List ℕ × List ℕ)). AnswersAs m seg before (record before { snapshot_names = ns }) (lines.Rollback c.args.name) (Ok (answers.Refused (errors.UnknownTransaction c.args.name)))) (sym c.in_default.ensures.unchanged)
+          (rollback-refused m seg before c.args.name none unshown)));
       stores = (let same : length c.self.inside.core.events ≡ length c.args.self.now.core.events = ap (λ (v : SessionModel). length v.core.events) c.self.view_is in
-          λ m. record {
+          λ m seg. record {
             settings = ap (λ (v : SessionModel). v.core.settings) c.self.view_is;
             runs = ap (λ (v : SessionModel). runs_of v.core.events) c.self.view_is;
             later = omega (arith, same);
             kept = λ k. subst (λ (v : SessionModel). IsKept m v.core) (sym c.self.view_is) k;
+            segmented = λ k. subst (λ (v : SessionModel). IsSegmented seg v.core) (sym c.self.view_is) k;
           });
       grows = (let before : SessionModel = record { core = c.self.inside.core; names = c.self.inside.names.entries; snapshot_names = c.self.inside.snapshot_names.entries; now = c.self.inside.now } in
           subst (λ (v : SessionModel). Grows (lines.Rollback c.args.name) v (record before { snapshot_names = c.remove.new.self.entries })) c.self.view_is (omega arith, omega arith));
@@ -45,7 +48,7 @@ invariant_of-self-2 c =
     let before : SessionModel = record { core = c.self.inside.core; names = c.self.inside.names.entries; snapshot_names = c.self.inside.snapshot_names.entries; now = c.self.inside.now } in
     let known : find_named c.args.name before.snapshot_names ≡ Some c.in-Some.id = find_named-lookup c.args.name before.snapshot_names ∙ sym c.in-Some.ensures.value in (
       subst (λ (s : State). NamesStand before.names c.remove.new.self.entries s.txns s.snapshots)
-          (sym (closes-snapshot (rules_of before.core.settings plain-meaning) before.core.state c.release.new.self.state c.args.name c.in-Some.id (c.release.ensures.step plain-meaning) c.self.invariant.0 known))
+          (sym (closes-snapshot (rules_in before.core.settings plain-meaning None) before.core.state c.release.new.self.state c.args.name c.in-Some.id (c.release.ensures.step plain-meaning None) c.self.invariant.0 known))
           (names-released c.args.name c.in-Some.id before.names before.snapshot_names c.remove.new.self.entries before.core.state.txns before.core.state.snapshots c.self.invariant.0 known
           (λ q. named-after c.args.name q None before.snapshot_names c.remove.new.self.entries (c.remove.ensures.updates.0 q))),
       c.self.invariant.1,
@@ -54,19 +57,19 @@ invariant_of-self-2 c =
 pub returns : goal.returns
 returns c =
     record {
-      step = (λ m.
+      step = (λ m seg.
           let before : SessionModel = record { core = c.self.inside.core; names = c.self.inside.names.entries; snapshot_names = c.self.inside.snapshot_names.entries; now = c.self.inside.now } in
           let known : find_named c.args.name before.snapshot_names ≡ Some c.in-Some.id = find_named-lookup c.args.name before.snapshot_names ∙ sym c.in-Some.ensures.value in
-          subst (λ (v : SessionModel). AnswersAs m v (record before { core = c.release.new.self; snapshot_names = c.remove.new.self.entries }) (lines.Rollback c.args.name) (Ok answers.Done)) c.self.view_is
-          (rollback-releases m before c.release.new.self c.remove.new.self.entries c.args.name c.in-Some.id c.self.invariant.0 known
-          (closes-snapshot (rules_of before.core.settings m) before.core.state c.release.new.self.state c.args.name c.in-Some.id (c.release.ensures.step m) c.self.invariant.0 known)
+          subst (λ (v : SessionModel). AnswersAs m seg v (record before { core = c.release.new.self; snapshot_names = c.remove.new.self.entries }) (lines.Rollback c.args.name) (Ok answers.Done)) c.self.view_is
+          (rollback-releases m seg before c.release.new.self c.remove.new.self.entries c.args.name c.in-Some.id c.self.invariant.0 known
+          (closes-snapshot (rules_in before.core.settings m seg) before.core.state c.release.new.self.state c.args.name c.in-Some.id (c.release.ensures.step m seg) c.self.invariant.0 known)
           (λ q. named-after c.args.name q None before.snapshot_names c.remove.new.self.entries (c.remove.ensures.updates.0 q))));
       stores = (let before : SessionModel = record { core = c.self.inside.core; names = c.self.inside.names.entries; snapshot_names = c.self.inside.snapshot_names.entries; now = c.self.inside.now } in
-          subst (λ (v : SessionModel). (m : Meaning) → StoresNothing m v (record before { core = c.release.new.self; snapshot_names = c.remove.new.self.entries })) c.self.view_is
-          (stores before c.release.new.self before.names c.remove.new.self.entries before.now (leaves-event c.self.inside.core c.release.new.self (events.Release c.in-Some.id) c.release.ensures.event refl) c.release.ensures.kept));
+          subst (λ (v : SessionModel). (m : Meaning) (seg : Segments) → StoresNothing m seg v (record before { core = c.release.new.self; snapshot_names = c.remove.new.self.entries })) c.self.view_is
+          (stores before c.release.new.self before.names c.remove.new.self.entries before.now (leaves-event c.self.inside.core c.release.new.self (events.Release c.in-Some.id) c.release.ensures.event refl) c.release.ensures.kept c.release.ensures.segmented));
       grows = (let before : SessionModel = record { core = c.self.inside.core; names = c.self.inside.names.entries; snapshot_names = c.self.inside.snapshot_names.entries; now = c.self.inside.now } in
           let known : find_named c.args.name before.snapshot_names ≡ Some c.in-Some.id = find_named-lookup c.args.name before.snapshot_names ∙ sym c.in-Some.ensures.value in
-          let is = closes-snapshot (rules_of before.core.settings plain-meaning) before.core.state c.release.new.self.state c.args.name c.in-Some.id (c.release.ensures.step plain-meaning) c.self.invariant.0 known in
+          let is = closes-snapshot (rules_in before.core.settings plain-meaning None) before.core.state c.release.new.self.state c.args.name c.in-Some.id (c.release.ensures.step plain-meaning None) c.self.invariant.0 known in
           subst (λ (v : SessionModel). Grows (lines.Rollback c.args.name) v (record before { core = c.release.new.self; snapshot_names = c.remove.new.self.entries })) c.self.view_is
           (grows before c.release.new.self before.names c.remove.new.self.entries before.now (lines.Rollback c.args.name) 0 (omega arith)
           (takes-event c.self.inside.core c.release.new.self (events.Release c.in-Some.id) c.release.ensures.event

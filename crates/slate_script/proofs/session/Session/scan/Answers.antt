@@ -13,9 +13,9 @@ pub scan_range-requires-clause-prefix : goal.scan_range-requires-clause-prefix
 scan_range-requires-clause-prefix g c = λ κs lives. begins_none c.try_new-range.result
 
 pub returns-clause-step : goal.returns-clause-step
-returns-clause-step g c = λ is.
+returns-clause-step g c = λ is seg.
     let m = meaning_of g.M.MergeOperator.combine g.T.BlockTransformer.encoded g.T.BlockTransformer.decoded c.args.env.now.operator c.args.env.now.transformer in
-    subst (λ (o : Option BytesRange). ScansAs m c.args.self.now c.scan_range.new.self c.args.name c.args.order o c.args.steps c.scan_range.result) c.try_new-range.ensures (c.scan_range.ensures.step is)
+    subst (λ (o : Option BytesRange). ScansAs m seg c.args.self.now c.scan_range.new.self c.args.name c.args.order o c.args.steps c.scan_range.result) c.try_new-range.ensures (c.scan_range.ensures.step is seg)
 
 pub returns-clause-grows : goal.returns-clause-grows
 returns-clause-grows g c = c.scan_range.ensures.grows (lines.Scan c.args.name c.args.order c.args.start c.args.end c.args.steps) refl

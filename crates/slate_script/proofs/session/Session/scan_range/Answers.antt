@@ -1,5 +1,6 @@
 use Rattle.std.proofs.Common.{◌≡◌, ℕ, false, List, length, Ok, refl, sym, ap, subst, ◌∙◌, arith, map}
 use Rattle.std.specs.Prelude.{IfSome, IsSome, Option}
+use Rattle.slate_mem.specs.KeyTests.{Segments}
 use Rattle.slate_store.specs.Reach.{reach_of}
 use Rattle.slate_types.specs.declared.bytes_range.BytesRange.{BytesRange}
 use Rattle.slate_types.specs.Keys.{is_refused}
@@ -10,27 +11,28 @@ use Rattle.slate_txn.specs.Reply.{Reply}
 use Rattle.slate_txn.specs.State.{State}
 use Rattle.slate_txn.specs.Step.{reader, step}
 use Rattle.slate_db.specs.Installs.{runs_of}
-use Rattle.slate_db.specs.Meaning.{Meaning, rules_of}
+use Rattle.slate_db.specs.Meaning.{Meaning, rules_in}
 use Rattle.slate_db.specs.Model.{CoreModel}
 use Rattle.slate_db.specs.Parts.{meaning_of}
 use Rattle.slate_db.specs.Readable.{IsAnswered}
 use Rattle.slate_language.specs.declared.reply.Answer.TheVariants as answers
 use Rattle.slate_script.specs.Scanning.{BeginsWith, ScansAs}
 use Rattle.slate_script.specs.Session.{SessionModel, Grows, NamesStand, StoresNothing, reader_id}
+use Rattle.slate_script.proofs.SessionLeaves.{segmented-noted}
 use Rattle.slate_script.proofs.SessionNames.{names-updated}
 use Rattle.slate_script.proofs.SessionScans.{range-refused, scan-found, scan-refused}
 use Rattle.slate_script.proofs.Growth.{grows, takes-noted}
 use Rattle.slate_script.proofs.session.Session.scan_range.Goals as goal
 
 pub returns-in_default-clause-step : goal.returns-in_default-clause-step
-returns-in_default-clause-step g c = λ is.
+returns-in_default-clause-step g c = λ is seg.
     let m = meaning_of g.M.MergeOperator.combine g.T.BlockTransformer.encoded g.T.BlockTransformer.decoded c.args.env.now.operator c.args.env.now.transformer in
-    scan-refused m c.args.self.now c.args.name c.args.order c.args.range c.args.steps c.reader_id.result c.reader_id.ensures.reads c.in_default.is
+    scan-refused m seg c.args.self.now c.args.name c.args.order c.args.range c.args.steps c.reader_id.result c.reader_id.ensures.reads c.in_default.is
 
 pub returns-in_default-range-clause-step : goal.returns-in_default-range-clause-step
-returns-in_default-range-clause-step g c = λ is.
+returns-in_default-range-clause-step g c = λ is seg.
     let m = meaning_of g.M.MergeOperator.combine g.T.BlockTransformer.encoded g.T.BlockTransformer.decoded c.args.env.now.operator c.args.env.now.transformer in
-    range-refused m c.args.self.now c.args.name c.in-Some.id c.args.order c.args.range c.args.steps c.reader_id.result c.reader_id.ensures.reads c.reader_id.ensures.known c.in-Some.is c.in_default-range.is
+    range-refused m seg c.args.self.now c.args.name c.in-Some.id c.args.order c.args.range c.args.steps c.reader_id.result c.reader_id.ensures.reads c.reader_id.ensures.known c.in-Some.is c.in_default-range.is
 
 pub scan_rows-scanned-requires-clause-open : goal.scan_rows-scanned-requires-clause-open
 scan_rows-scanned-requires-clause-open g c = λ κs lives.
@@ -60,18 +62,18 @@ invariant_of-self-2 g c =
     )
 
 pub returns-clause-step : goal.returns-clause-step
-returns-clause-step g c = λ is.
+returns-clause-step g c = λ is seg.
     let policies = map (λ p. (goal.FilterPolicy-dyn g (p.vtable, p.value)).meaning p.value) c.args.laws.now.policies.items in
     let before : SessionModel = record { core = c.self.inside.core; names = c.self.inside.names.entries; snapshot_names = c.self.inside.snapshot_names.entries; now = c.self.inside.now } in
     let m = meaning_of g.M.MergeOperator.combine g.T.BlockTransformer.encoded g.T.BlockTransformer.decoded c.args.env.now.operator c.args.env.now.transformer in
     let old = reach_of g.S.Store g.M.MergeOperator g.T.BlockTransformer c.args.env.now in
     let new = reach_of g.S.Store g.M.MergeOperator g.T.BlockTransformer c.scan_rows-scanned.new.env in
     let fits = subst (λ (o : Option BytesRange). IfSome o (λ r. is_refused r.start r.end ≡ false)) c.in-Some-range.is c.requires.range in
-    let stepped = c.in_ok-rows.ensures.scanned.answers (subst (λ (v : SessionModel). IsAnswered policies old new v.core) (sym c.self.view_is) is) in
-    subst (λ (v : SessionModel). ScansAs m v (record before { core = c.scan_rows-scanned.new.core }) c.args.name c.args.order c.args.range c.args.steps (Ok (answers.Rows c.in_ok-rows.rows))) c.self.view_is
-    (scan-found m before c.scan_rows-scanned.new.core c.args.name c.in-Some.id c.args.order c.args.range c.in-Some-range.range c.args.steps c.in_ok-rows.rows.items (answers.Rows c.in_ok-rows.rows) c.self.invariant.0
+    let stepped = c.in_ok-rows.ensures.scanned.answers seg (subst (λ (v : SessionModel). IsAnswered policies old new v.core) (sym c.self.view_is) is) in
+    subst (λ (v : SessionModel). ScansAs m seg v (record before { core = c.scan_rows-scanned.new.core }) c.args.name c.args.order c.args.range c.args.steps (Ok (answers.Rows c.in_ok-rows.rows))) c.self.view_is
+    (scan-found m seg before c.scan_rows-scanned.new.core c.args.name c.in-Some.id c.args.order c.args.range c.in-Some-range.range c.args.steps c.in_ok-rows.rows.items (answers.Rows c.in_ok-rows.rows) c.self.invariant.0
     (ap (λ (v : SessionModel). reader_id v c.args.name) c.self.view_is ∙ sym c.reader_id.ensures.id ∙ c.in-Some.is) c.in-Some-range.is fits
-    (subst (λ (sts : List ScanStep). ◌≡◌ {A = State × Reply} (step (rules_of c.self.inside.core.settings m) c.self.inside.core.state (lines.Scan c.in-Some.id c.args.order c.in-Some-range.range.start c.in-Some-range.range.end sts)) (c.scan_rows-scanned.new.core.state, replies.RowsAre c.in_ok-rows.rows.items)) c.as_slice.ensures stepped) refl)
+    (subst (λ (sts : List ScanStep). ◌≡◌ {A = State × Reply} (step (rules_in c.self.inside.core.settings m seg) c.self.inside.core.state (lines.Scan c.in-Some.id c.args.order c.in-Some-range.range.start c.in-Some-range.range.end sts)) (c.scan_rows-scanned.new.core.state, replies.RowsAre c.in_ok-rows.rows.items)) c.as_slice.ensures stepped) refl)
 
 pub returns-clause-grows : goal.returns-clause-grows
 returns-clause-grows g c = λ line none.
@@ -81,15 +83,15 @@ returns-clause-grows g c = λ line none.
     (takes-noted c.self.inside.core c.scan_rows-scanned.new.core c.in-Some.id _ c.in_ok-rows.ensures.scanned.notes))
 
 pub returns-in_default-clause-stores : goal.returns-in_default-clause-stores
-returns-in_default-clause-stores g c m = record { settings = refl; runs = refl; later = omega arith; kept = λ k. k }
+returns-in_default-clause-stores g c m seg = record { settings = refl; runs = refl; later = omega arith; kept = λ k. k; segmented = λ k. k }
 
 pub returns-in_default-range-clause-stores : goal.returns-in_default-range-clause-stores
-returns-in_default-range-clause-stores g c m = record { settings = refl; runs = refl; later = omega arith; kept = λ k. k }
+returns-in_default-range-clause-stores g c m seg = record { settings = refl; runs = refl; later = omega arith; kept = λ k. k; segmented = λ k. k }
 
 pub returns-clause-stores : goal.returns-clause-stores
 returns-clause-stores g c =
     let before : SessionModel = record { core = c.self.inside.core; names = c.self.inside.names.entries; snapshot_names = c.self.inside.snapshot_names.entries; now = c.self.inside.now } in
     let is = c.in_ok-rows.ensures.scanned.notes in
     let same : length c.scan_rows-scanned.new.core.events ≡ length c.self.inside.core.events = ap (λ (v : CoreModel). length v.events) is in
-    subst (λ (v : SessionModel). (m : Meaning) → StoresNothing m v (record before { core = c.scan_rows-scanned.new.core })) c.self.view_is
-    (λ m. record { settings = ap (λ (v : CoreModel). v.settings) is; runs = ap (λ (v : CoreModel). runs_of v.events) is; later = omega (arith, same); kept = c.in_ok-rows.ensures.scanned.kept m })
+    subst (λ (v : SessionModel). (m : Meaning) (seg : Segments) → StoresNothing m seg v (record before { core = c.scan_rows-scanned.new.core })) c.self.view_is
+    (λ m seg. record { settings = ap (λ (v : CoreModel). v.settings) is; runs = ap (λ (v : CoreModel). runs_of v.events) is; later = omega (arith, same); kept = c.in_ok-rows.ensures.scanned.kept m; segmented = segmented-noted c.self.inside.core c.scan_rows-scanned.new.core c.in-Some.id _ is seg })

@@ -1,4 +1,5 @@
 use Rattle.std.proofs.Common.{◌≡◌, ℕ, List, None, Some, Ok, OnOk, refl, sym, subst, ◌∙◌, arith}
+use Rattle.slate_mem.specs.KeyTests.{Segments}
 use Rattle.slate_txn.specs.Named.{find_named}
 use Rattle.slate_txn.specs.declared.line.Line.TheVariants as lines
 use Rattle.slate_txn.specs.Step.{with_unmarks}
@@ -9,19 +10,19 @@ use Rattle.slate_script.specs.Session.{SessionModel, AnswersAs, Grows, IsLimit, 
 use Rattle.slate_script.proofs.NamesLaws.{find_named-lookup}
 use Rattle.slate_script.proofs.SessionNames.{names-ran}
 use Rattle.slate_script.proofs.SessionOperations.{unmark-unknown, unmark-as, ran-as, ran-cause, memory-refuses, memory-cause}
-use Rattle.slate_script.proofs.SessionLeaves.{leaves-ran, stores, stores-where}
+use Rattle.slate_script.proofs.SessionLeaves.{leaves-ran, segmented-ran, stores, stores-where}
 use Rattle.slate_script.proofs.Growth.{grows, grows-where, takes-ran}
 use Rattle.slate_script.proofs.session.Session.unmark.Goals as goal
 
 pub returns-in_default : goal.returns-in_default
 returns-in_default c =
     record {
-      step = (λ m.
+      step = (λ m seg.
           let before : SessionModel = record { core = c.self.inside.core; names = c.self.inside.names.entries; snapshot_names = c.self.inside.snapshot_names.entries; now = c.self.inside.now } in
           let none : find_named c.args.name before.names ≡ None = find_named-lookup c.args.name before.names ∙ sym c.in_default.ensures.value in
-          subst (λ (v : SessionModel). AnswersAs m v v (lines.Unmark c.args.name c.args.keys) (Ok (answers.Refused (errors.UnknownTransaction c.args.name)))) c.self.view_is
-          (unmark-unknown m before c.args.name c.args.keys none));
-      stores = λ m. record { settings = refl; runs = refl; later = omega arith; kept = λ k. k };
+          subst (λ (v : SessionModel). AnswersAs m seg v v (lines.Unmark c.args.name c.args.keys) (Ok (answers.Refused (errors.UnknownTransaction c.args.name)))) c.self.view_is
+          (unmark-unknown m seg before c.args.name c.args.keys none));
+      stores = λ m seg. record { settings = refl; runs = refl; later = omega arith; kept = λ k. k; segmented = λ k. k };
       grows = (omega arith, omega arith);
       cause = tt;
     }
@@ -38,18 +39,18 @@ invariant_of-self c = (
 pub returns : goal.returns
 returns c =
     record {
-      step = (λ m.
+      step = (λ m seg.
           let before : SessionModel = record { core = c.self.inside.core; names = c.self.inside.names.entries; snapshot_names = c.self.inside.snapshot_names.entries; now = c.self.inside.now } in
           let known : find_named c.args.name before.names ≡ Some c.in-Some.id.now = find_named-lookup c.args.name c.self.inside.names.entries ∙ sym c.in-Some.ensures.value in
-          subst (λ (v : SessionModel). AnswersAs m v (record before { core = c.unmark_write-unmark.new.self }) (lines.Unmark c.args.name c.args.keys) c.done.result) c.self.view_is
-          (subst (λ (x : List (List ℕ)). AnswersAs m before (record before { core = c.unmark_write-unmark.new.self }) (lines.Unmark c.args.name x) c.done.result) c.as_slice.ensures
-          (ran-as m before c.unmark_write-unmark.new.self (lines.Unmark c.in-Some.id.now c.as_slice.result.now) (lines.Unmark c.args.name c.as_slice.result.now) c.unmark_write-unmark.result c.done.result
-          (unmark-as m before c.unmark_write-unmark.new.self c.args.name c.in-Some.id.now c.as_slice.result.now c.self.invariant.0.transactions known)
+          subst (λ (v : SessionModel). AnswersAs m seg v (record before { core = c.unmark_write-unmark.new.self }) (lines.Unmark c.args.name c.args.keys) c.done.result) c.self.view_is
+          (subst (λ (x : List (List ℕ)). AnswersAs m seg before (record before { core = c.unmark_write-unmark.new.self }) (lines.Unmark c.args.name x) c.done.result) c.as_slice.ensures
+          (ran-as m seg before c.unmark_write-unmark.new.self (lines.Unmark c.in-Some.id.now c.as_slice.result.now) (lines.Unmark c.args.name c.as_slice.result.now) c.unmark_write-unmark.result c.done.result
+          (unmark-as m seg before c.unmark_write-unmark.new.self c.args.name c.in-Some.id.now c.as_slice.result.now c.self.invariant.0.transactions known)
           c.unmark_write-unmark.ensures.step (memory-refuses _ c.unmark_write-unmark.result c.unmark_write-unmark.ensures.cause) c.unmark_write-unmark.ensures.same c.done.ensures)));
       stores = (let before : SessionModel = record { core = c.self.inside.core; names = c.self.inside.names.entries; snapshot_names = c.self.inside.snapshot_names.entries; now = c.self.inside.now } in
-          subst (λ (v : SessionModel). OnOk c.done.result ((m : Meaning) → StoresNothing m v (record before { core = c.unmark_write-unmark.new.self }))) c.self.view_is
+          subst (λ (v : SessionModel). OnOk c.done.result ((m : Meaning) (seg : Segments) → StoresNothing m seg v (record before { core = c.unmark_write-unmark.new.self }))) c.self.view_is
           (stores-where c.done.result (stores before c.unmark_write-unmark.new.self before.names before.snapshot_names before.now
-          (leaves-ran c.unmark_write-unmark.result c.self.inside.core c.unmark_write-unmark.new.self c.in-Some.id.now (with_unmarks c.as_slice.result.now) c.unmark_write-unmark.ensures.taken c.unmark_write-unmark.ensures.same) c.unmark_write-unmark.ensures.kept)));
+          (leaves-ran c.unmark_write-unmark.result c.self.inside.core c.unmark_write-unmark.new.self c.in-Some.id.now (with_unmarks c.as_slice.result.now) c.unmark_write-unmark.ensures.taken c.unmark_write-unmark.ensures.same) c.unmark_write-unmark.ensures.kept (segmented-ran c.unmark_write-unmark.result c.self.inside.core c.unmark_write-unmark.new.self c.in-Some.id.now (with_unmarks c.as_slice.result.now) c.unmark_write-unmark.ensures.taken c.unmark_write-unmark.ensures.same))));
       grows = (let before : SessionModel = record { core = c.self.inside.core; names = c.self.inside.names.entries; snapshot_names = c.self.inside.snapshot_names.entries; now = c.self.inside.now } in
           subst (λ (v : SessionModel). OnOk c.done.result (Grows (lines.Unmark c.args.name c.args.keys) v (record before { core = c.unmark_write-unmark.new.self }))) c.self.view_is
           (subst (λ (x : List (List ℕ)). OnOk c.done.result (Grows (lines.Unmark c.args.name x) before (record before { core = c.unmark_write-unmark.new.self }))) c.as_slice.ensures

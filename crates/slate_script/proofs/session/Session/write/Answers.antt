@@ -3,7 +3,8 @@ use Rattle.std.specs.Prelude.{IfErr}
 use Rattle.slate_types.specs.Outside.{IsCounted}
 use Rattle.slate_types.proofs.Reaching.{reads_none}
 use Rattle.slate_txn.specs.Reply.{Written}
-use Rattle.slate_db.specs.Meaning.{rules_of}
+use Rattle.slate_db.specs.Meaning.{rules_in, segments_by}
+use Rattle.slate_db.specs.Segmented.{IsSegmented}
 use Rattle.slate_db.specs.Parts.{counts_of, meaning_of}
 use Rattle.slate_types.specs.declared.error.SlateDBError.{SlateDBError}
 use Rattle.slate_txn.specs.declared.line.Line.TheVariants as lines
@@ -20,31 +21,34 @@ use Rattle.slate_script.proofs.session.Session.write.Goals as goal
 use Rattle.slate_script.proofs.session.Session.write.Goals.{in-Ok-write, in-Err-write}
 
 pub returns-clause-step : goal.returns-clause-step
-returns-clause-step g c =
+returns-clause-step g c = λ segmented.
+    let seg = (segments_by g.X.PrefixExtractor.lengths c.args.laws.now.segments) in
     let before : SessionModel = record { core = c.self.inside.core; names = c.self.inside.names.entries; snapshot_names = c.self.inside.snapshot_names.entries; now = c.self.inside.now } in
     let m = meaning_of g.M.MergeOperator.combine g.T.BlockTransformer.encoded g.T.BlockTransformer.decoded c.args.env.now.operator c.args.env.now.transformer in
     let old = counts_of (g.S.Store.faults c.args.env.now.store.now) g.M.MergeOperator.faults g.T.BlockTransformer.faults c.args.env.now.operator c.args.env.now.transformer in
     let new = counts_of (g.S.Store.faults c.write.new.env.store.now) g.M.MergeOperator.faults g.T.BlockTransformer.faults c.write.new.env.operator c.write.new.env.transformer in
-    subst (λ (v : SessionModel). AnswersAs m v (record before { core = c.write.new.self }) (lines.Write c.args.ops) c.match-write.result) c.self.view_is
+    let held : IsSegmented seg before.core = subst (λ (v : SessionModel). IsSegmented seg v.core) (sym c.self.view_is) segmented in
+    subst (λ (v : SessionModel). AnswersAs m seg v (record before { core = c.write.new.self }) (lines.Write c.args.ops) c.match-write.result) c.self.view_is
     (elim c.match-write.branch [
-      | in-Ok-write w ↦ subst (λ (r : Result Answer SlateDBError). AnswersAs m before (record before { core = c.write.new.self }) (lines.Write c.args.ops) r) (sym w.result-is)
-          (write-as m before c.write.new.self c.args.ops (answers.Written w.in-Ok-write.seq) (written-txns c.self.inside.core c.write.new.self w.in-Ok-write.seq _ c.in-Ok.batch.ops w.in-Ok-write.ensures.event)
+      | in-Ok-write w ↦ subst (λ (r : Result Answer SlateDBError). AnswersAs m seg before (record before { core = c.write.new.self }) (lines.Write c.args.ops) r) (sym w.result-is)
+          (write-as m seg before c.write.new.self c.args.ops (answers.Written w.in-Ok-write.seq) (written-txns c.self.inside.core c.write.new.self w.in-Ok-write.seq _ c.in-Ok.batch.ops w.in-Ok-write.ensures.event)
           (written-snapshots c.self.inside.core c.write.new.self w.in-Ok-write.seq _ c.in-Ok.batch.ops w.in-Ok-write.ensures.event)
           (written-flushed c.self.inside.core c.write.new.self w.in-Ok-write.seq _ c.in-Ok.batch.ops w.in-Ok-write.ensures.event)
-          (at-moment (rules_of before.core.settings m) before.core c.write.new.self c.args.ops (Written w.in-Ok-write.seq) (given-moment c.self.inside.now c.self.invariant.1) (w.in-Ok-write.ensures.step c.args.ops c.in-Ok.ensures.batch c.in-Ok.ensures.fine)))
-      | in-Err-write w ↦ subst (λ (r : Result Answer SlateDBError). AnswersAs m before (record before { core = c.write.new.self }) (lines.Write c.args.ops) r) (sym w.result-is)
-          (commit-refused m old new before c.write.new.self c.args.ops w.in-Err-write.error w.refused-in-Err-write.result w.in-Err-write.ensures.same w.refused-in-Err-write.ensures.reply w.refused-in-Err-write.ensures.answered
-          (refused-at-moment (rules_of before.core.settings m) before.core c.args.ops w.in-Err-write.error (given-moment c.self.inside.now c.self.invariant.1) (at-ops c.args.ops c.in-Ok.ensures.batch c.in-Ok.ensures.fine w.in-Err-write.ensures.refused)))
+          (at-moment (rules_in before.core.settings m seg) before.core c.write.new.self c.args.ops (Written w.in-Ok-write.seq) (given-moment c.self.inside.now c.self.invariant.1) (w.in-Ok-write.ensures.step held c.args.ops c.in-Ok.ensures.batch c.in-Ok.ensures.fine)))
+      | in-Err-write w ↦ subst (λ (r : Result Answer SlateDBError). AnswersAs m seg before (record before { core = c.write.new.self }) (lines.Write c.args.ops) r) (sym w.result-is)
+          (commit-refused m seg old new before c.write.new.self c.args.ops w.in-Err-write.error w.refused-in-Err-write.result w.in-Err-write.ensures.same w.refused-in-Err-write.ensures.reply w.refused-in-Err-write.ensures.answered
+          (refused-at-moment (rules_in before.core.settings m seg) before.core c.args.ops w.in-Err-write.error (given-moment c.self.inside.now c.self.invariant.1) (at-ops c.args.ops c.in-Ok.ensures.batch c.in-Ok.ensures.fine (w.in-Err-write.ensures.refused held))))
     ])
 
 pub returns-clause-stores : goal.returns-clause-stores
 returns-clause-stores g c =
+    let seg = (segments_by g.X.PrefixExtractor.lengths c.args.laws.now.segments) in
     let before : SessionModel = record { core = c.self.inside.core; names = c.self.inside.names.entries; snapshot_names = c.self.inside.snapshot_names.entries; now = c.self.inside.now } in
     let m = meaning_of g.M.MergeOperator.combine g.T.BlockTransformer.encoded g.T.BlockTransformer.decoded c.args.env.now.operator c.args.env.now.transformer in
-    subst (λ (v : SessionModel). OnOk c.match-write.result (StoresNothing m v (record before { core = c.write.new.self }))) c.self.view_is
+    subst (λ (v : SessionModel). OnOk c.match-write.result (StoresNothing m seg v (record before { core = c.write.new.self }))) c.self.view_is
     (always c.match-write.result (elim c.match-write.branch [
-      | in-Ok-write w ↦ stores-by m before c.write.new.self before.names before.snapshot_names before.now (leaves-written c.self.inside.core c.write.new.self w.in-Ok-write.seq _ c.in-Ok.batch.ops w.in-Ok-write.ensures.event) w.in-Ok-write.ensures.kept
-      | in-Err-write w ↦ stores-by m before c.write.new.self before.names before.snapshot_names before.now (leaves-same c.self.inside.core c.write.new.self w.in-Err-write.ensures.same) (kept-same m c.self.inside.core c.write.new.self w.in-Err-write.ensures.same)
+      | in-Ok-write w ↦ stores-by m seg before c.write.new.self before.names before.snapshot_names before.now (leaves-written c.self.inside.core c.write.new.self w.in-Ok-write.seq _ c.in-Ok.batch.ops w.in-Ok-write.ensures.event) w.in-Ok-write.ensures.kept w.in-Ok-write.ensures.segmented
+      | in-Err-write w ↦ stores-by m seg before c.write.new.self before.names before.snapshot_names before.now (leaves-same c.self.inside.core c.write.new.self w.in-Err-write.ensures.same) (kept-same m c.self.inside.core c.write.new.self w.in-Err-write.ensures.same) (w.in-Err-write.ensures.segmented_refused seg)
     ]))
 
 pub returns-clause-grows : goal.returns-clause-grows
@@ -67,7 +71,7 @@ returns-clause-cause g c =
     (elim c.match-write.branch [
       | in-Ok-write w ↦ subst (λ (r : Result Answer SlateDBError). IfErr r (λ e. IsCounted old new e ⊎ IsLimit before e)) (sym w.result-is) tt
       | in-Err-write w ↦ subst (λ (r : Result Answer SlateDBError). IfErr r (λ e. IsCounted old new e ⊎ IsLimit before e)) (sym w.result-is)
-          (write-cause old new before m.combine _ _ c.in-Ok.batch w.in-Err-write.error w.refused-in-Err-write.result w.refused-in-Err-write.ensures.other w.in-Err-write.ensures.cause)
+          (write-cause old new before m.combine _ _ _ _ c.in-Ok.batch w.in-Err-write.error w.refused-in-Err-write.result w.refused-in-Err-write.ensures.other w.in-Err-write.ensures.cause)
     ])
 
 pub returns-clause-reads : goal.returns-clause-reads
@@ -76,8 +80,8 @@ returns-clause-reads g c = c.write.ensures.reads
 pub returns-in-Err : goal.returns-in-Err
 returns-in-Err g c =
     record {
-      step = batch-refused (meaning_of g.M.MergeOperator.combine g.T.BlockTransformer.encoded g.T.BlockTransformer.decoded c.args.env.now.operator c.args.env.now.transformer) c.args.self.now c.args.ops c.in-Err.error c.refused.result c.refused.ensures.reply c.refused.ensures.answered c.in-Err.ensures.refused;
-      stores = always c.refused.result (record { settings = refl; runs = refl; later = omega arith; kept = λ k. k });
+      step = λ segmented. batch-refused (meaning_of g.M.MergeOperator.combine g.T.BlockTransformer.encoded g.T.BlockTransformer.decoded c.args.env.now.operator c.args.env.now.transformer) (segments_by g.X.PrefixExtractor.lengths c.args.laws.now.segments) c.args.self.now c.args.ops c.in-Err.error c.refused.result c.refused.ensures.reply c.refused.ensures.answered c.in-Err.ensures.refused;
+      stores = always c.refused.result (record { settings = refl; runs = refl; later = omega arith; kept = λ k. k; segmented = λ k. k });
       grows = always c.refused.result (omega arith, omega arith);
       cause = (let old = counts_of (g.S.Store.faults c.args.env.now.store.now) g.M.MergeOperator.faults g.T.BlockTransformer.faults c.args.env.now.operator c.args.env.now.transformer in
           memory-or-limit c.refused.result old old c.args.self.now (refused-cause (λ e. IsLimit c.args.self.now e) c.args.ops c.in-Err.error c.refused.result c.refused.ensures.other c.in-Err.ensures.refused));
