@@ -71,7 +71,7 @@ returns-clause-cause g c =
     (elim c.match-write.branch [
       | in-Ok-write w ↦ subst (λ (r : Result Answer SlateDBError). IfErr r (λ e. IsCounted old new e ⊎ IsLimit before e)) (sym w.result-is) tt
       | in-Err-write w ↦ subst (λ (r : Result Answer SlateDBError). IfErr r (λ e. IsCounted old new e ⊎ IsLimit before e)) (sym w.result-is)
-          (write-cause old new before m.combine _ _ _ _ c.in-Ok.batch w.in-Err-write.error w.refused-in-Err-write.result w.refused-in-Err-write.ensures.other w.in-Err-write.ensures.cause)
+          (write-cause old new before m.combine (segments_by g.X.PrefixExtractor.lengths c.args.laws.now.segments) before.core.segments before.core.settings.default_millis _ c.in-Ok.batch w.in-Err-write.error w.refused-in-Err-write.result w.refused-in-Err-write.ensures.other w.in-Err-write.ensures.cause)
     ])
 
 pub returns-clause-reads : goal.returns-clause-reads
