@@ -7,9 +7,9 @@ use Rattle.slate_types.proofs.KeyOrder.{lt-trans, not-lt-trans}
 use Rattle.std.specs.Int.Bits.{bit_xor, xor_assoc, xor_self, xor_zero_r}
 use Rattle.slate_types.specs.Lawful.{IsLawfulLengths, IsWithinTarget}
 use Rattle.slate_filter.proofs.ExtractorLaws.{extractors_lawful}
-use Rattle.slate_language.specs.declared.extractors.ExtractorName.{ExtractorName}
-use Rattle.slate_language.specs.declared.extractors.ExtractorName.TheVariants as names
-use Rattle.slate_language.specs.Segments.{named_lengths}
+use Rattle.slate_language.specs.declared.extractors.NamedExtractor.{NamedExtractor}
+use Rattle.slate_language.specs.declared.extractors.NamedExtractor.TheVariants as extractors
+use Rattle.slate_language.specs.Segments.{lengths_of}
 use Rattle.slate_language.specs.declared.operators.NamedOperator.{NamedOperator}
 use Rattle.slate_language.specs.declared.operators.NamedOperator.TheVariants as operators
 use Rattle.slate_language.specs.Parts.{concat, greater, named, xored}
@@ -71,10 +71,10 @@ pub named-lawful : (o : NamedOperator) (k : List ℕ) → IsLawful (named o k) �
 named-lawful operators.Concat k = concat-lawful k
 named-lawful operators.Max k = greater-lawful k
 
-pub named_extractor-lawful : (name : ExtractorName) → IsWithinTarget (named_lengths name) × IsLawfulLengths (named_lengths name)
-named_extractor-lawful (names.Fixed n) = let l = extractors_lawful.0 n in (l.0, l.1)
-named_extractor-lawful names.Colon = (extractors_lawful.1, extractors_lawful.2)
-named_extractor-lawful names.LastColon = (extractors_lawful.3, extractors_lawful.4)
+pub named_extractor-lawful : (x : NamedExtractor) → IsWithinTarget (lengths_of x) × IsLawfulLengths (lengths_of x)
+named_extractor-lawful (extractors.Fixed n) = let l = extractors_lawful.0 n in (l.0, l.1)
+named_extractor-lawful extractors.Colon = (extractors_lawful.1, extractors_lawful.2)
+named_extractor-lawful extractors.LastColon = (extractors_lawful.3, extractors_lawful.4)
 
 -- ---- bytes that are changed by one number
 

@@ -11,9 +11,10 @@ use Rattle.slate_types.specs.declared.config.Options.{Options}
 use Rattle.slate_types.specs.Config.{IsValid}
 use Rattle.slate_filter.specs.Policy.{Policy}
 use Rattle.slate_language.specs.Parse.{only_if, ◌>>=◌, read_number}
+use Rattle.slate_language.specs.declared.extractors.NamedExtractor.{NamedExtractor}
 use Rattle.slate_language.specs.declared.operators.NamedOperator.{NamedOperator}
 use Rattle.slate_language.specs.declared.words.Generated.{Generated}
-use Rattle.slate_language.specs.Words.{are_filters, are_valid, at_most_one, behind, filter_names, if_valid, is_known, is_used, only_value, operator_of, operator_or_none, options, read_below, read_format, read_generated, read_given, read_settings, read_words, used, value_of, values, with_value}
+use Rattle.slate_language.specs.Words.{are_filters, are_valid, at_most_one, behind, filter_names, if_valid, is_known, is_used, only_value, operator_of, operator_or_none, extractor_or_none, segments_of, options, read_below, read_format, read_generated, read_given, read_settings, read_words, used, value_of, values, with_value}
 use Rattle.slate_language.proofs.FilterLaws.{filters-swap, given-swap, used-swap}
 
 no-codec : (c : Option CompressionCodec) → not (is_some c) ≡ true → c ≡ None
@@ -103,7 +104,8 @@ settings-swap before after v w = λ i. do
   least ← swapped (codes "min=") i >>= read_given (read_below (2 ^ 32))
   mask ← swapped (codes "xor=") i >>= read_given (read_below (2 ^ 8))
   operator ← swapped (codes "op=") i >>= operator_or_none
-  if_valid (record { options = options block table format ttl seq least; mask = mask; operator = operator })
+  segments ← swapped (codes "seg=") i >>= extractor_or_none
+  if_valid (record { options = options block table format ttl seq least; mask = mask; operator = operator; segments = segments })
   where
     swapped : (name : List ℕ) → only_value name (before ++ (v ∷ w ∷ after)) ≡ only_value name (before ++ (w ∷ v ∷ after))
     swapped name = only-swap name before after v w
@@ -127,12 +129,12 @@ filters-any_order before after v w policies = λ i. filter (λ p. names-swap (λ
 
 -- ---- the settings of words whose values are known
 
-pub words-read : (ws : List (List ℕ)) {block table : Option (Option ℕ)} {format : Option (Option BlockFormat)} {ttl seq least mask : Option (Option ℕ)} {operator : Option (Option NamedOperator)} →
+pub words-read : (ws : List (List ℕ)) {block table : Option (Option ℕ)} {format : Option (Option BlockFormat)} {ttl seq least mask : Option (Option ℕ)} {operator : Option (Option NamedOperator)} {segments : Option (Option NamedExtractor)} →
     block ≡ value_of (read_below (2 ^ 32)) (codes "block=") ws → table ≡ value_of read_number (codes "table=") ws → format ≡ value_of read_format (codes "format=") ws → ttl ≡ value_of read_number (codes "ttl=") ws →
-    seq ≡ value_of read_number (codes "seq=") ws → least ≡ value_of (read_below (2 ^ 32)) (codes "min=") ws → mask ≡ value_of (read_below (2 ^ 8)) (codes "xor=") ws → operator ≡ operator_of ws →
-    (block >>= λ b. table >>= λ n. format >>= λ f. ttl >>= λ t. seq >>= λ s. least >>= λ l. mask >>= λ m. operator >>= λ o. if_valid (record { options = options b n f t s l; mask = m; operator = o })) ≡ read_settings ws
-words-read ws block table format ttl seq least mask operator =
-    λ i. block i >>= λ b. table i >>= λ n. format i >>= λ f. ttl i >>= λ t. seq i >>= λ s. least i >>= λ l. mask i >>= λ m. operator i >>= λ o. if_valid (record { options = options b n f t s l; mask = m; operator = o })
+    seq ≡ value_of read_number (codes "seq=") ws → least ≡ value_of (read_below (2 ^ 32)) (codes "min=") ws → mask ≡ value_of (read_below (2 ^ 8)) (codes "xor=") ws → operator ≡ operator_of ws → segments ≡ segments_of ws →
+    (block >>= λ b. table >>= λ n. format >>= λ f. ttl >>= λ t. seq >>= λ s. least >>= λ l. mask >>= λ m. operator >>= λ o. segments >>= λ g. if_valid (record { options = options b n f t s l; mask = m; operator = o; segments = g })) ≡ read_settings ws
+words-read ws block table format ttl seq least mask operator segments =
+    λ i. block i >>= λ b. table i >>= λ n. format i >>= λ f. ttl i >>= λ t. seq i >>= λ s. least i >>= λ l. mask i >>= λ m. operator i >>= λ o. segments i >>= λ g. if_valid (record { options = options b n f t s l; mask = m; operator = o; segments = g })
 
 -- ---- words read one by one
 

@@ -9,9 +9,9 @@ use Rattle.slate_txn.specs.declared.line.Line.{Line}
 use Rattle.slate_txn.specs.State.{Rules, opening}
 use Rattle.slate_txn.specs.Step.{answers}
 use Rattle.slate_txn.specs.Laws.{is_storage, other_answers}
-use Rattle.slate_language.specs.declared.extractors.ExtractorName.{ExtractorName}
+use Rattle.slate_language.specs.declared.extractors.NamedExtractor.{NamedExtractor}
 use Rattle.slate_language.specs.declared.operators.NamedOperator.{NamedOperator}
-use Rattle.slate_language.specs.Segments.{named_lengths}
+use Rattle.slate_language.specs.Segments.{lengths_of}
 use Rattle.slate_language.specs.Parts.{concat, greater, named, xored}
 use Rattle.slate_types.specs.Keys.{AreBytes}
 use Rattle.slate_language.specs.Text.{shown_bytes}
@@ -61,7 +61,7 @@ NamedIsLawful = (o : NamedOperator) (k : List ℕ) → IsLawful (named o k) × K
 
 -- Each extractor that a word can name is lawful.
 abbrev pub NamedExtractorIsLawful : Type 0
-NamedExtractorIsLawful = (name : ExtractorName) → IsWithinTarget (named_lengths name) × IsLawfulLengths (named_lengths name)
+NamedExtractorIsLawful = (x : NamedExtractor) → IsWithinTarget (lengths_of x) × IsLawfulLengths (lengths_of x)
 
 -- The transformer that changes each byte by one number is lawful.
 abbrev pub XorIsLawful : Type 0

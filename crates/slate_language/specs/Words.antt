@@ -1,7 +1,8 @@
--- What the words of a run say: the options, the number that stored bytes are changed by, the operator, and the policies of filters.
+-- What the words of a run say: the options, the number that stored bytes are changed by, the operator, what gives keys their segments, and the policies of filters.
 --     behind name w      the text behind the name in a word that begins with it
 --     only_value name ws      that text in the one word that has it; none where no word has; and nothing where more have
 --     read_operator t      the operator that a text names, where `none` names that there is none
+--     read_extractor t      the extractor that a text names, where `none` names that there is none
 --     filter_names ws      the texts behind `filter=`, in the order of the words
 --     are_filters handed vs      they name policies of these names, no one twice, or there is one, and it is `none`
 --     is_used vs name      they use the policies of the name: those that they name, and `_bf` where there are none
@@ -17,6 +18,8 @@ use Rattle.slate_types.specs.declared.config.Options.{Options}
 use Rattle.slate_types.specs.Config.{defaults}
 use Rattle.slate_types.specs.Keys.{among}
 use Rattle.slate_filter.specs.Policy.{Policy}
+use Rattle.slate_language.specs.declared.extractors.NamedExtractor.{NamedExtractor}
+use Rattle.slate_language.specs.declared.extractors.NamedExtractor.TheVariants as extractors
 use Rattle.slate_language.specs.declared.operators.NamedOperator.{NamedOperator}
 use Rattle.slate_language.specs.declared.operators.NamedOperator.TheVariants as operators
 use Rattle.slate_language.specs.declared.words.Generated.{Generated}
@@ -44,6 +47,19 @@ read_operator t = if bytes_eq t (codes "none") then Some None
 
 abbrev pub behind : List ℕ → List ℕ → Option (List ℕ)
 behind name w = only_if (bytes_eq (take (length name) w) name) (drop (length name) w)
+
+-- at least one byte
+abbrev pub read_fixed : List ℕ → Option NamedExtractor
+read_fixed t = do
+  u ← behind (codes "fixed") t
+  n ← read_below (2 ^ 16) u
+  only_if (nat_lt 0 n) (extractors.Fixed n)
+
+abbrev pub read_extractor : List ℕ → Option (Option NamedExtractor)
+read_extractor t = if bytes_eq t (codes "none") then Some None
+    else if bytes_eq t (codes "colon") then Some (Some extractors.Colon)
+    else if bytes_eq t (codes "lastcolon") then Some (Some extractors.LastColon)
+    else option_map Some (read_fixed t)
 
 abbrev pub with_value : Option (List ℕ) → List (List ℕ) → List (List ℕ)
 with_value None vs = vs
@@ -76,8 +92,15 @@ operator_or_none (Some v) = read_operator v
 abbrev pub operator_of : List (List ℕ) → Option (Option NamedOperator)
 operator_of ws = only_value (codes "op=") ws >>= operator_or_none
 
+abbrev pub extractor_or_none : Option (List ℕ) → Option (Option NamedExtractor)
+extractor_or_none None = Some None
+extractor_or_none (Some v) = read_extractor v
+
+abbrev pub segments_of : List (List ℕ) → Option (Option NamedExtractor)
+segments_of ws = only_value (codes "seg=") ws >>= extractor_or_none
+
 abbrev pub names : List (List ℕ)
-names = codes "block=" ∷ codes "table=" ∷ codes "format=" ∷ codes "min=" ∷ codes "filter=" ∷ codes "op=" ∷ codes "ttl=" ∷ codes "seq=" ∷ codes "xor=" ∷ []
+names = codes "block=" ∷ codes "table=" ∷ codes "format=" ∷ codes "min=" ∷ codes "filter=" ∷ codes "op=" ∷ codes "seg=" ∷ codes "ttl=" ∷ codes "seq=" ∷ codes "xor=" ∷ []
 
 abbrev pub is_known : List ℕ → Bool
 is_known w = list_any (λ name. is_some (behind name w)) names
@@ -144,7 +167,8 @@ read_settings ws = do
   least ← value_of (read_below (2 ^ 32)) (codes "min=") ws
   mask ← value_of (read_below (2 ^ 8)) (codes "xor=") ws
   operator ← operator_of ws
-  if_valid (record { options = options block table format ttl seq least; mask = mask; operator = operator })
+  segments ← segments_of ws
+  if_valid (record { options = options block table format ttl seq least; mask = mask; operator = operator; segments = segments })
 
 abbrev pub read_words : List (List ℕ) → List (List ℕ) → Option Settings
 read_words handed ws = if list_all is_known ws && are_filters handed (filter_names ws)

@@ -18,7 +18,7 @@ pub mod text;
 pub mod token;
 pub mod words;
 
-pub use extractors::{ExtractorName, NamedExtractor};
+pub use extractors::NamedExtractor;
 pub use generator::generate;
 pub use operators::{Concat, Max, NamedOperator};
 pub use parse::parse_line;
@@ -34,6 +34,5 @@ fn crosses<T: Send + Sync>() {}
 /// The types of this crate go to other threads, and are shared between them.
 pub fn types_cross_threads() {
     crosses::<(Answer, Generated, JournalEntry, Settings, Tally)>();
-    crosses::<(Concat, Max, NamedOperator, Xor)>();
-    crosses::<(ExtractorName, NamedExtractor)>();
+    crosses::<(Concat, Max, NamedExtractor, NamedOperator, Xor)>();
 }

@@ -6,20 +6,22 @@ ghost use Rattle.std.specs.String.{string_bytes};
 ghost use Rattle.slate_types.specs.Config.{IsValid};
 ghost use Rattle.slate_types.specs.Keys.{among};
 ghost use Rattle.slate_language.specs.Parse.{read_number};
-ghost use Rattle.slate_language.specs.Words.{are_filters, are_handed, behind, filter_names, if_valid, is_handed, is_known, is_none, is_used, may_stand, max_rounds, only_value, operator_of, options, read_below, read_format, read_generated, read_operator, read_settings, read_words, used, value_of};
+ghost use Rattle.slate_language.specs.Words.{are_filters, are_handed, behind, filter_names, if_valid, is_handed, is_known, is_none, is_used, may_stand, max_rounds, only_value, operator_of, options, read_below, read_extractor, read_fixed, read_format, read_generated, read_operator, read_settings, read_words, segments_of, used, value_of};
 
+use crate::extractors::NamedExtractor;
 use crate::operators::NamedOperator;
 use crate::token::{is_word, read_number};
 use slate_filter::FilterPolicy;
 use slate_types::{BlockFormat, Options};
 
-/// What the words of a run set: its options, and, where there are such, the number by which stored bytes are changed and the
-/// merge operator.
+/// What the words of a run set: its options, and, where there are such, the number by which stored bytes are changed, the
+/// merge operator, and what gives keys their segments.
 #[derive(Clone, Copy)]
 pub struct Settings {
     pub options: Options,
     pub mask: Option<u8>,
     pub operator: Option<NamedOperator>,
+    pub segments: Option<NamedExtractor>,
 }
 
 /// A run over a script that it makes for itself.
@@ -35,7 +37,7 @@ pub struct Generated {
 /// The most rounds of a script that a run makes for itself.
 pub const MAX_ROUNDS: u32 = 100_000;
 
-/// The settings of the words `block=`, `table=`, `format=`, `min=`, `op=`, `ttl=`, `seq=` and `xor=`, each at most once, and
+/// The settings of the words `block=`, `table=`, `format=`, `min=`, `op=`, `seg=`, `ttl=`, `seq=` and `xor=`, each at most once, and
 /// beside them words `filter=`, in any order. What no word sets is as by default. None exactly where a word is none of these,
 /// two have one name other than `filter=`, a value isn't read, the options aren't valid, or the words `filter=` aren't as the
 /// policies that are handed in allow: each names one of these, and no two the same one, or there is one, and it says `none`.
@@ -83,6 +85,7 @@ fn read_settings(words: &[String]) -> Option<Settings>
     let min_filter_keys = small_number(words, b"min=")?;
     let mask = mask(words)?;
     let operator = operator(words)?;
+    let segments = segments(words)?;
     if_valid(Settings {
         options: options(
             block_size,
@@ -94,6 +97,7 @@ fn read_settings(words: &[String]) -> Option<Settings>
         ),
         mask,
         operator,
+        segments,
     })
 }
 
@@ -189,6 +193,7 @@ fn is_known(word: &[u8]) -> bool
         || has_name(b"min=", word)
         || has_name(b"filter=", word)
         || has_name(b"op=", word)
+        || has_name(b"seg=", word)
         || has_name(b"ttl=", word)
         || has_name(b"seq=", word)
         || has_name(b"xor=", word)
@@ -279,6 +284,39 @@ fn read_operator(text: &[u8]) -> Option<Option<NamedOperator>>
     } else {
         None
     }
+}
+
+fn segments(words: &[String]) -> Option<Option<NamedExtractor>>
+    ensures { result ≡ segments_of (map string_bytes words.now) }
+{
+    match only_value(words, b"seg=")? {
+        Some(value) => read_extractor(value),
+        None => Some(None),
+    }
+}
+
+/// The extractor that the text names, if it is one of the names; `none` is that of no extractor.
+fn read_extractor(text: &[u8]) -> Option<Option<NamedExtractor>>
+    ensures { result ≡ read_extractor text.now }
+{
+    if is_word(text, b"none") {
+        Some(None)
+    } else if is_word(text, b"colon") {
+        Some(Some(NamedExtractor::Colon))
+    } else if is_word(text, b"lastcolon") {
+        Some(Some(NamedExtractor::LastColon))
+    } else {
+        read_fixed(text).map(Some)
+    }
+}
+
+/// `fixed` and how many bytes, which are at least one.
+fn read_fixed(text: &[u8]) -> Option<NamedExtractor>
+    ensures { result ≡ read_fixed text.now }
+{
+    let len = read_number(behind(b"fixed", text)?)?;
+    let len = u16::try_from(len).ok()?;
+    (len > 0).then_some(NamedExtractor::Fixed(len))
 }
 
 /// What stands behind the name in the one word that begins with it; none where no word does, and nothing

@@ -16,7 +16,7 @@ use Rattle.slate_language.specs.declared.words.Settings.{Settings}
 use Rattle.slate_language.specs.Words.{read_generated, read_words}
 use Rattle.slate_language.proofs.WordLaws.{generated-alone}
 use Rattle.slate_language.specs.Parts.{named, xored}
-use Rattle.slate_script.specs.Program.{changed, main_rules, parts_of}
+use Rattle.slate_script.specs.Program.{segments_of, changed, main_rules, parts_of}
 use Rattle.slate_script.specs.Run.{Premises, run_rules}
 use Rattle.slate_language.proofs.PartsLaws.{named-lawful, xor-back}
 
@@ -72,8 +72,8 @@ words-are s transformer is = by s.operator transformer ∙ ap (parts s.operator)
     by (Some o) None = refl
     by (Some o) (Some x) = refl
 
-pub rules-are : (s : Settings) (transformer : Option Xor) → option_map (λ x. x.mask) transformer ≡ s.mask → run_rules s.options (words-mean s.operator transformer) None ≡ main_rules s
-rules-are s transformer is = ap (λ m. run_rules s.options m None) (words-are s transformer is)
+pub rules-are : (s : Settings) (transformer : Option Xor) → option_map (λ x. x.mask) transformer ≡ s.mask → run_rules s.options (words-mean s.operator transformer) (segments_of s) ≡ main_rules s
+rules-are s transformer is = ap (λ m. run_rules s.options m (segments_of s)) (words-are s transformer is)
 
 -- ---- words that name a script of the run's own
 

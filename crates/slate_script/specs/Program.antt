@@ -1,5 +1,6 @@
 -- What a program that runs a script ends with.
---     main_rules s      what the model knows of what the words set: the options, and the operator where one is named
+--     segments_of s      what gives keys their segments, where an extractor is named
+--     main_rules s      what the model knows of what the words set: the options, these segments, and the operator where one is named
 --     changed mask      what the transformer of a word makes of bytes, where one is named
 --     parts_of s      what the parts mean that the words name
 --     status e      the exit status of a run that an error ended
@@ -11,12 +12,17 @@ use Rattle.slate_types.specs.declared.error.SlateDBError.{SlateDBError}
 use Rattle.slate_types.specs.ExitStatus as exit
 use Rattle.slate_txn.specs.Settings.{settings_of, rules}
 use Rattle.slate_txn.specs.State.{Rules}
-use Rattle.slate_db.specs.Meaning.{Meaning}
+use Rattle.slate_mem.specs.KeyTests.{Segments}
+use Rattle.slate_db.specs.Meaning.{Meaning, segments_by}
 use Rattle.slate_language.specs.Parts.{named, xored}
+use Rattle.slate_language.specs.Segments.{lengths_of}
 use Rattle.slate_language.specs.declared.words.Settings.{Settings}
 
+abbrev pub segments_of : Settings → Segments
+segments_of s = segments_by lengths_of s.segments
+
 abbrev pub main_rules : Settings → Rules
-main_rules s = rules (settings_of s.options) (option_map named s.operator) None
+main_rules s = rules (settings_of s.options) (option_map named s.operator) (segments_of s)
 
 abbrev pub changed : Option ℕ → List ℕ → List ℕ
 changed None bytes = bytes

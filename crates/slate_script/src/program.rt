@@ -13,7 +13,7 @@ ghost use Rattle.slate_db.specs.Flushed.{layout_of};
 ghost use Rattle.slate_language.specs.Generate.{generate, summary};
 ghost use Rattle.slate_language.specs.declared.words.Generated.{Generated};
 ghost use Rattle.slate_language.specs.declared.words.Settings.{Settings};
-ghost use Rattle.slate_script.specs.Program.{main_rules, parts_of, status, IsDamageStatus, IsGeneratedStatus, IsStatus};
+ghost use Rattle.slate_script.specs.Program.{main_rules, parts_of, segments_of, status, IsDamageStatus, IsGeneratedStatus, IsStatus};
 ghost use Rattle.slate_language.specs.Replies.{after_lines, replies, replies_to, IsWellFormed};
 ghost use Rattle.slate_language.specs.Words.{max_rounds, read_generated, read_words, used};
 ghost use Rattle.slate_script.specs.Run.{script_error, lines_taken, IsOutside, IsScriptError, HasAnswered, HasAnsweredAll, HasBegun};
@@ -24,12 +24,12 @@ use crate::generated::run_generated;
 use crate::run::run_script;
 use slate_db::laws::Laws;
 use slate_filter::FilterPolicy;
-use slate_language::{Generated, Xor, keep_used, parse_generated, parse_words};
+use slate_language::{Generated, NamedExtractor, Xor, keep_used, parse_generated, parse_words};
 use slate_store::{Env, Sink, Source, Store};
-use slate_types::{NoExtractor, SlateDBError};
+use slate_types::SlateDBError;
 use std::alloc::Global;
 
-/// Runs a script over the store, as the words say, with the operator and the transformer that they name and, of the policies of
+/// Runs a script over the store, as the words say, with the operator, the extractor of segments and the transformer that they name and, of the policies of
 /// filters that are handed in, those that they use. Answers the status to end with: 0 where the run answers Ok, 2 exactly
 /// where the words are none of a run, 3 for `ScriptSyntax`, 4 for `ScriptTooLong`, 5 for `ReadFault`, 6 for `WriteFault`, 7
 /// for `StoreFault`, 12, 14, 15, 16, 18 and 19 where a table isn't what was stored, and 20 for want of memory. The names of
@@ -78,7 +78,7 @@ pub fn run_main<R: Source, W: Sink, S: Store>(
         let handed = map (λ p. (meaning p).name) policies.items in
         let given = map (λ p. meaning p) policies.items in
         (s : Settings) (script : List ℕ) → read_words handed ws ≡ Some s → R.left source.old ≡ Some script → AreLawful given → IsEmpty (S.objects store.old) →
-        result ≡ 0 → IsStoredState (parts_of s) (main_rules s) (layout_of s.options (used ws given) None) (S.objects store.new) (after_lines (main_rules s) opening (lines_of script)) }
+        result ≡ 0 → IsStoredState (parts_of s) (main_rules s) (layout_of s.options (used ws given) (segments_of s)) (S.objects store.new) (after_lines (main_rules s) opening (lines_of script)) }
     ensures read { let ws = map string_bytes words.now in
         let handed = map (λ p. (meaning p).name) policies.items in
         (script : List ℕ) → read_generated handed ws ≡ None → R.left source.old ≡ Some script → result ≡ 0 → IsWellFormed script × (R.left source.new ≡ Some []) }
@@ -141,7 +141,7 @@ pub fn run_main<R: Source, W: Sink, S: Store>(
         let handed = map (λ p. (meaning p).name) policies.items in
         let given = map (λ p. meaning p) policies.items in
         (g : Generated) → read_generated handed ws ≡ Some g → AreLawful given → IsEmpty (S.objects store.old) →
-        result ≡ 0 → IsStoredState (parts_of g.settings) (main_rules g.settings) (layout_of g.settings.options (used ws given) None) (S.objects store.new) (after_lines (main_rules g.settings) opening (lines_of (generate g.rounds g.seed))) }
+        result ≡ 0 → IsStoredState (parts_of g.settings) (main_rules g.settings) (layout_of g.settings.options (used ws given) (segments_of g.settings)) (S.objects store.new) (after_lines (main_rules g.settings) opening (lines_of (generate g.rounds g.seed))) }
     ensures summed_kinds { let ws = map string_bytes words.now in
         let handed = map (λ p. (meaning p).name) policies.items in
         (g : Generated) → read_generated handed ws ≡ Some g → IsGeneratedStatus result }
@@ -176,9 +176,9 @@ pub fn run_main<R: Source, W: Sink, S: Store>(
         operator: settings.operator,
         transformer: transformer_of(settings.mask),
     };
-    let laws: Laws<NoExtractor> = Laws {
+    let laws: Laws<NamedExtractor> = Laws {
         options: settings.options,
-        segments: None,
+        segments: settings.segments,
         policies: kept,
     };
     let ran = run_script(alloc, source, sink, &mut env, &laws);
@@ -208,7 +208,7 @@ fn main_generated<W: Sink, S: Store>(
     ensures summed { (before : List ℕ) → W.content sink.old ≡ Some before → AreLawful (map (λ p. meaning p) policies.items) → IsEmpty (S.objects store.old) →
         result ≡ 0 → W.content sink.new ≡ Some (before ++ summary (main_rules generated.now.settings) (generate generated.now.rounds generated.now.seed)) }
     ensures stored { AreLawful (map (λ p. meaning p) policies.items) → IsEmpty (S.objects store.old) →
-        result ≡ 0 → IsStoredState (parts_of generated.now.settings) (main_rules generated.now.settings) (layout_of generated.now.settings.options (map (λ p. meaning p) policies.items) None) (S.objects store.new) (after_lines (main_rules generated.now.settings) opening (lines_of (generate generated.now.rounds generated.now.seed))) }
+        result ≡ 0 → IsStoredState (parts_of generated.now.settings) (main_rules generated.now.settings) (layout_of generated.now.settings.options (map (λ p. meaning p) policies.items) (segments_of generated.now.settings)) (S.objects store.new) (after_lines (main_rules generated.now.settings) opening (lines_of (generate generated.now.rounds generated.now.seed))) }
     ensures write_fault { result ≡ 6 → Rose (W.faults sink.old) (W.faults sink.new) }
     ensures store_fault { result ≡ 7 → Rose (S.faults store.old) (S.faults store.new) }
     ensures undamaged { AreLawful (map (λ p. meaning p) policies.items) → IsEmpty (S.objects store.old) → IsDamageStatus result → ⊥ }
@@ -226,9 +226,9 @@ fn main_generated<W: Sink, S: Store>(
         operator: generated.settings.operator,
         transformer: transformer_of(generated.settings.mask),
     };
-    let laws: Laws<NoExtractor> = Laws {
+    let laws: Laws<NamedExtractor> = Laws {
         options: generated.settings.options,
-        segments: None,
+        segments: generated.settings.segments,
         policies,
     };
     let ran = run_generated(

@@ -7,7 +7,7 @@ use Rattle.slate_db.specs.Flushed.{layout_of}
 use Rattle.slate_db.specs.Meaning.{Meaning}
 use Rattle.slate_language.specs.Generate.{generate, summary}
 use Rattle.slate_language.specs.Replies.{after_lines}
-use Rattle.slate_script.specs.Program.{main_rules, parts_of, status}
+use Rattle.slate_script.specs.Program.{segments_of, main_rules, parts_of, status}
 use Rattle.slate_script.specs.Run.{run_rules}
 use Rattle.slate_script.specs.StoredState.{IsStoredState}
 use Rattle.slate_script.specs.Told.{IsUntrue}
@@ -26,8 +26,8 @@ returns-in-Ok g c =
           let o = c.args.generated.now.settings.options in
           let given = map (λ p. (goal.FilterPolicy-dyn g (p.vtable, p.value)).meaning p.value) c.args.policies.items in
           let objects = g.S.Store.objects c.run_generated-ran.new.env.store.now in
-          subst (λ t. IsStoredState (parts_of c.args.generated.now.settings) (main_rules c.args.generated.now.settings) (layout_of o given None) (g.S.Store.objects t) (after_lines (main_rules c.args.generated.now.settings) opening (lines_of (generate c.args.generated.now.rounds c.args.generated.now.seed)))) (sym (c.store-1.given.1 (sym c.in-Ok.ensures.puts.store)))
-          (subst (λ (x : Meaning). IsStoredState x (run_rules o x None) (layout_of o given None) objects (after_lines (run_rules o x None) opening (lines_of (generate c.args.generated.now.rounds c.args.generated.now.seed)))) (words-are c.args.generated.now.settings c.transformer_of.result c.transformer_of.ensures)
+          subst (λ t. IsStoredState (parts_of c.args.generated.now.settings) (main_rules c.args.generated.now.settings) (layout_of o given (segments_of c.args.generated.now.settings)) (g.S.Store.objects t) (after_lines (main_rules c.args.generated.now.settings) opening (lines_of (generate c.args.generated.now.rounds c.args.generated.now.seed)))) (sym (c.store-1.given.1 (sym c.in-Ok.ensures.puts.store)))
+          (subst (λ (x : Meaning). IsStoredState x (run_rules o x (segments_of c.args.generated.now.settings)) (layout_of o given (segments_of c.args.generated.now.settings)) objects (after_lines (run_rules o x (segments_of c.args.generated.now.settings)) opening (lines_of (generate c.args.generated.now.rounds c.args.generated.now.seed)))) (words-are c.args.generated.now.settings c.transformer_of.result c.transformer_of.ensures)
           (c.in-Ok.ensures.stored (premises _ c.args.generated.now.settings.operator c.transformer_of.result _ lawful_policies empty))));
       write_fault = λ six. absurd (omega (arith, six));
       store_fault = λ seven. absurd (omega (arith, seven));

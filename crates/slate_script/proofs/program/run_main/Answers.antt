@@ -1,10 +1,10 @@
 use Rattle.std.proofs.Common.{[], ◌≡◌, ◌≤◌, ◌++◌, ℕ, List, Option, inl, inr, Err, Some, None, sym, ap, subst, refl, ◌∙◌, arith}
 use Rattle.slate_types.specs.declared.error.SlateDBError.TheVariants.{ReadFault, WriteFault}
-use Rattle.slate_script.specs.Program.{status}
+use Rattle.slate_script.specs.Program.{segments_of, status}
 use Rattle.slate_script.specs.Run.{run_rules, script_error}
 use Rattle.slate_script.proofs.Statuses.{is-status, is-ended, is-read, is-write, is-store, is-too_long, is-syntax, is-damage, is-part, damage-between, its-own, status-or}
 use Rattle.slate_language.specs.declared.words.Settings.{Settings}
-use Rattle.slate_script.specs.Program.{main_rules, parts_of}
+use Rattle.slate_script.specs.Program.{segments_of, main_rules, parts_of}
 use Rattle.slate_language.specs.Replies.{after_lines, replies, replies_to}
 use Rattle.slate_script.specs.Run.{lines_taken, HasAnswered, HasAnsweredAll, HasBegun}
 use Rattle.slate_script.specs.StoredState.{IsStoredState}
@@ -59,12 +59,12 @@ returns-in-Ok g c =
           let same : c.in-Some-parse_words.settings ≡ s = same-settings c.parse_words.result c.in-Some-parse_words.settings s c.in-Some-parse_words.is (settings ∙ named) in
           let given : List Policy = map (λ p. (goal.FilterPolicy-dyn g (p.vtable, p.value)).meaning p.value) c.args.policies.items in
           let kept : List Policy = map (λ p. (goal.FilterPolicy-dyn g (p.vtable, p.value)).meaning p.value) c.keep_used-kept-2.result.items in
-          let ends = λ (x : Meaning) (t : Settings) (ps : List Policy) (objects : Option Objects). IsStoredState x (main_rules t) (layout_of t.options ps None) objects (after_lines (main_rules t) opening (lines_of script)) in
+          let ends = λ (x : Meaning) (t : Settings) (ps : List Policy) (objects : Option Objects). IsStoredState x (main_rules t) (layout_of t.options ps (segments_of t)) objects (after_lines (main_rules t) opening (lines_of script)) in
           let objects = g.S.Store.objects c.run_script-ran.new.env.store.now in
           subst (λ t. ends (parts_of s) s (used ws given) (g.S.Store.objects t)) (sym (c.store-1.given.1 (sym c.in-Ok.ensures.puts.store)))
           (subst (λ (ps : List Policy). ends (parts_of s) s ps objects) c.keep_used-kept-2.ensures
           (subst (λ (t : Settings). ends (parts_of t) t kept objects) same
-          (subst (λ (x : Meaning). IsStoredState x (run_rules c.in-Some-parse_words.settings.options x None) (layout_of c.in-Some-parse_words.settings.options kept None) objects (after_lines (run_rules c.in-Some-parse_words.settings.options x None) opening (lines_of script))) (words-are c.in-Some-parse_words.settings c.transformer_of.result c.transformer_of.ensures)
+          (subst (λ (x : Meaning). IsStoredState x (run_rules c.in-Some-parse_words.settings.options x (segments_of c.in-Some-parse_words.settings)) (layout_of c.in-Some-parse_words.settings.options kept (segments_of c.in-Some-parse_words.settings)) objects (after_lines (run_rules c.in-Some-parse_words.settings.options x (segments_of c.in-Some-parse_words.settings)) opening (lines_of script))) (words-are c.in-Some-parse_words.settings c.transformer_of.result c.transformer_of.ensures)
           (c.in-Ok.ensures.stored script is (premises _ c.in-Some-parse_words.settings.operator c.transformer_of.result _ (fit lawful_policies) empty))))));
       read = λ script other is zero. (c.in-Ok.ensures.read script is).whole;
       no_error = λ script other is zero. (c.in-Ok.ensures.read script is).no_error;
@@ -257,7 +257,7 @@ returns-in-Some g c =
       summed_stored = (λ x named lawful_policies empty zero.
           let given : List Policy = map (λ p. (goal.FilterPolicy-dyn g (p.vtable, p.value)).meaning p.value) c.args.policies.items in
           let kept : List Policy = map (λ p. (goal.FilterPolicy-dyn g (p.vtable, p.value)).meaning p.value) c.keep_used-kept.result.items in
-          let ends = λ (y : Generated) (ps : List Policy). IsStoredState (parts_of y.settings) (main_rules y.settings) (layout_of y.settings.options ps None) (g.S.Store.objects c.main_generated.new.store) (after_lines (main_rules y.settings) opening (lines_of (generate y.rounds y.seed))) in
+          let ends = λ (y : Generated) (ps : List Policy). IsStoredState (parts_of y.settings) (main_rules y.settings) (layout_of y.settings.options ps (segments_of y.settings)) (g.S.Store.objects c.main_generated.new.store) (after_lines (main_rules y.settings) opening (lines_of (generate y.rounds y.seed))) in
           subst (λ (ps : List Policy). ends x ps) c.keep_used-kept.ensures
           (subst (λ (y : Generated). ends y kept) (same x named) (c.main_generated.ensures.stored (fit lawful_policies) empty zero)));
       summed_kinds = λ x named. own;
