@@ -1,18 +1,20 @@
 //! The work of `slate_bench` and of `slate` in plain Rust, for comparison: the same bytes, by the standard library alone.
 //!
 //! With no word it prints what was done, and with the word `time` how long it took too. Lines and figures are those of
-//! `slate_bench`. Five more words are there for scripts: `make NAME` prints one of them, `run -` and `run FOLDER` answer one
-//! as `slate` does, `keep -` and `keep FOLDER` do so and keep a journal, `gen ROUNDS SEED` answers as `slate - gen ROUNDS SEED`, with
-//! a journal too, and `measure FILE PROGRAM WORDS..` runs a program and appends to the file what it took.
+//! `slate_bench`. Six more words are there for scripts: `make NAME` prints one of them, `run -` and `run FOLDER` answer one
+//! as `slate` does, `keep -` and `keep FOLDER` do so and keep a journal, `reads -` and `reads FOLDER` answer one too, and print no
+//! replies, but how much of tables they read, `gen ROUNDS SEED` answers as `slate - gen ROUNDS SEED`, with a journal too, and
+//! `measure FILE PROGRAM WORDS..` runs a program and appends to the file what it took. Behind a store may stand the words
+//! `filter=none`, `seg=colon` and `op=max`, as for `slate`.
 
 use block::{decode_block, walk_v1, walk_v2, Builder, Row, Sums, Version};
-use script::{Journal, Store};
+use script::{Journal, Settings, Store};
 use std::collections::BTreeMap;
 use std::env;
 use std::io;
 use std::process::exit;
 use std::time::Instant;
-use table::{build_table, open_section, places_of, read_index, CrcTables};
+use table::{build_table, open_section, places_of, read_index, CrcTables, Places};
 
 const ROWS: u64 = 200_000;
 const TABLE_ROWS: usize = 100_000;
@@ -76,18 +78,13 @@ fn run_checksums(is_timed: bool) {
     );
 }
 
-/// Reads all rows of a table whose index lies between `index_at` and `stats_at`.
-fn read_table(
-    crc: &CrcTables,
-    bytes: &[u8],
-    places: (usize, usize),
-    version: Version,
-) -> Option<Sums> {
-    let (index_at, stats_at) = places;
-    let (offsets, _separators) = read_index(open_section(crc, bytes.get(index_at..stats_at)?)?)?;
+/// Reads all rows of a table whose parts stand at these places.
+fn read_table(crc: &CrcTables, bytes: &[u8], places: Places, version: Version) -> Option<Sums> {
+    let index = bytes.get(places.index_at..places.stats_at)?;
+    let (offsets, _separators) = read_index(open_section(crc, index)?)?;
     let mut sums = Sums::default();
     for (i, at) in offsets.iter().enumerate() {
-        let end = offsets.get(i + 1).copied().unwrap_or(index_at);
+        let end = offsets.get(i + 1).copied().unwrap_or(places.filters_at);
         let (body, block_offsets) = decode_block(open_section(crc, bytes.get(*at..end)?)?)?;
         match version {
             Version::V1 => walk_v1(body, &block_offsets, &mut sums)?,
@@ -101,7 +98,7 @@ fn run_tables(is_timed: bool, rows: &[Row], version: Version, name: &str) -> Opt
     let crc = CrcTables::new();
     let mut store = BTreeMap::new();
     let start = Instant::now();
-    let table = build_table(&crc, rows, version);
+    let table = build_table(&crc, rows, version, None);
     let done = format!("{} rows, {} bytes", rows.len(), table.len());
     store.insert("db/compacted/1.sst", table.as_slice().to_vec());
     report(is_timed, &format!("build table {name}"), &done, start);
@@ -164,6 +161,26 @@ fn status_of(done: Option<()>) -> i32 {
     }
 }
 
+/// Answers the script on standard input over a store, as the words behind it say.
+fn run_script(store: &str, words: &[&str], journal: Journal) -> i32 {
+    Settings::read(words).map_or(2, |settings| {
+        script::run(
+            Store::at(store),
+            settings,
+            journal,
+            io::stdin(),
+            io::stdout(),
+        )
+    })
+}
+
+/// The same, but it prints what was read of tables.
+fn run_for_reads(store: &str, words: &[&str]) -> i32 {
+    Settings::read(words).map_or(2, |settings| {
+        script::run_for_reads(Store::at(store), settings, io::stdin(), io::stdout())
+    })
+}
+
 fn main() {
     let words: Vec<String> = env::args().skip(1).collect();
     let words: Vec<&str> = words.iter().map(String::as_str).collect();
@@ -171,8 +188,9 @@ fn main() {
         [] => status_of(run_parts(false)),
         ["time"] => status_of(run_parts(true)),
         ["make", name] => status_of(scripts::make(name).map(|script| print!("{script}"))),
-        ["run", store] => script::run(Store::at(store), Journal::None, io::stdin(), io::stdout()),
-        ["keep", store] => script::run(Store::at(store), Journal::new(), io::stdin(), io::stdout()),
+        ["run", store, words @ ..] => run_script(store, words, Journal::None),
+        ["keep", store, words @ ..] => run_script(store, words, Journal::new()),
+        ["reads", store, words @ ..] => run_for_reads(store, words),
         ["gen", rounds, seed] => script::run_generated(rounds, seed, io::stdout()),
         ["measure", file, program, words @ ..] => measure::measure(file, program, words),
         _ => 2,
@@ -624,6 +642,107 @@ mod block {
     }
 }
 
+/// Bloom filters of whole keys: how they are written, and how they are asked.
+mod filter {
+    use crate::block::{Input, Row};
+
+    const NAME: &[u8] = b"_bf";
+    const BITS_PER_KEY: usize = 10;
+    const PROBES: u16 = 6;
+
+    /// What SipHash keeps between words.
+    struct Sip([u64; 4]);
+
+    impl Sip {
+        fn round(&mut self) {
+            let [v0, v1, v2, v3] = &mut self.0;
+            *v0 = v0.wrapping_add(*v1);
+            *v2 = v2.wrapping_add(*v3);
+            *v1 = v1.rotate_left(13) ^ *v0;
+            *v3 = v3.rotate_left(16) ^ *v2;
+            *v0 = v0.rotate_left(32).wrapping_add(*v3);
+            *v2 = v2.wrapping_add(*v1);
+            *v1 = v1.rotate_left(17) ^ *v2;
+            *v3 = v3.rotate_left(21) ^ *v0;
+            *v2 = v2.rotate_left(32);
+        }
+
+        fn take(&mut self, word: [u8; 8]) {
+            let word = u64::from_le_bytes(word);
+            self.0[3] ^= word;
+            self.round();
+            self.0[0] ^= word;
+        }
+    }
+
+    /// SipHash-1-3 with both keys zero.
+    pub fn filter_hash(key: &[u8]) -> u64 {
+        let start = [b"somepseu", b"dorandom", b"lygenera", b"tedbytes"];
+        let mut sip = Sip(start.map(|word| u64::from_be_bytes(*word)));
+        let words = key.chunks_exact(8);
+        let mut last = [0; 8];
+        last[..words.remainder().len()].copy_from_slice(words.remainder());
+        last[7] = key.len() as u8;
+        for word in words {
+            sip.take(word.try_into().unwrap());
+        }
+        sip.take(last);
+        sip.0[2] ^= 255;
+        (0..3).for_each(|_| sip.round());
+        sip.0.into_iter().fold(0, |sum, word| sum ^ word)
+    }
+
+    /// So many bits of a hash, of the bits of so many bytes.
+    fn probes(hash: u64, count: u16, bytes: usize) -> impl Iterator<Item = usize> {
+        let bits = 8 * bytes as u64;
+        let (mut probe, mut step) = ((hash & 0xffff_ffff) % bits, (hash >> 32) % bits);
+        (0..u64::from(count)).map(move |i| {
+            let bit = probe as usize;
+            step = (step + i) % bits;
+            probe = (probe + step) % bits;
+            bit
+        })
+    }
+
+    /// The part of a table that has the filter of the keys of these rows.
+    pub fn encode_filters(rows: &[Row]) -> Vec<u8> {
+        let mut bits = vec![0; (BITS_PER_KEY * rows.len()).div_ceil(8)];
+        for row in rows {
+            for bit in probes(filter_hash(&row.key), PROBES, bits.len()) {
+                bits[bit / 8] |= 1 << (bit % 8);
+            }
+        }
+        let mut part = 1u16.to_be_bytes().to_vec();
+        part.extend_from_slice(&(NAME.len() as u16).to_be_bytes());
+        part.extend_from_slice(NAME);
+        part.extend_from_slice(&(2 + bits.len() as u64).to_be_bytes());
+        part.extend_from_slice(&PROBES.to_be_bytes());
+        part.append(&mut bits);
+        part
+    }
+
+    /// Whether filters let a key of this hash through, and `None` where they are damaged.
+    pub fn might_match(part: &[u8], hash: u64) -> Option<bool> {
+        let mut input = Input { bytes: part, at: 0 };
+        let mut is_let = true;
+        for _ in 0..input.u16()? {
+            let len = input.u16()? as usize;
+            let name = input.take(len)?;
+            let len = input.u64()? as usize;
+            let filter = input.take(len)?;
+            is_let = is_let && (name != NAME || is_held(filter, hash)?);
+        }
+        (input.at == part.len()).then_some(is_let)
+    }
+
+    fn is_held(filter: &[u8], hash: u64) -> Option<bool> {
+        let (count, bits) = filter.split_first_chunk()?;
+        let count = u16::from_be_bytes(*count);
+        let is_set = |bit: usize| bits[bit / 8] >> (bit % 8) & 1 == 1;
+        Some(!bits.is_empty() && probes(hash, count, bits.len()).all(is_set))
+    }
+}
+
 /// Checksums and tables: how they are written, and how their parts are read.
 mod table {
     use crate::block::{compute_prefix, Builder, Input, Row, Version};
@@ -792,8 +911,10 @@ mod table {
             self.last_key.extend_from_slice(&row.key);
         }
 
-        fn build(mut self, first_key: &[u8]) -> Vec<u8> {
+        fn build(mut self, first_key: &[u8], filters: Option<Vec<u8>>) -> Vec<u8> {
             self.end_block();
+            let behind_blocks = (self.bytes.len() as u64, 0);
+            let filters_at = filters.map_or(behind_blocks, |part| self.seal(&part));
             let mut index = (self.block_counts.len() as u32).to_be_bytes().to_vec();
             index.append(&mut self.index);
             let index_at = self.seal(&index);
@@ -814,10 +935,9 @@ mod table {
                 info.extend_from_slice(&(key.len() as u16).to_be_bytes());
                 info.extend_from_slice(key);
             }
-            for place in [
-                index_at.0, index_at.1, index_at.0, 0, stats_at.0, stats_at.1,
-            ] {
-                info.extend_from_slice(&place.to_be_bytes());
+            for (at, len) in [index_at, filters_at, stats_at] {
+                info.extend_from_slice(&at.to_be_bytes());
+                info.extend_from_slice(&len.to_be_bytes());
             }
             info.extend_from_slice(&[0, 1]);
             let (info_at, _) = self.seal(&info);
@@ -827,12 +947,18 @@ mod table {
         }
     }
 
-    pub fn build_table(crc: &CrcTables, rows: &[Row], version: Version) -> Vec<u8> {
+    /// The table of these rows, with its part of filters where there is one.
+    pub fn build_table(
+        crc: &CrcTables,
+        rows: &[Row],
+        version: Version,
+        filters: Option<Vec<u8>>,
+    ) -> Vec<u8> {
         let mut table = Table::new(crc, version);
         for row in rows {
             table.add(row);
         }
-        table.build(&rows[0].key)
+        table.build(&rows[0].key, filters)
     }
 
     /// The part of a section whose checksum fits.
@@ -858,8 +984,16 @@ mod table {
         (input.at == part.len() && rise).then_some((offsets, separators))
     }
 
-    /// Where the index and the statistics begin, which the writer keeps.
-    pub fn places_of(bytes: &[u8]) -> Option<(usize, usize)> {
+    /// Where the filters, the index and the statistics begin. Where there are no filters the index stands behind the blocks.
+    #[derive(Clone, Copy)]
+    pub struct Places {
+        pub filters_at: usize,
+        pub index_at: usize,
+        pub stats_at: usize,
+    }
+
+    /// The places in a table, which the writer keeps.
+    pub fn places_of(bytes: &[u8]) -> Option<Places> {
         let footer = bytes.len().checked_sub(10)?;
         let places = footer.checked_sub(4 + 2 + 48)?;
         let mut input = Input {
@@ -867,20 +1001,30 @@ mod table {
             at: 0,
         };
         let index_at = input.u64()? as usize;
-        input.take(24)?;
-        Some((index_at, input.u64()? as usize))
+        input.take(8)?;
+        let filters_at = input.u64()? as usize;
+        input.take(8)?;
+        let stats_at = input.u64()? as usize;
+        Some(Places {
+            filters_at,
+            index_at,
+            stats_at,
+        })
     }
 }
 
 /// A store in plain Rust that answers the lines of the scripts of `scripts` as `slate` does with the word `op=max`: writes of one put
-/// or one operand, begins, gets, scans without steps, puts, commits and flushes. Any other line ends it. No script scans operands.
+/// or one operand, begins, gets, scans without steps, in a range or behind a prefix, puts, commits and flushes. Any other line ends it,
+/// and so does a key without a segment where there are segments, and one whose segment nests with another. No script scans operands.
 mod script {
     use crate::block::{add_rows_of_key, decode_block, rows_of_block, Row, Version};
+    use crate::filter::{encode_filters, filter_hash, might_match};
     use crate::scripts;
-    use crate::table::{build_table, open_section, places_of, read_index, CrcTables};
+    use crate::table::{build_table, open_section, places_of, read_index, CrcTables, Places};
     use std::borrow::Cow;
+    use std::cell::Cell;
     use std::cmp::{Ordering, Reverse};
-    use std::collections::{BTreeMap, BinaryHeap, VecDeque};
+    use std::collections::{BTreeMap, BTreeSet, BinaryHeap, VecDeque};
     use std::fs::{self, File};
     use std::io::{self, BufRead, BufReader, Read, Write};
     use std::mem;
@@ -902,6 +1046,37 @@ mod script {
     }
 
     use Failure::{Damage, Syntax};
+
+    /// What the words behind a store set.
+    #[derive(Clone, Copy)]
+    pub struct Settings {
+        has_filters: bool,
+        has_segments: bool,
+    }
+
+    impl Settings {
+        /// With filters, and without segments.
+        fn new() -> Settings {
+            Settings {
+                has_filters: true,
+                has_segments: false,
+            }
+        }
+
+        /// The settings of these words, and nothing where one isn't known.
+        pub fn read(words: &[&str]) -> Option<Settings> {
+            let mut settings = Settings::new();
+            for word in words {
+                match *word {
+                    "filter=none" => settings.has_filters = false,
+                    "seg=colon" => settings.has_segments = true,
+                    "op=max" => {}
+                    _ => return None,
+                }
+            }
+            Some(settings)
+        }
+    }
 
     /// Objects in memory, or the files of a folder.
     pub enum Store {
@@ -963,11 +1138,15 @@ mod script {
         path: String,
         first_key: Vec<u8>,
         last_key: Vec<u8>,
-        index_at: usize,
-        stats_at: usize,
+        places: Places,
     }
 
     impl StoredTable {
+        /// Whether the key stands between the first and the last key of the table.
+        fn encloses(&self, key: &[u8]) -> bool {
+            self.first_key.as_slice() <= key && key <= self.last_key.as_slice()
+        }
+
         /// Whether keys of the range can be in the table.
         fn meets(&self, (start, end): Range) -> bool {
             let (first, last) = (self.first_key.as_slice(), self.last_key.as_slice());
@@ -1165,6 +1344,25 @@ mod script {
         }
     }
 
+    /// The prefix of a key's segment, which ends with its first colon.
+    fn segment_of(key: &[u8]) -> Option<&[u8]> {
+        let colon = key.iter().position(|byte| *byte == b':')?;
+        Some(&key[..=colon])
+    }
+
+    /// The keys that begin with a prefix.
+    fn range_of_prefix(prefix: &[u8]) -> OwnRange {
+        let end = match prefix.iter().rposition(|byte| *byte < u8::MAX) {
+            Some(at) => {
+                let mut past = prefix[..=at].to_vec();
+                past[at] += 1;
+                Bound::Excluded(past)
+            }
+            None => Bound::Unbounded,
+        };
+        (Bound::Included(prefix.to_vec()), end)
+    }
+
     fn own_range((start, end): Range) -> OwnRange {
         (start.map(<[u8]>::to_vec), end.map(<[u8]>::to_vec))
     }
@@ -1196,12 +1394,19 @@ mod script {
     struct Session {
         crc: CrcTables,
         store: Store,
+        settings: Settings,
+        /// How many bytes of tables were read, and by how many reads.
+        read_so_far: Cell<(usize, usize)>,
         last: u64,
         names: BTreeMap<Vec<u8>, Open>,
         /// Of each key that was written while a transaction was open the sequence of its last write.
         writes: BTreeMap<Vec<u8>, u64>,
         journal: Journal,
         rows: BTreeMap<RowKey, Written>,
+        /// The prefixes of all keys so far, where there are segments.
+        segments: BTreeSet<Vec<u8>>,
+        /// How many flushes had rows.
+        flushes: u64,
         /// The newest last.
         tables: Vec<StoredTable>,
     }
@@ -1214,10 +1419,29 @@ mod script {
     }
 
     /// Answers each line of the source, and gives the status.
-    pub fn run(store: Store, journal: Journal, source: impl Read, sink: impl Write) -> i32 {
-        let mut session = Session::new(store, journal);
+    pub fn run(
+        store: Store,
+        settings: Settings,
+        journal: Journal,
+        source: impl Read,
+        sink: impl Write,
+    ) -> i32 {
+        let mut session = Session::new(store, settings, journal);
         let source = BufReader::with_capacity(PIECE, source);
         status_of(answer_lines(&mut session, source, sink).map(|_| ()))
+    }
+
+    /// Answers each line of the source, and writes one line that says how many bytes of tables were read, and by how many reads.
+    pub fn run_for_reads(
+        store: Store,
+        settings: Settings,
+        source: impl Read,
+        sink: impl Write,
+    ) -> i32 {
+        let mut session = Session::new(store, settings, Journal::None);
+        let source = BufReader::with_capacity(PIECE, source);
+        let ended = answer_lines(&mut session, source, io::sink());
+        status_of(ended.and_then(|_| session.write_reads(sink)))
     }
 
     /// Makes a script of so many rounds from the seed, answers it in memory, and writes one line that says how many replies there
@@ -1238,7 +1462,7 @@ mod script {
 
     fn answer_generated(rounds: u32, seed: u64, mut sink: impl Write) -> Result<(), Failure> {
         let script = scripts::generate(rounds, seed).ok_or(Failure::Write)?;
-        let mut session = Session::new(Store::at("-"), Journal::new());
+        let mut session = Session::new(Store::at("-"), Settings::new(), Journal::new());
         let Tally { replies, hits } = answer_lines(&mut session, script.as_bytes(), io::sink())?;
         let committed = session.last;
         writeln!(sink, "replies {replies} committed {committed} hits {hits}")
@@ -1267,18 +1491,28 @@ mod script {
     }
 
     impl Session {
-        fn new(store: Store, journal: Journal) -> Session {
+        fn new(store: Store, settings: Settings, journal: Journal) -> Session {
             let crc = CrcTables::new();
             Session {
                 crc,
                 store,
+                settings,
+                read_so_far: Cell::new((0, 0)),
                 last: 0,
                 names: BTreeMap::new(),
                 writes: BTreeMap::new(),
                 journal,
                 rows: BTreeMap::new(),
+                segments: BTreeSet::new(),
+                flushes: 0,
                 tables: Vec::new(),
             }
+        }
+
+        fn write_reads(&self, mut sink: impl Write) -> Result<(), Failure> {
+            let (bytes, reads) = self.read_so_far.get();
+            writeln!(sink, "read {bytes} bytes of tables by {reads} reads")
+                .map_err(|_| Failure::Write)
         }
 
         fn answer(&mut self, line: &[u8]) -> Result<Vec<u8>, Failure> {
@@ -1297,6 +1531,10 @@ mod script {
                     let range = (read_bound(start)?, read_bound(end)?);
                     self.scan(read_name(name)?, read_order(order)?, range)
                 }
+                [b"prefix", name, order, prefix, b"*", b"*"] => {
+                    let range = range_of_prefix(read_text(prefix)?);
+                    self.scan(read_name(name)?, read_order(order)?, slices_of(&range))
+                }
                 [b"put", name, key, value] => {
                     self.put(read_name(name)?, read_key(key)?, read_text(value)?)
                 }
@@ -1312,6 +1550,7 @@ mod script {
             value: &[u8],
             is_operand: bool,
         ) -> Result<Vec<u8>, Failure> {
+            self.record_segment(key)?;
             self.last += 1;
             let written = Written {
                 value: value.to_vec(),
@@ -1329,6 +1568,26 @@ mod script {
                 transcript: Vec::new(),
             });
             Ok(format!("written {}\n", self.last).into_bytes())
+        }
+
+        /// Where there are segments, tests the key's prefix against its neighbours among those so far, which don't nest, and records it.
+        fn record_segment(&mut self, key: &[u8]) -> Result<(), Failure> {
+            if !self.settings.has_segments {
+                return Ok(());
+            }
+            let prefix = segment_of(key).ok_or(Syntax)?;
+            if self.segments.contains(prefix) {
+                return Ok(());
+            }
+            let (from, to) = (Bound::Excluded(prefix), Bound::Unbounded);
+            let mut before = self.segments.range::<[u8], _>((to, from));
+            let mut behind = self.segments.range::<[u8], _>((from, to));
+            let is_within = before.next_back().is_some_and(|p| prefix.starts_with(p));
+            if is_within || behind.next().is_some_and(|p| p.starts_with(prefix)) {
+                return Err(Syntax);
+            }
+            self.segments.insert(prefix.to_vec());
+            Ok(())
         }
 
         fn begin(&mut self, name: &str, is_serializable: bool) -> Result<Vec<u8>, Failure> {
@@ -1433,7 +1692,7 @@ mod script {
             let open = self.names.remove(name.as_bytes()).ok_or(Syntax)?;
             let reply = match self.newest_conflict(&open) {
                 Some(seq) => format!("refused TransactionConflict {seq}\n"),
-                None => match self.commit_own(open) {
+                None => match self.commit_own(open)? {
                     Some(seq) => format!("committed {seq}\n"),
                     None => "committed -\n".into(),
                 },
@@ -1443,10 +1702,11 @@ mod script {
         }
 
         /// Commits what a transaction put, which has ended, and gives the sequence, where it put something.
-        fn commit_own(&mut self, open: Open) -> Option<u64> {
+        fn commit_own(&mut self, open: Open) -> Result<Option<u64>, Failure> {
             let seq = (!open.own.is_empty()).then_some(self.last + 1);
             self.last = seq.unwrap_or(self.last);
             for (key, value) in &open.own {
+                self.record_segment(key)?;
                 let written = Written {
                     value: value.clone(),
                     is_operand: false,
@@ -1462,7 +1722,7 @@ mod script {
                 ops: open.own.into_iter().collect(),
                 transcript: open.transcript,
             });
-            seq
+            Ok(seq)
         }
 
         /// The greatest sequence since a transaction's begin of a write of a key that it wrote or read.
@@ -1525,7 +1785,8 @@ mod script {
                 Source::of_rows(memory.collect(), order),
             ];
             for table in self.tables.iter().rev().filter(|table| table.meets(range)) {
-                let index = self.read(&table.path, table.index_at, table.stats_at)?;
+                let places = table.places;
+                let index = self.read(&table.path, places.index_at, places.stats_at)?;
                 let (offsets, separators) = open_section(&self.crc, &index)
                     .and_then(read_index)
                     .ok_or(Damage)?;
@@ -1541,12 +1802,13 @@ mod script {
                         separators.partition_point(|separator| *separator <= key)
                     }
                 };
-                let ends = offsets.iter().skip(1).copied().chain([table.index_at]);
-                let places = offsets.iter().copied().zip(ends);
+                let ends = offsets.iter().skip(1).copied();
+                let ends = ends.chain([places.filters_at]);
+                let blocks = offsets.iter().copied().zip(ends);
                 sources.push(Source {
                     rows: VecDeque::new(),
                     table: Some(table),
-                    offsets: places.take(end).skip(first).collect(),
+                    offsets: blocks.take(end).skip(first).collect(),
                 });
             }
             Ok(sources)
@@ -1580,15 +1842,27 @@ mod script {
             if !self.rows.is_empty() {
                 let barrier = self.least_begin().unwrap_or(self.last);
                 let rows = rows_of_flush(mem::take(&mut self.rows), barrier);
-                self.store_table(&rows)?;
+                self.flushes += 1;
+                self.store_tables(&rows)?;
             }
             Ok(format!("flushed {}\n", self.last).into_bytes())
         }
 
-        fn store_table(&mut self, rows: &[Row]) -> Result<(), Failure> {
-            let bytes = build_table(&self.crc, rows, Version::V2);
-            let (index_at, stats_at) = places_of(&bytes).ok_or(Damage)?;
-            let id = (self.tables.len() as u128 + 1) << 64;
+        /// Stores the rows of a flush, as one table or, where there are segments, as one for each.
+        fn store_tables(&mut self, rows: &[Row]) -> Result<(), Failure> {
+            let is_one = !self.settings.has_segments;
+            let of_one = |a: &Row, b: &Row| is_one || segment_of(&a.key) == segment_of(&b.key);
+            let tables = rows.chunk_by(of_one).enumerate();
+            tables
+                .map(|(place, rows)| self.store_table(place, rows))
+                .collect()
+        }
+
+        fn store_table(&mut self, place: usize, rows: &[Row]) -> Result<(), Failure> {
+            let filters = self.settings.has_filters.then(|| encode_filters(rows));
+            let bytes = build_table(&self.crc, rows, Version::V2, filters);
+            let places = places_of(&bytes).ok_or(Damage)?;
+            let id = u128::from(self.flushes) << 64 | place as u128;
             let path = format!("db/compacted/{id:032x}.sst");
             self.store.put(&path, bytes).map_err(|_| Failure::Store)?;
             let first_key = rows[0].key.clone();
@@ -1597,8 +1871,7 @@ mod script {
                 path,
                 first_key,
                 last_key,
-                index_at,
-                stats_at,
+                places,
             });
             Ok(())
         }
@@ -1617,16 +1890,34 @@ mod script {
                     return Ok(folded(rows));
                 }
             }
+            let hash = filter_hash(key);
             for table in self.tables.iter().rev() {
-                if self.add_rows_of_table(table, key, at, &mut rows)? {
+                let may_hold = table.encloses(key) && self.is_let_through(table, hash)?;
+                if may_hold && self.add_rows_of_table(table, key, at, &mut rows)? {
                     break;
                 }
             }
             Ok(folded(rows))
         }
 
-        /// Adds a key's rows at or below a sequence, newest first, to the first that is no operand, of a table: where its keys enclose
-        /// the key, its index is read, and the blocks that can hold the key. Gives whether that one was met.
+        /// Whether the filters of a table, which are read where there are some, let a key of this hash through.
+        fn is_let_through(&self, table: &StoredTable, hash: u64) -> Result<bool, Failure> {
+            let Places {
+                filters_at,
+                index_at,
+                ..
+            } = table.places;
+            if filters_at == index_at {
+                return Ok(true);
+            }
+            let section = self.read(&table.path, filters_at, index_at)?;
+            open_section(&self.crc, &section)
+                .and_then(|part| might_match(part, hash))
+                .ok_or(Damage)
+        }
+
+        /// Adds a key's rows at or below a sequence, newest first, to the first that is no operand, of a table that may hold it: its
+        /// index is read, and the blocks that can hold the key. Gives whether that one was met.
         fn add_rows_of_table(
             &self,
             table: &StoredTable,
@@ -1634,14 +1925,12 @@ mod script {
             at: u64,
             rows: &mut Vec<Found>,
         ) -> Result<bool, Failure> {
-            if key < table.first_key.as_slice() || table.last_key.as_slice() < key {
-                return Ok(false);
-            }
-            let index = self.read(&table.path, table.index_at, table.stats_at)?;
+            let places = table.places;
+            let index = self.read(&table.path, places.index_at, places.stats_at)?;
             let (offsets, separators) = open_section(&self.crc, &index)
                 .and_then(read_index)
                 .ok_or(Damage)?;
-            let start_of = |block: usize| offsets.get(block).copied().unwrap_or(table.index_at);
+            let start_of = |block: usize| offsets.get(block).copied().unwrap_or(places.filters_at);
             let first = separators
                 .partition_point(|separator| *separator < key)
                 .saturating_sub(1);
@@ -1660,6 +1949,8 @@ mod script {
         }
 
         fn read(&self, path: &str, start: usize, end: usize) -> Result<Cow<'_, [u8]>, Failure> {
+            let (bytes, reads) = self.read_so_far.get();
+            self.read_so_far.set((bytes + end - start, reads + 1));
             self.store
                 .read_range(path, start, end)
                 .map_err(|_| Failure::Store)
@@ -1787,6 +2078,12 @@ mod scripts {
     /// How many keys are in the range that one of them scans.
     const WIDTH: u64 = 10_000;
 
+    /// How many writes stand between two flushes where there are segments.
+    const SEGMENTS_RUN: u64 = 10_000;
+
+    /// How many keys a segment has.
+    const SEGMENT: u64 = 1_000;
+
     /// How many merges stand between two flushes.
     const MERGES: u64 = 1_000;
 
@@ -1804,12 +2101,14 @@ mod scripts {
             "write_and_flush" => write_many(&mut text).and_then(|()| writeln!(text, "flush")),
             "read_rising" => write_and_read(&mut text, |i| i, SOME),
             "read_scattered" => write_and_read(&mut text, |i| scattered(i, SOME), FEW),
+            "read_filtered" => write_and_read(&mut text, |i| scattered(i, SOME), SOME),
             "scan_up" => write_and_scan(&mut text, MANY, "asc"),
             "scan_down" => write_and_scan(&mut text, MANY, "desc"),
             "scan_runs_up" => write_and_scan(&mut text, RUN, "asc"),
             "scan_runs_down" => write_and_scan(&mut text, RUN, "desc"),
             "write_past_scans" => write_past_scans(&mut text),
             "merge" => merge_many(&mut text),
+            "segments" => write_and_scan_segments(&mut text),
             _ => return None,
         };
         made.ok().map(|()| text)
@@ -1838,6 +2137,21 @@ mod scripts {
         }
         writeln!(text, "begin t si")?;
         (0..SCANS).try_for_each(|_| writeln!(text, "scan t {order} * *"))
+    }
+
+    /// Many writes over segments, with a flush behind each so many, and a scan of each segment.
+    fn write_and_scan_segments(text: &mut String) -> Result {
+        for i in 0..MANY {
+            let key = scattered(i, MANY);
+            let segment = key / SEGMENT;
+            writeln!(text, "write put 's{segment:02}:{key:012}/balance '{i:0100}")?;
+            if (i + 1) % SEGMENTS_RUN == 0 {
+                writeln!(text, "flush")?;
+            }
+        }
+        writeln!(text, "begin t si")?;
+        (0..MANY / SEGMENT)
+            .try_for_each(|segment| writeln!(text, "prefix t asc 's{segment:02}: * *"))
     }
 
     /// Two serializable transactions that each scan a range of a table, many writes of keys that leave out the range of the first
