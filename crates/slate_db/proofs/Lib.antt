@@ -28,6 +28,7 @@ pub mod Runs
 mod StandingRuns
 mod TouchedSegments
 mod FlushedKeys
+pub mod OneSegment
 mod Built
 mod Flushes
 mod Installs

@@ -18,12 +18,11 @@ use Rattle.slate_mem.specs.Refusals.{when}
 use Rattle.slate_read.specs.declared.sorted_run.SortedRun.{SortedRun}
 use Rattle.slate_table.specs.declared.info.SsTableHandle.{SsTableHandle}
 use Rattle.slate_table.specs.Table.{AreInOrder}
-use Rattle.slate_db.specs.Cut.{AreOfSegments, GoesOn, segment_of}
+use Rattle.slate_db.specs.Cut.{AreOfSegments, GoesOn, StandsIn, segment_of}
 use Rattle.slate_db.specs.Flushed.{Differ}
 use Rattle.slate_db.specs.FlushLaws.{NoneNest, RunsAreOfSegments, TablesAreOfOneSegment}
 use Rattle.slate_db.specs.Installs.{prefixes_of}
 use Rattle.slate_db.specs.Model.{Rows}
-use Rattle.slate_db.specs.StoredTable.{StandsIn}
 use Rattle.slate_db.proofs.Cuts.{one_segment, row_keys}
 use Rattle.slate_db.proofs.Lists.{all_behind, all_both, all_front}
 use Rattle.slate_db.proofs.Prefixes.{begins_itself, rises}

@@ -6,12 +6,13 @@
 --     AreEnded segments limit tables      each table but the last ends before the first row of the next one
 --     AreCut segments limit rows tables      the rows in their order, in tables that end there and nowhere else
 --     AreOfSegment segments prefix rows, AreOfSegments segments tables prefixes      all keys of the rows have the prefix; those of each table have the one in its place
+--     StandsIn segments prefix r      the row's key has this segment prefix; without segments any
 use Rattle.std.specs.Prelude.{◌≡◌, ◌<◌, ℕ, nat_le, Bool, true, false, ◌&&◌, ◌||◌, not, List, [], ◌∷◌, ◌++◌, length, sum_by, flat_map, Option, Some, None, unwrap_or, bytes_eq}
 use Rattle.std.specs.List.{AllByRecursion}
 use Rattle.slate_types.specs.declared.types.RowEntry.{RowEntry}
 use Rattle.slate_types.specs.Rows.{estimated_size}
 use Rattle.slate_mem.specs.Gathered.{last_row}
-use Rattle.slate_mem.specs.KeyTests.{Segments, prefix_by}
+use Rattle.slate_mem.specs.KeyTests.{Segments, prefix_by, prefix_of_len}
 use Rattle.slate_db.specs.Model.{Rows}
 
 abbrev pub segment_of : Segments → List ℕ → List ℕ
@@ -55,3 +56,7 @@ AreOfSegments segments [] [] = Unit {0}
 AreOfSegments segments (rows ∷ tables) (prefix ∷ prefixes) = AreOfSegment segments prefix rows × AreOfSegments segments tables prefixes
 AreOfSegments segments [] (prefix ∷ prefixes) = ⊥
 AreOfSegments segments (rows ∷ tables) [] = ⊥
+
+abbrev pub StandsIn : Segments → List ℕ → RowEntry → Type 0
+StandsIn None prefix r = Unit {0}
+StandsIn (Some f) prefix r = prefix_of_len r.key (f r.key) ≡ Some prefix

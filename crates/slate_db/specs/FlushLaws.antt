@@ -6,10 +6,9 @@ use Rattle.slate_types.specs.Keys.{keys_set}
 use Rattle.slate_mem.specs.KeyTests.{Segments, nest, segment_refusal}
 use Rattle.slate_read.specs.declared.sorted_run.SortedRun.{SortedRun}
 use Rattle.slate_table.specs.Table.{AreInOrder}
-use Rattle.slate_db.specs.Cut.{AreCut, AreOfSegments, segment_of}
+use Rattle.slate_db.specs.Cut.{AreCut, AreOfSegments, StandsIn, segment_of}
 use Rattle.slate_db.specs.Flushed.{StandInRuns}
 use Rattle.slate_db.specs.Model.{Rows}
-use Rattle.slate_db.specs.StoredTable.{StandsIn}
 
 abbrev pub NoneNest : Segments → Rows → Type 0
 NoneNest segments [] = Unit {0}

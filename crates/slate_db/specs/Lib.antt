@@ -1,4 +1,3 @@
-pub mod StoredTable
 pub mod Asked
 pub mod BatchTests
 pub mod Meaning

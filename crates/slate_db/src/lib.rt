@@ -2,7 +2,6 @@
 //!
 //! A flush that has rows writes tables, at the paths that its number gives: `specs/Paths.antt` of `slate_table` says which,
 //! `specs/Cut.antt` how many, and `specs/Flushed.antt` what a flush leaves. `specs/Asked.antt` says what a get reads of them.
-//! `specs/StoredTable.antt` is for later parts: no contract cites it yet.
 #![tactic(auto)]
 
 mod commit;

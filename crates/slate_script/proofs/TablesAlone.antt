@@ -26,13 +26,15 @@ use Rattle.slate_db.specs.Frozen.{IsFrozen}
 use Rattle.slate_db.specs.Installs.{root, runs_of}
 use Rattle.slate_db.specs.Meaning.{Meaning, combine_of, rules_in}
 use Rattle.slate_db.specs.Model.{CoreModel, Rows, versions_in}
-use Rattle.slate_db.specs.Sound.{AreTables}
+use Rattle.slate_db.specs.Segmented.{HavePrefixes}
+use Rattle.slate_db.specs.Sound.{AreTables, IsTied}
 use Rattle.slate_db.specs.StoredState.{StoresState}
 use Rattle.slate_db.specs.Layers.{AreRising}
 use Rattle.slate_db.specs.Log.{LIMIT}
 use Rattle.slate_script.specs.Session.{SessionModel, StandsFor, StoresNothing, IsTableUpTo, HasTablesAlone}
 use Rattle.slate_script.specs.StoredState.{IsStoredState, IsTableObject}
 use Rattle.slate_script.proofs.BySequence.{all-front, all-behind, all-both, one-table-more}
+use Rattle.slate_db.proofs.OneSegment.{InOneSegment, flushed_stand}
 use Rattle.slate_db.proofs.RunsOf.{runs_more, tables_are}
 use Rattle.slate_db.proofs.PathsApart.{ids_same}
 use Rattle.slate_script.proofs.SessionLeaves.{leaves-frozen}
@@ -118,15 +120,15 @@ path-apart m layout n p o fits place (t, h) same = by h
     by (inl below) = let e : n ≡ t.number = is.0 in omega arith
     by (inr (number, below)) = let e : p ≡ t.place = is.1 in omega arith
 
-table-alone : (m : Meaning) (layout : Layout) (n p : ℕ) (os : Objects) (ts : List (Ulid × List ℕ)) (t : Ulid × List ℕ) (here : Rows) → 1 ≤ n → n < 2 ^ 64 → IsTableAt m.encode layout n p here t → HoldsAlone m layout n p os ts →
+table-alone : (m : Meaning) (layout : Layout) (n p : ℕ) (os : Objects) (ts : List (Ulid × List ℕ)) (t : Ulid × List ℕ) (here : Rows) → 1 ≤ n → n < 2 ^ 64 → IsTableAt m.encode layout n p here t → InOneSegment layout.segments here → HoldsAlone m layout n p os ts →
     HoldsAlone m layout n (p + 1) (with_object os (path_of root t.0.0) t.1) (ts ++ (t ∷ []))
-table-alone m layout n p os ts t here first fits made h =
+table-alone m layout n p os ts t here first fits made one h =
     let is : IsTable m.encode t.1 layout.version here = subst (IsTable m.encode t.1 layout.version) made.read (built_has m.encode layout.policies layout.min_filter_keys layout.block_size layout.version t.1 here made.built) in
     let place : IsPutAmong os (path_of root t.0.0) t.1 = put-among os (path_of root t.0.0) t.1 (each-as _ _ (λ o b same. path-apart m layout n p o fits made.fits b (sym (ap (path_of root) made.id) ∙ same)) os h.each) in
     let parts : AreHeldApart m.encode place.a place.b h.rows = held-apart m.encode place.a place.b h.rows (subst (λ (x : Objects). HoldRows m.encode x h.rows) place.before h.held) in
     let each : AllByRecursion (IsTableBefore m layout n (p + 1)) (place.a ++ place.b) = subst (AllByRecursion (IsTableBefore m layout n (p + 1))) place.before (each-as (IsTableBefore m layout n p) _ (later-place m layout n p) os h.each) in
     let new : IsTableBefore m layout n (p + 1) (path_of root t.0.0, t.1) =
-    (record { number = n; first = first; fits = fits; place = p; place_fits = made.fits; rows = here; path = ap (path_of root) made.id; built = made.built }, inr (refl, omega arith)) in
+    (record { number = n; first = first; fits = fits; place = p; place_fits = made.fits; rows = here; path = ap (path_of root) made.id; built = made.built; prefix = one.0; one = one.1 }, inr (refl, omega arith)) in
     record {
       each = subst (AllByRecursion (IsTableBefore m layout n (p + 1))) (sym place.after) (all-both _ place.a ((path_of root t.0.0, t.1) ∷ place.b) (all-front _ place.a place.b each) (new, all-behind _ place.a place.b each));
       layers = h.layers ++ (here ∷ []);
@@ -137,19 +139,19 @@ table-alone m layout n p os ts t here first fits made h =
       sorted = λ k. one-table-more k h.layers parts.first here parts.last h.rows parts.are (h.sorted k);
     }
 
-tables-alone : (m : Meaning) (layout : Layout) (n p : ℕ) (os : Objects) (ts us : List (Ulid × List ℕ)) (parts : List Rows) → 1 ≤ n → n < 2 ^ 64 → AreTablesAt m.encode layout n p parts us → HoldsAlone m layout n p os ts →
-    (q : ℕ) × HoldsAlone m layout n q (with_tables os us) (ts ++ us)
-tables-alone m layout n p os ts [] [] first fits made h = (p, subst (HoldsAlone m layout n p os) (sym (append-nil ts)) h)
-tables-alone m layout n p os ts (t ∷ us) (rows ∷ parts) first fits made h =
+tables-alone : (m : Meaning) (layout : Layout) (n p : ℕ) (os : Objects) (ts us : List (Ulid × List ℕ)) (parts : List Rows) → 1 ≤ n → n < 2 ^ 64 → AreTablesAt m.encode layout n p parts us → AllByRecursion (InOneSegment layout.segments) parts →
+    HoldsAlone m layout n p os ts → (q : ℕ) × HoldsAlone m layout n q (with_tables os us) (ts ++ us)
+tables-alone m layout n p os ts [] [] first fits made one h = (p, subst (HoldsAlone m layout n p os) (sym (append-nil ts)) h)
+tables-alone m layout n p os ts (t ∷ us) (rows ∷ parts) first fits made one h =
     subst (λ (xs : List (Ulid × List ℕ)). (q : ℕ) × HoldsAlone m layout n q (with_tables (with_object os (path_of root t.0.0) t.1) us) xs) (append_assoc ts (t ∷ []) us)
-    (tables-alone m layout n (p + 1) (with_object os (path_of root t.0.0) t.1) (ts ++ (t ∷ [])) us parts first fits made.1 (table-alone m layout n p os ts t rows first fits made.0 h))
-tables-alone m layout n p os ts (t ∷ us) [] first fits made h = absurd made
-tables-alone m layout n p os ts [] (rows ∷ parts) first fits made h = absurd made
+    (tables-alone m layout n (p + 1) (with_object os (path_of root t.0.0) t.1) (ts ++ (t ∷ [])) us parts first fits made.1 one.1 (table-alone m layout n p os ts t rows first fits made.0 one.0 h))
+tables-alone m layout n p os ts (t ∷ us) [] first fits made one h = absurd made
+tables-alone m layout n p os ts [] (rows ∷ parts) first fits made one h = absurd made
 
 -- a flush more
 run-alone : (m : Meaning) (layout : Layout) (runs : List (List (Ulid × List ℕ))) (us : List (Ulid × List ℕ)) (parts : List Rows) (before after : Option Objects) → length runs + 1 < 2 ^ 64 → AreTablesAt m.encode layout (length runs + 1) 0 parts us →
-    TakesTables us before after → HasTablesAlone m layout before runs → HasTablesAlone m layout after (runs ++ (us ∷ []))
-run-alone m layout runs us parts before after few made takes h =
+    AllByRecursion (InOneSegment layout.segments) parts → TakesTables us before after → HasTablesAlone m layout before runs → HasTablesAlone m layout after (runs ++ (us ∷ []))
+run-alone m layout runs us parts before after few made one takes h =
     let n : ℕ = length runs + 1 in
     let size : length (runs ++ (us ∷ [])) ≡ length runs + 1 = length-append runs (us ∷ []) in
     let start : HoldsAlone m layout (length runs + 1) 0 h.os (flat_map (λ ts. ts) runs) = record {
@@ -160,13 +162,13 @@ run-alone m layout runs us parts before after few made takes h =
       held = h.held;
       sorted = h.sorted;
     } in
-    let end = (tables-alone m layout (length runs + 1) 0 h.os (flat_map (λ ts. ts) runs) us parts (omega arith) few made start).1 in
+    let end = (tables-alone m layout (length runs + 1) 0 h.os (flat_map (λ ts. ts) runs) us parts (omega arith) few made one start).1 in
     let flat : flat_map (λ (ts : List (Ulid × List ℕ)). ts) (runs ++ (us ∷ [])) ≡ flat_map (λ ts. ts) runs ++ us =
     flat_map-append (λ (ts : List (Ulid × List ℕ)). ts) runs (us ∷ []) ∙ ap (λ ts. flat_map (λ xs. xs) runs ++ ts) (append-nil us) in
     record {
       os = with_tables h.os us;
       told = subst (λ o. IfSome o (λ os. after ≡ Some (with_tables os us))) h.told takes;
-      each = each-as _ (IsTableUpTo m layout (length (runs ++ (us ∷ [])))) (λ o b. (b.0, within b.0.number b.0.place (tables-alone m layout (length runs + 1) 0 h.os (flat_map (λ ts. ts) runs) us parts (omega arith) few made start).0 b.1)) (with_tables h.os us) end.each;
+      each = each-as _ (IsTableUpTo m layout (length (runs ++ (us ∷ [])))) (λ o b. (b.0, within b.0.number b.0.place (tables-alone m layout (length runs + 1) 0 h.os (flat_map (λ ts. ts) runs) us parts (omega arith) few made one start).0 b.1)) (with_tables h.os us) end.each;
       layers = end.layers;
       tables = subst (λ (ts : List (Ulid × List ℕ)). AreTables m ts end.layers) (sym flat) end.tables;
       rows = end.rows;
@@ -178,9 +180,9 @@ run-alone m layout runs us parts before after few made takes h =
     within i p q (inl below) = let size : length (runs ++ (us ∷ [])) ≡ length runs + 1 = length-append runs (us ∷ []) in omega arith
     within i p q (inr (same, below)) = let size : length (runs ++ (us ∷ [])) ≡ length runs + 1 = length-append runs (us ∷ []) in omega arith
 
-pub flush-alone : (m : Meaning) (layout : Layout) (old mid new : CoreModel) (n : ℕ) (before after : Option Objects) → IsFrozen old mid → IsFlushed m layout mid new n before after →
+pub flush-alone : (m : Meaning) (layout : Layout) (old mid new : CoreModel) (n : ℕ) (before after : Option Objects) → IsFrozen old mid → IsFlushed m layout mid new n before after → IsTied m old → HavePrefixes layout.segments old.state.commits →
     length (runs_of old.events) ≤ length old.events → length old.events ≤ LIMIT → HasTablesAlone m layout before (runs_of old.events) → HasTablesAlone m layout after (runs_of new.events)
-flush-alone m layout old mid new n before after frozen flushed few room h = by flushed
+flush-alone m layout old mid new n before after frozen flushed tied have few room h = by flushed
   where
     same : runs_of mid.events ≡ runs_of old.events
     same = (leaves-frozen old mid frozen).runs
@@ -195,7 +197,7 @@ flush-alone m layout old mid new n before after frozen flushed few room h = by f
     by (idle none is untouched) = subst (λ (c : CoreModel). HasTablesAlone m layout after (runs_of c.events)) (sym is) (subst (λ o. HasTablesAlone m layout o (runs_of mid.events)) (sym untouched) alone)
     by (stored ts is made takes) =
         subst (HasTablesAlone m layout after) (sym (ap (λ (c : CoreModel). runs_of c.events) is ∙ runs_more mid.events (events.Install n ts)))
-        (run-alone m layout (runs_of mid.events) ts made.parts before after small made.built takes alone)
+        (run-alone m layout (runs_of mid.events) ts made.parts before after small made.built (flushed_stand m layout old mid _ _ ts frozen tied have made) takes alone)
 
 -- ---- lines that store nothing, and the beginning
 

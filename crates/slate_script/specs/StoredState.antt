@@ -1,5 +1,5 @@
 -- What the objects of a store hold after a run.
---     IsTableObject m layout o      an object is a table that a flush put: at the path of one, in the options' version, cut by their blocks' size, and with the filters of the policies
+--     IsTableObject m layout o      an object is a table that a flush put: at the path of one, in the options' version, cut by their blocks' size, with the filters of the policies, and of rows with one segment prefix
 --     IsStoredState m r layout objects s      all objects are such tables, and their rows alone fold to the state at the last flush
 use Rattle.std.specs.Prelude.{◌≡◌, ◌≤◌, ◌<◌, ◌^◌, ℕ, List, Option, Some}
 use Rattle.std.specs.List.{AllByRecursion}
@@ -10,6 +10,7 @@ use Rattle.slate_table.specs.Stored.{HoldRows, stored}
 use Rattle.slate_table.specs.Table.{IsBuilt}
 use Rattle.slate_txn.specs.Reads.{state_at}
 use Rattle.slate_txn.specs.State.{Rules, State}
+use Rattle.slate_db.specs.Cut.{StandsIn}
 use Rattle.slate_db.specs.Flushed.{Layout}
 use Rattle.slate_db.specs.Installs.{root}
 use Rattle.slate_db.specs.Meaning.{Meaning, combine_of}
@@ -24,6 +25,8 @@ pub record IsTableObject (m : Meaning) (layout : Layout) (o : List ℕ × List �
   pub rows : List RowEntry
   pub path : o.0 ≡ path_of root (table_id number place)
   pub built : IsBuilt m.encode layout.policies layout.min_filter_keys layout.block_size layout.version o.1 rows
+  pub prefix : List ℕ
+  pub one : AllByRecursion (StandsIn layout.segments prefix) rows
 
 pub record IsStoredState (m : Meaning) (r : Rules) (layout : Layout) (objects : Option Objects) (s : State) : Type 0 where
   pub os : Objects

@@ -50,9 +50,9 @@ returns g c =
           let layout = layout_of c.args.laws.now.options policies (segments_by g.X.PrefixExtractor.lengths c.args.laws.now.segments) in
           let went : c.flush.result ≡ Ok c.in_ok-seq.seq = grind (arith, c.branch-seq.ensures, c.in_ok-seq.is) in
           let old = g.S.Store.objects c.args.env.now.store.now in
+          let h = subst (λ (v : SessionModel). IsSettled policies m (segments_by g.X.PrefixExtractor.lengths c.args.laws.now.segments) old v) (sym c.self.view_is) settled in
           flush-alone m layout c.self.inside.core c.in_ok-seq.ensures.installed.0 c.flush.new.self c.in_ok-seq.seq old (g.S.Store.objects c.flush.new.env.store.now)
-          c.in_ok-seq.ensures.installed.1 c.in_ok-seq.ensures.installed.2
-          (subst (λ (v : SessionModel). IsSettled policies m (segments_by g.X.PrefixExtractor.lengths c.args.laws.now.segments) old v) (sym c.self.view_is) settled).tables.few
+          c.in_ok-seq.ensures.installed.1 c.in_ok-seq.ensures.installed.2 h.kept.0 h.segmented.each h.tables.few
           (has-room LIMIT _ _ _ c.flush.result c.in_ok-seq.seq (LimitReached LIMIT) went c.flush.ensures.limit)
           (subst (λ (v : SessionModel). HasTablesAlone m layout old (runs_of v.core.events)) (sym c.self.view_is) alone));
       follows = (λ os settled.
