@@ -1,7 +1,9 @@
--- By lawful policies no table is denied that has a row in a range whose keys match the query.
-use Rattle.std.proofs.Common.{◌≡◌, ℕ, suc, ◌<◌, Bool, true, false, cond, List, [], ◌∷◌, ◌++◌, drop, length, map, flat_map, filter, Option, Some, None, inl, inr, refl, sym, ap, subst, ◌∙◌, arith}
+-- By lawful policies no table is denied that has a row in a range whose keys match the query, and none has such a row whose first and last key don't reach the range.
+use Rattle.std.proofs.Common.{◌≡◌, ℕ, zero, suc, ◌<◌, Bool, true, false, cond, List, [], ◌∷◌, ◌++◌, bytes_eq, drop, length, map, flat_map, Option, Some, None, inl, inr, refl, sym, ap, ◌∙◌, arith}
 use Rattle.std.specs.Prelude.{Contains, ◌&&◌, ◌==◌, nat_eq}
 use Rattle.std.specs.List.{starts_with}
+use Rattle.std.specs.declared.ops.Bound.{Bound}
+use Rattle.std.specs.declared.ops.Bound.TheVariants.{Included, Excluded, Unbounded}
 use Rattle.std.proofs.lemmas.Bool.Decides.{nat_tests}
 use Rattle.std.proofs.lemmas.Slice.Eq.{bytes_eq-Decides}
 use Rattle.slate_types.specs.declared.bytes_range.BytesRange.{BytesRange}
@@ -9,8 +11,11 @@ use Rattle.slate_types.specs.declared.error.SlateDBError.{SlateDBError}
 use Rattle.slate_types.specs.declared.types.RowEntry.{RowEntry}
 use Rattle.slate_types.specs.declared.filter_policy.FilterContext.{FilterContext}
 use Rattle.slate_types.specs.declared.filter_policy.FilterQuery.{FilterQuery}
-use Rattle.slate_types.specs.Keys.{in_range, point_of}
+use Rattle.slate_types.specs.Keys.{in_range, is_before_end, is_past_start, key_le, point_of}
 use Rattle.slate_types.specs.Lawful.{IsLawfulTransform}
+use Rattle.slate_types.specs.Outside.{Meaning, Objects}
+use Rattle.slate_types.specs.Rows.{of_key}
+use Rattle.slate_types.proofs.KeyOrder.{bytes_eq-same, le-lt-trans, lt-irreflexive, lt-le-trans, not-le}
 use Rattle.slate_types.proofs.PointLaws.{point-key}
 use Rattle.slate_block.specs.BlockSpelling.{as_read}
 use Rattle.slate_block.specs.ReadingLaws.{EachIsAByte}
@@ -19,17 +24,23 @@ use Rattle.slate_filter.specs.Asking.{asked}
 use Rattle.slate_filter.specs.Policy.{IsOf, Policy, filters_of}
 use Rattle.slate_filter.proofs.PolicyLaws.{all_let_through}
 use Rattle.slate_mem.specs.Table.{ranged}
+use Rattle.slate_read.specs.RunWalk.{can_reach, reaches_end, reaches_start}
+use Rattle.slate_table.specs.declared.info.SsTableHandle.{SsTableHandle}
+use Rattle.slate_table.specs.declared.info.SsTableInfo.{SsTableInfo}
 use Rattle.slate_table.specs.Decoded.{Info, IsFilters}
 use Rattle.slate_table.specs.Filtered.{IsAsked, RefusesQuery, AreLawful, HasFiltersOf, filters_answer}
-use Rattle.slate_table.specs.Finding.{IsTableWith}
+use Rattle.slate_table.specs.Finding.{IsTableWith, encloses, is_from, is_upto}
+use Rattle.slate_table.specs.InfoReading.{seen_info}
 use Rattle.slate_table.specs.Parts.{Encode, section, filters_bytes}
 use Rattle.slate_table.specs.Reading.{IsPart}
 use Rattle.slate_table.specs.Table.{filter_section}
 use Rattle.slate_table.proofs.FilterLaws.{same_filter_part}
 use Rattle.slate_table.proofs.FilteredLaws.{denied_lack}
 use Rattle.slate_table.proofs.PolicyReads.{all_are_answered}
-use Rattle.slate_table.proofs.TableFinds.{FiltersFound, filters_found, part_is}
+use Rattle.slate_table.proofs.TableFinds.{FiltersFound, filters_found, outside_none, part_is}
 use Rattle.slate_table.proofs.TableLaws.{tables_one_way}
+use Rattle.slate_db.specs.Lookup.{IsStoredAs}
+use Rattle.slate_db.specs.Model.{Rows}
 use Rattle.slate_db.specs.ScanFilters.{Covers, query_for, scan_query}
 
 -- ---- what a scan asks matches each key of its range
@@ -128,3 +139,59 @@ denied_range encode decode lawful policies ps bytes version info rows fits t h q
     refused e (inr (part, filters, p, is, says, length_is)) =
         let answered = all_are_answered policies ps.distinct ps.each h.min (flat_map (λ b. b) t.is.0) query in
         let clash : None ≡ Some answered.0 = sym says ∙ ap (λ fs. asked policies fs query) (same part filters p is) ∙ answered.1 in cc
+
+-- ---- tables that can't hold a key of the range
+
+le_trans : (a b c : List ℕ) → key_le a b ≡ true → key_le b c ≡ true → key_le a c ≡ true
+le_trans a b c h k = by (key_le a c) refl
+  where
+    by : (t : Bool) → key_le a c ≡ t → t ≡ true
+    by true e = refl
+    by false e = lt-irreflexive a (le-lt-trans a b a h (le-lt-trans b c a k (not-le a c e)))
+
+past_later : (start : Bound (List ℕ)) (k l : List ℕ) → is_past_start start k ≡ true → key_le k l ≡ true → is_past_start start l ≡ true
+past_later (Included a) k l h le = le_trans a k l h le
+past_later (Excluded a) k l h le = lt-le-trans a k l h le
+past_later Unbounded k l h le = refl
+
+before_earlier : (end : Bound (List ℕ)) (k f : List ℕ) → is_before_end end k ≡ true → key_le f k ≡ true → is_before_end end f ≡ true
+before_earlier (Included b) k f h le = le_trans f k b le h
+before_earlier (Excluded b) k f h le = le-lt-trans f k b le h
+before_earlier Unbounded k f h le = refl
+
+reached_by : (range : BytesRange) (info : SsTableInfo) (k : List ℕ) → in_range range k ≡ true → encloses (seen_info info) k ≡ true → can_reach range info ≡ true
+reached_by range info k inside enclosed = rw (from_start info.last_entry within.1, from_end info.first_entry within.0) refl
+  where
+    both : (is_past_start range.start k ≡ true) × (is_before_end range.end k ≡ true)
+    both = both_true (is_past_start range.start k) (is_before_end range.end k) inside
+
+    within : (is_from info.first_entry k ≡ true) × (is_upto info.last_entry k ≡ true)
+    within = both_true (is_from info.first_entry k) (is_upto info.last_entry k) enclosed
+
+    from_start : (o : Option (List ℕ)) → is_upto o k ≡ true → reaches_start range o ≡ true
+    from_start None h = refl
+    from_start (Some last) h = past_later range.start k last both.0 h
+
+    from_end : (o : Option (List ℕ)) → is_from o k ≡ true → reaches_end range o ≡ true
+    from_end None h = refl
+    from_end (Some first) h = before_earlier range.end k first both.1 h
+
+not_gone : (rows : List RowEntry) (r : RowEntry) → Contains rows r → of_key r.key rows ≡ [] → ⊥
+not_gone [] r (i, lt, at) none = absurd (omega (arith, lt))
+not_gone (x ∷ rows) r (zero, lt, at) none = by (bytes_eq x.key r.key) (ap (λ (y : RowEntry). bytes_eq y.key r.key) at ∙ bytes_eq-same r.key) none
+  where
+    by : (t : Bool) → t ≡ true → cond t (x ∷ of_key r.key rows) (of_key r.key rows) ≡ [] → ⊥
+    by true e gone = cc
+    by false e gone = cc
+not_gone (x ∷ rows) r (suc n, lt, at) none = not_gone rows r (n, omega (arith, lt), at) (by (bytes_eq x.key r.key) none)
+  where
+    by : (t : Bool) → cond t (x ∷ of_key r.key rows) (of_key r.key rows) ≡ [] → of_key r.key rows ≡ []
+    by true gone = cc
+    by false gone = gone
+
+pub out_of_reach : (m : Meaning) (os : Objects) (h : SsTableHandle) (range : BytesRange) (rows : Rows) → IsStoredAs m os h rows → can_reach range h.info ≡ false → ranged range rows ≡ []
+out_of_reach m os h range rows stored out = none_ranged range rows (λ r has within. by (encloses (seen_info h.info) r.key) r refl has within)
+  where
+    by : (t : Bool) (r : RowEntry) → encloses (seen_info h.info) r.key ≡ t → Contains rows r → in_range range r.key ≡ true → ⊥
+    by true r e has within = let clash : true ≡ false = sym (reached_by range h.info r.key within e) ∙ out in cc
+    by false r e has within = not_gone rows r has (outside_none m.encode stored.bytes h.format_version (seen_info h.info) rows stored.is r.key e)

@@ -1,17 +1,16 @@
 -- What a scan is left by the filters of tables.
 use Rattle.std.proofs.Common.{◌≡◌, ℕ, zero, suc, ◌+◌, ◌<◌, ◌≤◌, ◌⊎◌, inl, inr, Bool, true, false, cond, List, [], ◌∷◌, ◌++◌, drop, length, get_or, Option, Some, Result, Ok, Err, refl, sym, ap, subst, ◌∙◌, arith, append_assoc, append-nil}
 use Rattle.std.specs.Prelude.{Contains, IfErr, IfOk}
-use Rattle.std.specs.List.{AllByRecursion}
 use Rattle.std.proofs.lemmas.Grind.{flat_map-append}
 use Rattle.std.proofs.lemmas.List.{drop_all}
-use Rattle.std.proofs.lemmas.List.Elements.{All-contains, All-from_recursion, Contains-append_cases, Contains-append_left, Contains-append_right}
+use Rattle.std.proofs.lemmas.List.Elements.{All-contains, All-from_recursion, Contains-append_cases, Contains-append_right}
 use Rattle.slate_types.specs.declared.bytes_range.BytesRange.{BytesRange}
 use Rattle.slate_types.specs.declared.error.SlateDBError.{SlateDBError}
 use Rattle.slate_types.specs.declared.error.SlateDBError.TheVariants.{OutOfMemory}
 use Rattle.slate_types.specs.declared.filter_policy.FilterQuery.{FilterQuery}
 use Rattle.slate_types.specs.Keys.{in_range}
 use Rattle.slate_types.specs.Outside.{Act, IsFault, Meaning, Objects, OnlyReads, Reach}
-use Rattle.slate_types.specs.World.{IsCall, Made}
+use Rattle.slate_types.specs.World.{Made}
 use Rattle.slate_types.proofs.Calls.{call_both}
 use Rattle.slate_types.proofs.Reaching.{fault_earlier}
 use Rattle.slate_store.specs.Store.{part_of}
@@ -19,19 +18,19 @@ use Rattle.slate_filter.specs.Policy.{IsOf, Policy}
 use Rattle.slate_mem.specs.Table.{ranged}
 use Rattle.slate_read.specs.declared.sorted_run.SortedRun.{SortedRun}
 use Rattle.slate_table.specs.declared.info.SsTableHandle.{SsTableHandle}
-use Rattle.slate_table.specs.Filtered.{IsAsked, RefusesQuery, filters_answer}
+use Rattle.slate_table.specs.Filtered.{IsAsked, RefusesQuery}
 use Rattle.slate_table.specs.InfoReading.{seen_info}
 use Rattle.slate_table.specs.Paths.{path_of}
 use Rattle.slate_db.specs.Answered.{AnswersFrom}
 use Rattle.slate_db.specs.Installs.{handles_of, root}
 use Rattle.slate_db.specs.Lookup.{AreFilteredAs, AreStoredAs, IsStoredAs}
 use Rattle.slate_db.specs.Model.{Rows}
-use Rattle.slate_db.specs.ScanFilters.{AddsLeft, AreLeft, AreRunsLeft, AreTablesThere, FailsAsking, RunsAreLeft, ShowsFilters, TablesAreLeft}
+use Rattle.slate_db.specs.ScanFilters.{AddsLeft, AddsRun, AreLeft, AreRunsLeft, AreTablesThere, FailsAsking, ShowsFilters, TablesAreLeft}
 use Rattle.slate_db.specs.Scanned.{AreStoredRuns}
 use Rattle.slate_db.specs.Shown.{Asking, IsUnreadable, RefusesFiltersRead, filters_act}
 use Rattle.slate_db.proofs.Answered.{from_first, from_last}
 use Rattle.slate_db.proofs.Causes.{store_fault, transform_fault}
-use Rattle.slate_db.proofs.Filters.{Asks, FiltersRead, IsAsking, WhyNot, asked_cause, asked_passes, asks_err, asks_some, filtered_one, filtered_some, table_there}
+use Rattle.slate_db.proofs.Filters.{Asks, IsAsking, WhyNot, asked_cause, asked_passes, asks_err, asks_some, filtered_one, filtered_some, table_there}
 use Rattle.slate_db.proofs.RangeFilters.{denied_range}
 use Rattle.slate_db.proofs.RunReads.{handle_among, run_here}
 use Rattle.slate_db.proofs.Short.{all_append}
@@ -248,21 +247,32 @@ pub runs_so_far_none : (policies : List Policy) (a : Reach) (range : BytesRange)
 runs_so_far_none policies a range runs left none later groups os stored filtered answers h = subst (λ (l : List SortedRun). AreRunsLeft range runs groups (l ++ later)) (sym none) h
 
 pub runs_so_far_more : (policies : List Policy) (a b c : Reach) (range : BytesRange) (runs : List SortedRun) (i : ℕ) (run one : SortedRun) (left next : List SortedRun) → OnlyReads a b → OnlyReads b c → i < length runs → run ≡ get_or runs i run →
-    RunsSoFar policies a b range runs i left → TablesAreLeft policies b c range run.tables.items one.tables.items → next ≡ left ++ (one ∷ []) → RunsSoFar policies a c range runs (i + 1) next
-runs_so_far_more policies a b c range runs i run one left next first last within is before tables added later groups os stored filtered answers rest =
-    let at = layers_here a.meaning os runs groups i run stored within is in
-    let kept = tables.others at.layers os (subst (λ (m : Meaning). AreStoredAs m os run.tables.items at.layers) (sym first.meaning) at.stored)
-    (filtered_some policies a.meaning b.meaning os (handles_of runs) run.tables.items first.meaning filtered (handle_among runs i run within is)) (from_last os a b c first last answers) in
-    subst (AreRunsLeft range runs groups) (sym (append_assoc left (one ∷ []) later) ∙ ap (λ (l : List SortedRun). l ++ later) (sym added))
-    (before (one ∷ later) groups os stored filtered (from_first os a b c first last answers)
-    (subst (λ (rs : List SortedRun). AreRunsLeft range rs (drop i groups) (one ∷ later)) (sym (run_here runs i run within is))
-    (subst (λ (gs : List (List Rows)). AreRunsLeft range (run ∷ drop (i + 1) runs) gs (one ∷ later)) (sym at.here) (kept, rest))))
+    RunsSoFar policies a b range runs i left → TablesAreLeft policies b c range run.tables.items one.tables.items → AddsRun one left next → RunsSoFar policies a c range runs (i + 1) next
+runs_so_far_more policies a b c range runs i run one left next first last within is before tables added later groups os stored filtered answers rest = by added
+  where
+    at : LayersHere a.meaning os run i groups
+    at = layers_here a.meaning os runs groups i run stored within is
+
+    kept : AreLeft range run.tables.items at.layers one.tables.items
+    kept = tables.others at.layers os (subst (λ (m : Meaning). AreStoredAs m os run.tables.items at.layers) (sym first.meaning) at.stored)
+        (filtered_some policies a.meaning b.meaning os (handles_of runs) run.tables.items first.meaning filtered (handle_among runs i run within is)) (from_last os a b c first last answers)
+
+    with_run : (xs : List SortedRun) → AreRunsLeft range (run ∷ drop (i + 1) runs) (at.layers ∷ drop (i + 1) groups) xs → AreRunsLeft range runs groups (left ++ xs)
+    with_run xs h =
+        before xs groups os stored filtered (from_first os a b c first last answers)
+        (subst (λ (rs : List SortedRun). AreRunsLeft range rs (drop i groups) xs) (sym (run_here runs i run within is))
+        (subst (λ (gs : List (List Rows)). AreRunsLeft range (run ∷ drop (i + 1) runs) gs xs) (sym at.here) h))
+
+    by : AddsRun one left next → AreRunsLeft range runs groups (next ++ later)
+    by (inl (none, same)) = subst (λ (l : List SortedRun). AreRunsLeft range runs groups (l ++ later)) (sym same) (with_run later (inr (subst (AreLeft range run.tables.items at.layers) none kept, rest)))
+    by (inr (some, more)) =
+        subst (AreRunsLeft range runs groups) (sym (append_assoc left (one ∷ []) later) ∙ ap (λ (l : List SortedRun). l ++ later) (sym more)) (with_run (one ∷ later) (inl (one, later, refl, kept, rest)))
 
 pub runs_so_far_all : (policies : List Policy) (a b : Reach) (range : BytesRange) (runs : List SortedRun) (i : ℕ) (left : List SortedRun) → length runs ≤ i → RunsSoFar policies a b range runs i left →
     (groups : List (List Rows)) (os : Objects) → AreStoredRuns a.meaning os runs groups → AreFilteredAs policies a.meaning os (handles_of runs) → AnswersFrom os a b → AreRunsLeft range runs groups left
 runs_so_far_all policies a b range runs i left end before groups os stored filtered answers =
     subst (AreRunsLeft range runs groups) (append-nil left)
-    (before [] groups os stored filtered answers (subst (λ (rs : List SortedRun). AreRunsLeft range rs (drop i groups) []) (sym (drop_all i runs end)) (subst (λ (gs : List (List Rows)). AreRunsLeft range [] gs []) (sym (drop_all i groups (as_long runs groups i stored end))) tt)))
+    (before [] groups os stored filtered answers (subst (λ (rs : List SortedRun). AreRunsLeft range rs (drop i groups) []) (sym (drop_all i runs end)) (subst (λ (gs : List (List Rows)). AreRunsLeft range [] gs []) (sym (drop_all i groups (as_long runs groups i stored end))) refl)))
   where
     as_long : (rs : List SortedRun) (gs : List (List Rows)) (n : ℕ) → AreStoredRuns a.meaning os rs gs → length rs ≤ n → length gs ≤ n
     as_long [] [] n s le = le
@@ -271,10 +281,11 @@ runs_so_far_all policies a b range runs i left end before groups os stored filte
     as_long (r ∷ rs) (layers ∷ gs) zero s le = absurd (omega (arith, le))
     as_long (r ∷ rs) (layers ∷ gs) (suc n) s le = let rest = as_long rs gs n s.1 (omega (arith, le)) in omega (arith, rest)
 
-pub runs_among : (runs : List SortedRun) (i : ℕ) (run one : SortedRun) (left next : List SortedRun) → i < length runs → run ≡ get_or runs i run → next ≡ left ++ (one ∷ []) → ((h : SsTableHandle) → Contains one.tables.items h → Contains run.tables.items h) →
+pub runs_among : (runs : List SortedRun) (i : ℕ) (run one : SortedRun) (left next : List SortedRun) → i < length runs → run ≡ get_or runs i run → AddsRun one left next → ((h : SsTableHandle) → Contains one.tables.items h → Contains run.tables.items h) →
     ((h : SsTableHandle) → Contains (handles_of left) h → Contains (handles_of runs) h) → (h : SsTableHandle) → Contains (handles_of next) h → Contains (handles_of runs) h
-runs_among runs i run one left next within is added mine before h there =
-    by (Contains-append_cases (handles_of left) (one.tables.items ++ []) h (subst (λ (l : List SsTableHandle). Contains l h) (ap handles_of added ∙ flat_map-append (λ (r : SortedRun). r.tables.items) left (one ∷ [])) there))
+runs_among runs i run one left next within is (inl (none, same)) mine before h there = before h (subst (λ (l : List SortedRun). Contains (handles_of l) h) same there)
+runs_among runs i run one left next within is (inr (some, more)) mine before h there =
+    by (Contains-append_cases (handles_of left) (one.tables.items ++ []) h (subst (λ (l : List SsTableHandle). Contains l h) (ap handles_of more ∙ flat_map-append (λ (r : SortedRun). r.tables.items) left (one ∷ [])) there))
   where
     by : Contains (handles_of left) h ⊎ Contains (one.tables.items ++ []) h → Contains (handles_of runs) h
     by (inl k) = before h k

@@ -25,7 +25,7 @@ use Rattle.slate_read.specs.Merge.{all_rows}
 use Rattle.slate_db.specs.Installs.{AreApart, AreHandles, AreRuns, AreRunsOf, EndsBelow, Holds}
 use Rattle.slate_db.specs.Lookup.{AreStored}
 use Rattle.slate_db.specs.Meaning.{Meaning, IsLawfulMeaning}
-use Rattle.slate_db.specs.Model.{Rows, memory, versions, versions_in}
+use Rattle.slate_db.specs.Model.{CoreModel, Rows, memory, versions, versions_in}
 use Rattle.slate_db.specs.ScanLaws.{ListsHaveAllRows}
 use Rattle.slate_db.specs.Scanned.{AreStoredRuns, AreTablesOfRuns, BringEach, Brings, HaveRows, in_one}
 use Rattle.slate_db.specs.Sound.{AreTables}
@@ -35,7 +35,7 @@ use Rattle.slate_db.proofs.Lists.{all_behind, all_front}
 
 -- ---- one list for each layer
 
-ranged_key : (range : BytesRange) (k : List ℕ) (rows : Rows) → of_key k (ranged range rows) ≡ cond (in_range range k) (of_key k rows) []
+pub ranged_key : (range : BytesRange) (k : List ℕ) (rows : Rows) → of_key k (ranged range rows) ≡ cond (in_range range k) (of_key k rows) []
 ranged_key range k [] = by (in_range range k)
   where
     none : Rows
@@ -237,17 +237,31 @@ group_all m (ts ∷ runs) layers tables =
 pub grouped : (m : Meaning) (ts : List (Ulid × List ℕ)) (kept : List SortedRun) (are : AreRunsOf ts kept) (layers : List Rows) → AreTables m ts layers → Grouped m are.groups layers
 grouped m ts kept are layers tables = group_all m are.groups layers (subst (λ (us : List (Ulid × List ℕ)). AreTables m us layers) (sym are.are) tables)
 
-pub have_runs : (m : Meaning) (range : BytesRange) (runs : List (List (Ulid × List ℕ))) (kept : List SortedRun) (groups : List (List Rows)) (lists : List Rows) → AreTablesOfRuns m runs groups → AreRuns runs kept →
-    BringEach range (reverse (in_one groups)) lists → HaveRows range (flat_map (λ layers. layers) groups) lists
-have_runs m range runs kept groups lists tables are h k =
-    have_each range (in_one groups) lists h k ∙ ap (λ rows. cond (in_range range k) (reverse rows) []) (runs_versions m k runs kept groups tables are)
+have_runs : (m : Meaning) (range : BytesRange) (runs : List (List (Ulid × List ℕ))) (kept : List SortedRun) (groups : List (List Rows)) (lists : List Rows) → AreTablesOfRuns m runs groups → AreRuns runs kept →
+    HaveRows range (in_one groups) lists → HaveRows range (flat_map (λ layers. layers) groups) lists
+have_runs m range runs kept groups lists tables are h k = h k ∙ ap (λ rows. cond (in_range range k) (reverse rows) []) (runs_versions m k runs kept groups tables are)
 
 -- the lists of memtables, the newest first, and then those of runs have the rows of all layers of a core
-pub have_all : ListsHaveAllRows
-have_all m c x w runs are layers groups is tables range in_memory in_runs h g =
+have_layers : (m : Meaning) (c : CoreModel) (range : BytesRange) (runs : List (List (Ulid × List ℕ))) (kept : List SortedRun) (layers : List Rows) (groups : List (List Rows)) → layers ≡ flat_map (λ ls. ls) groups → AreTablesOfRuns m runs groups → AreRuns runs kept →
+    (in_memory in_runs : List Rows) → BringEach range (reverse (memory c)) in_memory → HaveRows range (in_one groups) in_runs → HaveRows range (layers ++ memory c) (in_memory ++ in_runs)
+have_layers m c range runs kept layers groups is tables are in_memory in_runs h g =
     have_both range layers (memory c) in_runs in_memory
-    (subst (λ (ls : List Rows). HaveRows range ls in_runs) (sym is) (have_runs m range runs x.runs groups in_runs tables are g))
+    (subst (λ (ls : List Rows). HaveRows range ls in_runs) (sym is) (have_runs m range runs kept groups in_runs tables are g))
     (have_each range (memory c) in_memory h)
+
+pub have_all : ListsHaveAllRows
+have_all m c x w runs are layers groups is tables range in_memory in_runs h g = have_layers m c range runs x.runs layers groups is tables are in_memory in_runs h (have_each range (in_one groups) in_runs g)
+
+-- where some groups have all rows of each key in the range, lists of these will do
+pub have_some : (m : Meaning) (c : CoreModel) (range : BytesRange) (runs : List (List (Ulid × List ℕ))) (kept : List SortedRun) (layers : List Rows) (groups some : List (List Rows)) → layers ≡ flat_map (λ ls. ls) groups → AreTablesOfRuns m runs groups → AreRuns runs kept →
+    ((k : List ℕ) → in_range range k ≡ true → versions_in k (in_one some) ≡ versions_in k (in_one groups)) →
+    (in_memory in_runs : List Rows) → BringEach range (reverse (memory c)) in_memory → BringEach range (reverse (in_one some)) in_runs → HaveRows range (layers ++ memory c) (in_memory ++ in_runs)
+have_some m c range runs kept layers groups some is tables are same in_memory in_runs h g =
+    have_layers m c range runs kept layers groups is tables are in_memory in_runs h (λ k. have_each range (in_one some) in_runs g k ∙ by k (in_range range k) refl)
+  where
+    by : (k : List ℕ) (t : Bool) → in_range range k ≡ t → cond t (reverse (versions_in k (in_one some))) [] ≡ cond t (reverse (versions_in k (in_one groups))) []
+    by k true within = ap reverse (same k within)
+    by k false out = refl
 
 -- the objects that hold the tables hold those of each run
 pub stored_runs : (m : Meaning) → IsLawfulMeaning m → (os : Objects) (runs : List (List (Ulid × List ℕ))) (kept : List SortedRun) (groups : List (List Rows)) → AreTablesOfRuns m runs groups → AreRuns runs kept → Holds os (flat_map (λ ts. ts) runs) → AreStoredRuns m os kept groups

@@ -1,5 +1,5 @@
 -- What the sources of a scan bring in the world of the tables that the journal names.
-use Rattle.std.proofs.Common.{◌≡◌, ℕ, ◌+◌, ◌-◌, ◌^◌, ◌≤◌, ◌<◌, Bool, true, false, not, cond, List, [], ◌∷◌, ◌++◌, length, map, filter, flat_map, reverse, Option, Some, None, refl, sym, ap, subst, ◌∙◌, arith}
+use Rattle.std.proofs.Common.{◌≡◌, ℕ, ◌+◌, ◌^◌, ◌≤◌, Bool, true, false, cond, List, [], ◌∷◌, ◌++◌, length, map, filter, flat_map, reverse, Some, None, refl, sym, ap, subst, ◌∙◌, arith}
 use Rattle.std.specs.List.{AllByRecursion}
 use Rattle.std.proofs.lemmas.List.{reverse-append}
 use Rattle.slate_types.specs.declared.bytes_range.BytesRange.{BytesRange}
@@ -11,7 +11,7 @@ use Rattle.slate_types.specs.Iteration.{IsInOrder}
 use Rattle.slate_types.specs.Keys.{in_range}
 use Rattle.slate_types.specs.Outside.{Objects}
 use Rattle.slate_types.specs.RowTurns.{AreInTurn, row_before}
-use Rattle.slate_types.specs.Rows.{is_base, is_tombstone, of_key}
+use Rattle.slate_types.specs.Rows.{is_base}
 use Rattle.slate_types.specs.World.{World}
 use Rattle.slate_mem.specs.declared.WriteOp.{WriteOp}
 use Rattle.slate_mem.specs.declared.WriteOp.TheVariants as ops
@@ -24,10 +24,8 @@ use Rattle.slate_read.specs.declared.read_source.ReadSource.TheVariants.{Empty, 
 use Rattle.slate_read.specs.declared.sorted_run.SortedRun.{SortedRun}
 use Rattle.slate_read.specs.Filtering.{upto_seq}
 use Rattle.slate_read.specs.Folding.{folded}
-use Rattle.slate_read.specs.Groups.{in_turn}
 use Rattle.slate_read.specs.Merge.{all_rows, merged}
 use Rattle.slate_read.specs.ReadSources as read
-use Rattle.slate_read.specs.RunIterators.{rows_in_run}
 use Rattle.slate_read.proofs.Turns.{turn_filtered}
 use Rattle.slate_table.specs.Paths.{path_of}
 use Rattle.slate_txn.specs.Reads.{rows_seen}
@@ -35,9 +33,9 @@ use Rattle.slate_db.specs.Installs.{AreRuns, Holds, root, runs_of, tables_of}
 use Rattle.slate_db.specs.Log.{AreFine}
 use Rattle.slate_db.specs.Meaning.{Meaning, IsLawfulMeaning, rules_of}
 use Rattle.slate_db.specs.Model.{CoreModel, Rows, memory}
-use Rattle.slate_db.specs.OpenScans.{AreEach, AreScanSources, CanOpen, HasRows, IsInMemory, IsMemorySource, IsOverRun, IsOwnSource, IsRunSource, folded_rows, merged_rows}
+use Rattle.slate_db.specs.OpenScans.{AreEach, AreScanSources, CanOpen, IsInMemory, IsMemorySource, IsOverRun, IsRunSource, folded_rows, merged_rows}
 use Rattle.slate_db.specs.ScanFilters.{AreRunsLeft}
-use Rattle.slate_db.specs.Scanned.{AreStoredRuns, AreTablesOfRuns, BringEach, Brings, HasOwn, in_one, left_of, own_rows}
+use Rattle.slate_db.specs.Scanned.{AreStoredRuns, BringEach, Brings, HasOwn, in_one, left_of, own_rows}
 use Rattle.slate_db.specs.Scans.{IsWorldOf, ScanSource, has_value, source_rows}
 use Rattle.slate_db.specs.Sound.{AreBases, IsKept}
 use Rattle.slate_db.specs.Whole.{IsWhole, Unseen}
@@ -46,10 +44,10 @@ use Rattle.slate_db.proofs.NoMerges.{memory_bases}
 use Rattle.slate_db.proofs.Plain.{kept_replace}
 use Rattle.slate_db.proofs.RunsOf.{tables_are}
 use Rattle.slate_db.proofs.ScanFolds.{folded_keys}
-use Rattle.slate_db.proofs.ScanLists.{Grouped, grouped, have_all, stored_runs}
+use Rattle.slate_db.proofs.ScanLists.{Grouped, grouped, have_some, stored_runs}
 use Rattle.slate_db.proofs.ScanRows.{all_brought, all_merged, all_of_keys, all_ranged}
 use Rattle.slate_db.proofs.ScanSources.{core_scans}
-use Rattle.slate_db.proofs.ScanTables.{IsRunHere, IsRunLeft, runs_here, runs_left}
+use Rattle.slate_db.proofs.ScanTables.{IsRunHere, IsRunLeft, RunsLeft, runs_here, runs_left}
 use Rattle.slate_db.proofs.ScanWorlds.{AreNew, all_found, held_paths, held_runs, is_world, map_both, paths_of, runs_new, world_of}
 use Rattle.slate_db.proofs.SourceLists.{each_back}
 use Rattle.slate_db.proofs.Short.{all_append, all_filter}
@@ -254,10 +252,13 @@ module _ (m : Meaning) (c : CoreModel) (x : Unseen) (w : IsWhole c x) (law : IsL
     in_memory : AreIn v order range n (reverse (memory c)) are.in_memory
     in_memory = subst (λ (ls : List Rows). AreIn v order range n ls are.in_memory) (sym newest_memory) (memory_all v order range n (c.active ∷ reverse c.frozen) are.in_memory are.of_memory)
 
-    in_runs : AreIn v order range n (reverse (in_one runs_of_core.groups)) are.in_runs
+    of_left : RunsLeft v range runs_of_core.groups left
+    of_left = runs_left v range x.runs runs_of_core.groups left (here os holds) lefts
+
+    in_runs : AreIn v order range n (reverse (in_one of_left.some)) are.in_runs
     in_runs =
-        subst (λ (ls : List Rows). AreIn v order range n ls are.in_runs) (newest_runs runs_of_core.groups)
-        (runs_all v order range n (reverse left) (reverse runs_of_core.groups) are.in_runs are.of_runs (each_back (IsRunLeft v range) left runs_of_core.groups (runs_left v range x.runs runs_of_core.groups left (here os holds) lefts)))
+        subst (λ (ls : List Rows). AreIn v order range n ls are.in_runs) (newest_runs of_left.some)
+        (runs_all v order range n (reverse left) (reverse of_left.some) are.in_runs are.of_runs (each_back (IsRunLeft v range) left of_left.some of_left.here))
 
     abbrev own_list : Rows
     own_list = read.rest_of are.own.iterator v
@@ -273,7 +274,7 @@ module _ (m : Meaning) (c : CoreModel) (x : Unseen) (w : IsWhole c x) (law : IsL
         ap (map (λ s. source_rows s v)) are.are
         ∙ (λ i. own_rows_are i ∷ (map_both (λ s. source_rows s v) are.in_memory are.in_runs ∙ (λ j. in_memory.rows j ++ in_runs.rows j) ∙ sym (map_both (filter (upto_seq (Some n))) (rests v order are.in_memory) (rests v order are.in_runs))) i)
 
-    all_of_merged : (Q : RowEntry → Type 0) → AllByRecursion Q own_list → AllByRecursion (λ rows. AllByRecursion Q (ranged range rows)) (memory c) → AllByRecursion (λ rows. AllByRecursion Q (ranged range rows)) (in_one runs_of_core.groups) →
+    all_of_merged : (Q : RowEntry → Type 0) → AllByRecursion Q own_list → AllByRecursion (λ rows. AllByRecursion Q (ranged range rows)) (memory c) → AllByRecursion (λ rows. AllByRecursion Q (ranged range rows)) (in_one of_left.some) →
         AllByRecursion Q (merged_rows order v sources)
     all_of_merged Q own in_mem in_run =
         subst (λ (ls : List Rows). AllByRecursion Q (merged order true ls)) (sym rows_are)
@@ -282,7 +283,7 @@ module _ (m : Meaning) (c : CoreModel) (x : Unseen) (w : IsWhole c x) (law : IsL
           subst (AllByRecursion (AllByRecursion Q)) (sym (map_both (filter (upto_seq (Some n))) (rests v order are.in_memory) (rests v order are.in_runs)))
               (all_append (AllByRecursion Q) (map (filter (upto_seq (Some n))) (rests v order are.in_memory)) (map (filter (upto_seq (Some n))) (rests v order are.in_runs))
               (all_lists Q range n (reverse (memory c)) (rests v order are.in_memory) in_memory.bring (all_reverse _ (memory c) in_mem))
-              (all_lists Q range n (reverse (in_one runs_of_core.groups)) (rests v order are.in_runs) in_runs.bring (all_reverse _ (in_one runs_of_core.groups) in_run))),
+              (all_lists Q range n (reverse (in_one of_left.some)) (rests v order are.in_runs) in_runs.bring (all_reverse _ (in_one of_left.some) in_run))),
         ))
 
     every_within : (ls : List Rows) → AllByRecursion (λ rows. AllByRecursion (λ r. in_range range r.key ≡ true) (ranged range rows)) ls
@@ -298,10 +299,10 @@ module _ (m : Meaning) (c : CoreModel) (x : Unseen) (w : IsWhole c x) (law : IsL
       world = v;
       is = is_world m os x.runs runs_of_core.groups (stored os holds);
       can = subst (AllByRecursion (CanOpen v order)) (sym are.are) (can_open v order (HasOwn range ops) are.own own_in, all_append (CanOpen v order) are.in_memory are.in_runs in_memory.can in_runs.can);
-      operable = λ none. all_of_merged (λ r. is_base r ≡ true) (own_all_bases range ops own_list own_in.rows (plain none)) (every_base (memory c) (memory_plain none)) (every_base (in_one runs_of_core.groups) (run_bases none));
+      operable = λ none. all_of_merged (λ r. is_base r ≡ true) (own_all_bases range ops own_list own_in.rows (plain none)) (every_base (memory c) (memory_plain none)) (every_base (in_one of_left.some) (of_left.bases (run_bases none)));
       within = folded_keys (λ k. in_range range k ≡ true) (operator_at m.combine) true None (merged_rows order v sources)
-          (all_of_merged (λ r. in_range range r.key ≡ true) (own_within range ops own_list own_in.rows) (every_within (memory c)) (every_within (in_one runs_of_core.groups)));
+          (all_of_merged (λ r. in_range range r.key ≡ true) (own_within range ops own_list own_in.rows) (every_within (memory c)) (every_within (in_one of_left.some)));
       left = ap (λ (ls : List Rows). filter has_value (folded (operator_at m.combine) true None (merged order true ls))) rows_are
           ∙ core_scans m c x w law kept_m layers (kept_m.1 law).tables n from ops fine range own_list lists own_in.rows
-          (have_all m c x w w.tied.runs.groups w.tied.runs.each layers runs_of_core.groups runs_of_core.is runs_of_core.tables range (rests v order are.in_memory) (rests v order are.in_runs) in_memory.bring in_runs.bring) order;
+          (have_some m c range w.tied.runs.groups x.runs layers runs_of_core.groups of_left.some runs_of_core.is runs_of_core.tables w.tied.runs.each of_left.same (rests v order are.in_memory) (rests v order are.in_runs) in_memory.bring in_runs.bring) order;
     }

@@ -1,5 +1,5 @@
 -- The runs of a core in a world that has their tables, and the rows that they bring there.
-use Rattle.std.proofs.Common.{inl, inr, ◌≡◌, ℕ, Bool, true, false, List, [], ◌∷◌, ◌++◌, map, flat_map, filter, Some, refl, sym, ap, subst, ◌∙◌}
+use Rattle.std.proofs.Common.{inl, inr, ◌≡◌, ℕ, Bool, true, false, cond, List, [], ◌∷◌, ◌++◌, reverse, map, flat_map, filter, Some, refl, sym, ap, subst, ◌∙◌}
 use Rattle.std.specs.Prelude.{◌&&◌}
 use Rattle.std.specs.List.{AllByRecursion}
 use Rattle.std.proofs.lemmas.List.Elements.{filter-append}
@@ -8,13 +8,14 @@ use Rattle.slate_types.specs.declared.iter.IterationOrder.{IterationOrder}
 use Rattle.slate_types.specs.declared.iter.IterationOrder.TheVariants.{Ascending}
 use Rattle.slate_types.specs.declared.types.RowEntry.{RowEntry}
 use Rattle.slate_types.specs.Iteration.{IsInOrder, NoneBefore}
-use Rattle.slate_types.specs.Keys.{key_le, key_lt}
+use Rattle.slate_types.specs.Keys.{in_range, key_lt}
 use Rattle.slate_types.specs.Outside.{Objects}
 use Rattle.slate_types.specs.Rows.{of_key}
 use Rattle.slate_types.specs.declared.types.Ulid.{Ulid}
 use Rattle.slate_types.specs.World.{Kept, World}
 use Rattle.slate_types.proofs.IterationLaws.{in_order_filtered}
 use Rattle.slate_types.proofs.KeyOrder.{le-lt-trans, lt-irreflexive, lt-le-trans, lt-trans}
+use Rattle.slate_mem.specs.Table.{ranged}
 use Rattle.slate_block.specs.BlockSpelling.{as_read}
 use Rattle.slate_table.specs.declared.info.SsTableHandle.{SsTableHandle}
 use Rattle.slate_table.specs.Finding.{encloses, is_from, is_upto}
@@ -32,13 +33,15 @@ use Rattle.slate_read.proofs.Readable.{readable}
 use Rattle.slate_db.specs.Installs.{AreApart, AreRuns, EndsBelow}
 use Rattle.slate_db.specs.Lookup.{AreStoredAs}
 use Rattle.slate_db.specs.Meaning.{Meaning}
-use Rattle.slate_db.specs.Model.{Rows}
+use Rattle.slate_db.specs.Model.{Rows, versions, versions_in}
 use Rattle.slate_db.specs.OpenScans.{AreEach}
 use Rattle.slate_db.specs.ScanFilters.{AreLeft, AreRunsLeft}
-use Rattle.slate_db.specs.Scanned.{AreStoredRuns, Brings}
+use Rattle.slate_db.specs.Scanned.{AreStoredRuns, Brings, in_one}
+use Rattle.slate_db.specs.Sound.{AreBases}
 use Rattle.slate_db.proofs.Lists.{all_behind, all_front, all_map}
+use Rattle.slate_db.proofs.ScanLists.{ranged_key}
 use Rattle.slate_db.proofs.ScanRows.{turned_same}
-use Rattle.slate_db.proofs.ScanWorlds.{Held, held, held_runs, kept_in, map_both, table_held}
+use Rattle.slate_db.proofs.ScanWorlds.{held, held_runs, kept_in, map_both, table_held}
 use Rattle.slate_db.proofs.Short.{all_append}
 
 tables_readable : TablesAreReadable
@@ -217,10 +220,41 @@ run_left w range run left layers h is =
           ∙ ap (λ (rows : Rows). of_key k rows) (p.same ∙ ap (λ (rows : Rows). filter (is_in range) rows) h.rows);
     }
 
-pub runs_left : (w : World) (range : BytesRange) (runs : List SortedRun) (groups : List (List Rows)) (left : List SortedRun) → AreEach (IsRunHere w) runs groups → AreRunsLeft range runs groups left → AreEach (IsRunLeft w range) left groups
-runs_left w range [] [] [] here is = tt
-runs_left w range (run ∷ runs) (layers ∷ groups) (one ∷ left) here is = (run_left w range run one layers here.0 is.0, runs_left w range runs groups left here.1 is.1)
-runs_left w range [] [] (one ∷ left) here is = absurd is
-runs_left w range (run ∷ runs) (layers ∷ groups) [] here is = absurd is
+-- a run of which no table is left has no row in the range
+none_left : (range : BytesRange) (hs : List SsTableHandle) (layers : List Rows) (left : List SsTableHandle) → left ≡ [] → AreLeft range hs layers left → ranged range (merge.all_rows layers) ≡ []
+none_left range [] [] left none is = refl
+none_left range (h ∷ hs) (rows ∷ layers) left none (inl (later, same, rest)) = let clash : [] ≡ h ∷ later = sym none ∙ same in cc
+none_left range (h ∷ hs) (rows ∷ layers) left none (inr (out, rest)) = filter-append (is_in range) rows (merge.all_rows layers) ∙ (λ i. out i ++ none_left range hs layers left none rest i)
+none_left range [] (rows ∷ layers) left none is = absurd is
+none_left range (h ∷ hs) [] left none is = absurd is
+
+none_of_key : (range : BytesRange) (k : List ℕ) (rows : Rows) → in_range range k ≡ true → ranged range rows ≡ [] → of_key k rows ≡ []
+none_of_key range k rows within none = sym (ap (λ (b : Bool). cond b (of_key k rows) []) within) ∙ sym (ranged_key range k rows) ∙ ap (of_key k) none
+
+-- the runs that are left, with the layers of each: those of the others have no row in the range
+pub record RunsLeft (w : World) (range : BytesRange) (groups : List (List Rows)) (left : List SortedRun) : Type 0 where
+  pub some : List (List Rows)
+  pub here : AreEach (IsRunLeft w range) left some
+  pub same : (k : List ℕ) → in_range range k ≡ true → versions_in k (in_one some) ≡ versions_in k (in_one groups)
+  pub bases : AllByRecursion AreBases (in_one groups) → AllByRecursion AreBases (in_one some)
+
+pub runs_left : (w : World) (range : BytesRange) (runs : List SortedRun) (groups : List (List Rows)) (left : List SortedRun) → AreEach (IsRunHere w) runs groups → AreRunsLeft range runs groups left → RunsLeft w range groups left
+runs_left w range [] [] left here is = record { some = []; here = subst (λ (l : List SortedRun). AreEach (IsRunLeft w range) l []) (sym is) tt; same = λ k within. refl; bases = λ h. h }
+runs_left w range (run ∷ runs) (layers ∷ groups) left here (inl (one, later, same, tables, rest)) =
+    let behind = runs_left w range runs groups later here.1 rest in
+    record {
+      some = layers ∷ behind.some;
+      here = subst (λ (l : List SortedRun). AreEach (IsRunLeft w range) l (layers ∷ behind.some)) (sym same) (run_left w range run one layers here.0 tables, behind.here);
+      same = λ k within. ap (λ (rows : Rows). versions k (merge.all_rows layers) ++ rows) (behind.same k within);
+      bases = λ h. (h.0, behind.bases h.1);
+    }
+runs_left w range (run ∷ runs) (layers ∷ groups) left here (inr (none, rest)) =
+    let behind = runs_left w range runs groups left here.1 rest in
+    record {
+      some = behind.some;
+      here = behind.here;
+      same = λ k within. behind.same k within ∙ ap (λ (rows : Rows). reverse rows ++ versions_in k (in_one groups)) (sym (none_of_key range k (merge.all_rows layers) within (none_left range run.tables.items layers [] refl none)));
+      bases = λ h. behind.bases h.1;
+    }
 runs_left w range [] (layers ∷ groups) left here is = absurd here
 runs_left w range (run ∷ runs) [] left here is = absurd here

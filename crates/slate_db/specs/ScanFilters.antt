@@ -2,12 +2,13 @@
 --     scan_query range prefix context      the query of a scan: for the key of a range that is a point, else for its prefix, where it has one
 --     Covers query range      each key of the range matches the query, where there is one
 --     AreLeft range hs layers left      some of these tables are left; of the others no row is in the range
---     AreRunsLeft range runs groups left      the same of the tables of each run
+--     AreRunsLeft range runs groups left      the same of the tables of each run; a run of which none is left may be left out
+--     AddsRun one old new      a run is added to these, where it has any table
 --     ShowsFilters decode policies query hs reads e      the filters of one of these tables were read, and they are refused, or the bytes of one that was asked
 --     AddsLeft policies before after range h old new, TablesAreLeft policies before after range hs left, RunsAreLeft policies before after range runs left
 --                 a call left a table, or the filters that it read deny it; and the same of several tables, and of runs
 --     FailsAsking policies query before after hs e      a call that asked was refused, by a fault or by what such filters show
-use Rattle.std.specs.Prelude.{◌≡◌, ◌⊎◌, ℕ, Bool, true, false, if◌then◌else◌, List, [], ◌∷◌, ◌++◌, Contains, Option, Some, None}
+use Rattle.std.specs.Prelude.{◌≡◌, ◌≢◌, ◌⊎◌, ℕ, Bool, true, false, if◌then◌else◌, List, [], ◌∷◌, ◌++◌, Contains, Option, Some, None}
 use Rattle.std.specs.List.{AllByRecursion}
 use Rattle.slate_types.specs.declared.bytes_range.BytesRange.{BytesRange}
 use Rattle.slate_types.specs.declared.error.SlateDBError.{SlateDBError}
@@ -55,9 +56,15 @@ AreLeft range [] (rows ∷ layers) left = ⊥
 AreLeft range (h ∷ hs) [] left = ⊥
 
 abbrev pub AreRunsLeft : BytesRange → List SortedRun → List (List Rows) → List SortedRun → Type 0
-AreRunsLeft range [] [] [] = Unit {0}
-AreRunsLeft range (run ∷ runs) (layers ∷ groups) (one ∷ left) = AreLeft range run.tables.items layers one.tables.items × AreRunsLeft range runs groups left
-AreRunsLeft range _ _ _ = ⊥
+AreRunsLeft range [] [] left = left ≡ []
+AreRunsLeft range (run ∷ runs) (layers ∷ groups) left =
+    ((one : SortedRun) × (later : List SortedRun) × (left ≡ one ∷ later) × AreLeft range run.tables.items layers one.tables.items × AreRunsLeft range runs groups later)
+    ⊎ (AreLeft range run.tables.items layers [] × AreRunsLeft range runs groups left)
+AreRunsLeft range [] (layers ∷ groups) left = ⊥
+AreRunsLeft range (run ∷ runs) [] left = ⊥
+
+abbrev pub AddsRun : SortedRun → List SortedRun → List SortedRun → Type 0
+AddsRun one old new = ((one.tables.items ≡ []) × (new ≡ old)) ⊎ ((one.tables.items ≢ []) × (new ≡ old ++ (one ∷ [])))
 
 -- ---- what is refused
 

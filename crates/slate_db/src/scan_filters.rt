@@ -10,7 +10,7 @@ ghost use Rattle.slate_db.specs.Answered.{AnswersFrom};
 ghost use Rattle.slate_db.specs.Installs.{handles_of};
 ghost use Rattle.slate_db.specs.Lookup.{AreFilteredAs, IsStoredAs};
 ghost use Rattle.slate_db.specs.Model.{Rows};
-ghost use Rattle.slate_db.specs.ScanFilters.{AddsLeft, Covers, FailsAsking, RunsAreLeft, TablesAreLeft, scan_query};
+ghost use Rattle.slate_db.specs.ScanFilters.{AddsLeft, AddsRun, Covers, FailsAsking, RunsAreLeft, TablesAreLeft, scan_query};
 
 use crate::flush::ROOT;
 use crate::open_scan::{copy_contexts, copy_handle};
@@ -42,7 +42,8 @@ pub(crate) fn scan_query(
     Ok(Some(FilterQuery { target, context }))
 }
 
-/// Whether a table is left to a scan, by its filters. One that can't hold a key of the range isn't asked: no scan opens it.
+/// Whether a table is left to a scan, by its first and its last key and by its filters. One that can't hold a key of the range isn't
+/// asked.
 fn is_left<S: Store, M: MergeOperator, T: BlockTransformer>(
     alloc: Global,
     table: &SsTableHandle,
@@ -59,12 +60,12 @@ fn is_left<S: Store, M: MergeOperator, T: BlockTransformer>(
     ensures refused { let reach = ⟦<EnvOf<S, M, T> as Outside>⟧.reach in IfErr result (FailsAsking (map (λ p. meaning p) policies.now) query.now (reach env.old) (reach env.new) (table.now ∷ [])) }
     ensures reads { let reach = ⟦<EnvOf<S, M, T> as Outside>⟧.reach in OnlyReads (reach env.old) (reach env.new) }
 {
+    if !can_reach(range, &table.info) {
+        return Ok(false);
+    }
     let Some(query) = query else {
         return Ok(true);
     };
-    if !can_reach(range, &table.info) {
-        return Ok(true);
-    }
     TableStore::might_match(
         alloc,
         env.store,
@@ -130,7 +131,7 @@ fn tables_left<S: Store, M: MergeOperator, T: BlockTransformer>(
     Ok(left)
 }
 
-/// A copy of what is kept of a run, without the tables that its filters don't leave to a scan.
+/// A copy of what is kept of a run, without the tables that aren't left to a scan.
 fn run_left<S: Store, M: MergeOperator, T: BlockTransformer>(
     alloc: Global,
     run: &SortedRun,
@@ -150,8 +151,18 @@ fn run_left<S: Store, M: MergeOperator, T: BlockTransformer>(
     Ok(SortedRun { prefix, tables })
 }
 
-/// Copies of what is kept of runs, without the tables that their filters don't leave to a scan. Each table that can hold a key of
-/// the range is asked once, before its index is read, and a denied one costs one read.
+/// Adds a run, where it has any table.
+fn push_run(runs: &mut Vec<SortedRun>, run: SortedRun) -> Result<(), AllocError>
+    ensures { OnOk result (AddsRun run runs.old.items runs.new.items) }
+{
+    if !run.tables.is_empty() {
+        runs.push(run)?;
+    }
+    Ok(())
+}
+
+/// Copies of what is kept of the runs that have a table left to a scan, without the tables that aren't left to it. Each table that can
+/// hold a key of the range is asked once, before its index is read, and a denied one costs one read.
 pub(crate) fn runs_left<S: Store, M: MergeOperator, T: BlockTransformer>(
     alloc: Global,
     runs: &[SortedRun],
@@ -169,7 +180,7 @@ pub(crate) fn runs_left<S: Store, M: MergeOperator, T: BlockTransformer>(
     let mut left = Vec::new(alloc);
     for run in runs {
         let one = run_left(alloc, run, range, policies, query, env)?;
-        left.push(one)?;
+        push_run(&mut left, one)?;
     }
     Ok(left)
 }

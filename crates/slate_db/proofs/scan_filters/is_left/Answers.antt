@@ -9,8 +9,12 @@ use Rattle.slate_table.specs.SectionReading.{changed_by}
 use Rattle.slate_db.specs.ScanFilters.{Covers, FailsAsking}
 use Rattle.slate_db.specs.Shown.{Asking}
 use Rattle.slate_db.proofs.Filters.{IsAsking, asked_adds}
+use Rattle.slate_db.proofs.RangeFilters.{out_of_reach}
 use Rattle.slate_db.proofs.ScanFilters.{left_denied, left_made, left_refused}
 use Rattle.slate_db.proofs.scan_filters.is_left.Goals as goal
+
+pub returns-then-not-can_reach-clause-denied : goal.returns-then-not-can_reach-clause-denied
+returns-then-not-can_reach-clause-denied g c = λ rows os stored filtered answers no. out_of_reach (reach_of g.S.Store g.M.MergeOperator g.T.BlockTransformer c.args.env.now).meaning os c.args.table.now c.args.range.now rows stored (search rules)
 
 pub returns : goal.returns
 returns g c =

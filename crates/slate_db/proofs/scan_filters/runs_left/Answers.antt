@@ -24,8 +24,8 @@ loop-run-preserved g c =
     record {
       made = made_both _ _ _ i.made c.in_ok-one.ensures.made;
       reads = reads_then _ _ _ i.reads c.run_left.ensures.reads;
-      among = runs_among c.args.runs.now c.loop-run.run-index c.run-item.result c.in_ok-one.one c.loop-run.left.items c.push.new.self.items c.loop-run-test.true c.run-item.is c.in_ok-push.ensures.items one.among i.among;
-      so_far = runs_so_far_more _ _ _ _ c.args.range.now c.args.runs.now c.loop-run.run-index c.run-item.result c.in_ok-one.one c.loop-run.left.items c.push.new.self.items i.reads c.run_left.ensures.reads c.loop-run-test.true c.run-item.is i.so_far one c.in_ok-push.ensures.items;
+      among = runs_among c.args.runs.now c.loop-run.run-index c.run-item.result c.in_ok-one.one c.loop-run.left.items c.push_run.new.runs.items c.loop-run-test.true c.run-item.is c.in_ok-push_run.ensures one.among i.among;
+      so_far = runs_so_far_more _ _ _ _ c.args.range.now c.args.runs.now c.loop-run.run-index c.run-item.result c.in_ok-one.one c.loop-run.left.items c.push_run.new.runs.items i.reads c.run_left.ensures.reads c.loop-run-test.true c.run-item.is i.so_far one c.in_ok-push_run.ensures;
     }
 
 pub returns : goal.returns
@@ -49,12 +49,12 @@ returns-in_err-one g c =
       reads = reads_then _ _ _ i.reads c.run_left.ensures.reads;
     }
 
-pub returns-in_err-push : goal.returns-in_err-push
-returns-in_err-push g c =
-    let p = err_from_is_err_and c.from_residual-in_err-push.result c.from_residual-in_err-push.ensures.1 in
+pub returns-in_err-push_run : goal.returns-in_err-push_run
+returns-in_err-push_run g c =
+    let p = err_from_is_err_and c.from_residual-in_err-push_run.result c.from_residual-in_err-push_run.ensures.1 in
     record {
-      left = IfOk-from_err c.from_residual-in_err-push.result _ c.from_residual-in_err-push.ensures.0;
-      made = IfOk-from_err c.from_residual-in_err-push.result _ c.from_residual-in_err-push.ensures.0;
+      left = IfOk-from_err c.from_residual-in_err-push_run.result _ c.from_residual-in_err-push_run.ensures.0;
+      made = IfOk-from_err c.from_residual-in_err-push_run.result _ c.from_residual-in_err-push_run.ensures.0;
       refused = rw (p.1, p.2) (fails_memory _ _ _ _ _ _ refl);
       reads = reads_then _ _ _ c.loop-run.invariant.reads c.run_left.ensures.reads;
     }
