@@ -5,7 +5,7 @@
 --     IsRunSource range order n run s      those of a run of tables, up to a sequence
 --     AreEach R xs ys      two lists of one length, of which R is true place by place
 --     AreScanSources range order n ops memory runs sources      the own rows, then the memtables, then the runs
---     LeftSources policies before after range order n own active frozen runs made      the sources of a scan: the runs are those that filters left to it
+--     LeftSources policies before after range order n own active frozen runs made      the sources of a scan: the runs are those that were left to it
 --     CanOpen w order s      a source is sound in a world, of the order, and its rows there stand in turn
 --     merged_rows order w sources      the rows of all sources merged, in a world
 --     folded_rows m order w sources      what they fold to, by what the parts mean

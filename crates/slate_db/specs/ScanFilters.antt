@@ -6,7 +6,7 @@
 --     AddsRun one old new      a run is added to these, where it has any table
 --     ShowsFilters decode policies query hs reads e      the filters of one of these tables were read, and they are refused, or the bytes of one that was asked
 --     AddsLeft policies before after range h old new, TablesAreLeft policies before after range hs left, RunsAreLeft policies before after range runs left
---                 a call left a table, or the filters that it read deny it; and the same of several tables, and of runs
+--                 a call left a table, or its keys don't reach the range, or the filters that were read deny it; and the same of several tables, and of runs
 --     FailsAsking policies query before after hs e      a call that asked was refused, by a fault or by what such filters show
 use Rattle.std.specs.Prelude.{◌≡◌, ◌≢◌, ◌⊎◌, ℕ, Bool, true, false, if◌then◌else◌, List, [], ◌∷◌, ◌++◌, Contains, Option, Some, None}
 use Rattle.std.specs.List.{AllByRecursion}

@@ -268,8 +268,8 @@ fn scan_sources<'a>(
     Ok(sources)
 }
 
-/// The same of all layers. Filters of stored tables are asked first, and those that deny the scan are left out: by lawful policies
-/// they have no row in the range.
+/// The same of all layers. Filters of stored tables are asked first. Tables that they deny and those whose keys don't reach the range
+/// are left out: by lawful policies they have no row in the range. A run of which none is left has no source.
 pub(crate) fn asked_sources<'a, S: Store, M: MergeOperator, T: BlockTransformer>(
     alloc: Global,
     own: WriteBatchIterator,
