@@ -26,7 +26,7 @@ Usage: slate - [WORDS] < SCRIPT
        slate FOLDER gen N S [WORDS]
 
 Each line of the script is answered by a line on standard output; an empty line and a comment, which begins
-with #, are not. A word is block=, table=, format=, min=, filter=, op=, ttl=, seq= or xor= and its value. Tables have the
+with #, are not. A word is block=, table=, format=, min=, filter=, op=, seg=, ttl=, seq= or xor= and its value. Tables have the
 filters of _bf, or of each filter= that names one of _bf, _bf:p=colon, _bf:p=colon:wh=0 and _bf:p=fixed4:wh=0, and with
 filter=none they have none. With gen the script is made: N rounds of a read and a write, at most 100000, of keys drawn
 from the number S; the replies are counted, and one line is written. The status is 0 where every line was answered, 2 for

@@ -23,8 +23,7 @@ use Rattle.slate_db.specs.Installs.{AreHandles, tables_of}
 use Rattle.slate_db.specs.Model.{CoreModel}
 use Rattle.slate_db.specs.Parts.{IsTableError}
 use Rattle.slate_read.specs.Folds.{IsRise, RefusesFold}
-use Rattle.slate_db.specs.ScanFilters.{ShowsFilters}
-use Rattle.slate_db.specs.Scans.{IsOpeningError, IsRefusedByScan, IsScanError, ShowsAmong}
+use Rattle.slate_db.specs.Scans.{IsOpeningError, IsRefusedByScan, IsRefusedInScan, IsScanError, ShowsAmong}
 use Rattle.slate_db.specs.Shown.{IsUnreadable}
 use Rattle.slate_db.proofs.Damaged.{block_damage, block_unreadable, bound, in_block, index_unreadable, number_damage, passes}
 use Rattle.slate_db.proofs.Shown.{known_version, unreadable_kind}
@@ -147,14 +146,18 @@ rise_kind e h = absurd h
 pub scan_kind : (m : Meaning) (c : CoreModel) (acts : List Act) (e : SlateDBError) → IsRefusedByScan m c acts e → IsTableError e
 scan_kind m c acts e r = by r.refused
   where
-    by : RefusesFold m None e ⊎ ShowsAmong m.decode r.handles acts e ⊎ ((policies : List Policy) × (query : Option FilterQuery) × ShowsFilters m.decode policies query r.handles acts e) → IsTableError e
+    by : RefusesFold m None e ⊎ ShowsAmong m.decode r.handles acts e → IsTableError e
     by (inl (inl is)) = subst IsTableError (sym is.1) tt
     by (inl (inr is)) = rise_kind e is.2
-    by (inr (inl (h, among, shows))) = unreadable_kind e (shown_unreadable m.decode h acts e (known_version (tables_of c.events) r.handles h r.are among) shows)
-    by (inr (inr (policies, query, shows))) = unreadable_kind e shows.kind
+    by (inr (h, among, shows)) = unreadable_kind e (shown_unreadable m.decode h acts e (known_version (tables_of c.events) r.handles h r.are among) shows)
+
+-- so it is with its opening
+pub in_scan_kind : (policies : List Policy) (m : Meaning) (c : CoreModel) (acts : List Act) (e : SlateDBError) → IsRefusedInScan policies m c acts e → IsTableError e
+in_scan_kind policies m c acts e (inl refused) = scan_kind m c acts e refused
+in_scan_kind policies m c acts e (inr (query, filters)) = unreadable_kind e filters.shown.kind
 
 -- and an opening's is one of a scan
-pub opening_scan : {policies : List Policy} {query : Option FilterQuery} (before after : Reach) (c : CoreModel) (e : SlateDBError) → IsOpeningError policies query before after c e → IsScanError before after c e
+pub opening_scan : {policies : List Policy} {query : Option FilterQuery} (before after : Reach) (c : CoreModel) (e : SlateDBError) → IsOpeningError policies query before after c e → IsScanError policies before after c e
 opening_scan before after c e (inl fault) = inl fault
-opening_scan before after c e (inr (reads, call, inl s)) = inr (reads, call, record { handles = s.handles; are = s.are; refused = inr (inl s.shown) })
-opening_scan {policies} {query} before after c e (inr (reads, call, inr f)) = inr (reads, call, record { handles = f.handles; are = f.are; refused = inr (inr (policies, query, f.shown)) })
+opening_scan before after c e (inr (reads, call, inl s)) = inr (reads, call, inl (record { handles = s.handles; are = s.are; refused = inr s.shown }))
+opening_scan {policies} {query} before after c e (inr (reads, call, inr f)) = inr (reads, call, inr (query, f))

@@ -219,10 +219,7 @@ refused_later m c done reads e r = record {
   are = r.are;
   refused = elim r.refused [
     | inl k ↦ inl k
-    | inr k ↦ inr (elim k [
-      | inl s ↦ inl (s.0, s.1, by_reads_later m.decode s.0 done reads e s.2)
-      | inr f ↦ inr (f.0, f.1, shows_more r.handles r.handles done reads e (λ h there. there) f.2)
-    ])
+    | inr s ↦ inr (s.0, s.1, by_reads_later m.decode s.0 done reads e s.2)
   ];
 }
 
@@ -236,7 +233,7 @@ module _ (m : Meaning) (c : CoreModel) (x : Unseen) (w : IsWhole c x) (left : Li
   shown_by reads e s = record { handles = handles_of x.runs; are = all_handles c.events x.runs w.tied.runs; shown = s.1 }
 
   refused_by : (reads : List Act) (e : SlateDBError) → IsShown m (handles_of x.runs) reads e → IsRefusedByScan m c reads e
-  refused_by reads e s = record { handles = handles_of x.runs; are = all_handles c.events x.runs w.tied.runs; refused = inr (inl s.1) }
+  refused_by reads e s = record { handles = handles_of x.runs; are = all_handles c.events x.runs w.tied.runs; refused = inr s.1 }
 
   abbrev pub LaterBlamed : Merged → List Act → Type 0
   LaterBlamed rows reads = (later : List Act) (at : Option (List ℕ)) (e : SlateDBError) → merge_refuses rows.iterator m later at e → IsBlamedFor sources m (reads ++ later) at e

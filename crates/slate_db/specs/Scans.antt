@@ -22,7 +22,8 @@
 --     IsShownByFilters policies query m c reads e      the reads show it of the filters of a table that the journal names, which were asked this
 --     IsShownByScan m c reads e, IsRefusedByScan m c reads e      the reads show it of the tables that the journal names; or there is no
 --                                                                 operator; or there is one, and it names two sequences that rise
---     IsOpeningError policies query before after c e, IsScanError before after c e      a fault that came in the call, or want of memory, or such a refusal by its reads: an opening meets no operand
+--     IsRefusedInScan policies m c reads e      so it is, or the reads of its opening show it of the filters that were asked
+--     IsOpeningError policies query before after c e, IsScanError policies before after c e      a fault that came in the call, or want of memory, or such a refusal by its reads: an opening meets no operand
 use Rattle.std.specs.Prelude.{◌≡◌, ◌≢◌, ◌⊎◌, ℕ, ◌<◌, true, List, [], filter, count_by, Contains, Option, Some, None, Result, Err, IsSome, slice_get}
 use Rattle.std.specs.List.{AllByRecursion}
 use Rattle.slate_types.specs.declared.bytes_range.BytesRange.{BytesRange}
@@ -225,7 +226,7 @@ pub record IsShownByScan (m : Meaning) (c : CoreModel) (reads : List Act) (e : S
 pub record IsRefusedByScan (m : Meaning) (c : CoreModel) (reads : List Act) (e : SlateDBError) : Type 0 where
   pub handles : List SsTableHandle
   pub are : AreHandles (tables_of c.events) handles
-  pub refused : RefusesFold m None e ⊎ ShowsAmong m.decode handles reads e ⊎ ((policies : List Policy) × (query : Option FilterQuery) × ShowsFilters m.decode policies query handles reads e)
+  pub refused : RefusesFold m None e ⊎ ShowsAmong m.decode handles reads e
 
 pub record IsShownByFilters (policies : List Policy) (query : Option FilterQuery) (m : Meaning) (c : CoreModel) (reads : List Act) (e : SlateDBError) : Type 0 where
   pub handles : List SsTableHandle
@@ -236,5 +237,9 @@ pub record IsShownByFilters (policies : List Policy) (query : Option FilterQuery
 abbrev pub IsOpeningError : List Policy → Option FilterQuery → Reach → Reach → CoreModel → SlateDBError → Type 0
 IsOpeningError policies query before after c e = IsFault before after e ⊎ Made before after (λ reads. IsShownByScan before.meaning c reads e ⊎ IsShownByFilters policies query before.meaning c reads e)
 
-abbrev pub IsScanError : Reach → Reach → CoreModel → SlateDBError → Type 0
-IsScanError before after c e = IsFault before after e ⊎ Made before after (λ reads. IsRefusedByScan before.meaning c reads e)
+-- policies: those that the opening asked
+abbrev pub IsRefusedInScan : List Policy → Meaning → CoreModel → List Act → SlateDBError → Type 0
+IsRefusedInScan policies m c reads e = IsRefusedByScan m c reads e ⊎ ((query : Option FilterQuery) × IsShownByFilters policies query m c reads e)
+
+abbrev pub IsScanError : List Policy → Reach → Reach → CoreModel → SlateDBError → Type 0
+IsScanError policies before after c e = IsFault before after e ⊎ Made before after (λ reads. IsRefusedInScan policies before.meaning c reads e)

@@ -317,15 +317,15 @@ scan_fault policies a b c k l id order range x e h reads g is =
     early : IsAnswered policies a b k
     early = record { os = is.os; readable = is.readable; answers = answers_first is.os a b c h.later.0 g.cause.0 h.later.1 g.cause.1 is.answers }
 
-pub scan_cause : (policies : List Policy) (a b c : Reach) (k l : CoreModel) (id : List ℕ) (order : IterationOrder) (range : BytesRange) (x : TxnIterator) (e : SlateDBError) → Opened policies a b k l id order range x → OnlyReads a b → Fails b c x e → IsScanError a c k e
+pub scan_cause : (policies : List Policy) (a b c : Reach) (k l : CoreModel) (id : List ℕ) (order : IterationOrder) (range : BytesRange) (x : TxnIterator) (e : SlateDBError) → Opened policies a b k l id order range x → OnlyReads a b → Fails b c x e → IsScanError policies a c k e
 scan_cause policies a b c k l id order range x e h reads g = by g.cause.2
   where
-    by : IsFault b c e ⊎ ((at : Option (List ℕ)) × ScanRefuses (scan_of x) b.meaning g.cause.0 at e) → IsScanError a c k e
+    by : IsFault b c e ⊎ ((at : Option (List ℕ)) × ScanRefuses (scan_of x) b.meaning g.cause.0 at e) → IsScanError policies a c k e
     by (inl fault) = inl (fault_earlier a b c e reads.later fault)
     by (inr (at, refuses)) = inr (
       h.later.0 ++ g.cause.0,
       call_both a b c h.later.0 g.cause.0 h.later.1 g.cause.1,
-      h.later.2 g.cause.0 at e (subst (λ (p : Meaning). ScanRefuses (scan_of x) p g.cause.0 at e) h.later.1.meaning refuses),
+      inl (h.later.2 g.cause.0 at e (subst (λ (p : Meaning). ScanRefuses (scan_of x) p g.cause.0 at e) h.later.1.meaning refuses)),
     )
 
 -- ---- by the result of a call
@@ -350,7 +350,7 @@ pub walked : {V : Type 0} (policies : List Policy) (items : V → List KeyValue)
 walked policies items (Err e) a b c k l m id order range sts x y some h f = tt
 walked policies items (Ok v) a b c k l m id order range sts x y some h f = scan_whole policies a b c k l m id order range sts x y (items v) some h f
 
-pub walk_cause : {T : Type 0} (policies : List Policy) (r : Result T SlateDBError) (a b c : Reach) (k l : CoreModel) (id : List ℕ) (order : IterationOrder) (range : BytesRange) (x : TxnIterator) → Opened policies a b k l id order range x → OnlyReads a b → IfErr r (Fails b c x) → IfErr r (IsScanError a c k)
+pub walk_cause : {T : Type 0} (policies : List Policy) (r : Result T SlateDBError) (a b c : Reach) (k l : CoreModel) (id : List ℕ) (order : IterationOrder) (range : BytesRange) (x : TxnIterator) → Opened policies a b k l id order range x → OnlyReads a b → IfErr r (Fails b c x) → IfErr r (IsScanError policies a c k)
 walk_cause policies (Ok t) a b c k l id order range x h reads g = tt
 walk_cause policies (Err e) a b c k l id order range x h reads g = scan_cause policies a b c k l id order range x e h reads g
 

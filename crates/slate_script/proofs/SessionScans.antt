@@ -22,11 +22,12 @@ use Rattle.slate_txn.specs.Reply as replies
 use Rattle.slate_txn.specs.Reply.{Reply}
 use Rattle.slate_txn.specs.State.{Commit, Rules, State}
 use Rattle.slate_txn.specs.Step.{Reader, noted, reader, scan, scan_walked, step}
-use Rattle.slate_db.proofs.RowDamage.{scan_kind}
+use Rattle.slate_db.proofs.RowDamage.{in_scan_kind}
 use Rattle.slate_db.specs.Meaning.{Meaning, rules_in}
 use Rattle.slate_db.specs.Model.{CoreModel}
 use Rattle.slate_db.specs.Parts.{IsTableError}
-use Rattle.slate_db.specs.Scans.{IsRefusedByScan, IsScanError}
+use Rattle.slate_filter.specs.Policy.{Policy}
+use Rattle.slate_db.specs.Scans.{IsRefusedInScan, IsScanError}
 use Rattle.slate_language.specs.declared.reply.Answer.{Answer}
 use Rattle.slate_language.specs.declared.reply.Answer.TheVariants as answers
 use Rattle.slate_language.specs.Answers.{reply_of}
@@ -119,12 +120,12 @@ scan-found m seg e core name id order given range sts rows a stand known some fi
 
 -- ---- why it is refused
 
-pub scan-limit : {V : Type 0} (result : Result V SlateDBError) (before after : Reach) (e : SessionModel) → IfErr result (IsScanError before after e.core) → IfErr result (λ x. IsFault before after x ⊎ IsLimit e x ⊎ IsTableError x)
-scan-limit (Ok v) before after e cause = tt
-scan-limit (Err x) before after e (inl fault) = inl fault
-scan-limit (Err x) before after e (inr made) = inr (inr (scan_kind before.meaning e.core made.0 x made.2))
+pub scan-limit : {V : Type 0} (policies : List Policy) (result : Result V SlateDBError) (before after : Reach) (e : SessionModel) → IfErr result (IsScanError policies before after e.core) → IfErr result (λ x. IsFault before after x ⊎ IsLimit e x ⊎ IsTableError x)
+scan-limit policies (Ok v) before after e cause = tt
+scan-limit policies (Err x) before after e (inl fault) = inl fault
+scan-limit policies (Err x) before after e (inr made) = inr (inr (in_scan_kind policies before.meaning e.core made.0 x made.2))
 
-pub scan-shown : {V : Type 0} (result : Result V SlateDBError) (before after : Reach) (e : SessionModel) → IfErr result (IsScanError before after e.core) → IfErr result (λ x. IsTableError x → Made before after (λ reads. IsRefusedByScan before.meaning e.core reads x))
-scan-shown (Ok v) before after e cause = tt
-scan-shown (Err x) before after e (inl fault) = λ error. absurd (not-damage {X = Unit {0}} before.faults after.faults x (inl fault) error)
-scan-shown (Err x) before after e (inr made) = λ error. made
+pub scan-shown : {V : Type 0} (policies : List Policy) (result : Result V SlateDBError) (before after : Reach) (e : SessionModel) → IfErr result (IsScanError policies before after e.core) → IfErr result (λ x. IsTableError x → Made before after (λ reads. IsRefusedInScan policies before.meaning e.core reads x))
+scan-shown policies (Ok v) before after e cause = tt
+scan-shown policies (Err x) before after e (inl fault) = λ error. absurd (not-damage {X = Unit {0}} before.faults after.faults x (inl fault) error)
+scan-shown policies (Err x) before after e (inr made) = λ error. made

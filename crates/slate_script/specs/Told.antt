@@ -27,7 +27,7 @@ use Rattle.slate_db.specs.Installs.{root, tables_of}
 use Rattle.slate_db.specs.Meaning.{Meaning}
 use Rattle.slate_db.specs.Model.{CoreModel}
 use Rattle.slate_db.specs.Readable.{IsRefusedBy}
-use Rattle.slate_db.specs.Scans.{IsRefusedByScan}
+use Rattle.slate_db.specs.Scans.{IsRefusedInScan}
 use Rattle.slate_db.specs.Shown.{Asking}
 use Rattle.slate_script.specs.Session.{SessionModel, IsSettled}
 
@@ -62,12 +62,12 @@ abbrev pub asking_for : List Policy → List ℕ → Asking
 asking_for policies k = record { policies = policies; query = point_query k None }
 
 abbrev pub IsShownBy : List Policy → Meaning → CoreModel → List Act → SlateDBError → Type 0
-IsShownBy policies m c reads e = ((k : List ℕ) × IsRefusedBy (asking_for policies k) m c reads e) ⊎ IsRefusedByScan m c reads e
+IsShownBy policies m c reads e = ((k : List ℕ) × IsRefusedBy (asking_for policies k) m c reads e) ⊎ IsRefusedInScan policies m c reads e
 
 abbrev pub IsRefusedAt : List Policy → Line → Meaning → CoreModel → List Act → SlateDBError → Type 0
 IsRefusedAt policies (lines.Get name k) m c reads e = IsRefusedBy (asking_for policies k) m c reads e
-IsRefusedAt policies (lines.Scan name order start end sts) m c reads e = IsRefusedByScan m c reads e
-IsRefusedAt policies (lines.Prefix name order p start end sts) m c reads e = IsRefusedByScan m c reads e
+IsRefusedAt policies (lines.Scan name order start end sts) m c reads e = IsRefusedInScan policies m c reads e
+IsRefusedAt policies (lines.Prefix name order p start end sts) m c reads e = IsRefusedInScan policies m c reads e
 IsRefusedAt policies line m c reads e = ⊥
 
 -- core: as it was before the reads

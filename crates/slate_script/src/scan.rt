@@ -47,7 +47,9 @@ pub(crate) fn scan_rows<S: Store, M: MergeOperator, T: BlockTransformer, X: Pref
     ensures undamaged { let reach = ⟦<EnvOf<S, M, T> as Outside>⟧.reach in
         let policies = map (λ p. meaning (p.vtable, p.value)) laws.now.policies.items in
         IsAnswered policies (reach env.old) (reach env.new) core.old → IfErr result (IsFault (reach env.old) (reach env.new)) }
-    ensures cause { let reach = ⟦<EnvOf<S, M, T> as Outside>⟧.reach in IfErr result (IsScanError (reach env.old) (reach env.new) core.old) }
+    ensures cause { let reach = ⟦<EnvOf<S, M, T> as Outside>⟧.reach in
+        let policies = map (λ p. meaning (p.vtable, p.value)) laws.now.policies.items in
+        IfErr result (IsScanError policies (reach env.old) (reach env.new) core.old) }
     ensures reads { let reach = ⟦<EnvOf<S, M, T> as Outside>⟧.reach in OnlyReads (reach env.old) (reach env.new) }
 {
     let options = ScanOptions {

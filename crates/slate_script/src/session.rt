@@ -318,7 +318,9 @@ impl Session {
             (seg : Segments) → AnswersAs (reach env.old).meaning seg self.old self.new (Line.Scan name order start end steps) result }
         ensures stores { OnOk result ((m : Meaning) (seg : Segments) → StoresNothing m seg self.old self.new) }
         ensures grows { OnOk result (Grows (Line.Scan name order start end steps) self.old self.new) }
-        ensures cause { let reach = ⟦<EnvOf<S, M, T> as Outside>⟧.reach in IfErr result (IsScanError (reach env.old) (reach env.new) self.old.core) }
+        ensures cause { let reach = ⟦<EnvOf<S, M, T> as Outside>⟧.reach in
+            let policies = map (λ p. meaning (p.vtable, p.value)) laws.now.policies.items in
+            IfErr result (IsScanError policies (reach env.old) (reach env.new) self.old.core) }
         ensures undamaged { let reach = ⟦<EnvOf<S, M, T> as Outside>⟧.reach in
             let policies = map (λ p. meaning (p.vtable, p.value)) laws.now.policies.items in
             IsAnswered policies (reach env.old) (reach env.new) self.old.core → IfErr result (IsFault (reach env.old) (reach env.new)) }
@@ -347,7 +349,9 @@ impl Session {
             (seg : Segments) → AnswersAs (reach env.old).meaning seg self.old self.new (Line.Prefix name order prefix start end steps) result }
         ensures stores { OnOk result ((m : Meaning) (seg : Segments) → StoresNothing m seg self.old self.new) }
         ensures grows { OnOk result (Grows (Line.Prefix name order prefix start end steps) self.old self.new) }
-        ensures cause { let reach = ⟦<EnvOf<S, M, T> as Outside>⟧.reach in IfErr result (IsScanError (reach env.old) (reach env.new) self.old.core) }
+        ensures cause { let reach = ⟦<EnvOf<S, M, T> as Outside>⟧.reach in
+            let policies = map (λ p. meaning (p.vtable, p.value)) laws.now.policies.items in
+            IfErr result (IsScanError policies (reach env.old) (reach env.new) self.old.core) }
         ensures undamaged { let reach = ⟦<EnvOf<S, M, T> as Outside>⟧.reach in
             let policies = map (λ p. meaning (p.vtable, p.value)) laws.now.policies.items in
             IsAnswered policies (reach env.old) (reach env.new) self.old.core → IfErr result (IsFault (reach env.old) (reach env.new)) }
@@ -386,7 +390,9 @@ impl Session {
             (seg : Segments) → ScansAs (reach env.old).meaning seg self.old self.new name order range steps result }
         ensures stores { OnOk result ((m : Meaning) (seg : Segments) → StoresNothing m seg self.old self.new) }
         ensures grows { (line : Line) → line_load line ≡ 0 → OnOk result (Grows line self.old self.new) }
-        ensures cause { let reach = ⟦<EnvOf<S, M, T> as Outside>⟧.reach in IfErr result (IsScanError (reach env.old) (reach env.new) self.old.core) }
+        ensures cause { let reach = ⟦<EnvOf<S, M, T> as Outside>⟧.reach in
+            let policies = map (λ p. meaning (p.vtable, p.value)) laws.now.policies.items in
+            IfErr result (IsScanError policies (reach env.old) (reach env.new) self.old.core) }
         ensures undamaged { let reach = ⟦<EnvOf<S, M, T> as Outside>⟧.reach in
             let policies = map (λ p. meaning (p.vtable, p.value)) laws.now.policies.items in
             IsAnswered policies (reach env.old) (reach env.new) self.old.core → IfErr result (IsFault (reach env.old) (reach env.new)) }

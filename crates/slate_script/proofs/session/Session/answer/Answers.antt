@@ -96,9 +96,9 @@ returns-in-Scan g c =
       kept = λ settled. keeps-settled c.scan.result policies _ _ _ _ c.args.self.now c.scan.new.self c.scan.ensures.reads.objects (stores-at c.scan.result (meaning_of g.M.MergeOperator.combine g.T.BlockTransformer.encoded g.T.BlockTransformer.decoded c.args.env.now.operator c.args.env.now.transformer) (segments_by g.X.PrefixExtractor.lengths c.args.laws.now.segments) c.args.self.now c.scan.new.self c.scan.ensures.stores) settled;
       core_kept = λ kept. keeps-core c.scan.result (meaning_of g.M.MergeOperator.combine g.T.BlockTransformer.encoded g.T.BlockTransformer.decoded c.args.env.now.operator c.args.env.now.transformer) (segments_by g.X.PrefixExtractor.lengths c.args.laws.now.segments) c.args.self.now c.scan.new.self (stores-at c.scan.result (meaning_of g.M.MergeOperator.combine g.T.BlockTransformer.encoded g.T.BlockTransformer.decoded c.args.env.now.operator c.args.env.now.transformer) (segments_by g.X.PrefixExtractor.lengths c.args.laws.now.segments) c.args.self.now c.scan.new.self c.scan.ensures.stores) kept;
       alone = λ settled alone. stays-where (meaning_of g.M.MergeOperator.combine g.T.BlockTransformer.encoded g.T.BlockTransformer.decoded c.args.env.now.operator c.args.env.now.transformer) (segments_by g.X.PrefixExtractor.lengths c.args.laws.now.segments) c.scan.result _ _ _ _ c.args.self.now c.scan.new.self c.scan.ensures.reads.objects (stores-at c.scan.result (meaning_of g.M.MergeOperator.combine g.T.BlockTransformer.encoded g.T.BlockTransformer.decoded c.args.env.now.operator c.args.env.now.transformer) (segments_by g.X.PrefixExtractor.lengths c.args.laws.now.segments) c.args.self.now c.scan.new.self c.scan.ensures.stores) alone;
-      cause = scan-limit c.scan.result (reach_of g.S.Store g.M.MergeOperator g.T.BlockTransformer c.args.env.now) (reach_of g.S.Store g.M.MergeOperator g.T.BlockTransformer c.scan.new.env) c.args.self.now c.scan.ensures.cause;
+      cause = scan-limit policies c.scan.result (reach_of g.S.Store g.M.MergeOperator g.T.BlockTransformer c.args.env.now) (reach_of g.S.Store g.M.MergeOperator g.T.BlockTransformer c.scan.new.env) c.args.self.now c.scan.ensures.cause;
       shown = λ kept. subst (λ (line : Line). IfErr c.scan.result (λ x. IsTableError x → Made (reach_of g.S.Store g.M.MergeOperator g.T.BlockTransformer c.args.env.now) (reach_of g.S.Store g.M.MergeOperator g.T.BlockTransformer c.scan.new.env) (λ reads. IsRefusedAt policies line (reach_of g.S.Store g.M.MergeOperator g.T.BlockTransformer c.args.env.now).meaning c.args.self.now.core reads x))) (sym c.in-Scan.is)
-          (scan-shown c.scan.result (reach_of g.S.Store g.M.MergeOperator g.T.BlockTransformer c.args.env.now) (reach_of g.S.Store g.M.MergeOperator g.T.BlockTransformer c.scan.new.env) c.args.self.now c.scan.ensures.cause);
+          (scan-shown policies c.scan.result (reach_of g.S.Store g.M.MergeOperator g.T.BlockTransformer c.args.env.now) (reach_of g.S.Store g.M.MergeOperator g.T.BlockTransformer c.scan.new.env) c.args.self.now c.scan.ensures.cause);
       undamaged = λ settled. or-limit c.scan.result (counts_of (g.S.Store.faults c.args.env.now.store.now) g.M.MergeOperator.faults g.T.BlockTransformer.faults c.args.env.now.operator c.args.env.now.transformer) (counts_of (g.S.Store.faults c.scan.new.env.store.now) g.M.MergeOperator.faults g.T.BlockTransformer.faults c.scan.new.env.operator c.scan.new.env.transformer) c.args.self.now (c.scan.ensures.undamaged (settled-answered policies (reach_of g.S.Store g.M.MergeOperator g.T.BlockTransformer c.args.env.now) (reach_of g.S.Store g.M.MergeOperator g.T.BlockTransformer c.scan.new.env) c.args.self.now settled));
       follows = λ os settled. follows-reads c.scan.result policies (meaning_of g.M.MergeOperator.combine g.T.BlockTransformer.encoded g.T.BlockTransformer.decoded c.args.env.now.operator c.args.env.now.transformer) (segments_by g.X.PrefixExtractor.lengths c.args.laws.now.segments) os c.args.self.now c.scan.new.self (g.S.Store.acts c.args.env.now.store.now) (g.S.Store.acts c.scan.new.env.store.now) c.scan.ensures.reads.acts (stores-at c.scan.result (meaning_of g.M.MergeOperator.combine g.T.BlockTransformer.encoded g.T.BlockTransformer.decoded c.args.env.now.operator c.args.env.now.transformer) (segments_by g.X.PrefixExtractor.lengths c.args.laws.now.segments) c.args.self.now c.scan.new.self c.scan.ensures.stores) settled;
       tables = stores-none (meaning_of g.M.MergeOperator.combine g.T.BlockTransformer.encoded g.T.BlockTransformer.decoded c.args.env.now.operator c.args.env.now.transformer) (segments_by g.X.PrefixExtractor.lengths c.args.laws.now.segments) c.scan.result c.args.self.now c.scan.new.self _ _ c.scan.ensures.reads.acts (stores-at c.scan.result (meaning_of g.M.MergeOperator.combine g.T.BlockTransformer.encoded g.T.BlockTransformer.decoded c.args.env.now.operator c.args.env.now.transformer) (segments_by g.X.PrefixExtractor.lengths c.args.laws.now.segments) c.args.self.now c.scan.new.self c.scan.ensures.stores);
@@ -118,9 +118,9 @@ returns-in-Prefix g c =
       kept = λ settled. keeps-settled c.prefix.result policies _ _ _ _ c.args.self.now c.prefix.new.self c.prefix.ensures.reads.objects (stores-at c.prefix.result (meaning_of g.M.MergeOperator.combine g.T.BlockTransformer.encoded g.T.BlockTransformer.decoded c.args.env.now.operator c.args.env.now.transformer) (segments_by g.X.PrefixExtractor.lengths c.args.laws.now.segments) c.args.self.now c.prefix.new.self c.prefix.ensures.stores) settled;
       core_kept = λ kept. keeps-core c.prefix.result (meaning_of g.M.MergeOperator.combine g.T.BlockTransformer.encoded g.T.BlockTransformer.decoded c.args.env.now.operator c.args.env.now.transformer) (segments_by g.X.PrefixExtractor.lengths c.args.laws.now.segments) c.args.self.now c.prefix.new.self (stores-at c.prefix.result (meaning_of g.M.MergeOperator.combine g.T.BlockTransformer.encoded g.T.BlockTransformer.decoded c.args.env.now.operator c.args.env.now.transformer) (segments_by g.X.PrefixExtractor.lengths c.args.laws.now.segments) c.args.self.now c.prefix.new.self c.prefix.ensures.stores) kept;
       alone = λ settled alone. stays-where (meaning_of g.M.MergeOperator.combine g.T.BlockTransformer.encoded g.T.BlockTransformer.decoded c.args.env.now.operator c.args.env.now.transformer) (segments_by g.X.PrefixExtractor.lengths c.args.laws.now.segments) c.prefix.result _ _ _ _ c.args.self.now c.prefix.new.self c.prefix.ensures.reads.objects (stores-at c.prefix.result (meaning_of g.M.MergeOperator.combine g.T.BlockTransformer.encoded g.T.BlockTransformer.decoded c.args.env.now.operator c.args.env.now.transformer) (segments_by g.X.PrefixExtractor.lengths c.args.laws.now.segments) c.args.self.now c.prefix.new.self c.prefix.ensures.stores) alone;
-      cause = scan-limit c.prefix.result (reach_of g.S.Store g.M.MergeOperator g.T.BlockTransformer c.args.env.now) (reach_of g.S.Store g.M.MergeOperator g.T.BlockTransformer c.prefix.new.env) c.args.self.now c.prefix.ensures.cause;
+      cause = scan-limit policies c.prefix.result (reach_of g.S.Store g.M.MergeOperator g.T.BlockTransformer c.args.env.now) (reach_of g.S.Store g.M.MergeOperator g.T.BlockTransformer c.prefix.new.env) c.args.self.now c.prefix.ensures.cause;
       shown = λ kept. subst (λ (line : Line). IfErr c.prefix.result (λ x. IsTableError x → Made (reach_of g.S.Store g.M.MergeOperator g.T.BlockTransformer c.args.env.now) (reach_of g.S.Store g.M.MergeOperator g.T.BlockTransformer c.prefix.new.env) (λ reads. IsRefusedAt policies line (reach_of g.S.Store g.M.MergeOperator g.T.BlockTransformer c.args.env.now).meaning c.args.self.now.core reads x))) (sym c.in-Prefix.is)
-          (scan-shown c.prefix.result (reach_of g.S.Store g.M.MergeOperator g.T.BlockTransformer c.args.env.now) (reach_of g.S.Store g.M.MergeOperator g.T.BlockTransformer c.prefix.new.env) c.args.self.now c.prefix.ensures.cause);
+          (scan-shown policies c.prefix.result (reach_of g.S.Store g.M.MergeOperator g.T.BlockTransformer c.args.env.now) (reach_of g.S.Store g.M.MergeOperator g.T.BlockTransformer c.prefix.new.env) c.args.self.now c.prefix.ensures.cause);
       undamaged = λ settled. or-limit c.prefix.result (counts_of (g.S.Store.faults c.args.env.now.store.now) g.M.MergeOperator.faults g.T.BlockTransformer.faults c.args.env.now.operator c.args.env.now.transformer) (counts_of (g.S.Store.faults c.prefix.new.env.store.now) g.M.MergeOperator.faults g.T.BlockTransformer.faults c.prefix.new.env.operator c.prefix.new.env.transformer) c.args.self.now (c.prefix.ensures.undamaged (settled-answered policies (reach_of g.S.Store g.M.MergeOperator g.T.BlockTransformer c.args.env.now) (reach_of g.S.Store g.M.MergeOperator g.T.BlockTransformer c.prefix.new.env) c.args.self.now settled));
       follows = λ os settled. follows-reads c.prefix.result policies (meaning_of g.M.MergeOperator.combine g.T.BlockTransformer.encoded g.T.BlockTransformer.decoded c.args.env.now.operator c.args.env.now.transformer) (segments_by g.X.PrefixExtractor.lengths c.args.laws.now.segments) os c.args.self.now c.prefix.new.self (g.S.Store.acts c.args.env.now.store.now) (g.S.Store.acts c.prefix.new.env.store.now) c.prefix.ensures.reads.acts (stores-at c.prefix.result (meaning_of g.M.MergeOperator.combine g.T.BlockTransformer.encoded g.T.BlockTransformer.decoded c.args.env.now.operator c.args.env.now.transformer) (segments_by g.X.PrefixExtractor.lengths c.args.laws.now.segments) c.args.self.now c.prefix.new.self c.prefix.ensures.stores) settled;
       tables = stores-none (meaning_of g.M.MergeOperator.combine g.T.BlockTransformer.encoded g.T.BlockTransformer.decoded c.args.env.now.operator c.args.env.now.transformer) (segments_by g.X.PrefixExtractor.lengths c.args.laws.now.segments) c.prefix.result c.args.self.now c.prefix.new.self _ _ c.prefix.ensures.reads.acts (stores-at c.prefix.result (meaning_of g.M.MergeOperator.combine g.T.BlockTransformer.encoded g.T.BlockTransformer.decoded c.args.env.now.operator c.args.env.now.transformer) (segments_by g.X.PrefixExtractor.lengths c.args.laws.now.segments) c.args.self.now c.prefix.new.self c.prefix.ensures.stores);
