@@ -77,6 +77,9 @@ const SHORT_SCAN: &[u8] = b"write put 'a '1 put 'b '2\nflush\nbegin t si\nscan t
 const LONG_SCAN: &[u8] =
     b"write put 'a '1 put 'b '2\nflush\nbegin t si\nscan t asc i'aaaa i'aaaa\n";
 
+const PREFIX_SCAN: &[u8] =
+    b"write put 'a '1 put 'b '2\nflush\nbegin t si\nprefix t asc 'aaaa * *\n";
+
 const BEGUN: &[u8] = b"written 1\nflushed 1\nbegun t 1\n";
 
 const DENIED: &[u8] = b"written 1\nflushed 1\nbegun t 1\nnone\n";
@@ -92,9 +95,11 @@ const RUNS: &[Run] = &[
     (SHORT_SCAN, 3, 7, BEGUN),
     (LONG_SCAN, 2, 7, BEGUN),
     (LONG_SCAN, 3, 0, EMPTY),
+    (PREFIX_SCAN, 2, 7, BEGUN),
+    (PREFIX_SCAN, 3, 0, EMPTY),
 ];
 
-// The filter is read first, and where it denies the key nothing else is.
+// The filter is read first, and where it denies the key, or the prefix, nothing else is.
 #[test]
 fn filters_are_asked_first(rt: HostRuntime) {
     let mut all = true;
