@@ -1,5 +1,4 @@
 -- The parts of a table, as decoders take them: relations between bytes and what they spell.
---     IsSection encode bytes part      the transformed part and its checksum
 --     IsIndex end bytes entries      offsets rise from 0 and don't pass the blocks' end, separators don't fall
 --     IsStats bytes stats      counts of rows, and sums of key bytes and value bytes
 --     IsInfo version bytes info      the first and the last key, and where the other sections lie
@@ -9,11 +8,8 @@ use Rattle.std.specs.Prelude.{◌≡◌, ℕ, ◌+◌, ◌^◌, ◌<◌, ◌≤�
 use Rattle.std.specs.List.{AllByRecursion}
 use Rattle.slate_types.specs.Keys.{key_le}
 use Rattle.slate_block.specs.RowSpelling.{be16, be32, be64}
-use Rattle.slate_table.specs.Parts.{Encode, Place, section, info_bytes, filters_bytes}
+use Rattle.slate_table.specs.Parts.{Place, info_bytes, filters_bytes}
 use Rattle.slate_table.specs.Table.{FitsFilter}
-
-abbrev pub IsSection : Encode → List ℕ → List ℕ → Type 0
-IsSection encode bytes part = bytes ≡ section encode part
 
 -- ---- index: the offset and the separator of each block
 

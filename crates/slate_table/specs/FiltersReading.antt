@@ -3,7 +3,7 @@
 --     filter_field bytes at      a name and the bytes of its filter, or the refusal of the first field that fails
 --     filters_from count bytes at      so many filters
 --     filters_in bytes      the filters, or the refusal
---     AreFiltersIn decode answer filters len      filters are read from a part of this length
+--     AreFiltersIn decode section filters len      filters are read from a part of this length
 --     in_filters len e      a refusal of the fields of a part as the part's own, with its length; want of memory stays
 use Rattle.std.specs.Prelude.{◌≡◌, ℕ, zero, suc, if◌then◌else◌, ◌==◌, List, [], ◌∷◌, length, slice_range, Option, Result, Ok, Err}
 use Rattle.std.specs.Int.{w16, w64}
@@ -13,7 +13,7 @@ use Rattle.slate_types.specs.declared.error.SlateDBError.TheVariants.{CorruptTab
 use Rattle.slate_block.specs.Damage.{◌>>=◌, Field, number_field, block_field}
 use Rattle.slate_table.specs.Decoded.{IsFilters}
 use Rattle.slate_table.specs.Parts.{Encode}
-use Rattle.slate_table.specs.Reading.{IsPart}
+use Rattle.slate_table.specs.Reading.{SectionRead, IsPart}
 
 unfoldable pub name_field : List ℕ → ℕ → Field (List ℕ)
 name_field bytes at = do
@@ -44,5 +44,5 @@ abbrev pub in_filters : ℕ → SlateDBError → SlateDBError
 in_filters len OutOfMemory = OutOfMemory
 in_filters len e = InvalidFilterBlock len
 
-abbrev pub AreFiltersIn : Encode → Option (List ℕ) → List (List ℕ × List ℕ) → ℕ → Type 0
-AreFiltersIn decode answer filters len = (part : List ℕ) × IsPart decode answer part × IsFilters part filters × (len ≡ length part)
+abbrev pub AreFiltersIn : Encode → SectionRead → List (List ℕ × List ℕ) → ℕ → Type 0
+AreFiltersIn decode s filters len = (part : List ℕ) × IsPart decode s part × IsFilters part filters × (len ≡ length part)

@@ -1,11 +1,14 @@
 -- The parts of a table.
---     summed bytes, sum_fits bytes      the bytes with their checksum behind, and whether the last four bytes are the checksum of the rest
---     section encode part      the transformed part and its checksum
+--     cover_of version id kind at      what the checksum of a section covers beside its bytes: in version 3 the table's id, the section's kind and its place
+--     section_sum version id kind at bytes      the checksum of a section's bytes
+--     summed cover bytes, sum_fits cover bytes      the bytes with their checksum behind, and whether the last four bytes are the checksum of the rest
+--     section cover encode part      the transformed part and its checksum
 --     first_key block, last_key k block      the first and the last key of a block's rows
 --     separators blocks      a block's first key, cut one byte past its common front with the key before it
 --     Place      where a section lies
 --     index_bytes, stats_bytes, info_bytes, filters_bytes      the layouts
-use Rattle.std.specs.Prelude.{ℕ, ◌+◌, ◌-◌, Bool, if◌then◌else◌, List, [], ◌∷◌, ◌++◌, flat_map, length, take, drop, sum_by, count_by, Option, Some, None, bytes_eq}
+use Rattle.std.specs.Prelude.{ℕ, ◌+◌, ◌-◌, ◌==◌, Bool, if◌then◌else◌, List, [], ◌∷◌, ◌++◌, flat_map, length, take, drop, sum_by, count_by, Option, Some, None, bytes_eq}
+use Rattle.std.specs.Int.{w128, to_be_bytes}
 use Rattle.slate_types.specs.declared.types.RowEntry.{RowEntry}
 use Rattle.slate_types.specs.Rows.{operand, is_operand, is_put, is_tombstone}
 use Rattle.slate_block.specs.RowSpelling.{be16, be32, be64}
@@ -15,14 +18,37 @@ use Rattle.slate_table.specs.Checksum.{crc32}
 abbrev pub Encode : Type 0
 Encode = List ℕ → List ℕ
 
-abbrev pub summed : List ℕ → List ℕ
-summed bytes = bytes ++ be32 (crc32 bytes)
+-- ---- checksums
 
-abbrev pub sum_fits : List ℕ → Bool
-sum_fits bytes = bytes_eq (drop (length bytes - 4) bytes) (be32 (crc32 (take (length bytes - 4) bytes)))
+abbrev pub block_kind : ℕ
+block_kind = 1
 
-abbrev pub section : Encode → List ℕ → List ℕ
-section encode part = summed (encode part)
+abbrev pub filters_kind : ℕ
+filters_kind = 2
+
+abbrev pub index_kind : ℕ
+index_kind = 3
+
+abbrev pub stats_kind : ℕ
+stats_kind = 4
+
+abbrev pub info_kind : ℕ
+info_kind = 5
+
+abbrev pub cover_of : ℕ → ℕ → ℕ → ℕ → List ℕ
+cover_of version id kind at = if version == 3 then to_be_bytes w128 id ++ kind ∷ be64 at else []
+
+abbrev pub section_sum : ℕ → ℕ → ℕ → ℕ → List ℕ → ℕ
+section_sum version id kind at bytes = crc32 (cover_of version id kind at ++ bytes)
+
+abbrev pub summed : List ℕ → List ℕ → List ℕ
+summed cover bytes = bytes ++ be32 (crc32 (cover ++ bytes))
+
+abbrev pub sum_fits : List ℕ → List ℕ → Bool
+sum_fits cover bytes = bytes_eq (drop (length bytes - 4) bytes) (be32 (crc32 (cover ++ take (length bytes - 4) bytes)))
+
+abbrev pub section : List ℕ → Encode → List ℕ → List ℕ
+section cover encode part = summed cover (encode part)
 
 -- ---- separators
 

@@ -1,5 +1,6 @@
 -- What a table builder keeps, and how a row changes it.
 --     version_of format      the number of a block format
+--     cover_behind p      what the checksum of the next block's section covers beside its bytes
 --     separator_behind rows key      the separator of a block that begins with a key behind these rows
 --     cut_parts p      the rows, cut one after the other
 --     seen min p      the builder that keeps it, where tables have filters from so many rows on
@@ -20,21 +21,26 @@ use Rattle.std.specs.Prelude.{◌≡◌, ℕ, ◌+◌, ◌^◌, ◌<◌, ◌≤�
 use Rattle.std.specs.List.{AllByRecursion}
 use Rattle.slate_types.specs.declared.types.RowEntry.{RowEntry}
 use Rattle.slate_types.specs.declared.config.BlockFormat.{BlockFormat}
-use Rattle.slate_types.specs.declared.config.BlockFormat.TheVariants.{V1, V2, Latest}
+use Rattle.slate_types.specs.declared.config.BlockFormat.TheVariants.{V1, V2, V3, Latest}
 use Rattle.slate_types.specs.Rows.{operand}
 use Rattle.slate_block.specs.BlockSpelling.{block_bytes, FitsBlock}
 use Rattle.slate_block.specs.Building.{Building, CanTake, with_row}
 use Rattle.slate_block.specs.Counting.{Counting, stats_of}
 use Rattle.slate_block.specs.Fitting.{fits_in}
 use Rattle.slate_table.specs.declared.table_parts.TableParts.{TableParts}
-use Rattle.slate_table.specs.Parts.{Encode, section, summed, separator, separators, last_key}
+use Rattle.slate_table.specs.Parts.{Encode, cover_of, block_kind, section, summed, separator, separators, last_key}
 use Rattle.slate_table.specs.Table.{AreInOrder}
 use Rattle.slate_table.specs.TableBuilding.{Cutting, cutting, all_blocks, TableBuilding, max_blocks}
 
 abbrev pub version_of : BlockFormat → ℕ
 version_of V1 = 1
 version_of V2 = 2
+version_of V3 = 3
 version_of Latest = 2
+
+-- what the checksum of the block's section covers, which stands behind those of the blocks that were ended
+abbrev pub cover_behind : TableParts → List ℕ
+cover_behind p = cover_of (version_of p.format) p.id.0 block_kind (length p.bytes.items)
 
 abbrev pub separator_behind : List RowEntry → List ℕ → List ℕ
 separator_behind [] key = key
@@ -44,7 +50,7 @@ abbrev pub cut_parts : TableParts → Cutting
 cut_parts p = cutting p.block_size (version_of p.format) p.rows.items
 
 abbrev pub seen : ℕ → TableParts → TableBuilding
-seen min p = record { version = version_of p.format; size = p.block_size; min = min; rows = p.rows.items; bytes = p.bytes.items; offsets = p.offsets.items }
+seen min p = record { version = version_of p.format; id = p.id.0; size = p.block_size; min = min; rows = p.rows.items; bytes = p.bytes.items; offsets = p.offsets.items }
 
 abbrev pub filled : TableParts → List RowEntry → Building
 filled p rows = record { version = version_of p.format; size = p.block_size; rows = rows }
@@ -70,6 +76,7 @@ Stands p = StandsOn (cut_parts p) p
 pub record IsSame (old new : TableParts) : Type 0 where
   pub size : new.block_size ≡ old.block_size
   pub format : new.format ≡ old.format
+  pub id : new.id ≡ old.id
   pub rows : new.rows.items ≡ old.rows.items
   pub block : new.block ≡ old.block
   pub bytes : new.bytes.items ≡ old.bytes.items
@@ -87,22 +94,24 @@ pub record HasSectionRoom (len : ℕ) (p : TableParts) : Type 0 where
 pub record IsEndedBy (stored : List ℕ) (next : Counting) (old new : TableParts) : Type 0 where
   pub size : new.block_size ≡ old.block_size
   pub format : new.format ≡ old.format
+  pub id : new.id ≡ old.id
   pub separators : new.separators.items ≡ old.separators.items
   pub keys : new.raw_key_size ≡ old.raw_key_size
   pub values : new.raw_val_size ≡ old.raw_val_size
   pub block : new.block ≡ next
-  pub bytes : new.bytes.items ≡ old.bytes.items ++ summed stored
+  pub bytes : new.bytes.items ≡ old.bytes.items ++ summed (cover_behind old) stored
   pub offsets : new.offsets.items ≡ old.offsets.items ++ length old.bytes.items ∷ []
   pub stats : new.block_stats.items ≡ old.block_stats.items ++ old.block.stats ∷ []
 
 pub record IsEnded (encode : Encode) (old new : TableParts) : Type 0 where
   pub size : new.block_size ≡ old.block_size
   pub format : new.format ≡ old.format
+  pub id : new.id ≡ old.id
   pub rows : new.rows.items ≡ old.rows.items
   pub separators : new.separators.items ≡ old.separators.items
   pub keys : new.raw_key_size ≡ old.raw_key_size
   pub values : new.raw_val_size ≡ old.raw_val_size
-  pub bytes : new.bytes.items ≡ old.bytes.items ++ section encode (block_bytes old.block.builder.version old.block.builder.rows)
+  pub bytes : new.bytes.items ≡ old.bytes.items ++ section (cover_behind old) encode (block_bytes old.block.builder.version old.block.builder.rows)
   pub offsets : new.offsets.items ≡ old.offsets.items ++ length old.bytes.items ∷ []
   pub stats : new.block_stats.items ≡ old.block_stats.items ++ old.block.stats ∷ []
   pub fits : FitsBlock old.block.builder.version old.block.builder.rows
@@ -110,6 +119,7 @@ pub record IsEnded (encode : Encode) (old new : TableParts) : Type 0 where
 pub record IsInBlock (old : TableParts) (r : RowEntry) (new : TableParts) : Type 0 where
   pub size : new.block_size ≡ old.block_size
   pub format : new.format ≡ old.format
+  pub id : new.id ≡ old.id
   pub rows : new.rows.items ≡ old.rows.items
   pub separators : new.separators.items ≡ (if length old.block.builder.rows == 0 then old.separators.items ++ separator_behind old.rows.items r.key ∷ [] else old.separators.items)
   pub keys : new.raw_key_size ≡ old.raw_key_size
@@ -123,13 +133,14 @@ pub record IsInBlock (old : TableParts) (r : RowEntry) (new : TableParts) : Type
 pub record IsBegun (stored : List ℕ) (old : TableParts) (r : RowEntry) (new : TableParts) : Type 0 where
   pub size : new.block_size ≡ old.block_size
   pub format : new.format ≡ old.format
+  pub id : new.id ≡ old.id
   pub rows : new.rows.items ≡ old.rows.items
   pub separators : new.separators.items ≡ old.separators.items ++ separator_behind old.rows.items r.key ∷ []
   pub keys : new.raw_key_size ≡ old.raw_key_size
   pub values : new.raw_val_size ≡ old.raw_val_size
   pub builder : new.block.builder ≡ filled old (r ∷ [])
   pub counts : new.block.stats ≡ stats_of (r ∷ [])
-  pub bytes : new.bytes.items ≡ old.bytes.items ++ summed stored
+  pub bytes : new.bytes.items ≡ old.bytes.items ++ summed (cover_behind old) stored
   pub offsets : new.offsets.items ≡ old.offsets.items ++ length old.bytes.items ∷ []
   pub stats : new.block_stats.items ≡ old.block_stats.items ++ old.block.stats ∷ []
 
@@ -143,6 +154,7 @@ IsWritten encode old r new = ((fits_parts old r ≡ true) × IsInBlock old r new
 pub record IsKept (old : TableParts) (r : RowEntry) (new : TableParts) : Type 0 where
   pub size : new.block_size ≡ old.block_size
   pub format : new.format ≡ old.format
+  pub id : new.id ≡ old.id
   pub rows : new.rows.items ≡ old.rows.items ++ r ∷ []
   pub block : new.block ≡ old.block
   pub bytes : new.bytes ≡ old.bytes
@@ -155,6 +167,7 @@ pub record IsKept (old : TableParts) (r : RowEntry) (new : TableParts) : Type 0 
 pub record IsTaken (old : TableParts) (r : RowEntry) (new : TableParts) : Type 0 where
   pub size : new.block_size ≡ old.block_size
   pub format : new.format ≡ old.format
+  pub id : new.id ≡ old.id
   pub rows : new.rows.items ≡ old.rows.items ++ r ∷ []
   pub separators : new.separators.items ≡ (if length old.block.builder.rows == 0 then old.separators.items ++ separator_behind old.rows.items r.key ∷ [] else old.separators.items)
   pub keys : new.raw_key_size ≡ old.raw_key_size + length r.key
@@ -168,13 +181,14 @@ pub record IsTaken (old : TableParts) (r : RowEntry) (new : TableParts) : Type 0
 pub record IsBehind (encode : Encode) (old : TableParts) (r : RowEntry) (new : TableParts) : Type 0 where
   pub size : new.block_size ≡ old.block_size
   pub format : new.format ≡ old.format
+  pub id : new.id ≡ old.id
   pub rows : new.rows.items ≡ old.rows.items ++ r ∷ []
   pub separators : new.separators.items ≡ old.separators.items ++ separator_behind old.rows.items r.key ∷ []
   pub keys : new.raw_key_size ≡ old.raw_key_size + length r.key
   pub values : new.raw_val_size ≡ old.raw_val_size + length (operand r)
   pub builder : new.block.builder ≡ filled old (r ∷ [])
   pub counts : new.block.stats ≡ stats_of (r ∷ [])
-  pub bytes : new.bytes.items ≡ old.bytes.items ++ section encode (block_bytes old.block.builder.version old.block.builder.rows)
+  pub bytes : new.bytes.items ≡ old.bytes.items ++ section (cover_behind old) encode (block_bytes old.block.builder.version old.block.builder.rows)
   pub offsets : new.offsets.items ≡ old.offsets.items ++ length old.bytes.items ∷ []
   pub stats : new.block_stats.items ≡ old.block_stats.items ++ old.block.stats ∷ []
   pub fits : FitsBlock old.block.builder.version old.block.builder.rows
@@ -184,7 +198,7 @@ IsAdded encode old r new = ((fits_parts old r ≡ true) × IsTaken old r new) �
 
 -- the length of the section of the block that the row ended
 abbrev pub ended_size : Encode → TableParts → RowEntry → Option ℕ
-ended_size encode p r = if fits_parts p r then None else Some (length (section encode (block_bytes p.block.builder.version p.block.builder.rows)))
+ended_size encode p r = if fits_parts p r then None else Some (length (section (cover_behind p) encode (block_bytes p.block.builder.version p.block.builder.rows)))
 
 pub record HasSums (p : TableParts) (r : RowEntry) : Type 0 where
   pub keys : p.raw_key_size + length r.key < 2 ^ 64

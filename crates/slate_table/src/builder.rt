@@ -17,13 +17,13 @@ use crate::encoded_table::EncodedSsTable;
 use crate::info::SsTableFormat;
 use crate::table_parts::{TableParts, new_block};
 use slate_filter::FilterPolicy;
-use slate_types::{BlockTransformer, RowEntry, SlateDBError};
+use slate_types::{BlockTransformer, RowEntry, SlateDBError, Ulid};
 use std::alloc::Global;
 use std::marker::Model;
 
 /// Takes rows in their order, key upwards and sequence downwards, and gives their table. A block ends just before a row that
 /// doesn't fit. A table of enough rows
-/// has the filters of the policies. Contracts see the version, the block size and that number, the rows that were added, and the
+/// has the filters of the policies. Contracts see the version, the table's id, the block size and that number, the rows that were added, and the
 /// sections of the blocks that were ended and where they begin.
 #[derive(Drop)]
 pub struct EncodedSsTableBuilder {
@@ -45,12 +45,16 @@ impl Model for EncodedSsTableBuilder {
 }
 
 impl EncodedSsTableBuilder {
-    /// A builder with no row, for blocks of 1 to 65535 bytes. `UnsupportedCompression` exactly where the format names a codec,
+    /// A builder of the table of an id, with no row, for blocks of 1 to 65535 bytes. `UnsupportedCompression` exactly where the format names a codec,
     /// with the codec's byte; or `OutOfMemory`.
-    pub fn new(alloc: Global, format: &SsTableFormat) -> Result<EncodedSsTableBuilder, SlateDBError>
+    pub fn new(
+        alloc: Global,
+        format: &SsTableFormat,
+        id: Ulid,
+    ) -> Result<EncodedSsTableBuilder, SlateDBError>
         requires some { 0 < format.now.block_size }
         requires few { format.now.block_size ≤ 65535 }
-        ensures begun { IfOk result (λ builder. builder ≡ begun (version_of format.now.block_format) format.now.block_size format.now.min_filter_keys) }
+        ensures begun { IfOk result (λ builder. builder ≡ begun (version_of format.now.block_format) id.0 format.now.block_size format.now.min_filter_keys) }
         ensures cause { IfErr result (λ e. (e ≡ SlateDBError.OutOfMemory) ⊎ IsSome format.now.compression_codec) }
         ensures refused { IfSome format.now.compression_codec (λ codec. result ≡ Err (SlateDBError.UnsupportedCompression (codec_byte codec))) }
         ensures no_codec { OnOk result (format.now.compression_codec ≡ None) }
@@ -62,6 +66,7 @@ impl EncodedSsTableBuilder {
         let parts = TableParts {
             block_size: format.block_size,
             format: format.block_format,
+            id,
             rows: Vec::new(alloc),
             block,
             bytes: Vec::new(alloc),
@@ -103,6 +108,7 @@ impl EncodedSsTableBuilder {
         ensures added { OnOk result (self.new.rows ≡ self.old.rows ++ entry ∷ []) }
         ensures unspoilt { OnErr result (self.new ≡ self.old) }
         ensures version { self.new.version ≡ self.old.version }
+        ensures id { self.new.id ≡ self.old.id }
         ensures size { self.new.size ≡ self.old.size }
         ensures min { self.new.min ≡ self.old.min }
         ensures encoded { AreEncoded (changed_by T.encoded transformer.old) self.old → AreEncoded (changed_by T.encoded transformer.old) self.new }
@@ -136,9 +142,10 @@ impl EncodedSsTableBuilder {
     ) -> Result<EncodedSsTable, SlateDBError>
         requires rows { 0 < length self.rows }
         requires names { AreValidNames (map (λ p. (meaning p).name) policies.now) }
-        ensures built { IfOk result (λ table. AreEncoded (changed_by T.encoded transformer.old) self → IsBuilt (changed_by T.encoded transformer.old) (map (λ p. meaning p) policies.now) self.min self.size self.version table.bytes self.rows) }
-        ensures info { IfOk result (λ table. HasInfo table.bytes self.version (seen_info table.info)) }
+        ensures built { IfOk result (λ table. AreEncoded (changed_by T.encoded transformer.old) self → IsBuilt (changed_by T.encoded transformer.old) (map (λ p. meaning p) policies.now) self.min self.size self.version self.id table.bytes self.rows) }
+        ensures info { IfOk result (λ table. HasInfo table.bytes self.version self.id (seen_info table.info)) }
         ensures version { IfOk result (λ table. table.version ≡ self.version) }
+        ensures id { IfOk result (λ table. table.id.0 ≡ self.id) }
         ensures cause { IfErr result (λ e. IsTransformFault (faults_of T.faults transformer.old) (faults_of T.faults transformer.new) e) }
         ensures same_encoded { changed_by T.encoded transformer.new ≡ changed_by T.encoded transformer.old }
         ensures same_decoded { changed_by T.decoded transformer.new ≡ changed_by T.decoded transformer.old }

@@ -10,7 +10,14 @@ use std::simd::prelude::*;
 pub fn checksum(bytes: &[u8]) -> u32
     ensures { result ≡ crc32 bytes.now }
 {
-    let mut crc = u32::MAX;
+    crc_more(u32::MAX, bytes) ^ u32::MAX
+}
+
+/// The state behind bytes, from the one before them.
+pub(crate) fn crc_more(start: u32, bytes: &[u8]) -> u32
+    ensures { result ≡ crc_from start bytes.now }
+{
+    let mut crc = start;
     let mut rest = bytes;
     while rest.len() >= 512 {
         let groups = ((rest.len() - 304) / 16).min(256);
@@ -18,7 +25,7 @@ pub fn checksum(bytes: &[u8]) -> u32
         crc = round(crc, now, groups);
         rest = later;
     }
-    sixteen_each(crc, rest) ^ u32::MAX
+    sixteen_each(crc, rest)
 }
 
 /// Folds so many groups of sixteen bytes into later ones, and takes what that leaves of the 304 bytes behind. Since 1 + x^89

@@ -3,15 +3,16 @@ ghost use Rattle.std.specs.Prelude.{◌≡◌, IfOk, IsOkUnless};
 
 use crate::info::SsTableInfo;
 use bytes::Bytes;
-use slate_types::SlateDBError;
+use slate_types::{SlateDBError, Ulid};
 use std::marker::Model;
 
-/// A table that was built, ready to be put. Contracts see its bytes, its info and its version.
+/// A table that was built, ready to be put. Contracts see its bytes, its info, its version and its id.
 #[derive(Drop)]
 pub struct EncodedSsTable {
     bytes: Bytes,
     info: SsTableInfo,
     version: u16,
+    id: Ulid,
 }
 
 impl Model for EncodedSsTable {
@@ -19,19 +20,26 @@ impl Model for EncodedSsTable {
 
     ghost Value = { EncodedTable };
 
-    ghost view = { λ t. record { bytes = t.bytes; info = t.info; version = t.version } };
+    ghost view = { λ t. record { bytes = t.bytes; info = t.info; version = t.version; id = t.id } };
 }
 
 impl EncodedSsTable {
-    pub(crate) fn new(bytes: Bytes, info: SsTableInfo, version: u16) -> EncodedSsTable
+    pub(crate) fn new(
+        bytes: Bytes,
+        info: SsTableInfo,
+        version: u16,
+        id: Ulid,
+    ) -> EncodedSsTable
         ensures bytes { result.bytes ≡ bytes }
         ensures info { result.info ≡ info }
         ensures version { result.version ≡ version }
+        ensures id { result.id ≡ id }
     {
         EncodedSsTable {
             bytes,
             info,
             version,
+            id,
         }
     }
 
@@ -41,6 +49,13 @@ impl EncodedSsTable {
         ensures cause { IsOkUnless result SlateDBError.OutOfMemory }
     {
         self.bytes.clone().map_err(SlateDBError::from)
+    }
+
+    /// The id that it was built for.
+    pub fn id(&self) -> Ulid
+        ensures { result ≡ self.now.id }
+    {
+        self.id
     }
 
     /// Its first and its last key, and where its sections lie.

@@ -7,11 +7,11 @@ ghost use Rattle.slate_filter.specs.Named.{named_pair};
 ghost use Rattle.slate_filter.specs.Policy.{filters_of};
 ghost use Rattle.slate_table.specs.Asking.{Asks};
 ghost use Rattle.slate_table.specs.Parts.{filter_bytes};
-ghost use Rattle.slate_table.specs.SectionReading.{changed_by};
+ghost use Rattle.slate_table.specs.SectionReading.{changed_by, covered_by};
 ghost use Rattle.slate_table.specs.Table.{FitsFilter, filter_section};
 ghost use Rattle.slate_table.specs.TableEnd.{HasShortNames};
 
-use crate::section::seal_section;
+use crate::section::{SectionPlace, seal_section};
 use crate::writing::{append, append_short, append_u16, append_u64};
 use bytes::Bytes;
 use slate_filter::{FilterPolicy, NamedFilter, build_filters};
@@ -36,16 +36,17 @@ pub fn filters_of_rows(
     build_filters(alloc, policies, rows)
 }
 
-/// Appends the section of these filters, where there are any. `BlockTransformError`, only where the transformer's count of faults
+/// Appends the section of these filters, which stands at a place, where there are any. `BlockTransformError`, only where the transformer's count of faults
 /// rose, or `OutOfMemory`.
 pub fn append_filter_section<T: BlockTransformer>(
     alloc: Global,
     out: &mut Vec<u8>,
+    place: SectionPlace,
     filters: &[NamedFilter],
     transformer: &mut Option<T>,
 ) -> Result<(), SlateDBError>
     requires names { HasShortNames filters.now }
-    ensures appended { OnOk result (out.new.items ≡ out.old.items ++ filter_section (changed_by T.encoded transformer.old) (map named_pair filters.now)) }
+    ensures appended { OnOk result (out.new.items ≡ out.old.items ++ filter_section (covered_by place) (changed_by T.encoded transformer.old) (map named_pair filters.now)) }
     ensures fit { OnOk result (AllByRecursion FitsFilter (map named_pair filters.now)) }
     ensures asks { Asks T.encoded T.decoded T.faults transformer.old transformer.new result }
 {
@@ -53,7 +54,7 @@ pub fn append_filter_section<T: BlockTransformer>(
         return Ok(());
     }
     let part = encode_filters(alloc, filters)?;
-    seal_section(alloc, out, part, transformer)
+    seal_section(alloc, out, place, part, transformer)
 }
 
 /// The bytes of a list of filters. The one error is `OutOfMemory`.

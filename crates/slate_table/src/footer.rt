@@ -1,5 +1,6 @@
 //! The last bytes of a table: where its info begins, and its version.
-ghost use Rattle.std.specs.Prelude.{◌≡◌, ◌+◌, ◌<◌, ◌≤◌, ◌++◌, ◌⊎◌, length, take, Ok, Err, OnOk, OnErr, IfOk, IfErr, IsOkUnless};
+ghost use Rattle.std.specs.Prelude.{◌≡◌, ◌+◌, ◌<◌, ◌≤◌, ◌++◌, length, take, Ok, Err, OnOk, OnErr, IfOk, IfErr, IsOkUnless};
+ghost use Rattle.slate_block.specs.BlockSpelling.{IsKnown};
 ghost use Rattle.slate_table.specs.SectionReading.{footer_bytes, footer_in};
 
 use crate::writing::{append_u16, append_u64};
@@ -9,7 +10,7 @@ use slate_types::SlateDBError;
 /// How many bytes they are.
 pub const FOOTER_SIZE: usize = 10;
 
-/// Where the info of a table begins, and the table's version, 1 or 2.
+/// Where the info of a table begins, and the table's version, 1, 2 or 3.
 #[derive(Clone, Copy)]
 pub struct Footer {
     pub info_offset: u64,
@@ -27,21 +28,21 @@ impl Footer {
         append_u16(out, self.version)
     }
 
-    /// The last bytes of an object of so many bytes. `InvalidVersion` exactly where the version isn't 1 or 2; then
+    /// The last bytes of an object of so many bytes. `InvalidVersion` exactly where the version isn't 1, 2 or 3; then
     /// `CorruptTable` at 0 exactly where the info begins past what stands before these bytes.
     #[tactic(auto, unfolding(crate::specs::SectionReading::footer_in))]
     pub fn decode(bytes: &[u8], len: u64) -> Result<Footer, SlateDBError>
         requires whole { length bytes.now ≡ 10 }
         requires longer { 10 < len }
         ensures found { IfOk result (λ footer. bytes.now ≡ footer_bytes footer.info_offset footer.version) }
-        ensures known { IfOk result (λ footer. (footer.version ≡ 1) ⊎ (footer.version ≡ 2)) }
+        ensures known { IfOk result (λ footer. IsKnown footer.version) }
         ensures within { IfOk result (λ footer. footer.info_offset + 10 ≤ len) }
         ensures read { IfOk result (λ footer. footer_in len bytes.now ≡ Ok (footer.info_offset, footer.version)) }
         ensures cause { IfErr result (λ e. footer_in len bytes.now ≡ Err e) }
     {
         let (info_offset, at) = u64_field(bytes, 0)?;
         let (version, _) = u16_field(bytes, at)?;
-        if version != 1 && version != 2 {
+        if version != 1 && version != 2 && version != 3 {
             return Err(SlateDBError::InvalidVersion {
                 actual_version: version,
             });

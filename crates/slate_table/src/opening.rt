@@ -1,5 +1,6 @@
 //! How a table is opened: its object is measured, and its last bytes and its info are read.
 ghost use Rattle.std.specs.Prelude.{◌≡◌, ◌≤◌, ◌<◌, ◌+◌, ◌-◌, ◌⊎◌, ℕ, List, Option, Some, Err, Ok, length, OnOk, OnErr, IfOk, IfErr, IfSome};
+ghost use Rattle.slate_block.specs.BlockSpelling.{IsKnown};
 ghost use Rattle.slate_table.specs.Paths.{path_of};
 ghost use Rattle.slate_table.specs.InfoReading.{seen_info};
 ghost use Rattle.slate_table.specs.Asking.{Reaches};
@@ -19,7 +20,7 @@ ghost use Rattle.slate_table.specs.Opening.{
 use crate::footer::{FOOTER_SIZE, Footer};
 use crate::info::{SsTableHandle, SsTableInfo};
 use crate::paths::table_path;
-use crate::section::{CHECKSUM_SIZE, checked_part};
+use crate::section::{CHECKSUM_SIZE, INFO_KIND, SectionPlace, checked_part};
 use crate::table_store::read;
 use bytes::Bytes;
 use slate_block::fields::corrupt;
@@ -34,10 +35,10 @@ pub(crate) fn open_table<S: Store>(
     root: &str,
     id: Ulid,
 ) -> Result<SsTableHandle, SlateDBError>
-    ensures found { IfOk result (λ table. IsOpened (S.objects store.old) (S.acts store.old) (S.acts store.new) (path_of root.now id.0) table.format_version (seen_info table.info)) }
-    ensures known { IfOk result (λ table. (table.format_version ≡ 1) ⊎ (table.format_version ≡ 2)) }
+    ensures found { IfOk result (λ table. IsOpened (S.objects store.old) (S.acts store.old) (S.acts store.new) (path_of root.now id.0) id.0 table.format_version (seen_info table.info)) }
+    ensures known { IfOk result (λ table. IsKnown table.format_version) }
     ensures id { IfOk result (λ table. table.id ≡ id) }
-    ensures cause { IfErr result (λ e. IsStoreFault (S.faults store.old) (S.faults store.new) e ⊎ RefusesOpen (S.objects store.old) (S.acts store.old) (S.acts store.new) (path_of root.now id.0) e) }
+    ensures cause { IfErr result (λ e. IsStoreFault (S.faults store.old) (S.faults store.new) e ⊎ RefusesOpen (S.objects store.old) (S.acts store.old) (S.acts store.new) (path_of root.now id.0) id.0 e) }
     ensures calls { OnErr result (MayOpen (S.objects store.old) (S.acts store.old) (S.acts store.new) (path_of root.now id.0)) }
     ensures reaches { Reaches S.objects S.faults store.old store.new result }
 {
@@ -95,7 +96,7 @@ fn read_footer<S: Store>(
 ) -> Result<Footer, SlateDBError>
     requires { 10 < len }
     ensures found { IfOk result (λ footer. Reads (S.objects store.old) (S.acts store.old) (S.acts store.new) (path_of root.now id.0) (len - 10) 10 (λ answer. last_in len answer ≡ Ok (footer.info_offset, footer.version))) }
-    ensures known { IfOk result (λ footer. (footer.version ≡ 1) ⊎ (footer.version ≡ 2)) }
+    ensures known { IfOk result (λ footer. IsKnown footer.version) }
     ensures within { IfOk result (λ footer. footer.info_offset + 10 ≤ len) }
     ensures cause { IfErr result (λ e. IsStoreFault (S.faults store.old) (S.faults store.new) e ⊎ Reads (S.objects store.old) (S.acts store.old) (S.acts store.new) (path_of root.now id.0) (len - 10) 10 (λ answer. last_in len answer ≡ Err e)) }
     ensures once { OnErr result ((S.acts store.new ≡ S.acts store.old) ⊎ Reads (S.objects store.old) (S.acts store.old) (S.acts store.new) (path_of root.now id.0) (len - 10) 10 (λ _. Unit {0})) }
@@ -113,7 +114,7 @@ fn footer_of(answer: &Option<Bytes>, len: u64) -> Result<Footer, SlateDBError>
     requires long { 10 < len }
     requires whole { IfSome answer.now (λ bytes. length bytes ≡ 10) }
     ensures found { IfOk result (λ footer. last_in len answer.now ≡ Ok (footer.info_offset, footer.version)) }
-    ensures known { IfOk result (λ footer. (footer.version ≡ 1) ⊎ (footer.version ≡ 2)) }
+    ensures known { IfOk result (λ footer. IsKnown footer.version) }
     ensures within { IfOk result (λ footer. footer.info_offset + 10 ≤ len) }
     ensures cause { IfErr result (λ e. last_in len answer.now ≡ Err e) }
 {
@@ -133,9 +134,9 @@ fn read_info<S: Store>(
     len: u64,
 ) -> Result<SsTableInfo, SlateDBError>
     requires { footer.info_offset + 10 ≤ len }
-    ensures found { IfOk result (λ info. Reads (S.objects store.old) (S.acts store.old) (S.acts store.new) (path_of root.now id.0) footer.info_offset (info_size len footer.info_offset) (λ answer. IsInfoRead footer.version footer.info_offset answer (seen_info info))) }
+    ensures found { IfOk result (λ info. Reads (S.objects store.old) (S.acts store.old) (S.acts store.new) (path_of root.now id.0) footer.info_offset (info_size len footer.info_offset) (λ answer. IsInfoRead footer.version id.0 footer.info_offset answer (seen_info info))) }
     ensures some { IfOk result (λ _. 4 < info_size len footer.info_offset) }
-    ensures cause { IfErr result (λ e. IsStoreFault (S.faults store.old) (S.faults store.new) e ⊎ ((S.acts store.new ≡ S.acts store.old) × (info_size len footer.info_offset ≤ 4) × (e ≡ SlateDBError.EmptyBlockMeta (info_size len footer.info_offset))) ⊎ ((4 < info_size len footer.info_offset) × Reads (S.objects store.old) (S.acts store.old) (S.acts store.new) (path_of root.now id.0) footer.info_offset (info_size len footer.info_offset) (λ answer. RefusesInfo footer.version footer.info_offset answer e))) }
+    ensures cause { IfErr result (λ e. IsStoreFault (S.faults store.old) (S.faults store.new) e ⊎ ((S.acts store.new ≡ S.acts store.old) × (info_size len footer.info_offset ≤ 4) × (e ≡ SlateDBError.EmptyBlockMeta (info_size len footer.info_offset))) ⊎ ((4 < info_size len footer.info_offset) × Reads (S.objects store.old) (S.acts store.old) (S.acts store.new) (path_of root.now id.0) footer.info_offset (info_size len footer.info_offset) (λ answer. RefusesInfo footer.version id.0 footer.info_offset answer e))) }
     ensures once { OnErr result ((S.acts store.new ≡ S.acts store.old) ⊎ Reads (S.objects store.old) (S.acts store.old) (S.acts store.new) (path_of root.now id.0) footer.info_offset (info_size len footer.info_offset) (λ _. Unit {0})) }
     ensures reaches { Reaches S.objects S.faults store.old store.new result }
 {
@@ -144,18 +145,24 @@ fn read_info<S: Store>(
         return Err(SlateDBError::EmptyBlockMeta { len: size });
     }
     let answer = read(alloc, store, root, id, (footer.info_offset, size))?;
-    info_of(answer, footer)
+    info_of(answer, id, footer)
 }
 
-/// The info that was read.
-fn info_of(answer: Option<Bytes>, footer: Footer) -> Result<SsTableInfo, SlateDBError>
-    ensures found { IfOk result (λ info. IsInfoRead footer.version footer.info_offset answer (seen_info info)) }
-    ensures cause { IfErr result (λ e. (e ≡ SlateDBError.OutOfMemory) ⊎ RefusesInfo footer.version footer.info_offset answer e) }
+/// The info of the table of an id that was read.
+fn info_of(answer: Option<Bytes>, id: Ulid, footer: Footer) -> Result<SsTableInfo, SlateDBError>
+    ensures found { IfOk result (λ info. IsInfoRead footer.version id.0 footer.info_offset answer (seen_info info)) }
+    ensures cause { IfErr result (λ e. (e ≡ SlateDBError.OutOfMemory) ⊎ RefusesInfo footer.version id.0 footer.info_offset answer e) }
 {
     match answer {
         None => Err(corrupt(0)),
         Some(bytes) => {
-            let part = checked_part(&bytes);
+            let place = SectionPlace {
+                version: footer.version,
+                id,
+                kind: INFO_KIND,
+                offset: footer.info_offset,
+            };
+            let part = checked_part(&bytes, place);
             drop(bytes);
             SsTableInfo::decode(part?, footer.version, footer.info_offset)
         }

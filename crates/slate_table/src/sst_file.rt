@@ -8,7 +8,7 @@ ghost use Rattle.slate_table.specs.Paths.{path_of};
 ghost use Rattle.slate_table.specs.SectionReading.{changed_by};
 ghost use Rattle.slate_table.specs.IndexValue.{entries_of};
 ghost use Rattle.slate_table.specs.StatsReading.{stats_of};
-ghost use Rattle.slate_table.specs.Reading.{Reads, IsStoreFault, FailsDecoding, IsIndexRead, RefusesIndex, IsStatsRead, RefusesStats};
+ghost use Rattle.slate_table.specs.Reading.{Reads, of_index, of_stats, IsStoreFault, FailsDecoding, IsIndexRead, RefusesIndex, IsStatsRead, RefusesStats};
 ghost use Rattle.slate_table.specs.Opening.{IsMeasured};
 ghost use Rattle.slate_table.specs.FileReading.{rows_in, ReadsRows, RefusesReadRows, FailsReadRows, MayReadRows};
 
@@ -17,7 +17,8 @@ use crate::opening::object_len;
 use crate::sst_index::SstIndex;
 use crate::sst_reader::SstReader;
 use crate::sst_stats::SstStats;
-use crate::table_store::{TableStore, read_block, read_part};
+use crate::section::STATS_KIND;
+use crate::table_store::{TableStore, place_in, read_block, read_part};
 use slate_block::fields::corrupt;
 use slate_block::{Block, DataBlockIterator};
 use slate_store::Store;
@@ -81,8 +82,8 @@ impl SstFile {
     ) -> Result<Option<SstStats>, SlateDBError>
         ensures none { (result ≡ Ok None) ↔ (self.now.handle.info.stats_len ≡ 0) }
         ensures unread { self.now.handle.info.stats_len ≡ 0 → S.acts reader.new.store ≡ S.acts reader.old.store }
-        ensures found { IfOk result (λ answer. IfSome answer (λ stats. Reads (S.objects reader.old.store) (S.acts reader.old.store) (S.acts reader.new.store) (path_of (string_bytes reader.old.root_path) self.now.handle.id.0) self.now.handle.info.stats_offset self.now.handle.info.stats_len (λ answer. IsStatsRead (changed_by T.decoded reader.old.transformer) answer (stats_of stats)))) }
-        ensures cause { IfErr result (λ e. IsStoreFault (S.faults reader.old.store) (S.faults reader.new.store) e ⊎ Reads (S.objects reader.old.store) (S.acts reader.old.store) (S.acts reader.new.store) (path_of (string_bytes reader.old.root_path) self.now.handle.id.0) self.now.handle.info.stats_offset self.now.handle.info.stats_len (λ answer. FailsDecoding (faults_of T.faults reader.old.transformer) (faults_of T.faults reader.new.transformer) answer e) ⊎ Reads (S.objects reader.old.store) (S.acts reader.old.store) (S.acts reader.new.store) (path_of (string_bytes reader.old.root_path) self.now.handle.id.0) self.now.handle.info.stats_offset self.now.handle.info.stats_len (λ answer. RefusesStats (changed_by T.decoded reader.old.transformer) answer e)) }
+        ensures found { IfOk result (λ answer. IfSome answer (λ stats. Reads (S.objects reader.old.store) (S.acts reader.old.store) (S.acts reader.new.store) (path_of (string_bytes reader.old.root_path) self.now.handle.id.0) self.now.handle.info.stats_offset self.now.handle.info.stats_len (λ answer. IsStatsRead (changed_by T.decoded reader.old.transformer) (of_stats self.now.handle answer) (stats_of stats)))) }
+        ensures cause { IfErr result (λ e. IsStoreFault (S.faults reader.old.store) (S.faults reader.new.store) e ⊎ Reads (S.objects reader.old.store) (S.acts reader.old.store) (S.acts reader.new.store) (path_of (string_bytes reader.old.root_path) self.now.handle.id.0) self.now.handle.info.stats_offset self.now.handle.info.stats_len (λ answer. FailsDecoding (faults_of T.faults reader.old.transformer) (faults_of T.faults reader.new.transformer) (of_stats self.now.handle answer) e) ⊎ Reads (S.objects reader.old.store) (S.acts reader.old.store) (S.acts reader.new.store) (path_of (string_bytes reader.old.root_path) self.now.handle.id.0) self.now.handle.info.stats_offset self.now.handle.info.stats_len (λ answer. RefusesStats (changed_by T.decoded reader.old.transformer) (of_stats self.now.handle answer) e)) }
         ensures once { OnErr result ((S.acts reader.new.store ≡ S.acts reader.old.store) ⊎ Reads (S.objects reader.old.store) (S.acts reader.old.store) (S.acts reader.new.store) (path_of (string_bytes reader.old.root_path) self.now.handle.id.0) self.now.handle.info.stats_offset self.now.handle.info.stats_len (λ _. Unit {0})) }
         ensures objects { S.objects reader.new.store ≡ S.objects reader.old.store }
         ensures root { reader.new.root_path ≡ reader.old.root_path }
@@ -93,20 +94,14 @@ impl SstFile {
         ensures later_transformer { faults_of T.faults reader.old.transformer ≤ faults_of T.faults reader.new.transformer }
         ensures still_transformer { (result ≡ Err SlateDBError.BlockTransformError) ⊎ (result ≡ Err SlateDBError.OutOfMemory) ⊎ (faults_of T.faults reader.new.transformer ≡ faults_of T.faults reader.old.transformer) }
     {
-        let place = (self.handle.info.stats_offset, self.handle.info.stats_len);
-        if place.1 == 0 {
+        let len = self.handle.info.stats_len;
+        if len == 0 {
             return Ok(None);
         }
         let root = reader.root_path.as_str();
         let transformer = &mut reader.transformer;
-        let part = read_part(
-            alloc,
-            &mut reader.store,
-            root,
-            self.handle.id,
-            place,
-            transformer,
-        )?;
+        let place = place_in(&self.handle, STATS_KIND, self.handle.info.stats_offset);
+        let part = read_part(alloc, &mut reader.store, root, place, len, transformer)?;
         SstStats::decode(alloc, part).map(Some)
     }
 
@@ -116,8 +111,8 @@ impl SstFile {
         alloc: Global,
         reader: &mut SstReader<S, T>,
     ) -> Result<SstIndex, SlateDBError>
-        ensures found { IfOk result (λ index. Reads (S.objects reader.old.store) (S.acts reader.old.store) (S.acts reader.new.store) (path_of (string_bytes reader.old.root_path) self.now.handle.id.0) self.now.handle.info.index_offset self.now.handle.info.index_len (λ answer. IsIndexRead (changed_by T.decoded reader.old.transformer) self.now.handle.info.filter_offset answer (entries_of index))) }
-        ensures cause { IfErr result (λ e. IsStoreFault (S.faults reader.old.store) (S.faults reader.new.store) e ⊎ Reads (S.objects reader.old.store) (S.acts reader.old.store) (S.acts reader.new.store) (path_of (string_bytes reader.old.root_path) self.now.handle.id.0) self.now.handle.info.index_offset self.now.handle.info.index_len (λ answer. FailsDecoding (faults_of T.faults reader.old.transformer) (faults_of T.faults reader.new.transformer) answer e) ⊎ Reads (S.objects reader.old.store) (S.acts reader.old.store) (S.acts reader.new.store) (path_of (string_bytes reader.old.root_path) self.now.handle.id.0) self.now.handle.info.index_offset self.now.handle.info.index_len (λ answer. RefusesIndex (changed_by T.decoded reader.old.transformer) self.now.handle.info.filter_offset answer e)) }
+        ensures found { IfOk result (λ index. Reads (S.objects reader.old.store) (S.acts reader.old.store) (S.acts reader.new.store) (path_of (string_bytes reader.old.root_path) self.now.handle.id.0) self.now.handle.info.index_offset self.now.handle.info.index_len (λ answer. IsIndexRead (changed_by T.decoded reader.old.transformer) self.now.handle.info.filter_offset (of_index self.now.handle answer) (entries_of index))) }
+        ensures cause { IfErr result (λ e. IsStoreFault (S.faults reader.old.store) (S.faults reader.new.store) e ⊎ Reads (S.objects reader.old.store) (S.acts reader.old.store) (S.acts reader.new.store) (path_of (string_bytes reader.old.root_path) self.now.handle.id.0) self.now.handle.info.index_offset self.now.handle.info.index_len (λ answer. FailsDecoding (faults_of T.faults reader.old.transformer) (faults_of T.faults reader.new.transformer) (of_index self.now.handle answer) e) ⊎ Reads (S.objects reader.old.store) (S.acts reader.old.store) (S.acts reader.new.store) (path_of (string_bytes reader.old.root_path) self.now.handle.id.0) self.now.handle.info.index_offset self.now.handle.info.index_len (λ answer. RefusesIndex (changed_by T.decoded reader.old.transformer) self.now.handle.info.filter_offset (of_index self.now.handle answer) e)) }
         ensures once { OnErr result ((S.acts reader.new.store ≡ S.acts reader.old.store) ⊎ Reads (S.objects reader.old.store) (S.acts reader.old.store) (S.acts reader.new.store) (path_of (string_bytes reader.old.root_path) self.now.handle.id.0) self.now.handle.info.index_offset self.now.handle.info.index_len (λ _. Unit {0})) }
         ensures objects { S.objects reader.new.store ≡ S.objects reader.old.store }
         ensures root { reader.new.root_path ≡ reader.old.root_path }
@@ -136,7 +131,7 @@ impl SstFile {
     /// The rows of a block, by one read of the index and one of the block. The index is refused as by `index`; then
     /// `BlockOutOfRange` exactly at or past the number of blocks; then the block is refused as by `TableStore::read_blocks`,
     /// and a row in it as by a walk upwards: `CorruptTable` with the place of the first field that fails in the rows' part, or
-    /// `InvalidRowFlags`. A handle of another version than 1 and 2 gets `InvalidVersion` once the block was read.
+    /// `InvalidRowFlags`. A handle of another version than 1, 2 and 3 gets `InvalidVersion` once the block was read.
     pub fn read_block<S: Store, T: BlockTransformer>(
         &self,
         alloc: Global,

@@ -1,5 +1,6 @@
 //! Readers that own the store that they read.
 ghost use Rattle.std.specs.Prelude.{◌≡◌, ◌≤◌, ◌⊎◌, string_bytes, Err, OnErr, IfOk, IfErr, IsOkUnless};
+ghost use Rattle.slate_block.specs.BlockSpelling.{IsKnown};
 ghost use Rattle.slate_table.specs.Paths.{path_of};
 ghost use Rattle.slate_table.specs.InfoReading.{seen_info};
 ghost use Rattle.slate_table.specs.Reading.{IsStoreFault};
@@ -50,15 +51,15 @@ impl<S: Store, T: BlockTransformer> SstReader<S, T> {
 
     /// The table of an id, by three calls of the store: its size, its last bytes and its info. `StoreFault`, only where the
     /// store's count of faults rose. Otherwise the first of these: `CorruptTable` at 0 where there is no such object;
-    /// `EmptySSTable` where it has at most 10 bytes; `InvalidVersion` where the version isn't 1 or 2; `CorruptTable` at 0 where
+    /// `EmptySSTable` where it has at most 10 bytes; `InvalidVersion` where the version isn't 1, 2 or 3; `CorruptTable` at 0 where
     /// the info would begin behind its last 10 bytes or in them; `EmptyBlockMeta` where the info and its checksum have at most
     /// 4 bytes; `ChecksumMismatch`; `CorruptTable` with the place of the first field of the info that fails;
     /// `UnsupportedCompression` with the codec's byte. Or `OutOfMemory`.
     pub fn open(&mut self, alloc: Global, id: Ulid) -> Result<SstFile, SlateDBError>
-        ensures found { IfOk result (λ file. IsOpened (S.objects self.old.store) (S.acts self.old.store) (S.acts self.new.store) (path_of (string_bytes self.old.root_path) id.0) file.handle.format_version (seen_info file.handle.info)) }
-        ensures known { IfOk result (λ file. (file.handle.format_version ≡ 1) ⊎ (file.handle.format_version ≡ 2)) }
+        ensures found { IfOk result (λ file. IsOpened (S.objects self.old.store) (S.acts self.old.store) (S.acts self.new.store) (path_of (string_bytes self.old.root_path) id.0) id.0 file.handle.format_version (seen_info file.handle.info)) }
+        ensures known { IfOk result (λ file. IsKnown file.handle.format_version) }
         ensures id { IfOk result (λ file. file.handle.id ≡ id) }
-        ensures cause { IfErr result (λ e. IsStoreFault (S.faults self.old.store) (S.faults self.new.store) e ⊎ RefusesOpen (S.objects self.old.store) (S.acts self.old.store) (S.acts self.new.store) (path_of (string_bytes self.old.root_path) id.0) e) }
+        ensures cause { IfErr result (λ e. IsStoreFault (S.faults self.old.store) (S.faults self.new.store) e ⊎ RefusesOpen (S.objects self.old.store) (S.acts self.old.store) (S.acts self.new.store) (path_of (string_bytes self.old.root_path) id.0) id.0 e) }
         ensures calls { OnErr result (MayOpen (S.objects self.old.store) (S.acts self.old.store) (S.acts self.new.store) (path_of (string_bytes self.old.root_path) id.0)) }
         ensures objects { S.objects self.new.store ≡ S.objects self.old.store }
         ensures root { self.new.root_path ≡ self.old.root_path }

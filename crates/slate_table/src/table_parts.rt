@@ -13,7 +13,7 @@ ghost use Rattle.slate_table.specs.SectionReading.{changed_by};
 ghost use Rattle.slate_table.specs.Asking.{Asks};
 ghost use Rattle.slate_table.specs.Table.{some_first, some_last};
 ghost use Rattle.slate_table.specs.Decoded.{FitsShort};
-ghost use Rattle.slate_table.specs.TableParts.{version_of, separator_behind, fits_parts, ended_size, HasSectionRoom, HasSums, IsAdded, IsBegun, IsEnded, IsEndedBy, IsFull, IsKept, IsSame, IsWritten, Stands};
+ghost use Rattle.slate_table.specs.TableParts.{version_of, cover_behind, separator_behind, fits_parts, ended_size, HasSectionRoom, HasSums, IsAdded, IsBegun, IsEnded, IsEndedBy, IsFull, IsKept, IsSame, IsWritten, Stands};
 ghost use Rattle.slate_table.specs.InfoReading.{seen_info};
 ghost use Rattle.slate_table.specs.TableEnd.{EndsAt, IsFiltered, IsReady, IsSealed, IsFinished};
 
@@ -21,14 +21,17 @@ use crate::encoded_table::EncodedSsTable;
 use crate::filters_writing::{append_filter_section, filters_of_rows};
 use crate::index_writing::encode_index;
 use crate::info::SsTableInfo;
-use crate::section::{CHECKSUM_SIZE, encoded, put_summed, seal_section};
+use crate::section::{
+    BLOCK_KIND, CHECKSUM_SIZE, FILTERS_KIND, INDEX_KIND, STATS_KIND, SectionPlace, encoded, put_summed,
+    seal_section,
+};
 use crate::separator::separator;
 use crate::stats_writing::encode_stats;
 use crate::table_end::{SectionOffsets, append_end};
 use bytes::Bytes;
 use slate_block::{BlockBuilder, BlockBuilderWithStats, BlockStats};
 use slate_filter::FilterPolicy;
-use slate_types::{BlockFormat, BlockTransformer, RowEntry, SlateDBError};
+use slate_types::{BlockFormat, BlockTransformer, RowEntry, SlateDBError, Ulid};
 use std::alloc::Global;
 use std::mem;
 
@@ -40,6 +43,7 @@ const MAX_BLOCKS: usize = 4294967295;
 pub struct TableParts {
     pub block_size: u32,
     pub format: BlockFormat,
+    pub id: Ulid,
     pub rows: Vec<RowEntry>,
     pub block: BlockBuilderWithStats,
     /// The sections of the blocks that were ended, and where they begin.
@@ -67,12 +71,25 @@ pub fn new_block(
     let builder = match format {
         BlockFormat::V1 => BlockBuilder::new_v1(alloc, block_size),
         BlockFormat::V2 => BlockBuilder::new_v2(alloc, block_size),
+        BlockFormat::V3 => BlockBuilder::new_v3(alloc, block_size),
         BlockFormat::Latest => BlockBuilder::new_latest(alloc, block_size),
     };
     builder.map(BlockBuilderWithStats::new)
 }
 
 impl TableParts {
+    /// Where a section of a kind stands that is appended next.
+    fn next_place(&self, kind: u8) -> SectionPlace
+        ensures { result ≡ record { version = version_of self.now.format; id = self.now.id; kind = kind; offset = length self.now.bytes.items } }
+    {
+        SectionPlace {
+            version: version_number(self.format),
+            id: self.id,
+            kind,
+            offset: self.bytes.len() as u64,
+        }
+    }
+
     /// `EmptyKey` exactly for an empty key, and then `LimitReached` exactly where a row would make a block too many.
     pub fn test(&self, entry: &RowEntry) -> Result<(), SlateDBError>
         requires { CanTake entry.now }
@@ -175,7 +192,7 @@ impl TableParts {
         ensures begun { OnOk result (IsBegun stored.now self.old entry.now self.new) }
         ensures rows { self.new.rows ≡ self.old.rows }
         ensures same { OnErr result (IsSame self.old self.new) }
-        ensures size { IfOk result (λ size. size ≡ length (summed stored.now)) }
+        ensures size { IfOk result (λ size. size ≡ length (summed (cover_behind self.old) stored.now)) }
         ensures cause { IsOkUnless result SlateDBError.OutOfMemory }
     {
         let mut next = new_block(alloc, self.format, self.block_size)?;
@@ -203,10 +220,11 @@ impl TableParts {
         requires { HasSectionRoom (length stored.now) self.old }
         ensures ended { IsEndedBy stored.now next self.old self.new }
         ensures rows { self.new.rows ≡ self.old.rows }
-        ensures size { result ≡ length (summed stored.now) }
+        ensures size { result ≡ length (summed (cover_behind self.old) stored.now) }
     {
         let begin = self.bytes.len();
-        put_summed(&mut self.bytes, stored);
+        let place = self.next_place(BLOCK_KIND);
+        put_summed(&mut self.bytes, place, stored);
         self.offsets.push_reserved(begin as u64);
         self.block_stats.push_reserved(self.block.stats());
         drop(mem::replace(&mut self.block, next));
@@ -257,6 +275,7 @@ impl TableParts {
         requires names { AreValidNames (map (λ p. (meaning p).name) policies.now) }
         ensures finished { IfOk result (λ table. IsFinished (changed_by T.encoded transformer.old) (filters_of (map (λ p. meaning p) policies.now) min self.old.rows.items) self.old table.bytes table.info) }
         ensures version { IfOk result (λ table. table.version ≡ version_of self.old.format) }
+        ensures id { IfOk result (λ table. table.id ≡ self.old.id) }
         ensures asks { Asks T.encoded T.decoded T.faults transformer.old transformer.new result }
     {
         self.end_block(alloc, transformer)?;
@@ -285,7 +304,8 @@ impl TableParts {
         ensures asks { Asks T.encoded T.decoded T.faults transformer.old transformer.new result }
     {
         let filters = filters_of_rows(alloc, policies, min, &self.rows)?;
-        append_filter_section(alloc, &mut self.bytes, &filters, transformer)
+        let place = self.next_place(FILTERS_KIND);
+        append_filter_section(alloc, &mut self.bytes, place, &filters, transformer)
     }
 
     /// Appends the sections of the index and of the statistics behind those of the blocks and of the filters, and answers where the
@@ -300,8 +320,9 @@ impl TableParts {
         ensures asks { Asks T.encoded T.decoded T.faults transformer.old transformer.new result }
     {
         let index = encode_index(alloc, &self.offsets, &self.separators)?;
-        seal_section(alloc, &mut self.bytes, index, transformer)?;
-        let stats_offset = self.bytes.len() as u64;
+        let place = self.next_place(INDEX_KIND);
+        seal_section(alloc, &mut self.bytes, place, index, transformer)?;
+        let place = self.next_place(STATS_KIND);
         let block_stats = mem::replace(&mut self.block_stats, Vec::new(alloc));
         let stats = encode_stats(
             alloc,
@@ -310,8 +331,8 @@ impl TableParts {
             self.raw_val_size,
             block_stats,
         )?;
-        seal_section(alloc, &mut self.bytes, stats, transformer)?;
-        Ok(stats_offset)
+        seal_section(alloc, &mut self.bytes, place, stats, transformer)?;
+        Ok(place.offset)
     }
 
     /// The table, whose sections behind the blocks begin there, and whose info doesn't stand there yet.
@@ -325,15 +346,16 @@ impl TableParts {
         requires filters { offsets.filters ≤ offsets.index }
         requires index { offsets.index ≤ offsets.stats }
         requires stats { offsets.stats ≤ length self.old.bytes.items }
-        ensures ended { IfOk result (λ table. EndsAt (version_of self.old.format) self.old.rows.items offsets self.old.bytes.items table.bytes (seen_info table.info)) }
+        ensures ended { IfOk result (λ table. EndsAt (version_of self.old.format) self.old.id.0 self.old.rows.items offsets self.old.bytes.items table.bytes (seen_info table.info)) }
         ensures short { IfOk result (λ table. length table.bytes < 2 ^ 64) }
         ensures version { IfOk result (λ table. table.version ≡ version_of self.old.format) }
+        ensures id { IfOk result (λ table. table.id ≡ self.old.id) }
         ensures cause { IsOkUnless result SlateDBError.OutOfMemory }
     {
         let version = version_number(self.format);
         let mut bytes = mem::replace(&mut self.bytes, Vec::new(alloc));
-        let info = append_end(alloc, &mut bytes, version, &self.rows, offsets)?;
-        frozen(bytes, info, version)
+        let info = append_end(alloc, &mut bytes, version, self.id, &self.rows, offsets)?;
+        frozen(bytes, info, version, self.id)
     }
 }
 
@@ -344,20 +366,27 @@ pub fn version_number(format: BlockFormat) -> u16
     match format {
         BlockFormat::V1 => 1,
         BlockFormat::V2 | BlockFormat::Latest => 2,
+        BlockFormat::V3 => 3,
     }
 }
 
 /// The table of these bytes, which are shared from now on.
-fn frozen(bytes: Vec<u8>, info: SsTableInfo, version: u16) -> Result<EncodedSsTable, SlateDBError>
+fn frozen(
+    bytes: Vec<u8>,
+    info: SsTableInfo,
+    version: u16,
+    id: Ulid,
+) -> Result<EncodedSsTable, SlateDBError>
     ensures same { IfOk result (λ table. table.bytes ≡ bytes.items) }
     ensures info { IfOk result (λ table. table.info ≡ info) }
     ensures version { IfOk result (λ table. table.version ≡ version) }
+    ensures id { IfOk result (λ table. table.id ≡ id) }
     ensures short { length bytes.items < 2 ^ 64 }
     ensures cause { IsOkUnless result SlateDBError.OutOfMemory }
 {
     let _len = bytes.len();
     match Bytes::from_vec(bytes) {
-        Ok(bytes) => Ok(EncodedSsTable::new(bytes, info, version)),
+        Ok(bytes) => Ok(EncodedSsTable::new(bytes, info, version, id)),
         Err(failed) => {
             drop(info);
             Err(SlateDBError::from(failed))

@@ -15,6 +15,11 @@ ghost use Rattle.slate_table.specs.Reading.{
   IsRead,
   Reads,
   IsStoreFault,
+  of_block,
+  of_blocks,
+  of_filters,
+  of_index,
+  read_at,
   whole_answer,
   stored_in,
   IsPart,
@@ -37,7 +42,7 @@ use crate::encoded_table::EncodedSsTable;
 use crate::filters_reading::decode_filters;
 use crate::info::SsTableHandle;
 use crate::paths::table_path;
-use crate::section::open_section;
+use crate::section::{BLOCK_KIND, FILTERS_KIND, INDEX_KIND, SectionPlace, open_section};
 use crate::sst_index::SstIndex;
 use bytes::Bytes;
 use slate_block::Block;
@@ -52,7 +57,7 @@ use std::ops::Range;
 pub struct TableStore;
 
 impl TableStore {
-    /// Puts a table at its path, by one put, and answers its handle. `StoreFault`, only where the store's count of faults rose,
+    /// Puts a table at the path of its id, by one put, and answers its handle. `StoreFault`, only where the store's count of faults rose,
     /// or `OutOfMemory`; then the store is as it was, or has the table and tells so.
     pub fn put_table<S: Store>(
         alloc: Global,
@@ -61,6 +66,7 @@ impl TableStore {
         id: Ulid,
         table: &EncodedSsTable,
     ) -> Result<SsTableHandle, SlateDBError>
+        requires named { table.now.id ≡ id }
         ensures id { IfOk result (λ handle. handle.id ≡ id) }
         ensures info { IfOk result (λ handle. handle.info ≡ table.now.info) }
         ensures version { IfOk result (λ handle. handle.format_version ≡ table.now.version) }
@@ -97,8 +103,8 @@ impl TableStore {
         table: &SsTableHandle,
         transformer: &mut Option<T>,
     ) -> Result<SstIndex, SlateDBError>
-        ensures found { IfOk result (λ index. Reads (S.objects store.old) (S.acts store.old) (S.acts store.new) (path_of root.now table.now.id.0) table.now.info.index_offset table.now.info.index_len (λ answer. IsIndexRead (changed_by T.decoded transformer.old) table.now.info.filter_offset answer (entries_of index))) }
-        ensures cause { IfErr result (λ e. IsStoreFault (S.faults store.old) (S.faults store.new) e ⊎ Reads (S.objects store.old) (S.acts store.old) (S.acts store.new) (path_of root.now table.now.id.0) table.now.info.index_offset table.now.info.index_len (λ answer. FailsDecoding (faults_of T.faults transformer.old) (faults_of T.faults transformer.new) answer e) ⊎ Reads (S.objects store.old) (S.acts store.old) (S.acts store.new) (path_of root.now table.now.id.0) table.now.info.index_offset table.now.info.index_len (λ answer. RefusesIndex (changed_by T.decoded transformer.old) table.now.info.filter_offset answer e)) }
+        ensures found { IfOk result (λ index. Reads (S.objects store.old) (S.acts store.old) (S.acts store.new) (path_of root.now table.now.id.0) table.now.info.index_offset table.now.info.index_len (λ answer. IsIndexRead (changed_by T.decoded transformer.old) table.now.info.filter_offset (of_index table.now answer) (entries_of index))) }
+        ensures cause { IfErr result (λ e. IsStoreFault (S.faults store.old) (S.faults store.new) e ⊎ Reads (S.objects store.old) (S.acts store.old) (S.acts store.new) (path_of root.now table.now.id.0) table.now.info.index_offset table.now.info.index_len (λ answer. FailsDecoding (faults_of T.faults transformer.old) (faults_of T.faults transformer.new) (of_index table.now answer) e) ⊎ Reads (S.objects store.old) (S.acts store.old) (S.acts store.new) (path_of root.now table.now.id.0) table.now.info.index_offset table.now.info.index_len (λ answer. RefusesIndex (changed_by T.decoded transformer.old) table.now.info.filter_offset (of_index table.now answer) e)) }
         ensures once { OnErr result ((S.acts store.new ≡ S.acts store.old) ⊎ Reads (S.objects store.old) (S.acts store.old) (S.acts store.new) (path_of root.now table.now.id.0) table.now.info.index_offset table.now.info.index_len (λ _. Unit {0})) }
         ensures objects { S.objects store.new ≡ S.objects store.old }
         ensures same_encoded { changed_by T.encoded transformer.new ≡ changed_by T.encoded transformer.old }
@@ -108,8 +114,8 @@ impl TableStore {
         ensures later_transformer { faults_of T.faults transformer.old ≤ faults_of T.faults transformer.new }
         ensures still_transformer { (result ≡ Err SlateDBError.BlockTransformError) ⊎ (result ≡ Err SlateDBError.OutOfMemory) ⊎ (faults_of T.faults transformer.new ≡ faults_of T.faults transformer.old) }
     {
-        let place = (table.info.index_offset, table.info.index_len);
-        let part = read_part(alloc, store, root, table.id, place, transformer)?;
+        let place = place_in(table, INDEX_KIND, table.info.index_offset);
+        let part = read_part(alloc, store, root, place, table.info.index_len, transformer)?;
         SstIndex::decode(alloc, part, table.info.filter_offset)
     }
 
@@ -125,8 +131,8 @@ impl TableStore {
         transformer: &mut Option<T>,
     ) -> Result<Vec<NamedFilter>, SlateDBError>
         ensures none { table.now.info.filter_len ≡ 0 → (store.new ≡ store.old) × (transformer.new ≡ transformer.old) × IfOk result (λ filters. filters.items ≡ []) × OnErr result ⊥ }
-        ensures found { 0 < table.now.info.filter_len → IfOk result (λ filters. Reads (S.objects store.old) (S.acts store.old) (S.acts store.new) (path_of root.now table.now.id.0) table.now.info.filter_offset table.now.info.filter_len (λ answer. AreFiltersRead (changed_by T.decoded transformer.old) answer (map named_pair filters.items))) }
-        ensures cause { IfErr result (λ e. IsStoreFault (S.faults store.old) (S.faults store.new) e ⊎ Reads (S.objects store.old) (S.acts store.old) (S.acts store.new) (path_of root.now table.now.id.0) table.now.info.filter_offset table.now.info.filter_len (λ answer. FailsDecoding (faults_of T.faults transformer.old) (faults_of T.faults transformer.new) answer e) ⊎ Reads (S.objects store.old) (S.acts store.old) (S.acts store.new) (path_of root.now table.now.id.0) table.now.info.filter_offset table.now.info.filter_len (λ answer. RefusesFilters (changed_by T.decoded transformer.old) answer e)) }
+        ensures found { 0 < table.now.info.filter_len → IfOk result (λ filters. Reads (S.objects store.old) (S.acts store.old) (S.acts store.new) (path_of root.now table.now.id.0) table.now.info.filter_offset table.now.info.filter_len (λ answer. AreFiltersRead (changed_by T.decoded transformer.old) (of_filters table.now answer) (map named_pair filters.items))) }
+        ensures cause { IfErr result (λ e. IsStoreFault (S.faults store.old) (S.faults store.new) e ⊎ Reads (S.objects store.old) (S.acts store.old) (S.acts store.new) (path_of root.now table.now.id.0) table.now.info.filter_offset table.now.info.filter_len (λ answer. FailsDecoding (faults_of T.faults transformer.old) (faults_of T.faults transformer.new) (of_filters table.now answer) e) ⊎ Reads (S.objects store.old) (S.acts store.old) (S.acts store.new) (path_of root.now table.now.id.0) table.now.info.filter_offset table.now.info.filter_len (λ answer. RefusesFilters (changed_by T.decoded transformer.old) (of_filters table.now answer) e)) }
         ensures once { OnErr result ((S.acts store.new ≡ S.acts store.old) ⊎ Reads (S.objects store.old) (S.acts store.old) (S.acts store.new) (path_of root.now table.now.id.0) table.now.info.filter_offset table.now.info.filter_len (λ _. Unit {0})) }
         ensures objects { S.objects store.new ≡ S.objects store.old }
         ensures same_encoded { changed_by T.encoded transformer.new ≡ changed_by T.encoded transformer.old }
@@ -156,8 +162,8 @@ impl TableStore {
         transformer: &mut Option<T>,
     ) -> Result<bool, SlateDBError>
         ensures none { asks_filters (map (λ p. meaning p) policies.now) table.now.info.filter_len ≡ false → (result ≡ Ok true) × (store.new ≡ store.old) × (transformer.new ≡ transformer.old) }
-        ensures asked { asks_filters (map (λ p. meaning p) policies.now) table.now.info.filter_len ≡ true → IfOk result (λ passes. Reads (S.objects store.old) (S.acts store.old) (S.acts store.new) (path_of root.now table.now.id.0) table.now.info.filter_offset table.now.info.filter_len (λ answer. IsAsked (changed_by T.decoded transformer.old) (map (λ p. meaning p) policies.now) query.now answer passes)) }
-        ensures cause { IfErr result (λ e. IsStoreFault (S.faults store.old) (S.faults store.new) e ⊎ Reads (S.objects store.old) (S.acts store.old) (S.acts store.new) (path_of root.now table.now.id.0) table.now.info.filter_offset table.now.info.filter_len (λ answer. FailsDecoding (faults_of T.faults transformer.old) (faults_of T.faults transformer.new) answer e) ⊎ Reads (S.objects store.old) (S.acts store.old) (S.acts store.new) (path_of root.now table.now.id.0) table.now.info.filter_offset table.now.info.filter_len (λ answer. RefusesQuery (changed_by T.decoded transformer.old) (map (λ p. meaning p) policies.now) query.now answer e)) }
+        ensures asked { asks_filters (map (λ p. meaning p) policies.now) table.now.info.filter_len ≡ true → IfOk result (λ passes. Reads (S.objects store.old) (S.acts store.old) (S.acts store.new) (path_of root.now table.now.id.0) table.now.info.filter_offset table.now.info.filter_len (λ answer. IsAsked (changed_by T.decoded transformer.old) (map (λ p. meaning p) policies.now) query.now (of_filters table.now answer) passes)) }
+        ensures cause { IfErr result (λ e. IsStoreFault (S.faults store.old) (S.faults store.new) e ⊎ Reads (S.objects store.old) (S.acts store.old) (S.acts store.new) (path_of root.now table.now.id.0) table.now.info.filter_offset table.now.info.filter_len (λ answer. FailsDecoding (faults_of T.faults transformer.old) (faults_of T.faults transformer.new) (of_filters table.now answer) e) ⊎ Reads (S.objects store.old) (S.acts store.old) (S.acts store.new) (path_of root.now table.now.id.0) table.now.info.filter_offset table.now.info.filter_len (λ answer. RefusesQuery (changed_by T.decoded transformer.old) (map (λ p. meaning p) policies.now) query.now (of_filters table.now answer) e)) }
         ensures once { OnErr result ((S.acts store.new ≡ S.acts store.old) ⊎ Reads (S.objects store.old) (S.acts store.old) (S.acts store.new) (path_of root.now table.now.id.0) table.now.info.filter_offset table.now.info.filter_len (λ _. Unit {0})) }
         ensures objects { S.objects store.new ≡ S.objects store.old }
         ensures same_encoded { changed_by T.encoded transformer.new ≡ changed_by T.encoded transformer.old }
@@ -191,9 +197,9 @@ impl TableStore {
     ) -> Result<Vec<Block>, SlateDBError>
         requires order { blocks.start ≤ blocks.end }
         requires within { blocks.end ≤ length (entries_of index.now) }
-        ensures found { IfOk result (λ found. Reads (S.objects store.old) (S.acts store.old) (S.acts store.new) (path_of root.now table.now.id.0) (block_start table.now.info.filter_offset (entries_of index.now) blocks.start) (blocks_size table.now.info.filter_offset (entries_of index.now) blocks.start blocks.end) (λ answer. AreBlocksRead (changed_by T.decoded transformer.old) (block_answer table.now.info.filter_offset (entries_of index.now) blocks.start answer) blocks.start found.items)) }
+        ensures found { IfOk result (λ found. Reads (S.objects store.old) (S.acts store.old) (S.acts store.new) (path_of root.now table.now.id.0) (block_start table.now.info.filter_offset (entries_of index.now) blocks.start) (blocks_size table.now.info.filter_offset (entries_of index.now) blocks.start blocks.end) (λ answer. AreBlocksRead (changed_by T.decoded transformer.old) (of_blocks table.now (entries_of index.now) blocks.start answer) blocks.start found.items)) }
         ensures count { IfOk result (λ found. length found.items ≡ blocks.end - blocks.start) }
-        ensures cause { IfErr result (λ e. IsStoreFault (S.faults store.old) (S.faults store.new) e ⊎ Reads (S.objects store.old) (S.acts store.old) (S.acts store.new) (path_of root.now table.now.id.0) (block_start table.now.info.filter_offset (entries_of index.now) blocks.start) (blocks_size table.now.info.filter_offset (entries_of index.now) blocks.start blocks.end) (λ answer. FailsBlocks (changed_by T.decoded transformer.old) (block_answer table.now.info.filter_offset (entries_of index.now) blocks.start answer) blocks.start blocks.end (faults_of T.faults transformer.old) (faults_of T.faults transformer.new) e) ⊎ Reads (S.objects store.old) (S.acts store.old) (S.acts store.new) (path_of root.now table.now.id.0) (block_start table.now.info.filter_offset (entries_of index.now) blocks.start) (blocks_size table.now.info.filter_offset (entries_of index.now) blocks.start blocks.end) (λ answer. RefusesBlocks (changed_by T.decoded transformer.old) (block_answer table.now.info.filter_offset (entries_of index.now) blocks.start answer) blocks.start blocks.end e)) }
+        ensures cause { IfErr result (λ e. IsStoreFault (S.faults store.old) (S.faults store.new) e ⊎ Reads (S.objects store.old) (S.acts store.old) (S.acts store.new) (path_of root.now table.now.id.0) (block_start table.now.info.filter_offset (entries_of index.now) blocks.start) (blocks_size table.now.info.filter_offset (entries_of index.now) blocks.start blocks.end) (λ answer. FailsBlocks (changed_by T.decoded transformer.old) (of_blocks table.now (entries_of index.now) blocks.start answer) blocks.start blocks.end (faults_of T.faults transformer.old) (faults_of T.faults transformer.new) e) ⊎ Reads (S.objects store.old) (S.acts store.old) (S.acts store.new) (path_of root.now table.now.id.0) (block_start table.now.info.filter_offset (entries_of index.now) blocks.start) (blocks_size table.now.info.filter_offset (entries_of index.now) blocks.start blocks.end) (λ answer. RefusesBlocks (changed_by T.decoded transformer.old) (of_blocks table.now (entries_of index.now) blocks.start answer) blocks.start blocks.end e)) }
         ensures once { OnErr result ((S.acts store.new ≡ S.acts store.old) ⊎ Reads (S.objects store.old) (S.acts store.old) (S.acts store.new) (path_of root.now table.now.id.0) (block_start table.now.info.filter_offset (entries_of index.now) blocks.start) (blocks_size table.now.info.filter_offset (entries_of index.now) blocks.start blocks.end) (λ _. Unit {0})) }
         ensures objects { S.objects store.new ≡ S.objects store.old }
         ensures same_encoded { changed_by T.encoded transformer.new ≡ changed_by T.encoded transformer.old }
@@ -207,7 +213,7 @@ impl TableStore {
         let start = block_start(index, end, blocks.start);
         let size = block_start(index, end, blocks.end).saturating_sub(start);
         let answer = read(alloc, store, root, table.id, (start, size))?;
-        let found = each_block(alloc, &answer, index, end, blocks, transformer);
+        let found = each_block(alloc, &answer, table, index, blocks, transformer);
         drop(answer);
         found
     }
@@ -249,43 +255,44 @@ fn whole_answer(answer: Option<Bytes>, size: u64) -> Option<Bytes>
     }
 }
 
-/// The part of a section that was read.
+/// The part of the section at a place that was read.
 pub(crate) fn opened<T: BlockTransformer>(
     alloc: Global,
     answer: Option<Bytes>,
+    place: SectionPlace,
     transformer: &mut Option<T>,
 ) -> Result<Bytes, SlateDBError>
-    ensures found { IfOk result (λ part. IsPart (changed_by T.decoded transformer.old) answer part) }
-    ensures cause { IfErr result (λ e. (e ≡ SlateDBError.OutOfMemory) ⊎ FailsDecoding (faults_of T.faults transformer.old) (faults_of T.faults transformer.new) answer e ⊎ (refusal (stored_in answer) ≡ Some e)) }
+    ensures found { IfOk result (λ part. IsPart (changed_by T.decoded transformer.old) (read_at place answer) part) }
+    ensures cause { IfErr result (λ e. (e ≡ SlateDBError.OutOfMemory) ⊎ FailsDecoding (faults_of T.faults transformer.old) (faults_of T.faults transformer.new) (read_at place answer) e ⊎ (refusal (stored_in (read_at place answer)) ≡ Some e)) }
     ensures stays { Stays T.encoded T.decoded T.faults transformer.old transformer.new result }
 {
     match answer {
         None => Err(corrupt(0)),
         Some(bytes) => {
-            let part = open_section(alloc, &bytes, transformer);
+            let part = open_section(alloc, &bytes, place, transformer);
             drop(bytes);
             part
         }
     }
 }
 
-/// The part of a section of a table, by one read.
+/// The part of the section at a place, by one read of so many bytes.
 pub(crate) fn read_part<S: Store, T: BlockTransformer>(
     alloc: Global,
     store: &mut S,
     root: &str,
-    id: Ulid,
-    place: (u64, u64),
+    place: SectionPlace,
+    len: u64,
     transformer: &mut Option<T>,
 ) -> Result<Bytes, SlateDBError>
-    ensures found { IfOk result (λ part. Reads (S.objects store.old) (S.acts store.old) (S.acts store.new) (path_of root.now id.0) place.0 place.1 (λ answer. IsPart (changed_by T.decoded transformer.old) answer part)) }
-    ensures cause { IfErr result (λ e. IsStoreFault (S.faults store.old) (S.faults store.new) e ⊎ Reads (S.objects store.old) (S.acts store.old) (S.acts store.new) (path_of root.now id.0) place.0 place.1 (λ answer. FailsDecoding (faults_of T.faults transformer.old) (faults_of T.faults transformer.new) answer e) ⊎ Reads (S.objects store.old) (S.acts store.old) (S.acts store.new) (path_of root.now id.0) place.0 place.1 (λ answer. refusal (stored_in answer) ≡ Some e)) }
-    ensures once { OnErr result ((S.acts store.new ≡ S.acts store.old) ⊎ Reads (S.objects store.old) (S.acts store.old) (S.acts store.new) (path_of root.now id.0) place.0 place.1 (λ _. Unit {0})) }
+    ensures found { IfOk result (λ part. Reads (S.objects store.old) (S.acts store.old) (S.acts store.new) (path_of root.now place.id.0) place.offset len (λ answer. IsPart (changed_by T.decoded transformer.old) (read_at place answer) part)) }
+    ensures cause { IfErr result (λ e. IsStoreFault (S.faults store.old) (S.faults store.new) e ⊎ Reads (S.objects store.old) (S.acts store.old) (S.acts store.new) (path_of root.now place.id.0) place.offset len (λ answer. FailsDecoding (faults_of T.faults transformer.old) (faults_of T.faults transformer.new) (read_at place answer) e) ⊎ Reads (S.objects store.old) (S.acts store.old) (S.acts store.new) (path_of root.now place.id.0) place.offset len (λ answer. refusal (stored_in (read_at place answer)) ≡ Some e)) }
+    ensures once { OnErr result ((S.acts store.new ≡ S.acts store.old) ⊎ Reads (S.objects store.old) (S.acts store.old) (S.acts store.new) (path_of root.now place.id.0) place.offset len (λ _. Unit {0})) }
     ensures reaches { Reaches S.objects S.faults store.old store.new result }
     ensures stays { Stays T.encoded T.decoded T.faults transformer.old transformer.new result }
 {
-    let answer = read(alloc, store, root, id, place)?;
-    opened(alloc, answer, transformer)
+    let answer = read(alloc, store, root, place.id, (place.offset, len))?;
+    opened(alloc, answer, place, transformer)
 }
 
 /// The filters of a table, by one read of their section, and the length of the part that they were read from.
@@ -296,14 +303,14 @@ fn filters_of<S: Store, T: BlockTransformer>(
     table: &SsTableHandle,
     transformer: &mut Option<T>,
 ) -> Result<(Vec<NamedFilter>, u64), SlateDBError>
-    ensures found { IfOk result (λ found. Reads (S.objects store.old) (S.acts store.old) (S.acts store.new) (path_of root.now table.now.id.0) table.now.info.filter_offset table.now.info.filter_len (λ answer. AreFiltersIn (changed_by T.decoded transformer.old) answer (map named_pair found.0.items) found.1)) }
-    ensures cause { IfErr result (λ e. IsStoreFault (S.faults store.old) (S.faults store.new) e ⊎ Reads (S.objects store.old) (S.acts store.old) (S.acts store.new) (path_of root.now table.now.id.0) table.now.info.filter_offset table.now.info.filter_len (λ answer. FailsDecoding (faults_of T.faults transformer.old) (faults_of T.faults transformer.new) answer e) ⊎ Reads (S.objects store.old) (S.acts store.old) (S.acts store.new) (path_of root.now table.now.id.0) table.now.info.filter_offset table.now.info.filter_len (λ answer. RefusesFilters (changed_by T.decoded transformer.old) answer e)) }
+    ensures found { IfOk result (λ found. Reads (S.objects store.old) (S.acts store.old) (S.acts store.new) (path_of root.now table.now.id.0) table.now.info.filter_offset table.now.info.filter_len (λ answer. AreFiltersIn (changed_by T.decoded transformer.old) (of_filters table.now answer) (map named_pair found.0.items) found.1)) }
+    ensures cause { IfErr result (λ e. IsStoreFault (S.faults store.old) (S.faults store.new) e ⊎ Reads (S.objects store.old) (S.acts store.old) (S.acts store.new) (path_of root.now table.now.id.0) table.now.info.filter_offset table.now.info.filter_len (λ answer. FailsDecoding (faults_of T.faults transformer.old) (faults_of T.faults transformer.new) (of_filters table.now answer) e) ⊎ Reads (S.objects store.old) (S.acts store.old) (S.acts store.new) (path_of root.now table.now.id.0) table.now.info.filter_offset table.now.info.filter_len (λ answer. RefusesFilters (changed_by T.decoded transformer.old) (of_filters table.now answer) e)) }
     ensures once { OnErr result ((S.acts store.new ≡ S.acts store.old) ⊎ Reads (S.objects store.old) (S.acts store.old) (S.acts store.new) (path_of root.now table.now.id.0) table.now.info.filter_offset table.now.info.filter_len (λ _. Unit {0})) }
     ensures reaches { Reaches S.objects S.faults store.old store.new result }
     ensures stays { Stays T.encoded T.decoded T.faults transformer.old transformer.new result }
 {
-    let place = (table.info.filter_offset, table.info.filter_len);
-    let part = read_part(alloc, store, root, table.id, place, transformer)?;
+    let place = place_in(table, FILTERS_KIND, table.info.filter_offset);
+    let part = read_part(alloc, store, root, place, table.info.filter_len, transformer)?;
     decode_filters(alloc, part)
 }
 
@@ -325,15 +332,27 @@ pub(crate) fn read_block<S: Store, T: BlockTransformer>(
     transformer: &mut Option<T>,
 ) -> Result<Block, SlateDBError>
     requires { block < length (entries_of index.now) }
-    ensures found { IfOk result (λ found. Reads (S.objects store.old) (S.acts store.old) (S.acts store.new) (path_of root.now table.now.id.0) (block_start table.now.info.filter_offset (entries_of index.now) block) (blocks_size table.now.info.filter_offset (entries_of index.now) block (block + 1)) (λ answer. IsBlockRead (changed_by T.decoded transformer.old) answer found)) }
-    ensures cause { IfErr result (λ e. IsStoreFault (S.faults store.old) (S.faults store.new) e ⊎ Reads (S.objects store.old) (S.acts store.old) (S.acts store.new) (path_of root.now table.now.id.0) (block_start table.now.info.filter_offset (entries_of index.now) block) (blocks_size table.now.info.filter_offset (entries_of index.now) block (block + 1)) (λ answer. FailsDecoding (faults_of T.faults transformer.old) (faults_of T.faults transformer.new) answer e) ⊎ Reads (S.objects store.old) (S.acts store.old) (S.acts store.new) (path_of root.now table.now.id.0) (block_start table.now.info.filter_offset (entries_of index.now) block) (blocks_size table.now.info.filter_offset (entries_of index.now) block (block + 1)) (λ answer. RefusesBlock (changed_by T.decoded transformer.old) answer e)) }
+    ensures found { IfOk result (λ found. Reads (S.objects store.old) (S.acts store.old) (S.acts store.new) (path_of root.now table.now.id.0) (block_start table.now.info.filter_offset (entries_of index.now) block) (blocks_size table.now.info.filter_offset (entries_of index.now) block (block + 1)) (λ answer. IsBlockRead (changed_by T.decoded transformer.old) (of_block table.now (entries_of index.now) block answer) found)) }
+    ensures cause { IfErr result (λ e. IsStoreFault (S.faults store.old) (S.faults store.new) e ⊎ Reads (S.objects store.old) (S.acts store.old) (S.acts store.new) (path_of root.now table.now.id.0) (block_start table.now.info.filter_offset (entries_of index.now) block) (blocks_size table.now.info.filter_offset (entries_of index.now) block (block + 1)) (λ answer. FailsDecoding (faults_of T.faults transformer.old) (faults_of T.faults transformer.new) (of_block table.now (entries_of index.now) block answer) e) ⊎ Reads (S.objects store.old) (S.acts store.old) (S.acts store.new) (path_of root.now table.now.id.0) (block_start table.now.info.filter_offset (entries_of index.now) block) (blocks_size table.now.info.filter_offset (entries_of index.now) block (block + 1)) (λ answer. RefusesBlock (changed_by T.decoded transformer.old) (of_block table.now (entries_of index.now) block answer) e)) }
     ensures once { OnErr result ((S.acts store.new ≡ S.acts store.old) ⊎ Reads (S.objects store.old) (S.acts store.old) (S.acts store.new) (path_of root.now table.now.id.0) (block_start table.now.info.filter_offset (entries_of index.now) block) (blocks_size table.now.info.filter_offset (entries_of index.now) block (block + 1)) (λ _. Unit {0})) }
     ensures reaches { Reaches S.objects S.faults store.old store.new result }
     ensures stays { Stays T.encoded T.decoded T.faults transformer.old transformer.new result }
 {
-    let place = place_of_block(index, table.info.filter_offset, block);
-    let answer = read(alloc, store, root, table.id, place)?;
-    block_in(alloc, answer, transformer)
+    let (start, size) = place_of_block(index, table.info.filter_offset, block);
+    let answer = read(alloc, store, root, table.id, (start, size))?;
+    block_in(alloc, answer, place_in(table, BLOCK_KIND, start), transformer)
+}
+
+/// Where a section of a table stands.
+pub(crate) fn place_in(table: &SsTableHandle, kind: u8, offset: u64) -> SectionPlace
+    ensures { result ≡ record { version = table.now.format_version; id = table.now.id; kind = kind; offset = offset } }
+{
+    SectionPlace {
+        version: table.format_version,
+        id: table.id,
+        kind,
+        offset,
+    }
 }
 
 /// Where the section of a block begins, and how many bytes it has.
@@ -394,17 +413,18 @@ fn section_of(
     }
 }
 
-/// The block of a section that was read.
+/// The block of the section at a place that was read.
 fn block_in<T: BlockTransformer>(
     alloc: Global,
     answer: Option<Bytes>,
+    place: SectionPlace,
     transformer: &mut Option<T>,
 ) -> Result<Block, SlateDBError>
-    ensures found { IfOk result (λ block. IsBlockRead (changed_by T.decoded transformer.old) answer block) }
-    ensures cause { IfErr result (λ e. (e ≡ SlateDBError.OutOfMemory) ⊎ FailsDecoding (faults_of T.faults transformer.old) (faults_of T.faults transformer.new) answer e ⊎ RefusesBlock (changed_by T.decoded transformer.old) answer e) }
+    ensures found { IfOk result (λ block. IsBlockRead (changed_by T.decoded transformer.old) (read_at place answer) block) }
+    ensures cause { IfErr result (λ e. (e ≡ SlateDBError.OutOfMemory) ⊎ FailsDecoding (faults_of T.faults transformer.old) (faults_of T.faults transformer.new) (read_at place answer) e ⊎ RefusesBlock (changed_by T.decoded transformer.old) (read_at place answer) e) }
     ensures stays { Stays T.encoded T.decoded T.faults transformer.old transformer.new result }
 {
-    let part = opened(alloc, answer, transformer)?;
+    let part = opened(alloc, answer, place, transformer)?;
     Block::decode(alloc, part)
 }
 
@@ -412,23 +432,25 @@ fn block_in<T: BlockTransformer>(
 fn each_block<T: BlockTransformer>(
     alloc: Global,
     answer: &Option<Bytes>,
+    table: &SsTableHandle,
     index: &SstIndex,
-    end: u64,
     blocks: Range<usize>,
     transformer: &mut Option<T>,
 ) -> Result<Vec<Block>, SlateDBError>
     requires order { blocks.start ≤ blocks.end }
     requires within { blocks.end ≤ length (entries_of index.now) }
-    ensures found { IfOk result (λ found. AreBlocksRead (changed_by T.decoded transformer.old) (block_answer end (entries_of index.now) blocks.start answer.now) blocks.start found.items) }
+    ensures found { IfOk result (λ found. AreBlocksRead (changed_by T.decoded transformer.old) (of_blocks table.now (entries_of index.now) blocks.start answer.now) blocks.start found.items) }
     ensures count { IfOk result (λ found. length found.items ≡ blocks.end - blocks.start) }
-    ensures cause { IfErr result (λ e. (e ≡ SlateDBError.OutOfMemory) ⊎ FailsBlocks (changed_by T.decoded transformer.old) (block_answer end (entries_of index.now) blocks.start answer.now) blocks.start blocks.end (faults_of T.faults transformer.old) (faults_of T.faults transformer.new) e ⊎ RefusesBlocks (changed_by T.decoded transformer.old) (block_answer end (entries_of index.now) blocks.start answer.now) blocks.start blocks.end e) }
+    ensures cause { IfErr result (λ e. (e ≡ SlateDBError.OutOfMemory) ⊎ FailsBlocks (changed_by T.decoded transformer.old) (of_blocks table.now (entries_of index.now) blocks.start answer.now) blocks.start blocks.end (faults_of T.faults transformer.old) (faults_of T.faults transformer.new) e ⊎ RefusesBlocks (changed_by T.decoded transformer.old) (of_blocks table.now (entries_of index.now) blocks.start answer.now) blocks.start blocks.end e) }
     ensures stays { Stays T.encoded T.decoded T.faults transformer.old transformer.new result }
 {
     let first = blocks.start;
+    let end = table.info.filter_offset;
     let mut found = Vec::new(alloc);
     for at in first..blocks.end {
         let section = section_of(answer, index, end, first, at)?;
-        let block = block_in(alloc, section, transformer)?;
+        let place = place_in(table, BLOCK_KIND, block_start(index, end, at));
+        let block = block_in(alloc, section, place, transformer)?;
         found.push(block)?;
     }
     Ok(found)
