@@ -71,7 +71,7 @@ apart_v2 b bs some small =
     let parts = length-append b (flat_map (λ b. b) bs) in
     (refl, omega (arith, some.0, parts), restarts_rise 1 1 (0 + length b) (length (flat_map (λ b. b) (b ∷ bs))) bs some.1 small.1 (omega (arith, some.0)) (omega (arith, parts)))
 
--- what is to be shown of pieces, at a version that is one of the two
+-- what is to be shown of pieces, at a version that is known
 Apart : List (List ℕ) → ℕ → Type 0
 Apart bs version = AreSmall (offsets_of version bs) → AreOffsets (length (flat_map (λ b. b) bs)) (offsets_of version bs)
 
@@ -86,7 +86,8 @@ pieces_apart version bs [] h = absurd h
 pieces_apart version bs (r ∷ rs) (inl h) =
     let some : AreSome (h.1 ∷ h.2) = (is_some h.1 (some_v1 h.1 [] (entry_v1 0 r) h.4), some_pieces_v1 r.key h.2 rs h.5) in
     subst (λ (v : ℕ). Apart bs v) (sym h.0) (subst (λ (l : List (List ℕ)). Apart l 1) (sym h.3) (apart_v1 h.1 h.2 some))
-pieces_apart version bs (r ∷ rs) (inr h) = subst (λ (v : ℕ). Apart bs v) (sym h.0) (pieces_apart_v2 bs r rs h.1)
+pieces_apart version bs (r ∷ rs) (inr (inl e, h)) = subst (λ (v : ℕ). Apart bs v) (sym e) (pieces_apart_v2 bs r rs h)
+pieces_apart version bs (r ∷ rs) (inr (inr e, h)) = subst (λ (v : ℕ). Apart bs v) (sym e) (pieces_apart_v2 bs r rs h)
 
 pub block_apart : (body offsets bytes : List ℕ) (version : ℕ) (rows : List RowEntry) → IsBlockOf body offsets version rows → bytes ≡ block_spelling body offsets → IsApart body offsets bytes
 unfolding Apart AreSmall

@@ -10,6 +10,7 @@ use Rattle.slate_block.specs.RowSpelling.{be16, meta_bytes, v2_bytes, as_read_v1
 use Rattle.slate_block.specs.BlockSpelling.{entry_v1, entry_v2, Shares, SharesV1, SharesV2, shared_with, AreRows, IsBlock, block_spelling}
 use Rattle.slate_block.proofs.Pieces.{same_ends, same_be16}
 use Rattle.slate_block.proofs.RowLaws.{same_row_v1, same_row_v2}
+use Rattle.slate_block.proofs.Versions.{two_versions}
 
 -- ---- a row of a block
 
@@ -110,8 +111,8 @@ unfolding AreV1
 same_rows version bs cs [] other p q h = absurd p
 same_rows version bs cs (r ∷ rs) [] p q h = absurd q
 same_rows version bs cs (r ∷ rs) (s ∷ ss) (inl p) (inl q) h = all_rows_v1 version bs cs r s rs ss p q h
-same_rows version bs cs (r ∷ rs) (s ∷ ss) (inl p) (inr q) h = absurd (omega (arith, p.0, q.0))
-same_rows version bs cs (r ∷ rs) (s ∷ ss) (inr p) (inl q) h = absurd (omega (arith, p.0, q.0))
+same_rows version bs cs (r ∷ rs) (s ∷ ss) (inl p) (inr q) h = absurd (two_versions version p.0 q.0)
+same_rows version bs cs (r ∷ rs) (s ∷ ss) (inr p) (inl q) h = absurd (two_versions version q.0 p.0)
 same_rows version bs cs (r ∷ rs) (s ∷ ss) (inr p) (inr q) h = same_rows_v2 0 [] bs cs (r ∷ rs) (s ∷ ss) p.1 q.1 h
 
 -- ---- the bytes of a block

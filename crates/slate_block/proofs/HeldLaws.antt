@@ -13,8 +13,8 @@ use Rattle.slate_block.specs.Building.{front_key, row_bytes, named, named_size, 
 use Rattle.slate_block.specs.declared.rows_part.RowsPart.{RowsPart}
 use Rattle.slate_block.proofs.RowMore.{spelled_more, offsets_more, length_spelled, few_named, some_bytes, bytes_each, joined_more, holds_more}
 use Rattle.slate_block.specs.declared.rows_part.Version.{Version}
-use Rattle.slate_block.specs.declared.rows_part.Version.TheVariants.{V1, V2}
-use Rattle.slate_block.proofs.LongestFronts.{block_of_v1, block_of_v2}
+use Rattle.slate_block.specs.declared.rows_part.Version.TheVariants.{V1, V2, V3}
+use Rattle.slate_block.proofs.LongestFronts.{block_of_v1, block_of_v2, block_of_v3}
 use Rattle.slate_block.proofs.HeldOnce.{held_alone}
 
 abbrev pub PartHolds : RowsPart → List RowEntry → Type 0
@@ -172,6 +172,7 @@ longest_block : (version : Version) (rows : List RowEntry) → FitsBlock (number
     IsBlockOf (flat_map (λ b. b) (spelled (number version) rows)) (offsets_of (number version) (spelled (number version) rows)) (number version) (map (as_read (number version)) rows)
 longest_block V1 rows f = block_of_v1 rows f
 longest_block V2 rows f = block_of_v2 rows f
+longest_block V3 rows f = block_of_v3 rows f
 
 pub held_block : (part : RowsPart) (held : PartHeld part) (body : List ℕ) → 0 < part.num_rows → body ≡ part.body.items →
     IsBlockOf body part.offsets.items (number part.version) (map (as_read (number part.version)) held.0.0)

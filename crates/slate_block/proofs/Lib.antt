@@ -1,3 +1,4 @@
+pub mod Versions
 pub mod Pieces
 pub mod VarintLaws
 pub mod Groups
@@ -33,3 +34,4 @@ pub mod PartLaws
 pub mod WalkedBlocksV2
 pub mod BlocksReadAgainV2
 pub mod GoodRows
+pub mod WalkedVersions

@@ -6,7 +6,8 @@ use Rattle.std.proofs.lemmas.Bool.Decides.{nat_tests}
 use Rattle.std.proofs.lemmas.List.Sums.{common_prefix_len-le}
 use Rattle.slate_types.specs.declared.types.RowEntry.{RowEntry}
 use Rattle.slate_block.specs.RowSpelling.{read_expiry, v1_bytes, FitsV1, FitsV2, IsRowV1}
-use Rattle.slate_block.specs.BlockSpelling.{IsKey, entry_v1, entry_v2, Shares, SharesV1, SharesV2, shared_with, AreRows, offsets_of, IsBlockOf, IsBlock, longest, spelled, spelled_v1, spelled_v2, block_bytes, as_read, FitsRow, FitsBlock}
+use Rattle.slate_block.specs.BlockSpelling.{IsKnown, IsKey, entry_v1, entry_v2, Shares, SharesV1, SharesV2, shared_with, AreRows, offsets_of, IsBlockOf, IsBlock, longest, spelled, spelled_v1, spelled_v2, block_bytes, as_read, FitsRow, FitsBlock}
+use Rattle.slate_block.proofs.Versions.{same_spelled, fits_second, block_of_third}
 
 longest_stands : (a b : List ℕ) → take (longest a b) a ≡ take (longest a b) b
 longest_stands [] b = refl
@@ -50,7 +51,7 @@ are_rows_v1 (r ∷ rs) p f = inl (refl, v1_bytes (entry_v1 0 r), spelled_v1 r.ke
 
 are_rows_v2 : (rows : List RowEntry) → 0 < length rows → AllByRecursion FitsRow rows → AreRows 2 (spelled 2 rows) (map (as_read 2) rows)
 are_rows_v2 [] p f = absurd (omega (arith, p))
-are_rows_v2 (r ∷ rs) p f = inr (refl, shares_v2 0 [] (r ∷ rs) f)
+are_rows_v2 (r ∷ rs) p f = inr (inl refl, shares_v2 0 [] (r ∷ rs) f)
 
 as_read_key : (version : ℕ) (r : RowEntry) → (as_read version r).key ≡ r.key
 as_read_key version r = by (version == 1)
@@ -91,11 +92,19 @@ block_of_v2 rows f = record {
 is_block_v2 : (rows : List RowEntry) → FitsBlock 2 rows → IsBlock (block_bytes 2 rows) 2 (map (as_read 2) rows)
 is_block_v2 rows f = (flat_map (λ b. b) (spelled 2 rows), offsets_of 2 (spelled 2 rows), block_of_v2 rows f, refl)
 
--- what is spelled, at a version that is one of the two
+pub block_of_v3 : (rows : List RowEntry) → FitsBlock 3 rows → IsBlockOf (flat_map (λ b. b) (spelled 3 rows)) (offsets_of 3 (spelled 3 rows)) 3 (map (as_read 3) rows)
+block_of_v3 rows f = subst (λ (bs : List (List ℕ)). IsBlockOf (flat_map (λ b. b) bs) (offsets_of 3 bs) 3 (map (as_read 3) rows)) (sym (same_spelled rows))
+    (block_of_third (flat_map (λ b. b) (spelled 2 rows)) (offsets_of 2 (spelled 2 rows)) (map (as_read 2) rows) (block_of_v2 rows (fits_second rows f)))
+
+is_block_v3 : (rows : List RowEntry) → FitsBlock 3 rows → IsBlock (block_bytes 3 rows) 3 (map (as_read 3) rows)
+is_block_v3 rows f = (flat_map (λ b. b) (spelled 3 rows), offsets_of 3 (spelled 3 rows), block_of_v3 rows f, refl)
+
+-- what is spelled, at a version that is known
 Spells : List RowEntry → ℕ → Type 0
 Spells rows version = FitsBlock version rows → IsBlock (block_bytes version rows) version (map (as_read version) rows)
 
-pub longest_fronts : (version : ℕ) (rows : List RowEntry) → (version ≡ 1) ⊎ (version ≡ 2) → FitsBlock version rows → IsBlock (block_bytes version rows) version (map (as_read version) rows)
+pub longest_fronts : (version : ℕ) (rows : List RowEntry) → IsKnown version → FitsBlock version rows → IsBlock (block_bytes version rows) version (map (as_read version) rows)
 unfolding Spells
 longest_fronts version rows (inl e) = subst (Spells rows) (sym e) (is_block_v1 rows)
-longest_fronts version rows (inr e) = subst (Spells rows) (sym e) (is_block_v2 rows)
+longest_fronts version rows (inr (inl e)) = subst (Spells rows) (sym e) (is_block_v2 rows)
+longest_fronts version rows (inr (inr e)) = subst (Spells rows) (sym e) (is_block_v3 rows)

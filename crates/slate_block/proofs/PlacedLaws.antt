@@ -8,7 +8,7 @@ use Rattle.slate_block.specs.declared.fields.RowFields.{RowFields}
 use Rattle.slate_block.specs.declared.row.SstRowEntry.{SstRowEntry}
 use Rattle.slate_block.specs.declared.row.SstRowEntryV2.{SstRowEntryV2}
 use Rattle.slate_block.specs.declared.rows_part.Version.{Version}
-use Rattle.slate_block.specs.declared.rows_part.Version.TheVariants.{V1, V2}
+use Rattle.slate_block.specs.declared.rows_part.Version.TheVariants.{V1, V2, V3}
 use Rattle.slate_block.specs.Damage.{◌>>=◌, layout_v1, layout_v2, IsDamageIn}
 use Rattle.slate_block.specs.RowReading.{entry_of_v1, entry_of_v2, row_v1_of, row_v2_of}
 use Rattle.slate_block.specs.Walks.{between, entry_v2_in, is_restored, moved, moved_result, row_v1_in, row_v2_in, whole_v1, whole_v2}
@@ -43,12 +43,16 @@ row_placed V1 body other from upto bytes is =
     ap (λ (part : Result (List ℕ) SlateDBError). part >>= λ bytes. moved_result from (row_v1_of bytes) >>= found_v1 other from) is ∙ same_v1 other from bytes (layout_v1 bytes)
 row_placed V2 body other from upto bytes is =
     ap (λ (part : Result (List ℕ) SlateDBError). (part >>= λ bytes. moved_result from (row_v2_of bytes)) >>= found_v2 other from) is ∙ same_v2 other from bytes (layout_v2 bytes)
+row_placed V3 body other from upto bytes is =
+    ap (λ (part : Result (List ℕ) SlateDBError). (part >>= λ bytes. moved_result from (row_v2_of bytes)) >>= found_v2 other from) is ∙ same_v2 other from bytes (layout_v2 bytes)
 
 pub no_row_placed : (version : Version) (body other : List ℕ) (from upto : ℕ) (e : SlateDBError) → between body from upto ≡ Err e → row_in version body other from upto ≡ Err e
 unfolding row_v1_in row_v2_in entry_v2_in
 no_row_placed V1 body other from upto e is =
     ap (λ (part : Result (List ℕ) SlateDBError). part >>= λ bytes. moved_result from (row_v1_of bytes) >>= found_v1 other from) is
 no_row_placed V2 body other from upto e is =
+    ap (λ (part : Result (List ℕ) SlateDBError). (part >>= λ bytes. moved_result from (row_v2_of bytes)) >>= found_v2 other from) is
+no_row_placed V3 body other from upto e is =
     ap (λ (part : Result (List ℕ) SlateDBError). (part >>= λ bytes. moved_result from (row_v2_of bytes)) >>= found_v2 other from) is
 
 -- ---- the row of fields that were read

@@ -18,6 +18,7 @@ use Rattle.slate_block.proofs.Groups.{IsBytes}
 use Rattle.slate_block.proofs.FieldLaws.{IsBytes-take, IsBytes-drop, bind_ok, ok_is, behind, block_text}
 use Rattle.slate_block.proofs.ReadingLawsV1.{row_v1_begins, row_v1_within, row_v1_again}
 use Rattle.slate_block.proofs.BlockLaws.{next_v1}
+use Rattle.slate_block.proofs.Versions.{two_versions}
 
 -- ---- tests that did not fail
 
@@ -283,7 +284,7 @@ rows_of_pieces body offsets pieces (r ∷ rows) fits e o few (inl a) keys =
     let placed : offsets ≡ places 0 (a.1 ∷ a.2) = o ∙ ap (λ (l : List (List ℕ)). places 0 l) parts in
     let counted : length (places 0 (a.1 ∷ a.2)) < 2 ^ 16 = subst (λ (l : List ℕ). length l < 2 ^ 16) placed few in
     ap (λ (l : List ℕ). block_rows 1 body l) placed ∙ first_again body a.1 a.2 r rows fits (e ∙ ap (λ (l : List (List ℕ)). flat_map (λ b. b) l) parts) counted a.4 a.5 keys
-rows_of_pieces body offsets pieces (r ∷ rows) fits e o few (inr a) keys = absurd (omega (arith, a.0))
+rows_of_pieces body offsets pieces (r ∷ rows) fits e o few (inr a) keys = absurd (two_versions 1 refl a.0)
 
 pub block_again : (body offsets : List ℕ) (rows : List RowEntry) → IsBytes body → IsBlockOf body offsets 1 rows → block_rows 1 body offsets ≡ Ok rows
 block_again body offsets rows fits block = rows_of_pieces body offsets block.pieces rows fits block.is_body block.are_offsets block.few block.are_rows block.keys

@@ -188,7 +188,7 @@ rows_found body q (at ∷ ats) rows fits e =
 are_rows : (pieces : List (List ℕ)) (rows : List RowEntry) (at : ℕ) (ats : List ℕ) → SharesV2 0 [] pieces rows → at ∷ ats ≡ restarts 0 (places 0 pieces) → AreRows 2 pieces rows
 are_rows [] [] at ats s e = absurd cc
 are_rows (b ∷ bs) [] at ats s e = absurd s
-are_rows pieces (r ∷ rows) at ats s e = inr (refl, s)
+are_rows pieces (r ∷ rows) at ats s e = inr (inl refl, s)
 
 pub block_found : (body offsets : List ℕ) (rows : List RowEntry) → IsBytes body → AllByRecursion (λ at. at < 2 ^ 16) offsets → block_rows 2 body offsets ≡ Ok rows → IsBlockOf body offsets 2 rows
 unfolding block_rows block_reads

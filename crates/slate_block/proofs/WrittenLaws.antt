@@ -7,6 +7,7 @@ use Rattle.slate_block.specs.BlockSpelling.{entry_v1, entry_v2, shared_with, lon
 use Rattle.slate_block.proofs.RowLaws.{same_row_v1, same_row_v2}
 use Rattle.slate_block.proofs.BlockLaws.{same_row_from_v1, same_row_from_v2, some_v2, same_body, nothing_shared}
 use Rattle.slate_block.proofs.LongestFronts.{shares_longest, fits_v1, fits_v2}
+use Rattle.slate_block.proofs.Versions.{fits_second, same_bytes}
 
 same_written_v1 : (first : List ℕ) (rs ss : List RowEntry) → AllByRecursion FitsRow rs → AllByRecursion FitsRow ss → flat_map (λ b. b) (spelled_v1 first rs) ≡ flat_map (λ b. b) (spelled_v1 first ss) → rs ≡ ss
 same_written_v1 first [] [] f g h = refl
@@ -67,10 +68,14 @@ one_v2 : (rows other : List RowEntry) → FitsBlock 2 rows → FitsBlock 2 other
 one_v2 rows other f g h = all_written_v2 rows other f.some g.some f.each g.each
     (same_body (flat_map (λ b. b) (spelled 2 rows)) (flat_map (λ b. b) (spelled 2 other)) (offsets_of 2 (spelled 2 rows)) (offsets_of 2 (spelled 2 other)) f.few g.few h)
 
+one_v3 : (rows other : List RowEntry) → FitsBlock 3 rows → FitsBlock 3 other → block_bytes 3 rows ≡ block_bytes 3 other → rows ≡ other
+one_v3 rows other f g h = one_v2 rows other (fits_second rows f) (fits_second other g) (sym (same_bytes rows) ∙ h ∙ same_bytes other)
+
 Written : List RowEntry → List RowEntry → ℕ → Type 0
 Written rows other version = FitsBlock version rows → FitsBlock version other → block_bytes version rows ≡ block_bytes version other → rows ≡ other
 
-pub one_written : (version : ℕ) (rows other : List RowEntry) → (version ≡ 1) ⊎ (version ≡ 2) → FitsBlock version rows → FitsBlock version other → block_bytes version rows ≡ block_bytes version other → rows ≡ other
+pub one_written : (version : ℕ) (rows other : List RowEntry) → IsKnown version → FitsBlock version rows → FitsBlock version other → block_bytes version rows ≡ block_bytes version other → rows ≡ other
 unfolding Written
 one_written version rows other (inl e) = subst (Written rows other) (sym e) (one_v1 rows other)
-one_written version rows other (inr e) = subst (Written rows other) (sym e) (one_v2 rows other)
+one_written version rows other (inr (inl e)) = subst (Written rows other) (sym e) (one_v2 rows other)
+one_written version rows other (inr (inr e)) = subst (Written rows other) (sym e) (one_v3 rows other)

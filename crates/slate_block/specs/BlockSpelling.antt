@@ -1,4 +1,6 @@
--- The bytes of a block, version 1 or 2.
+-- The bytes of a block, version 1, 2 or 3.
+--     IsSecond version      its blocks are those of version 2
+--     IsKnown version, is_known version      blocks have this version, and the test for it
 --     IsKey k      a row can have the key k
 --     Shares n other key      the first n bytes of key stand in other, so that they can be left out
 --     whole_key n other suffix      the key whose first n bytes stand in other
@@ -11,13 +13,22 @@
 --     block_bytes version rows      the block in which each key shares its longest front
 --     as_read version r      the row that is read where r was written
 --     FitsRow r, FitsBlock version rows      the row's numbers fit their fields, and the rows fit one block
-use Rattle.std.specs.Prelude.{◌≡◌, ℕ, ◌+◌, ◌%◌, ◌^◌, ◌<◌, ◌≤◌, Bool, if◌then◌else◌, ◌==◌, nat_eq, List, [], ◌∷◌, ◌++◌, length, take, drop, flat_map, ◌⊎◌}
+use Rattle.std.specs.Prelude.{◌≡◌, ℕ, ◌+◌, ◌%◌, ◌^◌, ◌<◌, ◌≤◌, Bool, if◌then◌else◌, ◌==◌, ◌||◌, nat_eq, List, [], ◌∷◌, ◌++◌, length, take, drop, flat_map, ◌⊎◌}
 use Rattle.std.specs.List.{AllByRecursion, common_prefix_len}
 use Rattle.slate_types.specs.declared.types.RowEntry.{RowEntry}
 use Rattle.slate_types.specs.Rows.{operand}
 use Rattle.slate_block.specs.declared.row.SstRowEntry.{SstRowEntry}
 use Rattle.slate_block.specs.declared.row.SstRowEntryV2.{SstRowEntryV2}
 use Rattle.slate_block.specs.RowSpelling.{be16, v1_bytes, v2_bytes, IsRowV1, IsRowV2, FitsStamp, read_expiry}
+
+abbrev pub IsSecond : ℕ → Type 0
+IsSecond version = (version ≡ 2) ⊎ (version ≡ 3)
+
+abbrev pub IsKnown : ℕ → Type 0
+IsKnown version = (version ≡ 1) ⊎ IsSecond version
+
+abbrev pub is_known : ℕ → Bool
+is_known version = version == 1 || (version == 2 || version == 3)
 
 -- a key that a row can have
 abbrev pub IsKey : List ℕ → Type 0
@@ -72,7 +83,7 @@ offsets_of version bs = if version == 1 then places 0 bs else restarts 0 (places
 abbrev pub AreRows : ℕ → List (List ℕ) → List RowEntry → Type 0
 AreRows version bs [] = ⊥
 AreRows version bs (r ∷ rs) = ((version ≡ 1) × (first : List ℕ) × (rest : List (List ℕ)) × (bs ≡ first ∷ rest) × IsRowV1 first (entry_v1 0 r) × SharesV1 r.key rest rs)
-    ⊎ ((version ≡ 2) × SharesV2 0 [] bs (r ∷ rs))
+    ⊎ (IsSecond version × SharesV2 0 [] bs (r ∷ rs))
 
 -- the rows' part and the offsets; the pieces are determined by both, as both are by the pieces
 pub record IsBlockOf (body : List ℕ) (offsets : List ℕ) (version : ℕ) (rows : List RowEntry) : Type 0 where

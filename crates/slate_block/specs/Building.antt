@@ -17,7 +17,7 @@ use mathlib.Core.Equiv.{IsContr, IsContr-prop}
 use Rattle.slate_types.specs.declared.types.RowEntry.{RowEntry}
 use Rattle.slate_types.specs.Rows.{operand}
 use Rattle.slate_block.specs.declared.rows_part.Version.{Version}
-use Rattle.slate_block.specs.declared.rows_part.Version.TheVariants.{V1, V2}
+use Rattle.slate_block.specs.declared.rows_part.Version.TheVariants.{V1, V2, V3}
 use Rattle.slate_block.specs.declared.rows_part.RowsPart.{RowsPart}
 use Rattle.slate_block.specs.RowSpelling.{v1_bytes, v2_bytes}
 use Rattle.slate_block.specs.BlockSpelling.{entry_v1, entry_v2, is_restart, shared_with, offsets_of, spelled, FitsRow}
@@ -28,6 +28,7 @@ CanTake r = (length r.key < 2 ^ 16) × (length (operand r) < 2 ^ 32)
 abbrev pub number : Version → ℕ
 number V1 = 1
 number V2 = 2
+number V3 = 3
 
 abbrev pub first_key : List RowEntry → List ℕ
 first_key [] = []

@@ -7,14 +7,14 @@
 --     LongestFrontsAreBlocks      what is spelled with longest fronts is a block of the rows, as they are read
 --     LongestFrontsAreSpelledOneWay      of one list of rows as they were written
 --     BlocksAreReadOneWay      a byte string is a block of at most one list of rows
-use Rattle.std.specs.Prelude.{◌≡◌, ℕ, ◌^◌, ◌<◌, ◌⊎◌, true, List, ◌++◌, map, Option, ℤ}
+use Rattle.std.specs.Prelude.{◌≡◌, ℕ, ◌^◌, ◌<◌, true, List, ◌++◌, map, Option, ℤ}
 use Rattle.slate_types.specs.declared.types.ValueDeletable.{ValueDeletable}
 use Rattle.slate_types.specs.declared.types.RowEntry.{RowEntry}
 use Rattle.slate_block.specs.declared.row.SstRowEntry.{SstRowEntry}
 use Rattle.slate_block.specs.declared.row.SstRowEntryV2.{SstRowEntryV2}
 use Rattle.slate_block.specs.Varint.{IsVarint, varint}
 use Rattle.slate_block.specs.RowSpelling.{v1_bytes, v2_bytes, FitsV1, FitsV2, IsRowV1, IsRowV2, flags, are_flags}
-use Rattle.slate_block.specs.BlockSpelling.{IsBlock, FitsBlock, block_bytes, as_read}
+use Rattle.slate_block.specs.BlockSpelling.{IsKnown, IsBlock, FitsBlock, block_bytes, as_read}
 
 abbrev pub VarintsDelimitThemselves : Type 0
 VarintsDelimitThemselves = (a b x y : List ℕ) (m n : ℕ) → IsVarint a m → IsVarint b n → a ++ x ≡ b ++ y → (m ≡ n) × (a ≡ b) × (x ≡ y)
@@ -39,12 +39,12 @@ abbrev pub FlagsAreKnown : Type 0
 FlagsAreKnown = (value : ValueDeletable) (expire create : Option ℤ) → are_flags (flags value expire create) ≡ true
 
 abbrev pub LongestFrontsAreBlocks : Type 0
-LongestFrontsAreBlocks = (version : ℕ) (rows : List RowEntry) → (version ≡ 1) ⊎ (version ≡ 2) → FitsBlock version rows →
+LongestFrontsAreBlocks = (version : ℕ) (rows : List RowEntry) → IsKnown version → FitsBlock version rows →
     IsBlock (block_bytes version rows) version (map (as_read version) rows)
 
 -- also in version 1, where the expiry of a tombstone stands in the bytes and isn't read
 abbrev pub LongestFrontsAreSpelledOneWay : Type 0
-LongestFrontsAreSpelledOneWay = (version : ℕ) (rows other : List RowEntry) → (version ≡ 1) ⊎ (version ≡ 2) → FitsBlock version rows → FitsBlock version other →
+LongestFrontsAreSpelledOneWay = (version : ℕ) (rows other : List RowEntry) → IsKnown version → FitsBlock version rows → FitsBlock version other →
     block_bytes version rows ≡ block_bytes version other → rows ≡ other
 
 abbrev pub BlocksAreReadOneWay : Type 0

@@ -11,7 +11,7 @@ use Rattle.slate_types.specs.declared.error.SlateDBError.TheVariants.{CorruptTab
 use Rattle.slate_types.specs.declared.types.RowEntry.{RowEntry}
 use Rattle.slate_block.specs.declared.fields.RowFields.{RowFields}
 use Rattle.slate_block.specs.declared.rows_part.Version.{Version}
-use Rattle.slate_block.specs.declared.rows_part.Version.TheVariants.{V1, V2}
+use Rattle.slate_block.specs.declared.rows_part.Version.TheVariants.{V1, V2, V3}
 use Rattle.slate_block.specs.BlockSpelling.{whole_key}
 use Rattle.slate_block.specs.Damage.{◌>>=◌, layout_v1, layout_v2}
 use Rattle.slate_block.specs.RowReading.{expiry_of, fields_value}
@@ -23,6 +23,7 @@ as_read f = record { suffix_at = f.suffix_at; suffix_end = f.suffix_end; value_a
 unfoldable pub fields_of : Version → List ℕ → Result (ℕ × RowFields) SlateDBError
 fields_of V1 bytes = layout_v1 bytes >>= λ row. Ok (row.0, as_read row.1)
 fields_of V2 bytes = layout_v2 bytes
+fields_of V3 bytes = layout_v2 bytes
 
 abbrev pub suffix_of : List ℕ → RowFields → List ℕ
 suffix_of bytes fields = slice_range bytes fields.suffix_at fields.suffix_end
@@ -39,3 +40,4 @@ placed version other from bytes = moved_result from (fields_of version bytes) >>
 abbrev pub row_in : Version → List ℕ → List ℕ → ℕ → ℕ → Result (RowEntry × ℕ) SlateDBError
 row_in V1 body other from upto = row_v1_in body other from upto
 row_in V2 body other from upto = row_v2_in body other from upto
+row_in V3 body other from upto = row_v2_in body other from upto

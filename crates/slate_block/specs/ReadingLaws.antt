@@ -7,7 +7,7 @@
 --     BytesComeApartOnce      bytes come apart in one way
 --     good_rows reads      those that are read
 --     SeeksKeepGoodRows      where the rows that are read come in the order, a seek takes off none of them that doesn't come before the key; and exactly the others, where the row before which it stops is read
---     WalkedRowsAreBlocks1, WalkedRowsAreBlocks2      a walk is refused nowhere exactly where the rows' part and the offsets are those of a block, and reads its rows
+--     WalkedRowsAreBlocks      of each version: a walk is refused nowhere exactly where the rows' part and the offsets are those of a block, and reads its rows
 use Rattle.std.specs.Prelude.{◌≡◌, ◌↔◌, ℕ, ◌<◌, ◌^◌, List, [], ◌∷◌, ◌++◌, length, slice_index, Some, None, Ok, Err}
 use Rattle.slate_block.specs.declared.row.SstRowEntry.{SstRowEntry}
 use Rattle.slate_block.specs.declared.row.SstRowEntryV2.{SstRowEntryV2}
@@ -16,7 +16,7 @@ use Rattle.slate_block.specs.Damage.{front_varint}
 use Rattle.slate_block.specs.BlockReading.{IsApart, offsets_of_block}
 use Rattle.std.specs.List.{AllByRecursion}
 use Rattle.slate_types.specs.declared.types.RowEntry.{RowEntry}
-use Rattle.slate_block.specs.BlockSpelling.{IsBlockOf, IsBlock, block_spelling}
+use Rattle.slate_block.specs.BlockSpelling.{IsKnown, IsBlockOf, IsBlock, block_spelling}
 use Rattle.slate_types.specs.declared.iter.IterationOrder.{IterationOrder}
 use Rattle.slate_types.specs.Iteration.{drop_before, IsInOrder}
 use Rattle.slate_block.specs.Walks.{RowRead, block_rows}
@@ -53,11 +53,8 @@ abbrev pub WalksRead : ℕ → Type 0
 WalksRead version = (body offsets : List ℕ) (rows : List RowEntry) → EachIsAByte body → AllByRecursion (λ at. at < 2 ^ 16) offsets →
     (block_rows version body offsets ≡ Ok rows) ↔ IsBlockOf body offsets version rows
 
-abbrev pub WalkedRowsAreBlocks1 : Type 0
-WalkedRowsAreBlocks1 = WalksRead 1
-
-abbrev pub WalkedRowsAreBlocks2 : Type 0
-WalkedRowsAreBlocks2 = WalksRead 2
+abbrev pub WalkedRowsAreBlocks : Type 0
+WalkedRowsAreBlocks = (version : ℕ) → IsKnown version → WalksRead version
 
 abbrev pub good_rows : List RowRead → List RowEntry
 good_rows [] = []

@@ -56,6 +56,16 @@ impl BlockBuilder {
         Ok(BlockBuilder::of_version(alloc, Version::V2, block_size))
     }
 
+    /// A builder of a block of version 3, whose bytes are those of version 2: otherwise as by `new_v2`.
+    pub fn new_v3(alloc: Global, block_size: u32) -> Result<BlockBuilder, SlateDBError>
+        requires some { 1 ≤ block_size }
+        requires few { block_size ≤ 65535 }
+        ensures builder { IfOk result (λ b. b ≡ record { version = 3; size = block_size; rows = [] }) }
+        ensures cause { IsOkUnless result SlateDBError.OutOfMemory }
+    {
+        Ok(BlockBuilder::of_version(alloc, Version::V3, block_size))
+    }
+
     /// A builder of a block of the latest version, which is 2: as by `new_v2`.
     pub fn new_latest(alloc: Global, block_size: u32) -> Result<BlockBuilder, SlateDBError>
         requires some { 1 ≤ block_size }

@@ -1,7 +1,8 @@
-//! The rows of a block of either version, one at a time.
-ghost use Rattle.std.specs.Prelude.{◌≡◌, ◌<◌, ◌⊎◌, ◌↔◌, ◌≢◌, List, [], Ok, Err, Some, length, slice_get, IsOk, IsSome, IsTrue, IfOk, IfErr, OnOk, OnErr};
+//! The rows of a block of any version, one at a time.
+ghost use Rattle.std.specs.Prelude.{◌≡◌, ◌<◌, ◌⊎◌, ◌↔◌, List, [], Ok, Err, Some, length, slice_get, IsOk, IsSome, IsTrue, IfOk, IfErr, OnOk, OnErr};
 ghost use Rattle.slate_types.specs.declared.types.RowEntry.{RowEntry};
 ghost use Rattle.slate_types.specs.Iteration.{drop_before, in_order};
+ghost use Rattle.slate_block.specs.BlockSpelling.{IsKnown, IsSecond};
 ghost use Rattle.slate_block.specs.Walks.{block_reads, block_rows};
 ghost use Rattle.slate_block.specs.BlockWalks.{left, rising_rows, rows_of, Blames, IsBlockDamage, IsPast, IsRising, IsSought, Refuses, StopsAt, TakesLeft, TakesRead};
 ghost use Rattle.slate_block.specs.WholeWalks.{none_refused};
@@ -22,8 +23,8 @@ pub enum DataBlockIterator<B: BlockLike> {
 }
 
 impl<B: BlockLike> DataBlockIterator<B> {
-    /// All rows of a block of this version, in the order. `InvalidVersion` exactly for versions other than 1 and 2; otherwise
-    /// it refuses exactly as the version's iterator does.
+    /// All rows of a block of this version, in the order. `InvalidVersion` exactly for versions other than 1, 2 and 3;
+    /// otherwise it refuses exactly as the version's iterator does, in version 3 that of version 2.
     pub fn new(
         alloc: Global,
         block: B,
@@ -31,19 +32,19 @@ impl<B: BlockLike> DataBlockIterator<B> {
         order: IterationOrder,
     ) -> Result<Self, SlateDBError>
         ensures v1 { IfOk result (λ it. version ≡ 1 → block_reads 1 (B.body_bytes block) (B.row_offsets block) ≡ Ok (in_order order (left_of it).reads)) }
-        ensures v2 { IfOk result (λ it. version ≡ 2 → (left_of it).reads ≡ walk_in order (B.body_bytes block) (B.row_offsets block)) }
+        ensures v2 { IfOk result (λ it. IsSecond version → (left_of it).reads ≡ walk_in order (B.body_bytes block) (B.row_offsets block)) }
         ensures rows { IfOk result (λ it. (rows : List RowEntry) → block_rows version (B.body_bytes block) (B.row_offsets block) ≡ Ok rows → left (left_of it) ≡ Ok (in_order order rows)) }
         ensures only { IfOk result (λ it. (rows : List RowEntry) → left (left_of it) ≡ Ok (in_order order rows) → block_rows version (B.body_bytes block) (B.row_offsets block) ≡ Ok rows) }
         ensures upwards { IfOk result (λ it. order ≡ IterationOrder.Ascending → left (left_of it) ≡ block_rows version (B.body_bytes block) (B.row_offsets block)) }
         ensures order { IfOk result (λ it. (left_of it).order ≡ order) }
-        ensures version { version ≢ 1 → version ≢ 2 → result ≡ Err (SlateDBError.InvalidVersion version) }
+        ensures version { (IsKnown version → ⊥) → result ≡ Err (SlateDBError.InvalidVersion version) }
         ensures begins { IfOk result (λ _. IsOk (block_reads version (B.body_bytes block) (B.row_offsets block))) }
-        ensures cause { (version ≡ 1) ⊎ (version ≡ 2) → IfErr result (λ e. (e ≡ SlateDBError.OutOfMemory) ⊎ (block_reads version (B.body_bytes block) (B.row_offsets block) ≡ Err e)) }
-        ensures damage { (version ≡ 1) ⊎ (version ≡ 2) → IfErr result (λ e. (e ≡ SlateDBError.OutOfMemory) ⊎ IsBlockDamage e) }
+        ensures cause { IsKnown version → IfErr result (λ e. (e ≡ SlateDBError.OutOfMemory) ⊎ (block_reads version (B.body_bytes block) (B.row_offsets block) ≡ Err e)) }
+        ensures damage { IsKnown version → IfErr result (λ e. (e ≡ SlateDBError.OutOfMemory) ⊎ IsBlockDamage e) }
     {
         match version {
             1 => Ok(DataBlockIterator::V1(BlockIterator::new(alloc, block, order)?)),
-            2 => Ok(DataBlockIterator::V2(BlockIteratorV2::new(alloc, block, order)?)),
+            2 | 3 => Ok(DataBlockIterator::V2(BlockIteratorV2::new(alloc, block, order)?)),
             _ => Err(SlateDBError::InvalidVersion {
                 actual_version: version,
             }),

@@ -54,7 +54,7 @@ fn fields_of(version: Version, bytes: &[u8]) -> Result<(u32, RowFields), SlateDB
             fields.expire_ts = read_expiry(fields.flags, fields.expire_ts);
             Ok((u32::from(shared), fields))
         }
-        Version::V2 => fields_v2(bytes),
+        Version::V2 | Version::V3 => fields_v2(bytes),
     }
 }
 

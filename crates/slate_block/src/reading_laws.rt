@@ -8,8 +8,7 @@ ghost use Rattle.slate_block.specs.ReadingLaws.{
   RowsOfV2AreFound,
   SeeksKeepGoodRows,
   VarintsAreFound,
-  WalkedRowsAreBlocks1,
-  WalkedRowsAreBlocks2,
+  WalkedRowsAreBlocks,
 };
 
 /// The number whose spelling begins bytes is found, and none where no spelling begins them.
@@ -35,8 +34,7 @@ pub fn blocks_come_apart()
 
 /// A walk over a block of a version is refused nowhere exactly where it is one, and reads its rows.
 pub fn blocks_are_walked()
-    ensures v1 { WalkedRowsAreBlocks1 }
-    ensures v2 { WalkedRowsAreBlocks2 }
+    ensures { WalkedRowsAreBlocks }
 {}
 
 /// A seek over a block loses no row that is read and doesn't come before the key, where those that are read come in the

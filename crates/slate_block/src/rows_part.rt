@@ -10,14 +10,15 @@ use bytes::Bytes;
 use slate_types::{RowEntry, SlateDBError};
 use std::alloc::AllocError;
 
-/// In version 2 every row that shares nothing stands so many rows behind the one before it.
+/// In versions 2 and 3 every row that shares nothing stands so many rows behind the one before it.
 const RESTART_INTERVAL: u16 = 16;
 
-/// How rows are spelled.
+/// How rows are spelled: in version 3 as in version 2.
 #[derive(Clone, Copy)]
 pub enum Version {
     V1,
     V2,
+    V3,
 }
 
 /// What is kept of the rows that were taken.
@@ -27,7 +28,7 @@ pub struct RowsPart {
     pub body: Vec<u8>,
     pub offsets: Vec<u16>,
     pub num_rows: u16,
-    /// The key whose front the next row leaves out: the first one in version 1, the last one in version 2, and none at a
+    /// The key whose front the next row leaves out: the first one in version 1, the last one in the others, and none at a
     /// restart.
     pub front_key: Bytes,
 }
@@ -44,7 +45,7 @@ impl RowsPart {
         let rows = self.body.len() as u64;
         match self.version {
             Version::V1 => 2 + 2 * offsets + rows + entry.encoded_size(shared),
-            Version::V2 => {
+            Version::V2 | Version::V3 => {
                 let restart = u64::from(is_restart(self.num_rows));
                 2 + 2 * (offsets + restart) + rows + encoded_size_v2(shared, entry)
             }
@@ -92,7 +93,7 @@ impl RowsPart {
         self.offsets.reserve(1)?;
         append_row(self.version, &mut self.body, shared, entry)?;
         match self.version {
-            Version::V2 if !is_restart(self.num_rows) => {}
+            Version::V2 | Version::V3 if !is_restart(self.num_rows) => {}
             _ => self.offsets.push_reserved(place),
         }
         Ok(())
@@ -111,7 +112,7 @@ impl RowsPart {
         self.num_rows += 1;
         match self.version {
             Version::V1 if !is_first => drop(key),
-            Version::V2 if is_restart(self.num_rows) => {
+            Version::V2 | Version::V3 if is_restart(self.num_rows) => {
                 drop(key);
                 self.front_key = Bytes::new();
             }
@@ -120,14 +121,14 @@ impl RowsPart {
     }
 }
 
-/// Whether the row behind so many others shares nothing in version 2.
+/// Whether the row behind so many others shares nothing in versions 2 and 3.
 fn is_restart(num_rows: u16) -> bool
     ensures { result ≡ is_restart num_rows }
 {
     num_rows.is_multiple_of(RESTART_INTERVAL)
 }
 
-/// The bytes of a row in version 2.
+/// The bytes of a row in versions 2 and 3.
 fn encoded_size_v2(shared: usize, entry: &RowEntry) -> u64
     requires lengths { CanTake entry.now }
     requires shared { shared ≤ length entry.now.key }
@@ -170,7 +171,7 @@ fn append_row(
             let front = shared as u16;
             codec_v0::append_row(out, front, suffix, seq, value, expire_ts, create_ts)
         }
-        Version::V2 => {
+        Version::V2 | Version::V3 => {
             let front = shared as u32;
             codec_v2::append_row(out, front, suffix, seq, value, expire_ts, create_ts)
         }

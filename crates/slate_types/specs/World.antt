@@ -1,6 +1,6 @@
 -- What an iterator takes its outside for, and what its calls met of that.
---     Place      where a section lies in an object
---     Kept      an object: its bytes, and of a table where its sections lie, the separators of its blocks, and their rows, as they are read
+--     Section      where a section lies in an object, and its cover: what its checksum covers beside its bytes
+--     Kept      an object: its bytes, and of a table its sections, the separators of its blocks, and their rows, as they are read
 --     World      what the outside is taken for: the objects that an iterator may read, by their paths, what a checksum fits, and the meaning
 --     nothing      the world of sources in memory
 --     IsReadAct act      the act is a read
@@ -16,24 +16,25 @@ use Rattle.std.specs.List.{AllByRecursion}
 use Rattle.slate_types.specs.declared.types.RowEntry.{RowEntry}
 use Rattle.slate_types.specs.Outside.{Objects, Act, object_at, part, part_of, Meaning, no_parts, Reach}
 
-pub record Place : Type 0 where
+pub record Section : Type 0 where
   pub at : ℕ
   pub len : ℕ
+  pub cover : List ℕ
 
 pub record Kept : Type 0 where
   pub bytes : List ℕ
-  pub sections : List Place
+  pub sections : List Section
   pub keys : List (List ℕ)
   pub blocks : List (List RowEntry)
 
--- fits: whether the last four bytes of a section are the checksum of the others
+-- fits: whether the last four bytes of a section are the checksum of what it covers: a cover, and the section's other bytes
 pub record World : Type 0 where
   pub holds : List ℕ → Option Kept
-  pub fits : List ℕ → Bool
+  pub fits : List ℕ → List ℕ → Bool
   pub meaning : Meaning
 
 abbrev pub nothing : World
-nothing = record { holds = λ path. None; fits = λ part. false; meaning = no_parts }
+nothing = record { holds = λ path. None; fits = λ cover part. false; meaning = no_parts }
 
 -- ---- what a call read
 
@@ -82,14 +83,14 @@ pub record Sees (w : World) (before after : Reach) : Type 0 where
 
 -- ---- what slips through
 
-pub record IsSlipOf (fits : List ℕ → Bool) (kept : Kept) (start len : ℕ) (answer : List ℕ) : Type 0 where
-  pub place : Place
+pub record IsSlipOf (fits : List ℕ → List ℕ → Bool) (kept : Kept) (start len : ℕ) (answer : List ℕ) : Type 0 where
+  pub place : Section
   pub among : Contains kept.sections place
   pub whole : length answer ≡ len
   pub from : start ≤ place.at
   pub upto : place.at + place.len ≤ start + len
   pub differs : part (place.at - start) place.len answer ≢ part place.at place.len kept.bytes
-  pub passes : fits (part (place.at - start) place.len answer) ≡ true
+  pub passes : fits place.cover (part (place.at - start) place.len answer) ≡ true
 
 abbrev pub IsSlip : World → Act → Type 0
 IsSlip w (Act.read path start len answer) = (kept : Kept) × (bytes : List ℕ) × (w.holds path ≡ Some kept) × (answer ≡ Some bytes) × IsSlipOf w.fits kept start len bytes

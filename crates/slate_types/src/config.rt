@@ -16,11 +16,13 @@ pub enum IsolationLevel {
     SerializableSnapshot,
 }
 
-/// The version in which blocks are written. `Latest` is `V2`.
+/// The version in which tables and their blocks are written. `V3` writes blocks as `V2` does, and the checksum of each section
+/// covers the table's id, the section's kind and its offset too. `Latest` is `V2`.
 #[derive(Clone, Copy, Debug, PartialEq, Eq)]
 pub enum BlockFormat {
     V1,
     V2,
+    V3,
     Latest,
 }
 

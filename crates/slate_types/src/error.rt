@@ -199,7 +199,7 @@ impl SlateDBError {
             Self::EmptyBlock => "a block has no row",
             Self::IteratorNotInitialized => "the iterator isn't initialized",
             Self::SeekKeyOutOfKeyRange { .. } => "the key is before the range",
-            Self::InvalidSequenceOrder { .. } => "a key's rows don't rise",
+            Self::InvalidSequenceOrder { .. } => "a key's rows rise in sequence",
             Self::LimitReached { .. } => "a limit is reached",
             Self::OutOfMemory => "out of memory",
         }
