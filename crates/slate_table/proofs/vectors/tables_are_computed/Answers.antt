@@ -13,4 +13,6 @@ returns c = record {
   sums_fit = (refl, refl, refl, refl);
   damage = (refl, refl, refl, refl);
   ends = (refl, refl, refl, refl, refl, refl, refl);
+  version_three = (refl, refl, refl, refl, refl, refl);
+  covers = (refl, refl, refl, refl);
 }
