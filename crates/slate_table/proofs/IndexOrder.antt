@@ -7,7 +7,7 @@ use Rattle.std.specs.declared.cmp.Ordering.{Ordering}
 use Rattle.std.specs.declared.cmp.Ordering.TheVariants.{Less, Equal, Greater}
 use Rattle.std.proofs.lemmas.Bool.{eqb-true, eq-eqb}
 use Rattle.std.proofs.lemmas.Cmp.{nat_cmp_total, nat_list_cmp_total, tied_itself}
-use Rattle.std.proofs.lemmas.List.{length-append, length-map}
+use Rattle.std.proofs.lemmas.List.{length-append}
 use Rattle.std.proofs.lemmas.List.Concat.{flat_map-cons}
 use Rattle.std.proofs.lemmas.Slice.Eq.{bytes_eq-Decides}
 use Rattle.slate_types.specs.declared.types.RowEntry.{RowEntry}
@@ -22,7 +22,7 @@ use Rattle.slate_table.specs.Parts.{Encode, cover_of, block_kind, separator, lat
 use Rattle.slate_table.specs.Table.{AreInOrder, sections_from, block_sections}
 use Rattle.slate_table.specs.Decoded.{IsIndex, FitsEntry, RisesFrom, RisesFromZero, entry_bytes}
 use Rattle.slate_table.specs.FileLaws.{paired, table_entries}
-use Rattle.slate_table.proofs.Sections.{section_length, sections_count}
+use Rattle.slate_table.proofs.Sections.{block_count, section_length}
 use Rattle.slate_table.proofs.IndexLaws.{places_count, separators_count, separators_short}
 
 -- ---- a separator stands between the keys
@@ -173,7 +173,7 @@ index_is encode version id end blocks fits some few order whole lt =
     let ss = block_sections encode version id blocks in
     let ats = places 0 ss in
     let ks = separators blocks in
-    let sections = sections_count version id encode 0 (map (λ b. block_bytes version b) blocks) ∙ length-map blocks (λ b. block_bytes version b) in
+    let sections = block_count encode version id blocks in
     let placed = places_count 0 ss in
     let named = separators_count blocks in
     let count = paired_count ats ks (omega (arith, placed, named, sections)) in

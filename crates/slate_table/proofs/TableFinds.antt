@@ -1,5 +1,5 @@
 -- What is read of the bytes of a table by its info.
-use Rattle.std.proofs.Common.{◌≡◌, ℕ, zero, suc, ◌+◌, ◌-◌, ◌^◌, ◌<◌, ◌≤◌, ◌⊎◌, inl, inr, Bool, true, false, cond, ◌&&◌, List, [], ◌∷◌, ◌++◌, length, take, drop, map, flat_map, Option, Some, None, Ok, refl, sym, ap, subst, ◌∙◌, arith, bytes_eq, append_assoc, length-append}
+use Rattle.std.proofs.Common.{◌≡◌, ℕ, zero, suc, ◌+◌, ◌-◌, ◌^◌, ◌<◌, ◌≤◌, inl, inr, Bool, true, false, cond, ◌&&◌, List, [], ◌∷◌, ◌++◌, length, take, drop, map, flat_map, Option, Some, None, Ok, refl, sym, ap, subst, ◌∙◌, arith, bytes_eq, append_assoc, length-append}
 use Rattle.std.specs.Prelude.{◌==◌, IsTrue, nat_le, slice_get}
 use Rattle.std.specs.List.{AllByRecursion}
 use Rattle.std.proofs.lemmas.Bool.Decides.{nat_tests}
@@ -36,12 +36,12 @@ use Rattle.slate_table.specs.Reading.{SectionRead, stored_of, IsPart, IsRefused,
 use Rattle.slate_table.specs.SectionReading.{footer_bytes}
 use Rattle.slate_table.specs.Table.{filter_section, some_first, some_last, info_of, sections_then_info, sections_from, block_sections, filters_section, index_section, stats_section, info_section, info_start, AreInOrder, IsTableOf}
 use Rattle.slate_table.specs.TableEnd.{HasInfo}
-use Rattle.slate_table.proofs.Covering.{le_itself, from_first, upto_last, AllFrom, AllUpto, AreSome, Follow, Holds, separators_hold, separators_follow, Outside, outside, covers, none_beyond, order_front}
+use Rattle.slate_table.proofs.Covering.{from_first, upto_last, AllFrom, AllUpto, AreSome, Follow, Holds, separators_hold, separators_follow, outside, covers, none_beyond, order_front}
 use Rattle.slate_table.proofs.IndexLaws.{separators_short, separators_count}
 use Rattle.slate_table.proofs.IndexReads.{index_again}
 use Rattle.slate_table.proofs.InfoReads.{info_again}
 use Rattle.slate_table.proofs.SectionReads.{cover_bytes, part_again}
-use Rattle.slate_table.proofs.Sections.{same_summed, section_length, sections_count, section_placed}
+use Rattle.slate_table.proofs.Sections.{block_count, same_summed, section_length, section_placed}
 
 -- ---- the info
 
@@ -470,9 +470,6 @@ found_in encode bytes v id info version bs fs t h =
       index = (λ j. part_of (Some (whole j)) (is.1 j).index.at (is.1 j).index.len) ∙ part_at (b ++ f) i (s ++ (n ++ (end ++ be16 version))) (length b + length f) (length i) (sym (length-append b f)) refl ∙ ap Some covered;
       index_is = λ fits. subst EachIsAByte covered (mid_bytes (b ++ f) i (s ++ (n ++ (end ++ be16 version))) (subst EachIsAByte whole fits));
     }
-
-block_count : (encode : Encode) (version id : ℕ) (bs : List (List RowEntry)) → length (block_sections encode version id bs) ≡ length bs
-block_count encode version id bs = sections_count version id encode 0 (map (λ b. block_bytes version b) bs) ∙ length-map bs (λ b. block_bytes version b)
 
 pub key_held : (encode decode : Encode) → IsLawfulTransform encode decode → (bytes : List ℕ) (version id : ℕ) (info : Info) (rows : List RowEntry) → IsTableWith encode bytes version id info rows →
     (entries : List (ℕ × List ℕ)) → IsIndexRead decode info.filters.at (index_answer version id bytes info) entries →

@@ -1,10 +1,9 @@
 -- A table is read one way.
-use Rattle.std.proofs.Common.{◌≡◌, ℕ, ◌+◌, ◌<◌, ◌^◌, List, ◌++◌, length, map, flat_map, refl, sym, subst, ◌∙◌, arith}
-use Rattle.std.proofs.lemmas.List.{length-map}
+use Rattle.std.proofs.Common.{◌≡◌, ℕ, ◌+◌, ◌<◌, ◌^◌, List, ◌++◌, length, flat_map, refl, sym, subst, ◌∙◌, arith}
 use Rattle.slate_types.specs.declared.types.RowEntry.{RowEntry}
 use Rattle.slate_types.specs.Lawful.{IsLawfulTransform}
 use Rattle.slate_block.specs.RowSpelling.{be16}
-use Rattle.slate_block.specs.BlockSpelling.{block_bytes, places}
+use Rattle.slate_block.specs.BlockSpelling.{places}
 use Rattle.slate_block.proofs.Versions.{below_16}
 use Rattle.slate_table.specs.Checksum.{crc32}
 use Rattle.slate_table.specs.Parts.{Encode, Place, cover_of, filters_kind, index_kind, info_kind, separators, index_bytes, key_bytes}
@@ -12,7 +11,7 @@ use Rattle.slate_table.specs.Table.{some_first, some_last, table_bytes, IsTableO
 use Rattle.slate_table.proofs.FrameLaws.{info_from, frame, IsShortFrame, frame_short, SameSections, same_sections, index_place, filters_place}
 use Rattle.slate_table.proofs.IndexLaws.{same_part, same_offsets, same_blocks}
 use Rattle.slate_table.proofs.FilterLaws.{same_filter_section}
-use Rattle.slate_table.proofs.Sections.{sections_count}
+use Rattle.slate_table.proofs.Sections.{block_count}
 
 -- the four sections before the info
 all_blocks : Encode → ℕ → ℕ → List (List RowEntry) → List ℕ
@@ -93,8 +92,7 @@ same_content encode decode lawful bytes v id bs cs fs gs s t =
     let ts = block_sections encode v id cs in
     let parts = same_part (cover_of v id index_kind (index_start encode v id bs fs)) (cover_of v id index_kind (index_start encode v id cs gs)) encode decode lawful
     (index_bytes (places 0 ss) (separators bs)) (index_bytes (places 0 ts) (separators cs)) e.index in
-    let count = λ (ds : List (List RowEntry)). sections_count v id encode 0 (map (λ b. block_bytes v b) ds) ∙ length-map ds (λ b. block_bytes v b) in
-    let offsets = same_offsets v bs cs ss ts s.each t.each (count bs) (count cs) s.few t.few (omega (arith, short.all)) (omega (arith, tiny.all)) parts in (
+    let offsets = same_offsets v bs cs ss ts s.each t.each (block_count encode v id bs) (block_count encode v id cs) s.few t.few (omega (arith, short.all)) (omega (arith, tiny.all)) parts in (
       same_blocks encode decode lawful v id 0 0 0 s.known bs cs s.each t.each offsets e.blocks,
       same_filter_section (cover_of v id filters_kind (blocks_end encode v id bs)) (cover_of v id filters_kind (blocks_end encode v id cs)) encode decode lawful
           fs gs s.few_filters t.few_filters s.each_filter t.each_filter e.filters,
