@@ -169,7 +169,7 @@ fn put<S: Store>(
     table: &EncodedSsTable,
     store: &mut S,
 ) -> Result<((Ulid, Bytes), SsTableHandle), SlateDBError>
-    requires { table.now.id ≡ id }
+    requires { table.now.id.0 ≡ id.0 }
     ensures stored { (encode : Encode) (layout : Layout) (number place : ℕ) (rows : Rows) → IsTableAt encode layout number place rows (id, table.now.bytes) → IsKnown layout.version → table.now.version ≡ layout.version → HasInfo table.now.bytes layout.version id.0 (seen_info table.now.info)
         → IfOk result (λ a. IsTablePut encode layout number place rows a.0 a.1 (S.objects store.old) (S.objects store.new)) }
     ensures acts { IfOk result (λ a. AddsPuts (a.0 ∷ []) (S.acts store.old) (S.acts store.new)) }
@@ -206,7 +206,7 @@ pub fn built<T: BlockTransformer, X: PrefixExtractor>(
     requires ready { CanBuild rows.items }
     ensures built { IfOk result (λ table. IsBuilt (changed_by T.encoded transformer.old) (map (λ p. meaning p) laws.now.policies.items) laws.now.options.min_filter_keys laws.now.options.block_size (version_of laws.now.options.block_format) id.0 table.bytes rows.items) }
     ensures version { IfOk result (λ table. table.version ≡ version_of laws.now.options.block_format) }
-    ensures id { IfOk result (λ table. table.id ≡ id) }
+    ensures id { IfOk result (λ table. table.id.0 ≡ id.0) }
     ensures info { IfOk result (λ table. HasInfo table.bytes (version_of laws.now.options.block_format) id.0 (seen_info table.info)) }
     ensures cause { IfErr result (λ e. IsTransformFault (faults_of T.faults transformer.old) (faults_of T.faults transformer.new) e ⊎ IsTooLarge (layout_of laws.now.options (map (λ p. meaning p) laws.now.policies.items) (segments_by X.lengths laws.now.segments)) rows.items e) }
     ensures same_encoded { changed_by T.encoded transformer.new ≡ changed_by T.encoded transformer.old }
