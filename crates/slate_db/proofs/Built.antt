@@ -2,13 +2,13 @@
 use Rattle.std.proofs.Common.{◌≡◌, ℕ, ◌+◌, ◌-◌, ◌^◌, ◌≤◌, ◌<◌, ◌⊎◌, min, List, [], ◌∷◌, ◌++◌, map, length, Option, Some, None, refl, sym, ap, subst, ◌∙◌, inl, inr, arith, append_assoc, append-nil}
 use Rattle.std.specs.List.{AllByRecursion}
 use Rattle.slate_types.specs.declared.config.BlockFormat.{BlockFormat}
-use Rattle.slate_types.specs.declared.config.BlockFormat.TheVariants.{V1, V2, Latest}
+use Rattle.slate_types.specs.declared.config.BlockFormat.TheVariants.{V1, V2, V3, Latest}
 use Rattle.slate_types.specs.declared.error.SlateDBError.{SlateDBError}
 use Rattle.slate_types.specs.declared.error.SlateDBError.TheVariants.{EmptyKey, LimitReached}
 use Rattle.slate_types.specs.declared.types.RowEntry.{RowEntry}
 use Rattle.slate_types.specs.declared.types.Ulid.{Ulid}
 use Rattle.slate_types.specs.Outside.{Objects}
-use Rattle.slate_block.specs.BlockSpelling.{as_read}
+use Rattle.slate_block.specs.BlockSpelling.{IsKnown, as_read}
 use Rattle.slate_block.specs.Building.{CanTake}
 use Rattle.slate_block.specs.ReadingLaws.{EachIsAByte}
 use Rattle.slate_filter.specs.Policy.{Policy}
@@ -41,6 +41,7 @@ read_again format (r ∷ rs) h = (λ i. one format i ∷ read_again format rs h.
     one : (format : BlockFormat) → as_read (version_of format) r ≡ r
     one V1 = h.0.read
     one V2 = refl
+    one V3 = refl
     one Latest = refl
 
 -- a fault since a later moment is one since an earlier one
@@ -48,9 +49,9 @@ pub wider_fault : (a b c : ℕ) (e : SlateDBError) → a ≤ b → IsTransformFa
 wider_fault a b c e h (inl memory) = inl memory
 wider_fault a b c e h (inr (is, rose)) = inr (is, let r : min (b + 1) (2 ^ 64 - 1) ≤ c = rose in omega arith)
 
-pub begun_encoded : (encode : Encode) (version size min : ℕ) → AreEncoded encode (begun version size min)
+pub begun_encoded : (encode : Encode) (version id size min : ℕ) → AreEncoded encode (begun version id size min)
 unfolding cutting
-begun_encoded encode version size min = record { are_bytes = refl; are_offsets = refl }
+begun_encoded encode version id size min = record { are_bytes = refl; are_offsets = refl }
 
 pub too_large : (layout : Layout) (b : TableBuilding) (r : RowEntry) (rest : Rows) (e : SlateDBError) → b.version ≡ layout.version → b.size ≡ layout.block_size → e ≡ LimitReached max_blocks → HasTooManyBlocks b r →
     IsTooLarge layout ((b.rows ++ (r ∷ [])) ++ rest) e
@@ -126,5 +127,6 @@ handle_of t h version made info known id same format is has bytes = record {
 
 pub version_known : (format : BlockFormat) → IsKnown (version_of format)
 version_known V1 = inl refl
-version_known V2 = inr refl
-version_known Latest = inr refl
+version_known V2 = inr (inl refl)
+version_known V3 = inr (inr refl)
+version_known Latest = inr (inl refl)
