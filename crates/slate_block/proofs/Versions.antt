@@ -52,7 +52,7 @@ known version is = by (known_or_not version)
     by (inl it) = it
     by (inr none) = absurd (false≢true (sym (is_unknown version none) ∙ is))
 
--- ---- of version 3
+-- ---- version 3
 
 pub same_spelled : (rows : List RowEntry) → spelled 3 rows ≡ spelled 2 rows
 same_spelled [] = refl
