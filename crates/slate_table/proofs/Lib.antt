@@ -1,4 +1,5 @@
 pub mod Sections
+pub mod Covers
 pub mod PartsLaws
 mod SumLaws
 pub mod Asking
