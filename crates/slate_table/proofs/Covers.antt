@@ -19,5 +19,5 @@ cover_bytes version id kind at few = by (eqb version 3)
   where
     by : (t : Bool) → IsBytes (cond t (to_be_bytes w128 id ++ kind ∷ be64 at) [])
     by true = each_byte (to_be_bytes w128 id ++ kind ∷ be64 at)
-    (low _, (low _, (low _, (low _, (low _, (low _, (low _, (low _, (low _, (low _, (low _, (low _, (low _, (low _, (low _, (low _, (few, (low _, (low _, (low _, (low _, (low _, (low _, (low _, (low _, tt)))))))))))))))))))))))))
+        (low _, (low _, (low _, (low _, (low _, (low _, (low _, (low _, (low _, (low _, (low _, (low _, (low _, (low _, (low _, (low _, (few, (low _, (low _, (low _, (low _, (low _, (low _, (low _, (low _, tt)))))))))))))))))))))))))
     by false = each_byte [] tt

@@ -174,7 +174,7 @@ found_info encode objects second after path version id blocks filters size offse
 pub opened : (encode : Encode) (objects : Option Objects) (before after : Option (List Act)) (path : List ℕ) (version found id : ℕ) (blocks : List (List RowEntry)) (filters : List (List ℕ × List ℕ)) (info : Info) →
     HoldsTable encode objects path version id blocks filters → IsOpened objects before after path id found info → (found ≡ version) × (info ≡ table_info encode version id blocks filters)
 unfolding IsOpened
-opened encode objects before after path version found blocks filters info h o =
+opened encode objects before after path version found id blocks filters info h o =
     let size : o.0 ≡ length h.bytes = same_Some o.0 (length h.bytes) (measured objects before o.2 h.told path h.bytes (Some o.0) h.tells h.there o.4) in
     let last = found_last encode objects o.2 o.3 path version id blocks filters o.0 o.1 found h size o.6 in
     (last.known, found_info encode objects o.3 after path version id blocks filters o.0 o.1 found info h size last o.8)
