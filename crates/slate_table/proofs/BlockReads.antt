@@ -8,8 +8,10 @@ use Rattle.slate_types.specs.declared.error.SlateDBError.TheVariants.{OutOfMemor
 use Rattle.slate_types.specs.Outside.{Objects}
 use Rattle.slate_store.specs.Store.{Act}
 use Rattle.slate_block.specs.declared.block.Block.{Block}
-use Rattle.slate_table.specs.Parts.{Encode}
-use Rattle.slate_table.specs.Reading.{SectionRead, IsRead, Reads, IsStoreFault, FailsDecoding, IsBlockRead, RefusesBlock, AreBlocksRead, RefusesBlocks, FailsBlocks}
+use Rattle.slate_table.specs.declared.info.SsTableHandle.{SsTableHandle}
+use Rattle.slate_table.specs.declared.section.SectionPlace.{SectionPlace}
+use Rattle.slate_table.specs.Parts.{Encode, block_kind}
+use Rattle.slate_table.specs.Reading.{SectionRead, section_read, read_at, of_blocks, block_start, block_answer, IsRead, Reads, IsStoreFault, FailsDecoding, IsBlockRead, RefusesBlock, AreBlocksRead, RefusesBlocks, FailsBlocks}
 
 each_more : {A : Type 0} (P : ℕ → A → Type 0) (xs : List A) (y : A) → ((i : ℕ) (x : A) → slice_get xs i ≡ Some x → P i x) → P (length xs) y →
     (i : ℕ) (x : A) → slice_get (xs ++ y ∷ []) i ≡ Some x → P i x
@@ -52,6 +54,14 @@ stops decode now sections section first at stop blocks old start after e same st
     let decoded = subst (λ (d : Encode). RefusesBlock d section e) same refuses in
     let answered = subst (λ (s : SectionRead). RefusesBlock decode s e) there decoded in
     inr (inr (at, from, below, answered, λ i start stop. before decode sections first at i blocks count each start stop))
+
+-- the section of a block, where it stands
+pub there : (table : SsTableHandle) (entries : List (ℕ × List ℕ)) (first : ℕ) (answer : Option (List ℕ)) (at : ℕ) (place : SectionPlace) (start : ℕ) (section : Option (List ℕ)) →
+    place ≡ record { version = table.format_version; id = table.id; kind = block_kind; offset = start } → start ≡ block_start table.info.filter_offset entries at →
+    section ≡ block_answer table.info.filter_offset entries first answer at → read_at place section ≡ of_blocks table entries first answer at
+there table entries first answer at place start section is from found =
+    ap (λ (p : SectionPlace). read_at p section) is
+    ∙ (λ i. section_read table.format_version table.id.0 block_kind (from i) (found i))
 
 pub row_read : (objects : Option Objects) (before after : Option (List Act)) (path : List ℕ) (start size first whole : ℕ) (answer : Option (List ℕ)) (means : Option (List ℕ) → Type 0) →
     start ≡ first → size ≡ whole → IsRead objects before after path start size answer → means answer → Reads objects before after path first whole means

@@ -11,12 +11,12 @@ use Rattle.slate_types.specs.Outside.{Objects}
 use Rattle.slate_store.specs.Store.{Act}
 use Rattle.slate_block.specs.declared.block.Block.{Block}
 use Rattle.slate_block.specs.BlockReading.{Rise, AreOffsets}
-use Rattle.slate_block.specs.BlockSpelling.{IsBlockOf}
+use Rattle.slate_block.specs.BlockSpelling.{IsBlockOf, IsKnown, is_known}
 use Rattle.slate_block.specs.Damage.{◌>>=◌}
 use Rattle.slate_block.specs.ReadingLaws.{EachIsAByte}
 use Rattle.slate_block.specs.Walks.{RowRead, all_ok, joined, block_reads, block_rows}
-use Rattle.slate_block.proofs.WalkedBlocks.{block_found as found_in_v1}
-use Rattle.slate_block.proofs.WalkedBlocksV2.{block_found as found_in_v2}
+use Rattle.slate_block.proofs.Versions.{known, is_known_of}
+use Rattle.slate_block.proofs.WalkedVersions.{walks_read}
 use Rattle.slate_table.specs.declared.info.SsTableHandle.{SsTableHandle}
 use Rattle.slate_table.specs.Parts.{Encode}
 use Rattle.slate_table.specs.Reading.{Reads, SectionRead, of_block, of_index, IsStoreFault, FailsDecoding, RefusesIndex, IsBlockRead, RefusesBlock}
@@ -73,7 +73,7 @@ found_in : (version : ℕ) (block : Block) (rows : List RowEntry) → EachIsAByt
 found_in version block rows fits below h = by (is_known version) refl h
   where
     of : IsKnown version → block_rows version block.body block.offsets.items ≡ Ok rows → IsBlockOf block.body block.offsets.items version rows
-    of k read = found_in_block version block.body block.offsets.items rows k fits below read
+    of k read = (walks_read version k block.body block.offsets.items rows fits below).0 read
 
     by : (t : Bool) → is_known version ≡ t → cond t (block_rows version block.body block.offsets.items) (Err (InvalidVersion version)) ≡ Ok rows → IsBlockOf block.body block.offsets.items version rows
     by true is read = of (known version is) read
