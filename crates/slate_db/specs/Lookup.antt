@@ -34,7 +34,7 @@ pub record IsStored (encode decode : Encode) (objects : Option Objects) (h : SsT
   pub bytes : List ℕ
   pub there : object_at os (path_of root h.id.0) ≡ Some bytes
   pub each : EachIsAByte bytes
-  pub is : IsTableWith encode bytes h.format_version (seen_info h.info) rows
+  pub is : IsTableWith encode bytes h.format_version h.id.0 (seen_info h.info) rows
 
 abbrev pub AreStored : Encode → Encode → Option Objects → List SsTableHandle → List Rows → Type 0
 AreStored encode decode objects [] [] = Unit {0}
@@ -49,7 +49,7 @@ abbrev pub AreStoredAs : Meaning → Objects → List SsTableHandle → List Row
 AreStoredAs m os hs layers = AreStored m.encode m.decode (Some os) hs layers
 
 abbrev pub IsFilteredAs : List Policy → Meaning → Objects → SsTableHandle → Type 0
-IsFilteredAs policies m os h = (bytes : List ℕ) → object_at os (path_of root h.id.0) ≡ Some bytes → HasFiltersOf m.encode policies bytes
+IsFilteredAs policies m os h = (bytes : List ℕ) → object_at os (path_of root h.id.0) ≡ Some bytes → HasFiltersOf m.encode policies h.id.0 bytes
 
 abbrev pub AreFilteredAs : List Policy → Meaning → Objects → List SsTableHandle → Type 0
 AreFilteredAs policies m os hs = AreLawful policies × AllByRecursion (IsFilteredAs policies m os) hs

@@ -67,7 +67,7 @@ impl TableStore {
         id: Ulid,
         table: &EncodedSsTable,
     ) -> Result<SsTableHandle, SlateDBError>
-        requires named { table.now.id ≡ id }
+        requires named { table.now.id.0 ≡ id.0 }
         ensures id { IfOk result (λ handle. handle.id ≡ id) }
         ensures info { IfOk result (λ handle. handle.info ≡ table.now.info) }
         ensures version { IfOk result (λ handle. handle.format_version ≡ table.now.version) }
