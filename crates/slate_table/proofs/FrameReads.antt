@@ -9,7 +9,7 @@ use Rattle.slate_types.specs.declared.types.RowEntry.{RowEntry}
 use Rattle.slate_types.specs.Lawful.{IsLawfulTransform}
 use Rattle.slate_types.specs.Outside.{Objects}
 use Rattle.slate_store.specs.Store.{Act, object_at, part_of}
-use Rattle.slate_block.specs.RowSpelling.{be16, be32, be64}
+use Rattle.slate_block.specs.RowSpelling.{be16, be64}
 use Rattle.slate_block.specs.BlockSpelling.{places}
 use Rattle.slate_table.specs.Parts.{Encode, cover_of, info_kind, section, summed}
 use Rattle.slate_table.specs.Table.{info_of, sections_then_info}

@@ -9,7 +9,7 @@ use Rattle.slate_types.specs.declared.types.RowEntry.{RowEntry}
 use Rattle.slate_types.specs.Outside.{Objects}
 use Rattle.slate_store.specs.Store.{Act, TakesPut, object_at, with_object, len_of}
 use Rattle.slate_store.proofs.StoreLaws.{put_is_there}
-use Rattle.slate_block.specs.RowSpelling.{be16, be32, be64}
+use Rattle.slate_block.specs.RowSpelling.{be16, be64}
 use Rattle.slate_block.specs.RowReading.{refusal}
 use Rattle.slate_block.specs.BlockSpelling.{IsKnown}
 use Rattle.slate_block.proofs.Versions.{below_16, is_known_of}
