@@ -236,7 +236,7 @@ from_number c (b ∷ bs) fit =
     ∙ bits_more (8 * length bs) 8 (bit_xor c (number (b ∷ bs)))
     ∙ ap (λ (m : ℕ). crc_bits m (bit_xor c (number (b ∷ bs)))) size
 
-from_joined : (c : ℕ) (bs later : List ℕ) → crc_from c (bs ++ later) ≡ crc_from (crc_from c bs) later
+pub from_joined : (c : ℕ) (bs later : List ℕ) → crc_from c (bs ++ later) ≡ crc_from (crc_from c bs) later
 from_joined c [] later = refl
 from_joined c (b ∷ bs) later = from_joined (crc_bits 8 (bit_xor c b)) bs later
 
