@@ -1,3 +1,4 @@
+pub mod Sections
 pub mod PartsLaws
 mod SumLaws
 pub mod Asking

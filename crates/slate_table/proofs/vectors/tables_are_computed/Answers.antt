@@ -1,8 +1,10 @@
 use Rattle.std.proofs.Common.{[], ◌∷◌, refl}
+use Rattle.slate_block.specs.Varint.{varint}
 use Rattle.slate_table.specs.Vectors.{row_a}
 use Rattle.slate_table.proofs.vectors.tables_are_computed.Goals as goal
 
 pub returns : goal.returns
+unfolding varint
 returns c = record {
   sums = (refl, refl);
   separators = (refl, refl, refl);
