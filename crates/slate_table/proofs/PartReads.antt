@@ -6,20 +6,22 @@ use Rattle.slate_types.specs.declared.error.SlateDBError.TheVariants.{BlockTrans
 use Rattle.slate_types.specs.Outside.{Objects}
 use Rattle.slate_store.specs.Store.{Act}
 use Rattle.slate_block.specs.RowReading.{refusal}
+use Rattle.slate_table.specs.declared.section.SectionPlace.{SectionPlace}
 use Rattle.slate_table.specs.Parts.{Encode, summed}
-use Rattle.slate_table.specs.SectionReading.{IsTransformFault}
-use Rattle.slate_table.specs.Reading.{Reads, stored_in, FailsDecoding, IsRefused}
+use Rattle.slate_table.specs.SectionReading.{IsTransformFault, covered_by}
+use Rattle.slate_table.specs.Reading.{Reads, SectionRead, read_at, stored_in, FailsDecoding, IsRefused}
 
-pub refused : {A B : Type 0} (objects : Option Objects) (before after : Option (List Act)) (path : List ℕ) (start size : ℕ) (decode : Encode) (is : List ℕ → Option SlateDBError) (e : SlateDBError) →
-    A ⊎ B ⊎ Reads objects before after path start size (λ answer. refusal (stored_in answer) ≡ Some e) → A ⊎ B ⊎ Reads objects before after path start size (λ answer. IsRefused decode is answer e)
-refused objects before after path start size decode is e (inl a) = inl a
-refused objects before after path start size decode is e (inr (inl b)) = inr (inl b)
-refused objects before after path start size decode is e (inr (inr r)) = inr (inr (r.0, r.1, inl r.2))
+pub refused : {A B : Type 0} (objects : Option Objects) (before after : Option (List Act)) (path : List ℕ) (start size : ℕ) (decode : Encode) (of : Option (List ℕ) → SectionRead) (is : List ℕ → Option SlateDBError) (e : SlateDBError) →
+    A ⊎ B ⊎ Reads objects before after path start size (λ answer. refusal (stored_in (of answer)) ≡ Some e) → A ⊎ B ⊎ Reads objects before after path start size (λ answer. IsRefused decode is (of answer) e)
+refused objects before after path start size decode of is e (inl a) = inl a
+refused objects before after path start size decode of is e (inr (inl b)) = inr (inl b)
+refused objects before after path start size decode of is e (inr (inr r)) = inr (inr (r.0, r.1, inl r.2))
 
 -- where the checksum fits
-pub fails_decoding : {A : Type 0} (before after : ℕ) (bytes stored : List ℕ) (e : SlateDBError) → bytes ≡ summed stored → IsTransformFault before after e → (e ≡ OutOfMemory) ⊎ FailsDecoding before after (Some bytes) e ⊎ A
-fails_decoding before after bytes stored e is (inl memory) = inl memory
-fails_decoding before after bytes stored e is (inr fault) = inr (inl (fault.0, fault.1, (stored, ap (λ (l : List ℕ). Some l) is)))
+pub fails_decoding : {A : Type 0} (before after : ℕ) (place : SectionPlace) (bytes stored : List ℕ) (e : SlateDBError) → bytes ≡ summed (covered_by place) stored → IsTransformFault before after e →
+    (e ≡ OutOfMemory) ⊎ FailsDecoding before after (read_at place (Some bytes)) e ⊎ A
+fails_decoding before after place bytes stored e is (inl memory) = inl memory
+fails_decoding before after place bytes stored e is (inr fault) = inr (inl (fault.0, fault.1, (stored, ap (λ (l : List ℕ). Some l) is)))
 
 -- a transformer's count where the call is Ok
 pub still_ok : {T P : Type 0} (value : T) → (Ok value ≡ Err BlockTransformError) ⊎ (Ok value ≡ Err OutOfMemory) ⊎ P → P
@@ -32,11 +34,11 @@ still_longer a b c same (inl p) = inl p
 still_longer a b c same (inr (inl q)) = inr (inl q)
 still_longer a b c same (inr (inr e)) = inr (inr (e ∙ same))
 
-pub refused_section : {A B : Type 0} (decode : Encode) (is : List ℕ → Option SlateDBError) (answer : Option (List ℕ)) (e : SlateDBError) →
-    A ⊎ B ⊎ (refusal (stored_in answer) ≡ Some e) → A ⊎ B ⊎ IsRefused decode is answer e
-refused_section decode is answer e (inl a) = inl a
-refused_section decode is answer e (inr (inl b)) = inr (inl b)
-refused_section decode is answer e (inr (inr r)) = inr (inr (inl r))
+pub refused_section : {A B : Type 0} (decode : Encode) (is : List ℕ → Option SlateDBError) (s : SectionRead) (e : SlateDBError) →
+    A ⊎ B ⊎ (refusal (stored_in s) ≡ Some e) → A ⊎ B ⊎ IsRefused decode is s e
+refused_section decode is s e (inl a) = inl a
+refused_section decode is s e (inr (inl b)) = inr (inl b)
+refused_section decode is s e (inr (inr r)) = inr (inr (inl r))
 
 -- the same error as another result
 pub still_err : {T U P : Type 0} (e : SlateDBError) →

@@ -1,7 +1,7 @@
 -- A part and its checksum are read exactly where they are spelled.
 use Rattle.std.proofs.Common.{◌≡◌, ℕ, zero, suc, ◌+◌, ◌-◌, ◌/◌, ◌%◌, ◌^◌, ◌<◌, ◌≤◌, Bool, true, false, cond, eqb, ltb, List, [], ◌∷◌, ◌++◌, length, take, drop, Ok, Err, refl, sym, ap, subst, ◌∙◌, arith}
 use Rattle.std.specs.Prelude.{bit_xor}
-use Rattle.std.specs.Int.{w16, w32, w64, from_be_bytes}
+use Rattle.std.specs.Int.{w16, w32, w64, w128, byte_at, bytes_high_first, to_be_bytes, from_be_bytes}
 use Rattle.std.proofs.lemmas.Bool.{eqb-true, eq-eqb, ltb-false, le-ltb}
 use Rattle.std.proofs.lemmas.List.{length-append, length-drop, take-append-drop, take_at, drop_at, nil_from_length}
 use Rattle.std.proofs.lemmas.Nat.{xor_lt}
@@ -13,7 +13,7 @@ use Rattle.slate_block.proofs.Groups.{IsBytes}
 use Rattle.slate_block.proofs.FieldLaws.{IsBytes-drop, ok_is, wide16, wide32, wide64, number_takes}
 use Rattle.slate_block.proofs.ReadingLaws.{then}
 use Rattle.slate_table.specs.Checksum.{crc_bit, crc_bits, crc_from, crc32}
-use Rattle.slate_table.specs.Parts.{summed}
+use Rattle.slate_table.specs.Parts.{cover_of, summed}
 use Rattle.slate_table.specs.SectionReading.{part_of_sum, stored_sum, part_in}
 
 -- ---- a checksum has 32 bits
@@ -37,6 +37,32 @@ from_below c (b ∷ bs) lt fits =
 
 pub crc32_below : (bs : List ℕ) → IsBytes bs → crc32 bs < 2 ^ 32
 crc32_below bs fits = xor_lt 32 (crc_from 0xffffffff bs) 0xffffffff (from_below 0xffffffff bs (omega arith) fits) (omega arith)
+
+-- ---- what it covers beside a section's bytes
+
+first_byte : (b : ℕ) (bs : List ℕ) → b < 256 → IsBytes bs → IsBytes (b ∷ bs)
+first_byte b bs lt fits zero = lt
+first_byte b bs lt fits (suc i) = fits i
+
+joined_bytes : (a b : List ℕ) → IsBytes a → IsBytes b → IsBytes (a ++ b)
+joined_bytes [] b fits later i = later i
+joined_bytes (x ∷ a) b fits later zero = fits 0
+joined_bytes (x ∷ a) b fits later (suc i) = joined_bytes a b (λ j. fits (suc j)) later i
+
+byte_fits : (i n : ℕ) → byte_at i n < 256
+byte_fits zero n = omega arith
+byte_fits (suc i) n = omega arith
+
+high_bytes : (k n : ℕ) → IsBytes (bytes_high_first k n)
+high_bytes zero n = λ i. omega arith
+high_bytes (suc k) n = first_byte (byte_at k n) (bytes_high_first k n) (byte_fits k n) (high_bytes k n)
+
+pub cover_bytes : (version id kind at : ℕ) → kind < 256 → IsBytes (cover_of version id kind at)
+cover_bytes version id kind at small = by (eqb version 3)
+  where
+    by : (t : Bool) → IsBytes (cond t (to_be_bytes w128 id ++ kind ∷ be64 at) [])
+    by true = joined_bytes (to_be_bytes w128 id) (kind ∷ be64 at) (high_bytes 16 id) (first_byte kind (be64 at) small (high_bytes 8 at))
+    by false = λ i. omega arith
 
 -- ---- a part
 
@@ -67,11 +93,6 @@ pub front_bytes : (a b : List ℕ) → IsBytes (a ++ b) → IsBytes a
 front_bytes [] b fits i = omega arith
 front_bytes (x ∷ a) b fits zero = fits 0
 front_bytes (x ∷ a) b fits (suc i) = front_bytes a b (λ j. fits (suc j)) i
-
-joined_bytes : (a b : List ℕ) → IsBytes a → IsBytes b → IsBytes (a ++ b)
-joined_bytes [] b fits later i = later i
-joined_bytes (x ∷ a) b fits later zero = fits 0
-joined_bytes (x ∷ a) b fits later (suc i) = joined_bytes a b (λ j. fits (suc j)) later i
 
 pub part_again : (cover bytes part : List ℕ) → IsBytes cover → IsBytes bytes → bytes ≡ summed cover part → part_in cover bytes ≡ Ok part
 unfolding part_in
