@@ -41,7 +41,7 @@ impl BlockTransformer for Plain {
 /// Builds the table of the rows, stores it and reads all of it, and reports both. `version` is 1 or 2.
 pub fn measure(report: &Report, rows: &[RowEntry], version: u16) -> Result<(), Error> {
     let start = report.start()?;
-    let table = build(report.alloc(), rows, version)?;
+    let table = build(report.alloc(), rows, version, Ulid(1))?;
     let mut store = MemoryStore::new(report.alloc(), Vec::new(report.alloc()));
     let measured = measure_in(report, &mut store, &table, rows.len(), version, start);
     // The table stands until it was read, beside its bytes in the store.
@@ -57,7 +57,7 @@ fn measure_in(
     version: u16,
     start: Instant,
 ) -> Result<(), Error> {
-    let handle = TableStore::put_table(report.alloc(), store, ROOT, Ulid(1), table)?;
+    let handle = TableStore::put_table(report.alloc(), store, ROOT, table.id(), table)?;
     let done = counts(report.alloc(), rows, table);
     let name = name_of(version, "build table v1", "build table v2");
     let measured = match report.finish(name, done, start) {
@@ -88,16 +88,17 @@ fn measure_reading(
     report.finish(name, done, start)
 }
 
-/// The table of the rows, in blocks of 4 KiB. `version` is 1 or 2. Refuses by `EmptyBlock` where there is no row, and as `add` does.
+/// The table of an id and of the rows, in blocks of 4 KiB. `version` is 1 or 2. Refuses by `EmptyBlock` where there is no row, and as `add` does.
 pub fn build(
     alloc: Global,
     rows: &[RowEntry],
     version: u16,
+    id: Ulid,
 ) -> Result<EncodedSsTable, SlateDBError> {
     if rows.is_empty() {
         return Err(SlateDBError::EmptyBlock);
     }
-    let mut builder = EncodedSsTableBuilder::new(alloc, &format_of(version))?;
+    let mut builder = EncodedSsTableBuilder::new(alloc, &format_of(version), id)?;
     add_all(alloc, &mut builder, rows)?;
     builder.build(alloc, &mut None::<Plain>, &[])
 }

@@ -1,5 +1,5 @@
 -- Versions of blocks: which there are, and that blocks of version 3 are those of version 2.
-use Rattle.std.proofs.Common.{◌≡◌, ℕ, ◌<◌, ◌^◌, Bool, true, false, List, [], ◌∷◌, flat_map, length, refl, sym, ap, subst, ◌∙◌, ◌⊎◌, inl, inr, arith}
+use Rattle.std.proofs.Common.{◌≡◌, ◌≢◌, ℕ, eqb, ◌<◌, ◌^◌, Bool, true, false, List, [], ◌∷◌, flat_map, length, refl, sym, ap, subst, ◌∙◌, ◌⊎◌, inl, inr, arith}
 use Rattle.std.specs.List.{AllByRecursion}
 use Rattle.std.proofs.lemmas.Bool.{ne_eqb, false≢true}
 use Rattle.std.proofs.lemmas.Bool.Decides.{eqb_tells}
@@ -28,21 +28,22 @@ is_known_of version (inr (inr e)) = subst (λ (v : ℕ). is_known v ≡ true) (s
 pub is_unknown : (version : ℕ) → (IsKnown version → ⊥) → is_known version ≡ false
 is_unknown version none = rw (ne_eqb version 1 (λ e. none (inl e)), ne_eqb version 2 (λ e. none (inr (inl e))), ne_eqb version 3 (λ e. none (inr (inr e)))) refl
 
+abbrev Tells : ℕ → ℕ → Type 0
+Tells version n = ((eqb version n ≡ true) × (version ≡ n)) ⊎ ((eqb version n ≡ false) × (version ≢ n))
+
+none_of : (version : ℕ) → version ≢ 1 → version ≢ 2 → version ≢ 3 → IsKnown version → ⊥
+none_of version a b c (inl e) = a e
+none_of version a b c (inr (inl e)) = b e
+none_of version a b c (inr (inr e)) = c e
+
 pub known_or_not : (version : ℕ) → IsKnown version ⊎ (IsKnown version → ⊥)
 known_or_not version = by (eqb_tells version 1) (eqb_tells version 2) (eqb_tells version 3)
   where
-    Tells : ℕ → Type 0
-    Tells n = ((eqb version n ≡ true) × (version ≡ n)) ⊎ ((eqb version n ≡ false) × (version ≡ n → ⊥))
-    none_of : (version ≡ 1 → ⊥) → (version ≡ 2 → ⊥) → (version ≡ 3 → ⊥) → IsKnown version → ⊥
-    none_of a b c (inl e) = a e
-    none_of a b c (inr (inl e)) = b e
-    none_of a b c (inr (inr e)) = c e
-    by : Tells 1 → Tells 2 → Tells 3 → IsKnown version ⊎ (IsKnown version → ⊥)
-    unfolding Tells
+    by : Tells version 1 → Tells version 2 → Tells version 3 → IsKnown version ⊎ (IsKnown version → ⊥)
     by (inl one) two three = inl (inl one.1)
     by (inr one) (inl two) three = inl (inr (inl two.1))
     by (inr one) (inr two) (inl three) = inl (inr (inr three.1))
-    by (inr one) (inr two) (inr three) = inr (none_of one.1 two.1 three.1)
+    by (inr one) (inr two) (inr three) = inr (none_of version one.1 two.1 three.1)
 
 pub known : (version : ℕ) → is_known version ≡ true → IsKnown version
 known version is = by (known_or_not version)
@@ -51,7 +52,7 @@ known version is = by (known_or_not version)
     by (inl it) = it
     by (inr none) = absurd (false≢true (sym (is_unknown version none) ∙ is))
 
--- ---- of version 3
+-- ---- version 3
 
 pub same_spelled : (rows : List RowEntry) → spelled 3 rows ≡ spelled 2 rows
 same_spelled [] = refl

@@ -17,14 +17,15 @@ use Rattle.slate_types.specs.declared.error.SlateDBError.{SlateDBError}
 use Rattle.slate_types.specs.declared.types.RowEntry.{RowEntry}
 use Rattle.slate_types.specs.declared.types.Ulid.{Ulid}
 use Rattle.slate_types.specs.Fold.{taken}
+use Rattle.slate_types.specs.World.{Section}
 use Rattle.slate_types.specs.Outside.{Act, Reach}
 use Rattle.slate_types.specs.World.{Made}
 use Rattle.slate_filter.specs.Policy.{is_denied}
 use Rattle.slate_table.specs.declared.info.SsTableHandle.{SsTableHandle}
 use Rattle.slate_table.specs.Filtered.{asks_filters, IsAsked}
-use Rattle.slate_table.specs.Parts.{Encode, Place}
+use Rattle.slate_table.specs.Parts.{Encode}
 use Rattle.slate_table.specs.Paths.{path_of}
-use Rattle.slate_table.specs.Reading.{whole_answer}
+use Rattle.slate_table.specs.Reading.{of_filters, whole_answer}
 use Rattle.slate_table.specs.Table.{IsTableOf, block_places, filter_place}
 use Rattle.slate_mem.specs.Batch.{Ops, kept}
 use Rattle.slate_mem.specs.RowOf.{own_row}
@@ -35,13 +36,13 @@ use Rattle.slate_db.specs.Model.{CoreModel}
 use Rattle.slate_db.specs.Readable.{IsAnswered}
 use Rattle.slate_db.specs.Shown.{Asking, filters_act}
 
-pub record HasPlace (place : Place) (start len : ℕ) (answer : Option (List ℕ)) : Type 0 where
+pub record HasPlace (place : Section) (start len : ℕ) (answer : Option (List ℕ)) : Type 0 where
   pub bytes : List ℕ
   pub returned : answer ≡ Some bytes
   pub from : start ≤ place.at
   pub upto : place.at + place.len ≤ start + len
 
-abbrev pub Covers : Act → List ℕ → Place → Type 0
+abbrev pub Covers : Act → List ℕ → Section → Type 0
 Covers (Act.read at start len answer) path place = (at ≡ path) × HasPlace place start len answer
 Covers _ path place = ⊥
 
@@ -55,12 +56,12 @@ pub record ReadsKey (encode : Encode) (k : List ℕ) (tables : List (Ulid × Lis
   pub version : ℕ
   pub blocks : List (List RowEntry)
   pub filters : List (List ℕ × List ℕ)
-  pub is : IsTableOf encode table.1 version blocks filters
+  pub is : IsTableOf encode table.1 version table.0.0 blocks filters
   pub block : ℕ
   pub rows : List RowEntry
-  pub place : Place
+  pub place : Section
   pub at_block : slice_get blocks block ≡ Some rows
-  pub at_place : slice_get (block_places encode version blocks) block ≡ Some place
+  pub at_place : slice_get (block_places encode version table.0.0 blocks) block ≡ Some place
   pub holds : holds_key k rows ≡ true
   pub act : Act
   pub done : Contains reads act
@@ -71,9 +72,9 @@ abbrev pub ReadsFiltersFirst : Encode → Asking → List (Ulid × List ℕ) →
 ReadsFiltersFirst encode by tables reads =
     (before : List Act) (act : Act) (after : List Act) → reads ≡ before ++ (act ∷ after) →
     (table : Ulid × List ℕ) → Contains tables table →
-    (version : ℕ) (blocks : List (List RowEntry)) (filters : List (List ℕ × List ℕ)) → IsTableOf encode table.1 version blocks filters →
-    0 < length filters → (place : Place) → Contains (block_places encode version blocks) place → Covers act (path_of root table.0.0) place →
-    ((asked : Act) × Contains before asked × Covers asked (path_of root table.0.0) (filter_place encode version blocks filters)) × (is_denied by.policies filters by.query ≡ false)
+    (version : ℕ) (blocks : List (List RowEntry)) (filters : List (List ℕ × List ℕ)) → IsTableOf encode table.1 version table.0.0 blocks filters →
+    0 < length filters → (place : Section) → Contains (block_places encode version table.0.0 blocks) place → Covers act (path_of root table.0.0) place →
+    ((asked : Act) × Contains before asked × Covers asked (path_of root table.0.0) (filter_place encode version table.0.0 blocks filters)) × (is_denied by.policies filters by.query ≡ false)
 
 -- ---- of a call
 
@@ -104,7 +105,7 @@ IsFiltersRead h act = (given : Option (List ℕ)) × (act ≡ filters_act h give
 -- before: the reads of the call up to there
 abbrev pub IsLetThrough : Encode → Asking → SsTableHandle → List Act → Type 0
 IsLetThrough decode by h before = asks_filters by.policies h.info.filter_len ≡ true →
-    (given : Option (List ℕ)) × Contains before (filters_act h given) × IsAsked decode by.policies by.query (whole_answer h.info.filter_len given) true
+    (given : Option (List ℕ)) × Contains before (filters_act h given) × IsAsked decode by.policies by.query (of_filters h (whole_answer h.info.filter_len given)) true
 
 abbrev pub IsBehindFilters : Encode → Asking → List SsTableHandle → List Act → Act → Type 0
 IsBehindFilters decode by hs before act = (h : SsTableHandle) × Contains hs h × (IsFiltersRead h act ⊎ (IsReadOf h act × IsLetThrough decode by h before))

@@ -92,7 +92,7 @@ layout_of o policies segments = record {
 pub record IsTableAt (encode : Encode) (layout : Layout) (number place : ℕ) (rows : Rows) (t : Ulid × List ℕ) : Type 0 where
   pub id : t.0.0 ≡ table_id number place
   pub fits : place < 2 ^ 64
-  pub built : IsBuilt encode layout.policies layout.min_filter_keys layout.block_size layout.version t.1 rows
+  pub built : IsBuilt encode layout.policies layout.min_filter_keys layout.block_size layout.version t.0.0 t.1 rows
   pub read : map (as_read layout.version) rows ≡ rows
 
 -- place: that of the first

@@ -23,6 +23,7 @@ use Rattle.slate_txn.specs.declared.event.Event.{Event}
 use Rattle.slate_txn.specs.declared.event.Event.TheVariants as events
 use Rattle.slate_txn.specs.State.{Tx, State, begun}
 use Rattle.slate_txn.specs.Replay.{replay}
+use Rattle.slate_block.specs.BlockSpelling.{IsKnown}
 use Rattle.slate_block.specs.ReadingLaws.{EachIsAByte}
 use Rattle.slate_table.specs.declared.info.SsTableHandle.{SsTableHandle}
 use Rattle.slate_read.specs.declared.sorted_run.SortedRun.{SortedRun}
@@ -66,8 +67,8 @@ NumberedFrom i (ts ∷ runs) = ArePlaced i 0 ts × NumberedFrom (i + 1) runs
 
 pub record IsHandle (t : Ulid × List ℕ) (h : SsTableHandle) : Type 0 where
   pub id : h.id ≡ t.0
-  pub version : (h.format_version ≡ 1) ⊎ (h.format_version ≡ 2)
-  pub info : HasInfo t.1 h.format_version (seen_info h.info)
+  pub version : IsKnown h.format_version
+  pub info : HasInfo t.1 h.format_version h.id.0 (seen_info h.info)
   pub bytes : EachIsAByte t.1
 
 abbrev pub AreHandles : List (Ulid × List ℕ) → List SsTableHandle → Type 0

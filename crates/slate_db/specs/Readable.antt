@@ -37,7 +37,7 @@ use Rattle.slate_db.specs.Shown.{Asking, BringsRow, ShowsDamage}
 use Rattle.slate_db.specs.Sound.{IsKept}
 
 abbrev pub AreFiltered : Encode → List Policy → List (Ulid × List ℕ) → Type 0
-AreFiltered encode policies ts = AllByRecursion (λ t. HasFiltersOf encode policies t.1) ts
+AreFiltered encode policies ts = AllByRecursion (λ t. HasFiltersOf encode policies t.0.0 t.1) ts
 
 pub record IsReadable (policies : List Policy) (m : Meaning) (os : Objects) (c : CoreModel) : Type 0 where
   pub lawful : IsLawfulMeaning m

@@ -24,7 +24,7 @@ use Rattle.slate_read.specs.declared.sorted_run.SortedRun.{SortedRun}
 use Rattle.slate_table.specs.declared.info.SsTableHandle.{SsTableHandle}
 use Rattle.slate_table.specs.Filtered.{RefusesQuery, asks_filters, point_query}
 use Rattle.slate_table.specs.Parts.{Encode}
-use Rattle.slate_table.specs.Reading.{whole_answer}
+use Rattle.slate_table.specs.Reading.{of_filters, whole_answer}
 use Rattle.slate_db.specs.Answered.{AnswersFrom}
 use Rattle.slate_db.specs.Installs.{handles_of}
 use Rattle.slate_db.specs.Lookup.{AreFilteredAs, AreStoredAs, IsStoredAs}
@@ -77,7 +77,7 @@ pub record ShowsFilters (decode : Encode) (policies : List Policy) (query : Opti
   pub given : Option (List ℕ)
   pub read : Contains reads (filters_act table given)
   pub kind : IsUnreadable e
-  pub refuses : RefusesQuery decode policies asked (whole_answer table.info.filter_len given) e
+  pub refuses : RefusesQuery decode policies asked (of_filters table (whole_answer table.info.filter_len given)) e
 
 -- ---- calls that ask
 

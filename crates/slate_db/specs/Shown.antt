@@ -34,7 +34,7 @@ use Rattle.slate_table.specs.declared.info.SsTableHandle.{SsTableHandle}
 use Rattle.slate_table.specs.Filtered.{asks_filters, IsAsked, RefusesQuery}
 use Rattle.slate_table.specs.Parts.{Encode}
 use Rattle.slate_table.specs.Paths.{path_of}
-use Rattle.slate_table.specs.Reading.{whole_answer, IsIndexRead, RefusesIndex, IsBlockRead, RefusesBlocks, block_answer, block_start, blocks_size}
+use Rattle.slate_table.specs.Reading.{SectionRead, of_blocks, of_filters, of_index, whole_answer, IsIndexRead, RefusesIndex, IsBlockRead, RefusesBlocks, block_start, blocks_size}
 use Rattle.slate_db.specs.Installs.{root}
 
 pub record Asking : Type 0 where
@@ -57,7 +57,7 @@ abbrev pub LetsThrough : Encode → Asking → SsTableHandle → List Act → Ty
 LetsThrough decode by h acts =
     ((asks_filters by.policies h.info.filter_len ≡ false) × (acts ≡ []))
     ⊎ ((asks_filters by.policies h.info.filter_len ≡ true) × ((given : Option (List ℕ)) × (acts ≡ filters_act h given ∷ [])
-    × IsAsked decode by.policies by.query (whole_answer h.info.filter_len given) true))
+    × IsAsked decode by.policies by.query (of_filters h (whole_answer h.info.filter_len given)) true))
 
 pub record Passed (decode : Encode) (by : Asking) (h : SsTableHandle) (acts : List Act) (means : List Act → Type 0) : Type 0 where
   pub filters : List Act
@@ -69,7 +69,7 @@ pub record Passed (decode : Encode) (by : Asking) (h : SsTableHandle) (acts : Li
 pub record IsOpened (decode : Encode) (h : SsTableHandle) (acts : List Act) : Type 0 where
   pub index : Option (List ℕ)
   pub entries : List (ℕ × List ℕ)
-  pub read : IsIndexRead decode h.info.filter_offset (whole_answer h.info.index_len index) entries
+  pub read : IsIndexRead decode h.info.filter_offset (of_index h (whole_answer h.info.index_len index)) entries
   pub first : ℕ
   pub stop : ℕ
   pub order : first ≤ stop
@@ -77,8 +77,8 @@ pub record IsOpened (decode : Encode) (h : SsTableHandle) (acts : List Act) : Ty
   pub blocks : Option (List ℕ)
   pub are : acts ≡ index_act h index ∷ blocks_act h entries first stop blocks ∷ []
 
-abbrev pub section_at : {decode : Encode} {h : SsTableHandle} {acts : List Act} → IsOpened decode h acts → ℕ → Option (List ℕ)
-section_at {h} o i = block_answer h.info.filter_offset o.entries o.first (whole_answer (blocks_size h.info.filter_offset o.entries o.first o.stop) o.blocks) i
+abbrev pub section_at : {decode : Encode} {h : SsTableHandle} {acts : List Act} → IsOpened decode h acts → ℕ → SectionRead
+section_at {h} o i = of_blocks h o.entries o.first (whole_answer (blocks_size h.info.filter_offset o.entries o.first o.stop) o.blocks) i
 
 pub record HasBlock (decode : Encode) (h : SsTableHandle) (acts : List Act) (block : Block) : Type 0 where
   pub table : IsOpened decode h acts
@@ -114,7 +114,7 @@ IsUnreadable e = ⊥
 
 abbrev pub RefusesIndexRead : Encode → SsTableHandle → List Act → SlateDBError → Type 0
 RefusesIndexRead decode h acts e =
-    (given : Option (List ℕ)) × (acts ≡ index_act h given ∷ []) × RefusesIndex decode h.info.filter_offset (whole_answer h.info.index_len given) e
+    (given : Option (List ℕ)) × (acts ≡ index_act h given ∷ []) × RefusesIndex decode h.info.filter_offset (of_index h (whole_answer h.info.index_len given)) e
 
 abbrev pub RefusesBlocksRead : Encode → SsTableHandle → List Act → SlateDBError → Type 0
 RefusesBlocksRead decode h acts e =
@@ -127,7 +127,7 @@ ShowsRead decode h acts e = IsUnreadable e × (RefusesIndexRead decode h acts e 
 abbrev pub RefusesFiltersRead : Encode → Asking → SsTableHandle → List Act → SlateDBError → Type 0
 RefusesFiltersRead decode by h acts e =
     (asks_filters by.policies h.info.filter_len ≡ true) × ((given : Option (List ℕ)) × (acts ≡ filters_act h given ∷ [])
-    × RefusesQuery decode by.policies by.query (whole_answer h.info.filter_len given) e)
+    × RefusesQuery decode by.policies by.query (of_filters h (whole_answer h.info.filter_len given)) e)
 
 abbrev pub Shows : Encode → Asking → SsTableHandle → List Act → SlateDBError → Type 0
 Shows decode by h acts e =

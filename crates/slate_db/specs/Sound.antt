@@ -37,7 +37,7 @@ IsTied m c = (k : List ℕ) → versions_in k (memory c) ≡ key_rows (rules_of 
 -- in some version each, the oldest first
 abbrev pub AreTables : Meaning → List (Ulid × List ℕ) → List Rows → Type 0
 AreTables m [] layers = layers ≡ []
-AreTables m (t ∷ ts) layers = (version : ℕ) × (rows : Rows) × (rest : List Rows) × IsTable m.encode t.1 version rows × AreTables m ts rest × (layers ≡ rows ∷ rest)
+AreTables m (t ∷ ts) layers = (version : ℕ) × (rows : Rows) × (rest : List Rows) × IsTable m.encode t.1 version t.0.0 rows × AreTables m ts rest × (layers ≡ rows ∷ rest)
 
 abbrev pub AreBases : Rows → Type 0
 AreBases rows = AllByRecursion (λ r. is_base r ≡ true) rows

@@ -9,6 +9,7 @@ ghost use Rattle.slate_filter.specs.Laws.{AreValidNames};
 ghost use Rattle.slate_table.specs.InfoReading.{seen_info};
 ghost use Rattle.slate_table.specs.SectionReading.{changed_by, IsTransformFault};
 ghost use Rattle.slate_mem.specs.Lookup.{is_merge_among, newest_first};
+ghost use Rattle.slate_block.specs.BlockSpelling.{IsKnown};
 ghost use Rattle.slate_table.specs.Table.{AreInOrder, IsBuilt};
 ghost use Rattle.slate_table.specs.TableEnd.{HasInfo};
 ghost use Rattle.slate_table.specs.TableParts.{version_of};
@@ -155,20 +156,21 @@ fn stored_table<S: Store, M: MergeOperator, T: BlockTransformer, X: PrefixExtrac
     ensures operator { env.new.operator ≡ env.old.operator }
     ensures puts { let reach = ⟦<EnvOf<S, M, T> as Outside>⟧.reach in Puts (reach env.old) (reach env.new) }
 {
-    let table = built(alloc, rows, laws, &mut env.transformer)?;
+    let table = built(alloc, id, rows, laws, &mut env.transformer)?;
     let kept = put(alloc, id, &table, env.store);
     drop(table);
     kept
 }
 
-/// Puts a table, and gives what an install names and what is kept of it.
+/// Puts the table of an id, and gives what an install names and what is kept of it.
 fn put<S: Store>(
     alloc: Global,
     id: Ulid,
     table: &EncodedSsTable,
     store: &mut S,
 ) -> Result<((Ulid, Bytes), SsTableHandle), SlateDBError>
-    ensures stored { (encode : Encode) (layout : Layout) (number place : ℕ) (rows : Rows) → IsTableAt encode layout number place rows (id, table.now.bytes) → (layout.version ≡ 1) ⊎ (layout.version ≡ 2) → table.now.version ≡ layout.version → HasInfo table.now.bytes layout.version (seen_info table.now.info)
+    requires { table.now.id.0 ≡ id.0 }
+    ensures stored { (encode : Encode) (layout : Layout) (number place : ℕ) (rows : Rows) → IsTableAt encode layout number place rows (id, table.now.bytes) → IsKnown layout.version → table.now.version ≡ layout.version → HasInfo table.now.bytes layout.version id.0 (seen_info table.now.info)
         → IfOk result (λ a. IsTablePut encode layout number place rows a.0 a.1 (S.objects store.old) (S.objects store.new)) }
     ensures acts { IfOk result (λ a. AddsPuts (a.0 ∷ []) (S.acts store.old) (S.acts store.new)) }
     ensures refused { (encode : Encode) (layout : Layout) (number place : ℕ) (rows : Rows) → IsTableAt encode layout number place rows (id, table.now.bytes) → OnErr result (MayTakeTables (IsOneTable encode layout number place rows) (S.objects store.old) (S.objects store.new)) }
@@ -190,10 +192,11 @@ fn bytes_of(table: &EncodedSsTable) -> Result<Bytes, SlateDBError>
     Ok(bytes)
 }
 
-/// The table of these rows, with the filters of the policies. `BlockTransformError`, only where the transformer's count of faults
+/// The table of an id and of these rows, with the filters of the policies. `BlockTransformError`, only where the transformer's count of faults
 /// rose; `LimitReached` where the table would have too many blocks; or `OutOfMemory`.
 pub fn built<T: BlockTransformer, X: PrefixExtractor>(
     alloc: Global,
+    id: Ulid,
     rows: Vec<RowEntry>,
     laws: &Laws<X>,
     transformer: &mut Option<T>,
@@ -201,9 +204,10 @@ pub fn built<T: BlockTransformer, X: PrefixExtractor>(
     requires valid { IsValid laws.now.options }
     requires names { AreValidNames (map (λ p. (meaning p).name) laws.now.policies.items) }
     requires ready { CanBuild rows.items }
-    ensures built { IfOk result (λ table. IsBuilt (changed_by T.encoded transformer.old) (map (λ p. meaning p) laws.now.policies.items) laws.now.options.min_filter_keys laws.now.options.block_size (version_of laws.now.options.block_format) table.bytes rows.items) }
+    ensures built { IfOk result (λ table. IsBuilt (changed_by T.encoded transformer.old) (map (λ p. meaning p) laws.now.policies.items) laws.now.options.min_filter_keys laws.now.options.block_size (version_of laws.now.options.block_format) id.0 table.bytes rows.items) }
     ensures version { IfOk result (λ table. table.version ≡ version_of laws.now.options.block_format) }
-    ensures info { IfOk result (λ table. HasInfo table.bytes (version_of laws.now.options.block_format) (seen_info table.info)) }
+    ensures id { IfOk result (λ table. table.id.0 ≡ id.0) }
+    ensures info { IfOk result (λ table. HasInfo table.bytes (version_of laws.now.options.block_format) id.0 (seen_info table.info)) }
     ensures cause { IfErr result (λ e. IsTransformFault (faults_of T.faults transformer.old) (faults_of T.faults transformer.new) e ⊎ IsTooLarge (layout_of laws.now.options (map (λ p. meaning p) laws.now.policies.items) (segments_by X.lengths laws.now.segments)) rows.items e) }
     ensures same_encoded { changed_by T.encoded transformer.new ≡ changed_by T.encoded transformer.old }
     ensures same_decoded { changed_by T.decoded transformer.new ≡ changed_by T.decoded transformer.old }
@@ -216,7 +220,7 @@ pub fn built<T: BlockTransformer, X: PrefixExtractor>(
         block_format: options.block_format,
         compression_codec: options.compression_codec,
     };
-    let mut builder = EncodedSsTableBuilder::new(alloc, &format)?;
+    let mut builder = EncodedSsTableBuilder::new(alloc, &format, id)?;
     for row in rows {
         builder.add(alloc, row, transformer)?;
     }

@@ -13,7 +13,7 @@
 use Rattle.std.specs.Prelude.{ℕ, ◌+◌, ◌-◌, ◌^◌, Bool, true, false, ◌&&◌, ◌||◌, not, if◌then◌else◌, nat_lt, nat_le, List, [], ◌∷◌, length, take, drop, filter, Option, Some, None, option_map, is_some, unwrap_or, codes, bytes_eq}
 use Rattle.std.specs.List.{list_all, list_any}
 use Rattle.slate_types.specs.declared.config.BlockFormat.{BlockFormat}
-use Rattle.slate_types.specs.declared.config.BlockFormat.TheVariants.{V1, V2, Latest}
+use Rattle.slate_types.specs.declared.config.BlockFormat.TheVariants.{V1, V2, V3, Latest}
 use Rattle.slate_types.specs.declared.config.Options.{Options}
 use Rattle.slate_types.specs.Config.{defaults}
 use Rattle.slate_types.specs.Keys.{among}
@@ -36,6 +36,7 @@ read_below most t = do
 abbrev pub read_format : List ℕ → Option BlockFormat
 read_format t = if bytes_eq t (codes "v1") then Some V1
     else if bytes_eq t (codes "v2") then Some V2
+    else if bytes_eq t (codes "v3") then Some V3
     else only_if (bytes_eq t (codes "latest")) Latest
 
 abbrev pub read_operator : List ℕ → Option (Option NamedOperator)

@@ -255,6 +255,8 @@ fn read_format(text: &[u8]) -> Option<BlockFormat>
         Some(BlockFormat::V1)
     } else if is_word(text, b"v2") {
         Some(BlockFormat::V2)
+    } else if is_word(text, b"v3") {
+        Some(BlockFormat::V3)
     } else if is_word(text, b"latest") {
         Some(BlockFormat::Latest)
     } else {

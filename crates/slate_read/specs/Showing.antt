@@ -15,7 +15,7 @@ use Rattle.slate_types.specs.Refusing.{IsDamage}
 use Rattle.slate_block.specs.declared.block.Block.{Block}
 use Rattle.slate_table.specs.declared.info.SsTableHandle.{SsTableHandle}
 use Rattle.slate_table.specs.Parts.{Encode}
-use Rattle.slate_table.specs.Reading.{whole_answer, IsIndexRead, RefusesIndex, IsBlockRead, RefusesBlock, block_answer, block_start, blocks_size}
+use Rattle.slate_table.specs.Reading.{SectionRead, of_blocks, of_index, whole_answer, IsIndexRead, RefusesIndex, IsBlockRead, RefusesBlock, block_start, blocks_size}
 use Rattle.slate_read.specs.declared.filter_iterator.FilterIterator.{FilterIterator}
 use Rattle.slate_read.specs.declared.newest_first.NewestFirst.{NewestFirst}
 use Rattle.slate_read.specs.declared.range_rows.InRange.{InRange}
@@ -33,8 +33,8 @@ index_read h given = Act.read (path_in h) h.info.index_offset h.info.index_len g
 abbrev pub blocks_read : SsTableHandle → List (ℕ × List ℕ) → ℕ → ℕ → Option (List ℕ) → Act
 blocks_read h entries first stop given = Act.read (path_in h) (block_start h.info.filter_offset entries first) (blocks_size h.info.filter_offset entries first stop) given
 
-abbrev pub RefusesBlockOf : Encode → ℕ → Option (List ℕ) → SlateDBError → Type 0
-RefusesBlockOf decode version answer e = RefusesBlock decode answer e ⊎ ((block : Block) × IsBlockRead decode answer block × ((order : IterationOrder) × RefusesRows version order block e))
+abbrev pub RefusesBlockOf : Encode → ℕ → SectionRead → SlateDBError → Type 0
+RefusesBlockOf decode version s e = RefusesBlock decode s e ⊎ ((block : Block) × IsBlockRead decode s block × ((order : IterationOrder) × RefusesRows version order block e))
 
 pub record ShowsBlock (decode : Encode) (h : SsTableHandle) (entries : List (ℕ × List ℕ)) (reads : List Act) (e : SlateDBError) : Type 0 where
   pub first : ℕ
@@ -45,13 +45,13 @@ pub record ShowsBlock (decode : Encode) (h : SsTableHandle) (entries : List (ℕ
   pub within : stop ≤ length entries
   pub given : Option (List ℕ)
   pub among : Contains reads (blocks_read h entries first stop given)
-  pub refuses : RefusesBlockOf decode h.format_version (block_answer h.info.filter_offset entries first (whole_answer (blocks_size h.info.filter_offset entries first stop) given) at) e
+  pub refuses : RefusesBlockOf decode h.format_version (of_blocks h entries first (whole_answer (blocks_size h.info.filter_offset entries first stop) given) at) e
 
 pub record ShowsByReads (decode : Encode) (h : SsTableHandle) (reads : List Act) (e : SlateDBError) : Type 0 where
   pub given : Option (List ℕ)
   pub among : Contains reads (index_read h given)
-  pub why : RefusesIndex decode h.info.filter_offset (whole_answer h.info.index_len given) e
-      ⊎ ((entries : List (ℕ × List ℕ)) × IsIndexRead decode h.info.filter_offset (whole_answer h.info.index_len given) entries × ShowsBlock decode h entries reads e)
+  pub why : RefusesIndex decode h.info.filter_offset (of_index h (whole_answer h.info.index_len given)) e
+      ⊎ ((entries : List (ℕ × List ℕ)) × IsIndexRead decode h.info.filter_offset (of_index h (whole_answer h.info.index_len given)) entries × ShowsBlock decode h entries reads e)
 
 abbrev pub SomeShows : Encode → List SsTableHandle → List Act → SlateDBError → Type 0
 SomeShows decode tables reads e = (h : SsTableHandle) × Contains tables h × ShowsByReads decode h reads e

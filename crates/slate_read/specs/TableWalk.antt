@@ -2,13 +2,14 @@
 --     root, path_in h      the folder of the store's objects, and where a table stands
 --     index_size, index_start, start_of, size_of      where the sections of the index and of a block lie
 --     Walks version order block it      what a block's walk has at its start
---     RefusesWalk decode version order answer e      the section is refused, or its block, or a row of that
+--     RefusesWalk decode version order section e      the section is refused, or its block, or a row of that
 --     max_blocks, max_reads      a table has fewer blocks, and a walk over a block not more rows
 --     rows_between kept first stop      the rows of neighbouring blocks
 --     rest_of it w, bound_of it, refuses_of it      of a walk over a table
 --     nth_block order first stop n      the number of a block of a row of neighbours, by how many come before it in the order
 --     IsFetched p h entries first stop reads blocks      neighbouring blocks were read by one read
 --     IsNextFetch h order limit cursor first stop      the blocks that the next read takes
+--     index_lies, block_lies      where they lie in an object, and what their checksums cover
 --     IsReadable p h kept      an object is a table of this handle, whose blocks have these rows
 --     IsSoundWalk it w      what the rest of a walk rests on
 --     Stays before at e after      it refuses, and stands as it stood, or keeps the refusal
@@ -27,6 +28,7 @@ use Rattle.slate_types.specs.Partitions.{covering_start, covering_end, CanHold}
 use Rattle.slate_store.specs.Store.{Act, part_of}
 use Rattle.slate_block.specs.declared.block.Block.{Block}
 use Rattle.slate_block.specs.declared.data_block_iterator.DataBlockIterator.{DataBlockIterator}
+use Rattle.slate_block.specs.BlockSpelling.{IsKnown, IsSecond}
 use Rattle.slate_block.specs.BlockWalks.{IsRising, ReadsLeft, left, rows_of, Refuses, TakesRead}
 use Rattle.slate_block.specs.EitherVersion.{left_of}
 use Rattle.slate_block.specs.GroupWalks.{walk_in}
@@ -37,15 +39,15 @@ use Rattle.slate_table.specs.Finding.{encloses}
 use Rattle.slate_table.specs.InfoReading.{seen_info}
 use Rattle.slate_table.specs.IndexReading.{index_keys}
 use Rattle.slate_table.specs.IndexValue.{entries_of}
-use Rattle.slate_table.specs.Parts.{Encode, summed}
+use Rattle.slate_table.specs.Parts.{Encode, block_kind, cover_of, index_kind, summed}
 use Rattle.slate_table.specs.Paths.{path_of}
-use Rattle.slate_table.specs.Reading.{whole_answer, IsIndexRead, RefusesIndex, AreBlocksRead, IsBlockRead, RefusesBlock, block_answer, block_start, blocks_size}
+use Rattle.slate_table.specs.Reading.{SectionRead, of_block, of_blocks, of_index, whole_answer, IsIndexRead, RefusesIndex, AreBlocksRead, IsBlockRead, RefusesBlock, block_start, blocks_size}
 use Rattle.slate_read.specs.declared.table_state.TableWalk.{TableWalk}
 use Rattle.slate_read.specs.declared.table_state.TableState.{TableState}
 use Rattle.slate_read.specs.declared.table_state.TableState.TheVariants.{New, Walking, Refused}
 use Rattle.slate_read.specs.declared.table_state.Cursor.{Cursor}
 use Rattle.slate_read.specs.Kept.{Copies}
-use Rattle.slate_types.specs.World.{Checks, Kept, Made, Place, Sees, World}
+use Rattle.slate_types.specs.World.{Checks, Kept, Made, Section, Sees, World}
 use Rattle.slate_types.specs.Outside.{Meaning, Reach}
 use Rattle.slate_types.specs.Refusing.{IsDamage, NoMore}
 
@@ -70,23 +72,23 @@ size_between h entries first stop = blocks_size h.info.filter_offset entries fir
 abbrev pub read_of : SsTableHandle → List (ℕ × List ℕ) → ℕ → ℕ → Option (List ℕ) → Act
 read_of h entries first stop given = Act.read (path_in h) (start_of h entries first) (size_between h entries first stop) given
 
-abbrev pub answer_at : SsTableHandle → List (ℕ × List ℕ) → ℕ → ℕ → Option (List ℕ) → ℕ → Option (List ℕ)
-answer_at h entries first stop given block = block_answer h.info.filter_offset entries first (whole_answer (size_between h entries first stop) given) block
+abbrev pub answer_at : SsTableHandle → List (ℕ × List ℕ) → ℕ → ℕ → Option (List ℕ) → ℕ → SectionRead
+answer_at h entries first stop given block = of_blocks h entries first (whole_answer (size_between h entries first stop) given) block
 
 pub record Walks (version : ℕ) (order : IterationOrder) (block : Block) (it : ReadsLeft) : Type 0 where
   pub same_order : it.order ≡ order
-  pub reads : ((version ≡ 1) × (block_reads 1 block.body block.offsets.items ≡ Ok (in_order order it.reads))) ⊎ ((version ≡ 2) × (it.reads ≡ walk_in order block.body block.offsets.items))
+  pub reads : ((version ≡ 1) × (block_reads 1 block.body block.offsets.items ≡ Ok (in_order order it.reads))) ⊎ (IsSecond version × (it.reads ≡ walk_in order block.body block.offsets.items))
   pub rows : (rows : List RowEntry) → block_rows version block.body block.offsets.items ≡ Ok rows → left it ≡ Ok (in_order order rows)
 
 -- the block begins no walk, or one of its rows is refused
 abbrev pub RefusesRows : ℕ → IterationOrder → Block → SlateDBError → Type 0
 RefusesRows version order block e =
-    (((version ≡ 1) ⊎ (version ≡ 2)) × (block_reads version block.body block.offsets.items ≡ Err e))
-    ⊎ ((version ≢ 1) × (version ≢ 2) × (e ≡ InvalidVersion version))
+    (IsKnown version × (block_reads version block.body block.offsets.items ≡ Err e))
+    ⊎ ((IsKnown version → ⊥) × (e ≡ InvalidVersion version))
     ⊎ ((it : ReadsLeft) × Walks version order block it × Refuses it.reads e)
 
-unfoldable pub RefusesWalk : Encode → ℕ → IterationOrder → Option (List ℕ) → SlateDBError → Type 0
-RefusesWalk decode version order answer e = RefusesBlock decode answer e ⊎ ((block : Block) × EachIsAByte block.body × IsBlockRead decode answer block × RefusesRows version order block e)
+unfoldable pub RefusesWalk : Encode → ℕ → IterationOrder → SectionRead → SlateDBError → Type 0
+RefusesWalk decode version order s e = RefusesBlock decode s e ⊎ ((block : Block) × EachIsAByte block.body × IsBlockRead decode s block × RefusesRows version order block e)
 
 -- ---- a table
 
@@ -158,8 +160,8 @@ RefusesReady version order ready e = (n : ℕ) × (block : Block) × (slice_get 
 abbrev pub RefusesUnread : Meaning → SsTableHandle → IterationOrder → List Act → SlateDBError → Type 0
 RefusesUnread p h order reads e =
     (given : Option (List ℕ)) × Contains reads (Act.read (path_in h) h.info.index_offset h.info.index_len given)
-    × (RefusesIndex p.decode h.info.filter_offset (whole_answer h.info.index_len given) e
-    ⊎ ((entries : List (ℕ × List ℕ)) × IsIndexRead p.decode h.info.filter_offset (whole_answer h.info.index_len given) entries × RefusesSome p h entries order reads e))
+    × (RefusesIndex p.decode h.info.filter_offset (of_index h (whole_answer h.info.index_len given)) e
+    ⊎ ((entries : List (ℕ × List ℕ)) × IsIndexRead p.decode h.info.filter_offset (of_index h (whole_answer h.info.index_len given)) entries × RefusesSome p h entries order reads e))
 
 abbrev pub refuses_behind : SsTableHandle → IterationOrder → Cursor → Meaning → List Act → Option (List ℕ) → SlateDBError → Type 0
 refuses_behind h order cursor p reads at e = IsDamage e × (RefusesLeft cursor.rows e ⊎ RefusesReady h.format_version order cursor.ready.items e ⊎ RefusesSome p h (entries_of cursor.index) order reads e)
@@ -175,11 +177,18 @@ refuses_at h order s p reads at e = refuses_in s h order p reads at e
 
 -- ---- what a walk rests on
 
-abbrev pub index_part : SsTableHandle → Kept → Option (List ℕ)
-index_part h kept = part_of (Some kept.bytes) h.info.index_offset h.info.index_len
+abbrev pub index_part : SsTableHandle → Kept → SectionRead
+index_part h kept = of_index h (part_of (Some kept.bytes) h.info.index_offset h.info.index_len)
 
-abbrev pub block_part : SsTableHandle → Kept → List (ℕ × List ℕ) → ℕ → Option (List ℕ)
-block_part h kept entries block = part_of (Some kept.bytes) (start_of h entries block) (size_of h entries block)
+abbrev pub block_part : SsTableHandle → Kept → List (ℕ × List ℕ) → ℕ → SectionRead
+block_part h kept entries block = of_block h entries block (part_of (Some kept.bytes) (start_of h entries block) (size_of h entries block))
+
+-- where the sections of the index and of a block lie, and what their checksums cover
+abbrev pub index_lies : SsTableHandle → Section
+index_lies h = record { at = h.info.index_offset; len = h.info.index_len; cover = cover_of h.format_version h.id.0 index_kind h.info.index_offset }
+
+abbrev pub block_lies : SsTableHandle → List (ℕ × List ℕ) → ℕ → Section
+block_lies h entries i = record { at = start_of h entries i; len = size_of h entries i; cover = cover_of h.format_version h.id.0 block_kind (start_of h entries i) }
 
 pub record IsReadable (w : World) (h : SsTableHandle) (kept : Kept) : Type 0 where
   pub held : w.holds (path_in h) ≡ Some kept
@@ -188,13 +197,13 @@ pub record IsReadable (w : World) (h : SsTableHandle) (kept : Kept) : Type 0 whe
   pub count : length kept.blocks ≡ length entries
   pub index : (es : List (ℕ × List ℕ)) → IsIndexRead w.meaning.decode h.info.filter_offset (index_part h kept) es → es ≡ entries
   pub index_fine : (e : SlateDBError) → RefusesIndex w.meaning.decode h.info.filter_offset (index_part h kept) e → ⊥
-  pub known : (h.format_version ≡ 1) ⊎ (h.format_version ≡ 2)
+  pub known : IsKnown h.format_version
   pub block : (i : ℕ) (rows : List RowEntry) (block : Block) → slice_get kept.blocks i ≡ Some rows → EachIsAByte block.body → IsBlockRead w.meaning.decode (block_part h kept entries i) block → block_rows h.format_version block.body block.offsets.items ≡ Ok rows
   pub block_fine : (i : ℕ) (e : SlateDBError) → i < length entries → RefusesBlock w.meaning.decode (block_part h kept entries i) e → ⊥
-  pub index_place : Contains kept.sections (record { at = h.info.index_offset; len = h.info.index_len })
-  pub block_place : (i : ℕ) → i < length entries → Contains kept.sections (record { at = start_of h entries i; len = size_of h entries i })
-  pub inside : (place : Place) → Contains kept.sections place → place.at + place.len ≤ length kept.bytes
-  pub sums : (stored : List ℕ) → w.fits (summed stored) ≡ true
+  pub index_place : Contains kept.sections (index_lies h)
+  pub block_place : (i : ℕ) → i < length entries → Contains kept.sections (block_lies h entries i)
+  pub inside : (place : Section) → Contains kept.sections place → place.at + place.len ≤ length kept.bytes
+  pub sums : (cover stored : List ℕ) → w.fits cover (summed cover stored) ≡ true
   pub rising : IsInOrder Ascending (flat_map (λ b. b) kept.blocks)
   pub turn : AreInTurn (row_before Ascending) (flat_map (λ b. b) kept.blocks)
   pub enclosed : AllByRecursion (λ r. encloses (seen_info h.info) r.key ≡ true) (flat_map (λ b. b) kept.blocks)
@@ -339,11 +348,11 @@ no_words x p reads answer y = Unit {0}
 unfoldable pub IsIndexed : Meaning → SsTableHandle → List Act → List (ℕ × List ℕ) → Type 0
 IsIndexed p h reads entries =
     (given : Option (List ℕ)) × (reads ≡ Act.read (path_in h) h.info.index_offset h.info.index_len given ∷ [])
-    × IsIndexRead p.decode h.info.filter_offset (whole_answer h.info.index_len given) entries
+    × IsIndexRead p.decode h.info.filter_offset (of_index h (whole_answer h.info.index_len given)) entries
 
 abbrev pub RefusesIndexed : Meaning → SsTableHandle → List Act → SlateDBError → Type 0
 RefusesIndexed p h reads e =
-    (given : Option (List ℕ)) × Contains reads (Act.read (path_in h) h.info.index_offset h.info.index_len given) × RefusesIndex p.decode h.info.filter_offset (whole_answer h.info.index_len given) e
+    (given : Option (List ℕ)) × Contains reads (Act.read (path_in h) h.info.index_offset h.info.index_len given) × RefusesIndex p.decode h.info.filter_offset (of_index h (whole_answer h.info.index_len given)) e
 
 -- a refusal is kept, or want of memory in its place
 abbrev pub Keeps : SlateDBError → TableState → Type 0

@@ -24,7 +24,7 @@ pub record IsTableObject (m : Meaning) (layout : Layout) (o : List ℕ × List �
   pub place_fits : place < 2 ^ 64
   pub rows : List RowEntry
   pub path : o.0 ≡ path_of root (table_id number place)
-  pub built : IsBuilt m.encode layout.policies layout.min_filter_keys layout.block_size layout.version o.1 rows
+  pub built : IsBuilt m.encode layout.policies layout.min_filter_keys layout.block_size layout.version (table_id number place) o.1 rows
   pub prefix : List ℕ
   pub one : AllByRecursion (StandsIn layout.segments prefix) rows
 

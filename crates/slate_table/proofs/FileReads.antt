@@ -11,15 +11,15 @@ use Rattle.slate_types.specs.Outside.{Objects}
 use Rattle.slate_store.specs.Store.{Act}
 use Rattle.slate_block.specs.declared.block.Block.{Block}
 use Rattle.slate_block.specs.BlockReading.{Rise, AreOffsets}
-use Rattle.slate_block.specs.BlockSpelling.{IsBlockOf}
+use Rattle.slate_block.specs.BlockSpelling.{IsBlockOf, IsKnown, is_known}
 use Rattle.slate_block.specs.Damage.{◌>>=◌}
 use Rattle.slate_block.specs.ReadingLaws.{EachIsAByte}
 use Rattle.slate_block.specs.Walks.{RowRead, all_ok, joined, block_reads, block_rows}
-use Rattle.slate_block.proofs.WalkedBlocks.{block_found as found_in_v1}
-use Rattle.slate_block.proofs.WalkedBlocksV2.{block_found as found_in_v2}
+use Rattle.slate_block.proofs.Versions.{known, is_known_of}
+use Rattle.slate_block.proofs.WalkedVersions.{walks_read}
 use Rattle.slate_table.specs.declared.info.SsTableHandle.{SsTableHandle}
 use Rattle.slate_table.specs.Parts.{Encode}
-use Rattle.slate_table.specs.Reading.{Reads, IsStoreFault, FailsDecoding, RefusesIndex, IsBlockRead, RefusesBlock}
+use Rattle.slate_table.specs.Reading.{Reads, SectionRead, of_block, of_index, IsStoreFault, FailsDecoding, RefusesIndex, IsBlockRead, RefusesBlock}
 use Rattle.slate_table.specs.FileReading.{rows_in, AreRowsRead, RefusesRows, ReadsIndex, ReadsBlock, ReadsRows, RefusesReadRows, FailsReadRows, MayReadRows}
 
 -- ---- rows, taken one by one
@@ -43,23 +43,20 @@ unread : (version : ℕ) (body offsets : List ℕ) (e : SlateDBError) → block_
 unfolding block_rows
 unread version body offsets e h = ap (λ (r : Result (List RowRead) SlateDBError). r >>= all_ok) h
 
-pub refused_in : (version : ℕ) (block : Block) (e m : SlateDBError) → ((version ≡ 1) ⊎ (version ≡ 2) → (e ≡ m) ⊎ (block_reads version block.body block.offsets.items ≡ Err e)) → (version ≢ 1 → version ≢ 2 → e ≡ InvalidVersion version) →
+pub refused_in : (version : ℕ) (block : Block) (e m : SlateDBError) → (IsKnown version → (e ≡ m) ⊎ (block_reads version block.body block.offsets.items ≡ Err e)) → ((IsKnown version → ⊥) → e ≡ InvalidVersion version) →
     (e ≡ m) ⊎ (rows_in version block ≡ Err e)
-refused_in version block e m known unknown = by (eqb version 1) (eqb version 2) refl refl
+refused_in version block e m is unknown = by (is_known version) refl
   where
     rows : Result (List RowEntry) SlateDBError
     rows = block_rows version block.body block.offsets.items
 
-    carried : (t : Bool) → t ≡ true → (e ≡ m) ⊎ (block_reads version block.body block.offsets.items ≡ Err e) → (e ≡ m) ⊎ (cond t rows (Err (InvalidVersion version)) ≡ Err e)
-    carried t is (inl h) = inl h
-    carried t is (inr h) = inr (ap (λ (b : Bool). cond b rows (Err (InvalidVersion version))) is ∙ unread version block.body block.offsets.items e h)
+    carried : (e ≡ m) ⊎ (block_reads version block.body block.offsets.items ≡ Err e) → (e ≡ m) ⊎ (rows ≡ Err e)
+    carried (inl h) = inl h
+    carried (inr h) = inr (unread version block.body block.offsets.items e h)
 
-    by : (t s : Bool) → eqb version 1 ≡ t → eqb version 2 ≡ s → (e ≡ m) ⊎ (cond (t || s) rows (Err (InvalidVersion version)) ≡ Err e)
-    by true s first second = carried true refl (known (inl (eqb-true version 1 first)))
-    by false true first second = carried true refl (known (inr (eqb-true version 2 second)))
-    by false false first second =
-        let is : e ≡ InvalidVersion version = unknown (λ one. cc) (λ two. cc) in
-        inr (ap (λ (f : SlateDBError). Err f) (sym is))
+    by : (t : Bool) → is_known version ≡ t → (e ≡ m) ⊎ (cond t rows (Err (InvalidVersion version)) ≡ Err e)
+    by true h = carried (is (known version h))
+    by false h = inr (ap (λ (f : SlateDBError). Err f) (sym (unknown (λ k. let clash : false ≡ true = sym h ∙ is_known_of version k in cc))))
 
 -- ---- a block
 
@@ -73,22 +70,18 @@ offsets_below end (at ∷ ats) a = (omega (arith, a.0), later_below 1 end ats a.
 
 found_in : (version : ℕ) (block : Block) (rows : List RowEntry) → EachIsAByte block.body → AllByRecursion (λ at. at < 2 ^ 16) block.offsets.items → rows_in version block ≡ Ok rows →
     IsBlockOf block.body block.offsets.items version rows
-found_in version block rows fits below h = by (eqb version 1) (eqb version 2) refl refl h
+found_in version block rows fits below h = by (is_known version) refl h
   where
-    by : (t s : Bool) → eqb version 1 ≡ t → eqb version 2 ≡ s → cond (t || s) (block_rows version block.body block.offsets.items) (Err (InvalidVersion version)) ≡ Ok rows → IsBlockOf block.body block.offsets.items version rows
-    by true s first second h =
-        let is : version ≡ 1 = eqb-true version 1 first in
-        let read : block_rows 1 block.body block.offsets.items ≡ Ok rows = subst (λ (v : ℕ). block_rows v block.body block.offsets.items ≡ Ok rows) is h in
-        subst (λ (v : ℕ). IsBlockOf block.body block.offsets.items v rows) (sym is) (found_in_v1 block.body block.offsets.items rows fits below read)
-    by false true first second h =
-        let is : version ≡ 2 = eqb-true version 2 second in
-        let read : block_rows 2 block.body block.offsets.items ≡ Ok rows = subst (λ (v : ℕ). block_rows v block.body block.offsets.items ≡ Ok rows) is h in
-        subst (λ (v : ℕ). IsBlockOf block.body block.offsets.items v rows) (sym is) (found_in_v2 block.body block.offsets.items rows fits below read)
-    by false false first second h = absurd cc
+    of : IsKnown version → block_rows version block.body block.offsets.items ≡ Ok rows → IsBlockOf block.body block.offsets.items version rows
+    of k read = (walks_read version k block.body block.offsets.items rows fits below).0 read
 
-rows_read : (decode : Encode) (version : ℕ) (answer : Option (List ℕ)) (block : Block) (rows : List RowEntry) → EachIsAByte block.body → IsBlockRead decode answer block → rows_in version block ≡ Ok rows →
-    AreRowsRead decode version answer rows
-rows_read decode version answer block rows fits read h =
+    by : (t : Bool) → is_known version ≡ t → cond t (block_rows version block.body block.offsets.items) (Err (InvalidVersion version)) ≡ Ok rows → IsBlockOf block.body block.offsets.items version rows
+    by true is read = of (known version is) read
+    by false is read = absurd cc
+
+rows_read : (decode : Encode) (version : ℕ) (s : SectionRead) (block : Block) (rows : List RowEntry) → EachIsAByte block.body → IsBlockRead decode s block → rows_in version block ≡ Ok rows →
+    AreRowsRead decode version s rows
+rows_read decode version s block rows fits read h =
     let below = offsets_below (length block.body) block.offsets.items read.2.0 in
     (read.0, read.1, (block.body, block.offsets.items, found_in version block rows fits below h, read.2.2))
 
@@ -102,7 +95,7 @@ reads_rows decode now objects middle before between after path root table entrie
     let decoded = subst (λ (d : Encode). ReadsBlock middle between after root table entries at (λ answer. IsBlockRead d answer block)) same read in
     let told = subst (λ (o : Option Objects). ReadsBlock o between after root table entries at (λ answer. IsBlockRead decode answer block)) still decoded in
     let found = subst (λ (p : List ℕ). ReadsBlock objects between after p table entries at (λ answer. IsBlockRead decode answer block)) there told in
-    (entries, between, index, within, (found.0, found.1, rows_read decode table.format_version found.0 block rows fits found.2 h))
+    (entries, between, index, within, (found.0, found.1, rows_read decode table.format_version (of_block table entries at found.0) block rows fits found.2 h))
 
 -- ---- refusals
 
@@ -111,8 +104,8 @@ later_fault a b c e le (inl memory) = inl memory
 later_fault a b c e le (inr fault) = let rose : Rose b c = fault.1 in inr (fault.0, omega (arith, le, rose))
 
 pub index_refused : {A : Type 0} (decode : Encode) (objects : Option Objects) (before after : Option (List Act)) (path : List ℕ) (table : SsTableHandle) (at x z : ℕ) (e : SlateDBError) →
-    A ⊎ Reads objects before after path table.info.index_offset table.info.index_len (λ answer. FailsDecoding x z answer e)
-    ⊎ Reads objects before after path table.info.index_offset table.info.index_len (λ answer. RefusesIndex decode table.info.filter_offset answer e) →
+    A ⊎ Reads objects before after path table.info.index_offset table.info.index_len (λ answer. FailsDecoding x z (of_index table answer) e)
+    ⊎ Reads objects before after path table.info.index_offset table.info.index_len (λ answer. RefusesIndex decode table.info.filter_offset (of_index table answer) e) →
     A ⊎ FailsReadRows decode objects before after path table at x z e ⊎ RefusesReadRows decode objects before after path table at e
 unfolding FailsReadRows RefusesReadRows
 index_refused decode objects before after path table at x z e (inl a) = inl a

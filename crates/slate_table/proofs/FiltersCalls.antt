@@ -12,19 +12,19 @@ use Rattle.slate_filter.specs.Policy.{Policy}
 use Rattle.slate_table.specs.Filtered.{RefusesQuery}
 use Rattle.slate_table.specs.FiltersReading.{AreFiltersIn}
 use Rattle.slate_table.specs.Parts.{Encode}
-use Rattle.slate_table.specs.Reading.{Reads, stored_in, RefusesFilters}
+use Rattle.slate_table.specs.Reading.{Reads, SectionRead, stored_in, RefusesFilters}
 
-pub section_refused : {A B : Type 0} (objects : Option Objects) (before after : Option (List Act)) (path : List ℕ) (start size : ℕ) (decode : Encode) (e : SlateDBError) →
-    A ⊎ B ⊎ Reads objects before after path start size (λ answer. refusal (stored_in answer) ≡ Some e) → A ⊎ B ⊎ Reads objects before after path start size (λ answer. RefusesFilters decode answer e)
-section_refused objects before after path start size decode e (inl a) = inl a
-section_refused objects before after path start size decode e (inr (inl b)) = inr (inl b)
-section_refused objects before after path start size decode e (inr (inr r)) = inr (inr (r.0, r.1, inl r.2))
+pub section_refused : {A B : Type 0} (objects : Option Objects) (before after : Option (List Act)) (path : List ℕ) (start size : ℕ) (decode : Encode) (of : Option (List ℕ) → SectionRead) (e : SlateDBError) →
+    A ⊎ B ⊎ Reads objects before after path start size (λ answer. refusal (stored_in (of answer)) ≡ Some e) → A ⊎ B ⊎ Reads objects before after path start size (λ answer. RefusesFilters decode (of answer) e)
+section_refused objects before after path start size decode of e (inl a) = inl a
+section_refused objects before after path start size decode of e (inr (inl b)) = inr (inl b)
+section_refused objects before after path start size decode of e (inr (inr r)) = inr (inr (r.0, r.1, inl r.2))
 
-pub query_refused : {A B : Type 0} (objects : Option Objects) (before after : Option (List Act)) (path : List ℕ) (start size : ℕ) (decode : Encode) (policies : List Policy) (query : FilterQuery) (e : SlateDBError) →
-    A ⊎ B ⊎ Reads objects before after path start size (λ answer. RefusesFilters decode answer e) → A ⊎ B ⊎ Reads objects before after path start size (λ answer. RefusesQuery decode policies query answer e)
-query_refused objects before after path start size decode policies query e (inl a) = inl a
-query_refused objects before after path start size decode policies query e (inr (inl b)) = inr (inl b)
-query_refused objects before after path start size decode policies query e (inr (inr r)) = inr (inr (r.0, r.1, inl r.2))
+pub query_refused : {A B : Type 0} (objects : Option Objects) (before after : Option (List Act)) (path : List ℕ) (start size : ℕ) (decode : Encode) (of : Option (List ℕ) → SectionRead) (policies : List Policy) (query : FilterQuery) (e : SlateDBError) →
+    A ⊎ B ⊎ Reads objects before after path start size (λ answer. RefusesFilters decode (of answer) e) → A ⊎ B ⊎ Reads objects before after path start size (λ answer. RefusesQuery decode policies query (of answer) e)
+query_refused objects before after path start size decode of policies query e (inl a) = inl a
+query_refused objects before after path start size decode of policies query e (inr (inl b)) = inr (inl b)
+query_refused objects before after path start size decode of policies query e (inr (inr r)) = inr (inr (r.0, r.1, inl r.2))
 
 -- ---- the filters were asked
 
@@ -36,10 +36,10 @@ when_err : {T : Type 0} (r : Result T SlateDBError) (P Q : SlateDBError → Type
 when_err (Ok x) P Q f p = tt
 when_err (Err e) P Q f p = f e p
 
-pub asked_refuses : (A B : SlateDBError → Type 0) (objects : Option Objects) (before after : Option (List Act)) (path : List ℕ) (start size : ℕ) (decode : Encode) (policies : List Policy) (query : FilterQuery) (filters : List (List ℕ × List ℕ)) (len : ℕ) (r : Result Bool SlateDBError) →
-    Reads objects before after path start size (λ answer. AreFiltersIn decode answer filters len) → r ≡ told len (asked policies filters query) →
-    IfErr r (λ e. A e ⊎ B e ⊎ Reads objects before after path start size (λ answer. RefusesQuery decode policies query answer e))
-asked_refuses A B objects before after path start size decode policies query filters len r (answer, read, (part, p, is, size_is)) says =
-    subst (λ (x : Result Bool SlateDBError). IfErr x (λ e. A e ⊎ B e ⊎ Reads objects before after path start size (λ a. RefusesQuery decode policies query a e))) (sym says)
-    (when_err (told len (asked policies filters query)) (λ e. (asked policies filters query ≡ None) × (e ≡ InvalidFilterBlock len)) (λ e. A e ⊎ B e ⊎ Reads objects before after path start size (λ a. RefusesQuery decode policies query a e))
+pub asked_refuses : (A B : SlateDBError → Type 0) (objects : Option Objects) (before after : Option (List Act)) (path : List ℕ) (start size : ℕ) (decode : Encode) (of : Option (List ℕ) → SectionRead) (policies : List Policy) (query : FilterQuery) (filters : List (List ℕ × List ℕ)) (len : ℕ) (r : Result Bool SlateDBError) →
+    Reads objects before after path start size (λ answer. AreFiltersIn decode (of answer) filters len) → r ≡ told len (asked policies filters query) →
+    IfErr r (λ e. A e ⊎ B e ⊎ Reads objects before after path start size (λ answer. RefusesQuery decode policies query (of answer) e))
+asked_refuses A B objects before after path start size decode of policies query filters len r (answer, read, (part, p, is, size_is)) says =
+    subst (λ (x : Result Bool SlateDBError). IfErr x (λ e. A e ⊎ B e ⊎ Reads objects before after path start size (λ a. RefusesQuery decode policies query (of a) e))) (sym says)
+    (when_err (told len (asked policies filters query)) (λ e. (asked policies filters query ≡ None) × (e ≡ InvalidFilterBlock len)) (λ e. A e ⊎ B e ⊎ Reads objects before after path start size (λ a. RefusesQuery decode policies query (of a) e))
     (λ e h. inr (inr (answer, read, inr (part, filters, p, is, h.0, h.1 ∙ ap InvalidFilterBlock size_is)))) (told_refuses len (asked policies filters query)))

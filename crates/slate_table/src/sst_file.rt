@@ -18,7 +18,7 @@ use crate::sst_index::SstIndex;
 use crate::sst_reader::SstReader;
 use crate::sst_stats::SstStats;
 use crate::section::STATS_KIND;
-use crate::table_store::{TableStore, place_in, read_block, read_part};
+use crate::table_store::{TableStore, read_block, read_part};
 use slate_block::fields::corrupt;
 use slate_block::{Block, DataBlockIterator};
 use slate_store::Store;
@@ -94,14 +94,14 @@ impl SstFile {
         ensures later_transformer { faults_of T.faults reader.old.transformer ≤ faults_of T.faults reader.new.transformer }
         ensures still_transformer { (result ≡ Err SlateDBError.BlockTransformError) ⊎ (result ≡ Err SlateDBError.OutOfMemory) ⊎ (faults_of T.faults reader.new.transformer ≡ faults_of T.faults reader.old.transformer) }
     {
-        let len = self.handle.info.stats_len;
-        if len == 0 {
+        let place = (self.handle.info.stats_offset, self.handle.info.stats_len);
+        if place.1 == 0 {
             return Ok(None);
         }
         let root = reader.root_path.as_str();
         let transformer = &mut reader.transformer;
-        let place = place_in(&self.handle, STATS_KIND, self.handle.info.stats_offset);
-        let part = read_part(alloc, &mut reader.store, root, place, len, transformer)?;
+        let store = &mut reader.store;
+        let part = read_part(alloc, store, root, &self.handle, STATS_KIND, place, transformer)?;
         SstStats::decode(alloc, part).map(Some)
     }
 

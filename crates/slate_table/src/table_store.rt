@@ -20,6 +20,7 @@ ghost use Rattle.slate_table.specs.Reading.{
   of_filters,
   of_index,
   read_at,
+  section_read,
   whole_answer,
   stored_in,
   IsPart,
@@ -66,7 +67,7 @@ impl TableStore {
         id: Ulid,
         table: &EncodedSsTable,
     ) -> Result<SsTableHandle, SlateDBError>
-        requires named { table.now.id ≡ id }
+        requires named { table.now.id.0 ≡ id.0 }
         ensures id { IfOk result (λ handle. handle.id ≡ id) }
         ensures info { IfOk result (λ handle. handle.info ≡ table.now.info) }
         ensures version { IfOk result (λ handle. handle.format_version ≡ table.now.version) }
@@ -114,8 +115,8 @@ impl TableStore {
         ensures later_transformer { faults_of T.faults transformer.old ≤ faults_of T.faults transformer.new }
         ensures still_transformer { (result ≡ Err SlateDBError.BlockTransformError) ⊎ (result ≡ Err SlateDBError.OutOfMemory) ⊎ (faults_of T.faults transformer.new ≡ faults_of T.faults transformer.old) }
     {
-        let place = place_in(table, INDEX_KIND, table.info.index_offset);
-        let part = read_part(alloc, store, root, place, table.info.index_len, transformer)?;
+        let place = (table.info.index_offset, table.info.index_len);
+        let part = read_part(alloc, store, root, table, INDEX_KIND, place, transformer)?;
         SstIndex::decode(alloc, part, table.info.filter_offset)
     }
 
@@ -276,23 +277,24 @@ pub(crate) fn opened<T: BlockTransformer>(
     }
 }
 
-/// The part of the section at a place, by one read of so many bytes.
+/// The part of a section of a kind, which begins there and has so many bytes, by one read.
 pub(crate) fn read_part<S: Store, T: BlockTransformer>(
     alloc: Global,
     store: &mut S,
     root: &str,
-    place: SectionPlace,
-    len: u64,
+    table: &SsTableHandle,
+    kind: u8,
+    place: (u64, u64),
     transformer: &mut Option<T>,
 ) -> Result<Bytes, SlateDBError>
-    ensures found { IfOk result (λ part. Reads (S.objects store.old) (S.acts store.old) (S.acts store.new) (path_of root.now place.id.0) place.offset len (λ answer. IsPart (changed_by T.decoded transformer.old) (read_at place answer) part)) }
-    ensures cause { IfErr result (λ e. IsStoreFault (S.faults store.old) (S.faults store.new) e ⊎ Reads (S.objects store.old) (S.acts store.old) (S.acts store.new) (path_of root.now place.id.0) place.offset len (λ answer. FailsDecoding (faults_of T.faults transformer.old) (faults_of T.faults transformer.new) (read_at place answer) e) ⊎ Reads (S.objects store.old) (S.acts store.old) (S.acts store.new) (path_of root.now place.id.0) place.offset len (λ answer. refusal (stored_in (read_at place answer)) ≡ Some e)) }
-    ensures once { OnErr result ((S.acts store.new ≡ S.acts store.old) ⊎ Reads (S.objects store.old) (S.acts store.old) (S.acts store.new) (path_of root.now place.id.0) place.offset len (λ _. Unit {0})) }
+    ensures found { IfOk result (λ part. Reads (S.objects store.old) (S.acts store.old) (S.acts store.new) (path_of root.now table.now.id.0) place.0 place.1 (λ answer. IsPart (changed_by T.decoded transformer.old) (section_read table.now.format_version table.now.id.0 kind place.0 answer) part)) }
+    ensures cause { IfErr result (λ e. IsStoreFault (S.faults store.old) (S.faults store.new) e ⊎ Reads (S.objects store.old) (S.acts store.old) (S.acts store.new) (path_of root.now table.now.id.0) place.0 place.1 (λ answer. FailsDecoding (faults_of T.faults transformer.old) (faults_of T.faults transformer.new) (section_read table.now.format_version table.now.id.0 kind place.0 answer) e) ⊎ Reads (S.objects store.old) (S.acts store.old) (S.acts store.new) (path_of root.now table.now.id.0) place.0 place.1 (λ answer. refusal (stored_in (section_read table.now.format_version table.now.id.0 kind place.0 answer)) ≡ Some e)) }
+    ensures once { OnErr result ((S.acts store.new ≡ S.acts store.old) ⊎ Reads (S.objects store.old) (S.acts store.old) (S.acts store.new) (path_of root.now table.now.id.0) place.0 place.1 (λ _. Unit {0})) }
     ensures reaches { Reaches S.objects S.faults store.old store.new result }
     ensures stays { Stays T.encoded T.decoded T.faults transformer.old transformer.new result }
 {
-    let answer = read(alloc, store, root, place.id, (place.offset, len))?;
-    opened(alloc, answer, place, transformer)
+    let answer = read(alloc, store, root, table.id, place)?;
+    opened(alloc, answer, place_in(table, kind, place.0), transformer)
 }
 
 /// The filters of a table, by one read of their section, and the length of the part that they were read from.
@@ -309,8 +311,8 @@ fn filters_of<S: Store, T: BlockTransformer>(
     ensures reaches { Reaches S.objects S.faults store.old store.new result }
     ensures stays { Stays T.encoded T.decoded T.faults transformer.old transformer.new result }
 {
-    let place = place_in(table, FILTERS_KIND, table.info.filter_offset);
-    let part = read_part(alloc, store, root, place, table.info.filter_len, transformer)?;
+    let place = (table.info.filter_offset, table.info.filter_len);
+    let part = read_part(alloc, store, root, table, FILTERS_KIND, place, transformer)?;
     decode_filters(alloc, part)
 }
 
@@ -338,13 +340,13 @@ pub(crate) fn read_block<S: Store, T: BlockTransformer>(
     ensures reaches { Reaches S.objects S.faults store.old store.new result }
     ensures stays { Stays T.encoded T.decoded T.faults transformer.old transformer.new result }
 {
-    let (start, size) = place_of_block(index, table.info.filter_offset, block);
-    let answer = read(alloc, store, root, table.id, (start, size))?;
-    block_in(alloc, answer, place_in(table, BLOCK_KIND, start), transformer)
+    let place = place_of_block(index, table.info.filter_offset, block);
+    let answer = read(alloc, store, root, table.id, place)?;
+    block_in(alloc, answer, place_in(table, BLOCK_KIND, place.0), transformer)
 }
 
 /// Where a section of a table stands.
-pub(crate) fn place_in(table: &SsTableHandle, kind: u8, offset: u64) -> SectionPlace
+fn place_in(table: &SsTableHandle, kind: u8, offset: u64) -> SectionPlace
     ensures { result ≡ record { version = table.now.format_version; id = table.now.id; kind = kind; offset = offset } }
 {
     SectionPlace {

@@ -16,8 +16,8 @@ type Run = (&'static [u8], u64, u8, &'static [u8]);
 
 const WORDS: &[&str] = &["filter=_bf:p=fixed4:wh=0"];
 
-// Filters of the first four bytes of keys alone.
-fn prefixes(alloc: Global) -> Result<Vec<Box<dyn FilterPolicy>>, SlateDBError>
+/// Filters of the first four bytes of keys alone.
+pub fn prefixes(alloc: Global) -> Result<Vec<Box<dyn FilterPolicy>>, SlateDBError>
     ensures { IfOk result (λ policies. AreValidNames (map (λ p. (meaning p).name) policies.items)) }
 {
     let policy: BloomFilterPolicy<FixedExtractor> = BloomFilterPolicy::new(alloc, 10)?;

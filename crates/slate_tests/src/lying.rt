@@ -1,9 +1,12 @@
-// What a store answers and tells that lies at one read, and a run over one that doesn't lie.
+// What a store answers and tells that lies at one read, a run over one that doesn't lie, and runs over some that do.
+use crate::filters::prefixes;
+use crate::generated::words_of;
 use crate::listing::{no_policies, one};
 use crate::runs::{TWICE, TWO_ROWS};
 use bytes::Bytes;
 use slate_script::run_main;
 use slate_store::{LyingStore, MemorySink, MemorySource, Sink, Store, StoreRead};
+use slate_types::SlateDBError;
 use std::alloc::Global;
 
 // A range of the object at "a" with what is answered there.
@@ -73,4 +76,71 @@ fn is_run(alloc: Global) -> bool {
 #[test]
 fn a_run_over_told_acts_replies_alike(rt: HostRuntime) {
     assert!(rt; is_run(rt.alloc()));
+}
+
+// Words and a script, the read that is answered otherwise, and what it is answered; with which status the run ends, and what it writes.
+type Lie = (
+    &'static [&'static str],
+    &'static [u8],
+    u64,
+    &'static [u8],
+    u8,
+    &'static [u8],
+);
+
+// The section of the one filter of a table of a and b, of which the first bit is turned.
+const TURNED: &[u8] = b"\
+\x80\x01\x00\x11_bf:p=fixed4:wh=0\x00\x00\x00\x00\x00\x00\x00\x02\x00\x06\xef-\xe0l";
+
+// The section of the block of the first flush's table.
+const FIRST_BLOCK: &[u8] = b"\
+\x00\x01\x01a1\x00\x00\x00\x00\x00\x00\x00\x01\x04\x00\x00\x00\x00\x00\x00\x00\x00\x00\x00\x00\x01i\xa7wY";
+
+const LIES: &[Lie] = &[
+    (
+        &["filter=_bf:p=fixed4:wh=0"],
+        b"write put 'a '1 put 'b '2\nflush\nbegin t si\nget t 'a\n",
+        1,
+        TURNED,
+        12,
+        b"written 1\nflushed 1\nbegun t 1\n",
+    ),
+    (
+        &["format=v3", "filter=none"],
+        b"write put 'a '1\nflush\nwrite put 'a '2\nflush\nbegin t si\nget t 'a\n",
+        2,
+        FIRST_BLOCK,
+        12,
+        b"written 1\nflushed 1\nwritten 2\nflushed 2\nbegun t 2\n",
+    ),
+];
+
+fn is_caught(alloc: Global, lie: &Lie) -> Result<bool, SlateDBError> {
+    let words = words_of(alloc, lie.0)?;
+    let policies = prefixes(alloc)?;
+    let mut source = MemorySource::new(lie.1.to_vec(alloc)?, Vec::new(alloc));
+    let mut sink = MemorySink::new(alloc, Vec::new(alloc));
+    let answer = Some(Bytes::from_static(lie.3));
+    let mut store = LyingStore::new(alloc, one(alloc, (lie.2, answer)));
+    let status = run_main(
+        alloc,
+        words.as_slice(),
+        &mut source,
+        &mut sink,
+        &mut store,
+        policies,
+    );
+    let is_caught = status == lie.4 && sink.taken() == lie.5;
+    drop((words, source, sink, store));
+    Ok(is_caught)
+}
+
+// A section whose bit was turned, and in version 3 one of another table whose checksum fits there.
+#[test]
+fn lies_are_caught(rt: HostRuntime) {
+    let mut all = true;
+    for lie in LIES {
+        all = all && is_caught(rt.alloc(), lie).unwrap_or(false);
+    }
+    assert!(rt; all);
 }

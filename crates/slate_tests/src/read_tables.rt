@@ -1,6 +1,6 @@
 // What readers answer of the table of one row, whole and damaged.
 use crate::listing::{Row, are_rows, one};
-use crate::tables::TABLE;
+use crate::tables::{ID, TABLE, TABLE_OF_V3};
 use bytes::Bytes;
 use slate_language::Xor;
 use slate_read::{SegmentMergeIterator, SortedRun, SstIteratorOptions};
@@ -11,16 +11,29 @@ use slate_types::{
 };
 use std::alloc::Global;
 
-const ID: Ulid = Ulid(18446744073709551616);
-
 const PATH: &str = "db/compacted/00000000000000010000000000000000.sst";
+
+// The first table of the second flush.
+const SECOND_ID: Ulid = Ulid(36893488147419103232);
+
+const SECOND_PATH: &str = "db/compacted/00000000000000020000000000000000.sst";
 
 const ROWS: &[Row] = &[(b"a", 'v', b"1", 1, Some(0), None)];
 
 // What a reader is answered of the whole table.
 const WHOLE: &str = "Ok(true)";
 
+// What a reader is answered under another id than that which the checksums of version 3 cover.
+const OF_ANOTHER: &str = "Err(ChecksumMismatch { stored: 2436250345, computed: 1285686983 })";
+
 type Reader = SstReader<MemoryStore, Xor>;
+
+// A path, and the id that it has.
+type Place = (&'static str, Ulid);
+
+const FIRST: Place = (PATH, ID);
+
+const SECOND: Place = (SECOND_PATH, SECOND_ID);
 
 // A length, a place and the bits that change there, and what is answered then.
 const DAMAGES: &[(usize, usize, u8, &str)] = &[
@@ -38,7 +51,12 @@ const DAMAGES: &[(usize, usize, u8, &str)] = &[
 ];
 
 // Whether a reader answers of a file what was written: its size, count of rows, first and last key, index and first block.
-fn is_whole(alloc: Global, reader: &mut Reader, file: &SstFile) -> Result<bool, SlateDBError> {
+fn is_whole(
+    alloc: Global,
+    reader: &mut Reader,
+    file: &SstFile,
+    len: usize,
+) -> Result<bool, SlateDBError> {
     let size = file.metadata(alloc, reader)?.size;
     let count = match file.stats(alloc, reader)? {
         Some(stats) => stats.num_rows(),
@@ -47,7 +65,7 @@ fn is_whole(alloc: Global, reader: &mut Reader, file: &SstFile) -> Result<bool, 
     let has_block = has_block(file.index(alloc, reader)?);
     let rows = file.read_block(alloc, reader, 0)?;
     let has_rows = are_rows(alloc, Some(rows), ROWS);
-    Ok(size == 182 && count == 1 && has_ends(file.info()) && has_block && has_rows)
+    Ok(size == len as u64 && count == 1 && has_ends(file.info()) && has_block && has_rows)
 }
 
 // The first block lies at 0, and a separates it.
@@ -64,21 +82,31 @@ fn has_ends(info: &SsTableInfo) -> bool {
     has_ends
 }
 
-fn answer_of_reader(alloc: Global, reader: &mut Reader) -> Result<bool, SlateDBError> {
-    let file = reader.open(alloc, ID)?;
-    let answered = is_whole(alloc, reader, &file);
+fn answer_of_reader(
+    alloc: Global,
+    reader: &mut Reader,
+    id: Ulid,
+    len: usize,
+) -> Result<bool, SlateDBError> {
+    let file = reader.open(alloc, id)?;
+    let answered = is_whole(alloc, reader, &file, len);
     drop(file);
     answered
 }
 
 // Whether the table over a store in memory with these bytes at its path is whole, or how it is refused. This call of the store fails.
 fn answer_of(alloc: Global, bytes: &[u8], call: u64) -> Option<String> {
+    answer_at(alloc, FIRST, bytes, call)
+}
+
+// The same at another path, under the id that it has.
+fn answer_at(alloc: Global, place: Place, bytes: &[u8], call: u64) -> Option<String> {
     let mut store = MemoryStore::new(alloc, one(alloc, call));
-    let put = store.put(alloc, PATH, bytes).ok();
+    let put = store.put(alloc, place.0, bytes).ok();
     let Some(mut reader) = Reader::new(alloc, "db", store, None).ok() else {
         return None;
     };
-    let answered = answer_of_reader(alloc, &mut reader);
+    let answered = answer_of_reader(alloc, &mut reader, place.1, bytes.len());
     drop(reader);
     let text = format!(in alloc; "{answered:?}").ok();
     drop(answered);
@@ -138,6 +166,18 @@ fn is_well_with_each(alloc: Global) -> bool {
 #[test]
 fn no_changed_byte_changes_an_answer(rt: HostRuntime) {
     assert!(rt; is_well_with_each(rt.alloc()));
+}
+
+// In version 3 the checksums cover the table's id.
+fn is_read_under_its_id(alloc: Global) -> bool {
+    is_text(answer_of(alloc, TABLE_OF_V3, 0), WHOLE)
+        && is_text(answer_at(alloc, SECOND, TABLE, 0), WHOLE)
+        && is_text(answer_at(alloc, SECOND, TABLE_OF_V3, 0), OF_ANOTHER)
+}
+
+#[test]
+fn a_table_of_version_3_is_read_under_its_id(rt: HostRuntime) {
+    assert!(rt; is_read_under_its_id(rt.alloc()));
 }
 
 // A run of the table, whose keys begin with a.

@@ -18,7 +18,7 @@ returns-in_err-footer g c =
       id = IfOk-from_err c.from_residual-in_err-footer.result _ c.from_residual-in_err-footer.ensures.0;
       cause = (let faults = g.S.Store.faults in
           rw (p.1, p.2)
-          (last_refused (objects c.args.store.now) (objects c.object_len.new.store) (acts c.args.store.now) (acts c.object_len.new.store) (acts c.read_footer.new.store) (path_of c.args.root.now c.args.id.0)
+          (last_refused (objects c.args.store.now) (objects c.object_len.new.store) (acts c.args.store.now) (acts c.object_len.new.store) (acts c.read_footer.new.store) (path_of c.args.root.now c.args.id.0) c.args.id.0
           c.in_ok-len.len c.in_ok-size.size (faults c.args.store.now) (faults c.object_len.new.store) (faults c.read_footer.new.store) c.in_err-footer.field-0.0
           c.object_len.ensures.reaches.same_objects c.object_len.ensures.reaches.later c.in_ok-len.ensures.same c.in_ok-len.ensures.long c.in_ok-size.ensures.measured c.in_err-footer.ensures.cause));
       calls = (rw p.1
@@ -39,7 +39,7 @@ returns-in_err-info g c =
       cause = (let faults = g.S.Store.faults in
           rw (p.1, p.2)
           (info_refused (objects c.args.store.now) (objects c.object_len.new.store) (objects c.read_footer.new.store) (acts c.args.store.now) (acts c.object_len.new.store) (acts c.read_footer.new.store) (acts c.read_info.new.store)
-          (path_of c.args.root.now c.args.id.0) c.in_ok-len.len c.in_ok-footer.footer.info_offset c.in_ok-footer.footer.version c.in_ok-size.size
+          (path_of c.args.root.now c.args.id.0) c.args.id.0 c.in_ok-len.len c.in_ok-footer.footer.info_offset c.in_ok-footer.footer.version c.in_ok-size.size
           (faults c.args.store.now) (faults c.read_footer.new.store) (faults c.read_info.new.store) c.in_err-info.field-0.0
           c.object_len.ensures.reaches.same_objects (c.read_footer.ensures.reaches.same_objects ∙ c.object_len.ensures.reaches.same_objects) (omega (arith, c.object_len.ensures.reaches.later, c.read_footer.ensures.reaches.later))
           c.in_ok-len.ensures.same c.in_ok-len.ensures.long c.in_ok-size.ensures.measured c.in_ok-footer.ensures.found c.in_err-info.ensures.cause));
@@ -56,7 +56,7 @@ returns g c =
       found = (let objects = g.S.Store.objects in
           let acts = g.S.Store.acts in
           opens (objects c.args.store.now) (objects c.object_len.new.store) (objects c.read_footer.new.store) (acts c.args.store.now) (acts c.object_len.new.store) (acts c.read_footer.new.store) (acts c.read_info.new.store)
-          (path_of c.args.root.now c.args.id.0) c.in_ok-len.len c.in_ok-footer.footer.info_offset c.in_ok-footer.footer.version c.in_ok-size.size (seen_info c.in_ok-info.info)
+          (path_of c.args.root.now c.args.id.0) c.args.id.0 c.in_ok-len.len c.in_ok-footer.footer.info_offset c.in_ok-footer.footer.version c.in_ok-size.size (seen_info c.in_ok-info.info)
           c.object_len.ensures.reaches.same_objects (c.read_footer.ensures.reaches.same_objects ∙ c.object_len.ensures.reaches.same_objects)
           c.in_ok-len.ensures.same c.in_ok-len.ensures.long c.in_ok-size.ensures.measured c.in_ok-footer.ensures.found c.in_ok-info.ensures.some c.in_ok-info.ensures.found);
       known = c.in_ok-footer.ensures.known;

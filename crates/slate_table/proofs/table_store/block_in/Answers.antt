@@ -1,6 +1,7 @@
 use Rattle.slate_table.specs.SectionReading.{changed_by}
 use Rattle.slate_block.specs.BlockReading.{offsets_of_block}
 use Rattle.slate_block.specs.RowReading.{refusal}
+use Rattle.slate_table.specs.Reading.{read_at}
 use Rattle.slate_table.proofs.PartReads.{refused_section}
 use Rattle.std.proofs.Common.{inr}
 use Rattle.std.proofs.lemmas.Result.{IfOk-weaker, IfErr-weaker, err_from_is_err_and, IfOk-from_err}
@@ -21,6 +22,6 @@ returns-in_err-part g c =
     let p = err_from_is_err_and c.from_residual.result c.from_residual.ensures.1 in
     record {
       found = IfOk-from_err c.from_residual.result _ c.from_residual.ensures.0;
-      cause = rw (p.1, p.2) (refused_section (changed_by g.T.BlockTransformer.decoded c.args.transformer.now) (λ part. refusal (offsets_of_block part)) c.args.answer c.in_err-part.field-0.0 c.in_err-part.ensures.cause);
+      cause = rw (p.1, p.2) (refused_section (changed_by g.T.BlockTransformer.decoded c.args.transformer.now) (λ part. refusal (offsets_of_block part)) (read_at c.args.place c.args.answer) c.in_err-part.field-0.0 c.in_err-part.ensures.cause);
       stays = stays_err c.in_err-part.ensures.stays c.from_residual.ensures.1;
     }

@@ -3,9 +3,9 @@ use Rattle.std.proofs.lemmas.Result.{err_from_is_err_and, IfOk-from_err}
 use Rattle.slate_types.specs.Faults.{faults_of}
 use Rattle.slate_table.specs.IndexValue.{entries_of}
 use Rattle.slate_table.specs.SectionReading.{changed_by}
-use Rattle.slate_table.specs.Reading.{block_answer}
+use Rattle.slate_table.specs.Reading.{of_blocks, read_at}
 use Rattle.slate_table.proofs.PartReads.{still_ok}
-use Rattle.slate_table.proofs.BlockReads.{one_more, one_longer, stops}
+use Rattle.slate_table.proofs.BlockReads.{one_more, one_longer, stops, there}
 use Rattle.slate_table.proofs.Asking.{unchanged, stays_err, stays_ok, stays_behind}
 use Rattle.slate_table.proofs.table_store.each_block.Goals as goal
 
@@ -18,9 +18,9 @@ returns-in_err-block g c =
       cause = (let decoded = changed_by g.T.BlockTransformer.decoded in
           let faults = faults_of g.T.BlockTransformer.faults in
           rw (p.1, p.2)
-          (stops (decoded c.args.transformer.now) (decoded c.loop-at.transformer) (block_answer c.args.end (entries_of c.args.index.now) c.args.blocks.start c.args.answer.now) c.in_ok-section.section
+          (stops (decoded c.args.transformer.now) (decoded c.loop-at.transformer) (of_blocks c.args.table.now (entries_of c.args.index.now) c.args.blocks.start c.args.answer.now) (read_at c.place_in-place.result c.in_ok-section.section)
           c.args.blocks.start c.loop-at.at c.args.blocks.end c.loop-at.found.items (faults c.args.transformer.now) (faults c.loop-at.transformer) (faults c.block_in.new.transformer) c.in_err-block.field-0.0
-          c.loop-at.invariant.same_decoded c.loop-at.invariant.still c.in_ok-section.ensures.found c.loop-at.invariant.from c.loop-at-test.true c.loop-at.invariant.count c.loop-at.invariant.read c.in_err-block.ensures.cause));
+          c.loop-at.invariant.same_decoded c.loop-at.invariant.still (there c.args.table.now (entries_of c.args.index.now) c.args.blocks.start c.args.answer.now c.loop-at.at c.place_in-place.result c.block_start.result c.in_ok-section.section c.place_in-place.ensures c.block_start.ensures c.in_ok-section.ensures.found) c.loop-at.invariant.from c.loop-at-test.true c.loop-at.invariant.count c.loop-at.invariant.read c.in_err-block.ensures.cause));
       stays = stays_behind c.loop-at.invariant.same_encoded c.loop-at.invariant.same_decoded c.loop-at.invariant.still (stays_err c.in_err-block.ensures.stays c.from_residual-in_err-block.ensures.1);
     }
 
@@ -31,9 +31,9 @@ loop-at-preserved g c =
       from = omega (arith, c.loop-at.invariant.from);
       count = rw c.in_ok-push.ensures.items (one_longer c.loop-at.found.items c.in_ok-block.block c.args.blocks.start c.loop-at.at c.loop-at.invariant.from c.loop-at.invariant.count);
       read = rw c.in_ok-push.ensures.items
-          (one_more (decoded c.args.transformer.now) (decoded c.loop-at.transformer) (block_answer c.args.end (entries_of c.args.index.now) c.args.blocks.start c.args.answer.now) c.in_ok-section.section
+          (one_more (decoded c.args.transformer.now) (decoded c.loop-at.transformer) (of_blocks c.args.table.now (entries_of c.args.index.now) c.args.blocks.start c.args.answer.now) (read_at c.place_in-place.result c.in_ok-section.section)
           c.args.blocks.start c.loop-at.at c.loop-at.found.items c.in_ok-block.block
-          c.loop-at.invariant.same_decoded c.in_ok-section.ensures.found c.loop-at.invariant.from c.loop-at.invariant.count c.loop-at.invariant.read c.in_ok-block.ensures.found);
+          c.loop-at.invariant.same_decoded (there c.args.table.now (entries_of c.args.index.now) c.args.blocks.start c.args.answer.now c.loop-at.at c.place_in-place.result c.block_start.result c.in_ok-section.section c.place_in-place.ensures c.block_start.ensures c.in_ok-section.ensures.found) c.loop-at.invariant.from c.loop-at.invariant.count c.loop-at.invariant.read c.in_ok-block.ensures.found);
       same_encoded = c.block_in.ensures.stays.same_encoded ∙ c.loop-at.invariant.same_encoded;
       same_decoded = c.block_in.ensures.stays.same_decoded ∙ c.loop-at.invariant.same_decoded;
       still = still_ok c.in_ok-block.block c.in_ok-block.ensures.stays.still ∙ c.loop-at.invariant.still;

@@ -2,7 +2,7 @@ use Rattle.std.proofs.Common.{◌≡◌, ◌-◌, ◌≤◌, length}
 use Rattle.slate_types.specs.Faults.{faults_of}
 use Rattle.slate_table.specs.IndexValue.{entries_of}
 use Rattle.slate_table.specs.SectionReading.{changed_by}
-use Rattle.slate_table.specs.Reading.{block_answer, AreBlocksRead}
+use Rattle.slate_table.specs.Reading.{of_blocks, AreBlocksRead}
 use Rattle.slate_table.proofs.table_store.each_block.Given as goal
 
 abbrev pub invariant-loop-at : goal.invariant-loop-at
@@ -13,7 +13,7 @@ invariant-loop-at g l =
     record {
       from : l.first ≤ l.at;
       count : length l.found.items ≡ l.at - l.first;
-      read : AreBlocksRead (changed_by decoded l.initial.transformer) (block_answer l.end (entries_of l.index) l.first l.answer) l.first l.found.items;
+      read : AreBlocksRead (changed_by decoded l.initial.transformer) (of_blocks l.table (entries_of l.index) l.first l.answer) l.first l.found.items;
       same_encoded : changed_by encoded l.transformer ≡ changed_by encoded l.initial.transformer;
       same_decoded : changed_by decoded l.transformer ≡ changed_by decoded l.initial.transformer;
       still : faults_of faults l.transformer ≡ faults_of faults l.initial.transformer;

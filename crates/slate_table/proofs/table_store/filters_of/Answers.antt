@@ -2,6 +2,7 @@ use Rattle.std.proofs.Common.{inr}
 use Rattle.std.proofs.lemmas.Result.{IfErr-weaker, err_from_is_err_and, IfOk-from_err}
 use Rattle.slate_table.specs.Paths.{path_of}
 use Rattle.slate_table.specs.SectionReading.{changed_by}
+use Rattle.slate_table.specs.Reading.{of_filters}
 use Rattle.slate_table.proofs.Asking.{stays_ok, stays_err, reaches_err, reaches_ok}
 use Rattle.slate_table.proofs.FiltersCalls.{section_refused}
 use Rattle.slate_table.proofs.Results.{on_err, spread, if_ok_both}
@@ -15,7 +16,7 @@ returns-in_err-part g c =
       cause = (let info = c.args.table.now.info in
           rw (p.1, p.2)
           (section_refused (g.S.Store.objects c.args.store.now) (g.S.Store.acts c.args.store.now) (g.S.Store.acts c.read_part.new.store) (path_of c.args.root.now c.args.table.now.id.0) info.filter_offset info.filter_len
-          (changed_by g.T.BlockTransformer.decoded c.args.transformer.now) c.in_err-part.field-0.0 c.in_err-part.ensures.cause));
+          (changed_by g.T.BlockTransformer.decoded c.args.transformer.now) (of_filters c.args.table.now) c.in_err-part.field-0.0 c.in_err-part.ensures.cause));
       once = rw p.1 (c.in_err-part.ensures.once);
       reaches = reaches_err c.in_err-part.ensures.reaches c.from_residual.ensures.1;
       stays = stays_err c.in_err-part.ensures.stays c.from_residual.ensures.1;

@@ -4,7 +4,7 @@ use Rattle.slate_block.specs.RowReading.{refusal}
 use Rattle.slate_table.specs.Paths.{path_of}
 use Rattle.slate_table.specs.SectionReading.{changed_by}
 use Rattle.slate_table.specs.StatsReading.{stats_in}
-use Rattle.slate_table.specs.Reading.{IsStatsRead, RefusesStats}
+use Rattle.slate_table.specs.Reading.{of_stats, IsStatsRead, RefusesStats}
 use Rattle.slate_table.proofs.PartReads.{refused, still_ok, still_err}
 use Rattle.slate_table.proofs.Results.{mapped_some, mapped_same, not_none, on_err, spread, store_still, store_err}
 use Rattle.slate_table.proofs.sst_file.SstFile.stats.Goals as goal
@@ -21,7 +21,7 @@ returns-in_err-part g c =
           let handle = c.args.self.now.handle in
           rw (p.1, p.2, ← c.as_str-root.ensures.value)
           (refused (g.S.Store.objects store) (g.S.Store.acts store) (g.S.Store.acts c.read_part.new.store) (path_of c.as_str-root.result.now handle.id.0) handle.info.stats_offset handle.info.stats_len
-          (changed_by g.T.BlockTransformer.decoded c.args.reader.now.transformer) (λ part. refusal (stats_in part)) c.in_err-part.field-0.0 c.in_err-part.ensures.cause));
+          (changed_by g.T.BlockTransformer.decoded c.args.reader.now.transformer) (of_stats handle) (λ part. refusal (stats_in part)) c.in_err-part.field-0.0 c.in_err-part.ensures.cause));
       once = rw (p.1, ← c.as_str-root.ensures.value) c.in_err-part.ensures.once;
       objects = c.read_part.ensures.reaches.same_objects;
       root = refl;

@@ -18,7 +18,7 @@ returns-in_err-handle g c =
           let after = c.open_table.new.store in
           let e = c.in_err-handle.field-0.0 in
           rw (p.1, p.2)
-          (subst (λ (root : List ℕ). IsStoreFault (g.S.Store.faults store) (g.S.Store.faults after) e ⊎ RefusesOpen (g.S.Store.objects store) (g.S.Store.acts store) (g.S.Store.acts after) (path_of root c.args.id.0) e)
+          (subst (λ (root : List ℕ). IsStoreFault (g.S.Store.faults store) (g.S.Store.faults after) e ⊎ RefusesOpen (g.S.Store.objects store) (g.S.Store.acts store) (g.S.Store.acts after) (path_of root c.args.id.0) c.args.id.0 e)
           c.as_str.ensures.value c.in_err-handle.ensures.cause));
       calls = rw (p.1, ← c.as_str.ensures.value) c.in_err-handle.ensures.calls;
       objects = c.open_table.ensures.reaches.same_objects;
@@ -34,7 +34,7 @@ returns g c =
       found = (let store = c.args.self.now.store in
           let after = c.open_table.new.store in
           let handle = c.in_ok-handle.handle in
-          subst (λ (root : List ℕ). IsOpened (g.S.Store.objects store) (g.S.Store.acts store) (g.S.Store.acts after) (path_of root c.args.id.0) handle.format_version (seen_info handle.info))
+          subst (λ (root : List ℕ). IsOpened (g.S.Store.objects store) (g.S.Store.acts store) (g.S.Store.acts after) (path_of root c.args.id.0) c.args.id.0 handle.format_version (seen_info handle.info))
           c.as_str.ensures.value c.in_ok-handle.ensures.found);
       known = c.in_ok-handle.ensures.known;
       id = c.in_ok-handle.ensures.id;

@@ -5,7 +5,7 @@ use Rattle.slate_types.specs.Faults.{faults_of}
 use Rattle.slate_table.specs.IndexValue.{entries_of}
 use Rattle.slate_table.specs.Paths.{path_of}
 use Rattle.slate_table.specs.SectionReading.{changed_by}
-use Rattle.slate_table.specs.Reading.{block_answer, block_start, blocks_size, AreBlocksRead, RefusesBlocks, FailsBlocks}
+use Rattle.slate_table.specs.Reading.{of_blocks, block_start, blocks_size, AreBlocksRead, RefusesBlocks, FailsBlocks}
 use Rattle.slate_table.proofs.BlockReads.{row_read, row_refused}
 use Rattle.slate_table.proofs.table_store.TableStore.read_blocks.Goals as goal
 
@@ -19,7 +19,7 @@ returns g c =
       found = (IfOk-weaker c.each_block-found.result _ _
           (λ blocks found. row_read (g.S.Store.objects c.args.store.now) (g.S.Store.acts c.args.store.now) (g.S.Store.acts c.read.new.store) (path_of c.args.root.now c.args.table.now.id.0)
           c.block_start-start.result c.saturating_sub-size.result (block_start end entries c.args.blocks.start) (blocks_size end entries c.args.blocks.start c.args.blocks.end) c.in_ok-answer.answer
-          (λ (answer : Option (List ℕ)). AreBlocksRead decoded (block_answer end entries c.args.blocks.start answer) c.args.blocks.start blocks.items)
+          (λ (answer : Option (List ℕ)). AreBlocksRead decoded (of_blocks c.args.table.now entries c.args.blocks.start answer) c.args.blocks.start blocks.items)
           c.block_start-start.ensures size c.in_ok-answer.ensures.read found)
           c.each_block-found.ensures.found);
       count = c.each_block-found.ensures.count;
@@ -27,9 +27,9 @@ returns g c =
           (λ e h. row_refused (g.S.Store.objects c.args.store.now) (g.S.Store.acts c.args.store.now) (g.S.Store.acts c.read.new.store) (path_of c.args.root.now c.args.table.now.id.0)
           c.block_start-start.result c.saturating_sub-size.result (block_start end entries c.args.blocks.start) (blocks_size end entries c.args.blocks.start c.args.blocks.end)
           (g.S.Store.faults c.args.store.now) (g.S.Store.faults c.read.new.store) c.in_ok-answer.answer
-          (λ (answer : Option (List ℕ)). FailsBlocks decoded (block_answer end entries c.args.blocks.start answer) c.args.blocks.start c.args.blocks.end
+          (λ (answer : Option (List ℕ)). FailsBlocks decoded (of_blocks c.args.table.now entries c.args.blocks.start answer) c.args.blocks.start c.args.blocks.end
           (faults_of g.T.BlockTransformer.faults c.args.transformer.now) (faults_of g.T.BlockTransformer.faults c.each_block-found.new.transformer) e)
-          (λ (answer : Option (List ℕ)). RefusesBlocks decoded (block_answer end entries c.args.blocks.start answer) c.args.blocks.start c.args.blocks.end e) e
+          (λ (answer : Option (List ℕ)). RefusesBlocks decoded (of_blocks c.args.table.now entries c.args.blocks.start answer) c.args.blocks.start c.args.blocks.end e) e
           c.block_start-start.ensures size c.in_ok-answer.ensures.read h)
           c.each_block-found.ensures.cause);
       once = (on_err c.each_block-found.result

@@ -5,6 +5,7 @@ use Rattle.slate_block.specs.RowReading.{refusal}
 use Rattle.slate_table.specs.Paths.{path_of}
 use Rattle.slate_table.specs.SectionReading.{changed_by}
 use Rattle.slate_table.specs.IndexReading.{index_of}
+use Rattle.slate_table.specs.Reading.{of_index}
 use Rattle.slate_table.proofs.PartReads.{refused, still_ok, still_err}
 use Rattle.slate_table.proofs.table_store.TableStore.read_index.Goals as goal
 
@@ -16,7 +17,7 @@ returns-in_err-part g c =
       cause = (let info = c.args.table.now.info in
           rw (p.1, p.2)
           (refused (g.S.Store.objects c.args.store.now) (g.S.Store.acts c.args.store.now) (g.S.Store.acts c.read_part.new.store) (path_of c.args.root.now c.args.table.now.id.0) info.index_offset info.index_len
-          (changed_by g.T.BlockTransformer.decoded c.args.transformer.now) (λ part. refusal (index_of info.filter_offset part)) c.in_err-part.field-0.0 c.in_err-part.ensures.cause));
+          (changed_by g.T.BlockTransformer.decoded c.args.transformer.now) (of_index c.args.table.now) (λ part. refusal (index_of info.filter_offset part)) c.in_err-part.field-0.0 c.in_err-part.ensures.cause));
       once = rw p.1 (c.in_err-part.ensures.once);
       objects = c.read_part.ensures.reaches.same_objects;
       same_encoded = c.read_part.ensures.stays.same_encoded;
