@@ -40,7 +40,7 @@ use Rattle.slate_table.specs.StatsReading.{stats_in}
 use Rattle.slate_table.specs.Finding.{block_read}
 use Rattle.slate_table.specs.FileReading.{rows_in, AreRowsRead, RefusesRows, ReadsRows, RefusesReadRows}
 use Rattle.slate_table.specs.FileLaws.{table_info, table_entries, table_stats, paired, row_counts, HoldsTable}
-use Rattle.slate_table.proofs.SectionReads.{front_bytes, part_again}
+use Rattle.slate_table.proofs.SectionReads.{front_bytes, cover_bytes, part_again}
 use Rattle.slate_table.proofs.OpenLaws.{bytes_behind, sealed_bytes}
 use Rattle.slate_table.proofs.BuiltLaws.{blocks_rows}
 use Rattle.slate_table.proofs.IndexLaws.{places_count, places_below, separators_count, separators_short}
@@ -48,7 +48,6 @@ use Rattle.slate_table.proofs.IndexReads.{index_again}
 use Rattle.slate_table.proofs.IndexOrder.{index_is, paired_count}
 use Rattle.slate_table.proofs.StatsReads.{stats_again}
 use Rattle.slate_table.proofs.Sections.{sections_count, section_placed}
-use Rattle.slate_table.proofs.Covers.{cover_bytes}
 use Rattle.slate_table.proofs.FrameReads.{part_at, part_within, starts_at, starts_rise, upto_end, answered, part_is, sections_split, in_stats, in_index, block_split, stands}
 
 -- ---- a table's bytes

@@ -1,5 +1,4 @@
 pub mod Sections
-pub mod Covers
 pub mod PartsLaws
 mod SumLaws
 pub mod Asking

@@ -27,10 +27,9 @@ use Rattle.slate_table.specs.Reading.{IsRead, Reads, stored_of}
 use Rattle.slate_table.specs.Opening.{IsMeasured, long_in, last_in, info_size, IsInfoRead, RefusesInfo, IsOpened, RefusesSize, RefusesOpen}
 use Rattle.slate_table.specs.FileLaws.{table_info, HoldsTable}
 use Rattle.slate_table.proofs.InfoReads.{InfoTakes, info_again}
-use Rattle.slate_table.proofs.SectionReads.{front_bytes, part_again}
+use Rattle.slate_table.proofs.SectionReads.{front_bytes, cover_bytes, part_again}
 use Rattle.slate_table.proofs.BuiltLaws.{blocks_rows, first_short, last_short}
 use Rattle.slate_table.proofs.Sections.{summed_length, same_summed}
-use Rattle.slate_table.proofs.Covers.{cover_bytes}
 use Rattle.slate_table.proofs.FrameReads.{part_at, answered, sections_split}
 
 -- ---- the last bytes
