@@ -148,7 +148,7 @@ denied_range encode decode lawful policies ps bytes version id info rows fits t 
     refused e (inl r) = (denied_lack encode decode lawful policies ps bytes version id info rows fits t h [] None some).1 e (inl r)
     refused e (inr (part, filters, p, is, says, length_is)) =
         let answered = all_are_answered policies ps.distinct ps.each h.min (flat_map (λ b. b) t.is.0) query in
-        let clash : None ≡ Some answered.0 = sym says ∙ ap (λ fs. asked policies fs query) (same part filters p is) ∙ answered.1 in cc
+        let clash : None ≡ Some answered.0 = sym says ∙ ap (λ fs. asked policies fs query) (same part filters (subst (λ v. IsPart decode (filters_answer v id bytes info) part) written p) is) ∙ answered.1 in cc
 
 -- ---- tables that can't hold a key of the range
 
