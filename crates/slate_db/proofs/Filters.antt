@@ -137,7 +137,7 @@ unhurt : (asking : Asking) (m : Meaning) (os : Objects) (h : SsTableHandle) (row
     Asks asking h ≡ true → Unhurt asking m os h rows stored k
 unhurt asking m os h rows k stored target filtered asks =
     let query : asking.query ≡ point_query k asking.query.context = for_point asking.query k target in
-    let section = part_of (Some stored.bytes) h.info.filter_offset h.info.filter_len in
+    let section = of_filters h (part_of (Some stored.bytes) h.info.filter_offset h.info.filter_len) in
     let laws = denied_lack m.encode m.decode stored.lawful asking.policies filtered.0 stored.bytes h.format_version h.id.0 (seen_info h.info) rows stored.each stored.is (filtered.1.0 stored.bytes (table_there m os h rows stored)) k asking.query.context
     (asks_some asking.policies h.info.filter_len asks) in
     record {
