@@ -163,10 +163,10 @@ key_held_in encode decode lawful bytes version id bs fs info entries k first sto
     of : (rows : List RowEntry) → slice_get bs i ≡ Some rows → KeyHeld encode version id bs k (block_start end es first) (blocks_size end es first stop)
     of rows there =
         let text = block_bytes version rows in
-        let placed = section_placed version id encode 0 (map (λ b. block_bytes version b) bs) i text (mapped_get (λ b. block_bytes version b) bs i rows there) in
-        let begins : block_start end es i ≡ placed.begin = starts_at end (places 0 ss) (separators bs) i placed.begin (keys ∙ sym (places_count 0 ss)) placed.place in
+        let one = section_placed version id encode 0 (map (λ b. block_bytes version b) bs) i text (mapped_get (λ b. block_bytes version b) bs i rows there) in
+        let begins : block_start end es i ≡ one.begin = starts_at end (places 0 ss) (separators bs) i one.begin (keys ∙ sym (places_count 0 ss)) one.place in
         let piece = section (cover_of version id block_kind (block_start end es i)) encode text in
-        let piece_there : slice_get ss i ≡ Some piece = placed.there ∙ ap (λ (n : ℕ). Some (section (cover_of version id block_kind n) encode text)) (sym begins) in
+        let piece_there : slice_get ss i ≡ Some piece = one.there ∙ ap (λ (n : ℕ). Some (section (cover_of version id block_kind n) encode text)) (sym begins) in
         let stand = stands 0 end ss (separators bs) i piece keys whole piece_there in
         let start = stand.start in
         let next = stand.next in
