@@ -1,6 +1,7 @@
--- Walks upwards over blocks of either version read the block's rows, or are refused as these are.
-use Rattle.std.proofs.Common.{◌≡◌, ℕ, Bool, true, false, List, length, Result, Ok, refl, sym, ap, ◌∙◌}
+-- Walks upwards over blocks of any version read the block's rows, or are refused as these are.
+use Rattle.std.proofs.Common.{◌≡◌, ◌≢◌, ℕ, Bool, true, false, List, length, Result, Ok, refl, sym, ap, ◌∙◌}
 use Rattle.std.specs.Prelude.{IsOk}
+use Rattle.std.proofs.lemmas.Bool.{ne_eqb}
 use Rattle.slate_types.specs.declared.error.SlateDBError.{SlateDBError}
 use Rattle.slate_types.specs.declared.iter.IterationOrder.{IterationOrder}
 use Rattle.slate_types.specs.declared.iter.IterationOrder.TheVariants.{Ascending, Descending}
@@ -14,6 +15,16 @@ pub upwards_read : (version : ℕ) (order : IterationOrder) (body offsets : List
 unfolding block_rows
 upwards_read version Ascending body offsets reads h is = sym (ap (λ (x : Result (List RowRead) SlateDBError). x >>= all_ok) h)
 upwards_read version Descending body offsets reads h is = absurd cc
+
+-- a version that isn't the first is read as the second
+
+pub reads_second : (version : ℕ) (body offsets : List ℕ) → version ≢ 1 → block_reads version body offsets ≡ block_reads 2 body offsets
+unfolding block_reads
+reads_second version body offsets other = rw (ne_eqb version 1 other) refl
+
+pub rows_second : (version : ℕ) (body offsets : List ℕ) → version ≢ 1 → block_rows version body offsets ≡ block_rows 2 body offsets
+unfolding block_rows
+rows_second version body offsets other = ap (λ (x : Result (List RowRead) SlateDBError). x >>= all_ok) (reads_second version body offsets other)
 
 begun_v2 : (body offsets : List ℕ) → IsOk (block_reads 2 body offsets) → block_reads 2 body offsets ≡ Ok (reads_v2 body offsets (length body))
 begun_v2 body offsets h = by (are_named offsets) refl

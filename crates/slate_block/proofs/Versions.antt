@@ -1,5 +1,5 @@
 -- Versions of blocks: which there are, and that blocks of version 3 are those of version 2.
-use Rattle.std.proofs.Common.{◌≡◌, ◌≢◌, ℕ, eqb, ◌<◌, ◌^◌, Bool, true, false, List, [], ◌∷◌, flat_map, length, refl, sym, ap, subst, ◌∙◌, ◌⊎◌, inl, inr, arith}
+use Rattle.std.proofs.Common.{◌≡◌, ◌≢◌, ℕ, eqb, ◌<◌, ◌^◌, true, false, List, [], ◌∷◌, flat_map, length, refl, sym, ap, subst, ◌∙◌, ◌⊎◌, inl, inr, arith}
 use Rattle.std.specs.List.{AllByRecursion}
 use Rattle.std.proofs.lemmas.Bool.{ne_eqb, false≢true}
 use Rattle.std.proofs.lemmas.Bool.Decides.{eqb_tells}
@@ -52,7 +52,7 @@ known version is = by (known_or_not version)
     by (inl it) = it
     by (inr none) = absurd (false≢true (sym (is_unknown version none) ∙ is))
 
--- ---- of version 3
+-- ---- version 3
 
 pub same_spelled : (rows : List RowEntry) → spelled 3 rows ≡ spelled 2 rows
 same_spelled [] = refl

@@ -1,6 +1,5 @@
 -- Of each version a walk is refused nowhere exactly where there is a block, and reads its rows.
-use Rattle.std.proofs.Common.{◌≡◌, ℕ, ◌<◌, ◌^◌, List, Ok, refl, sym, subst, ◌∙◌, inl, inr}
-use Rattle.std.specs.List.{AllByRecursion}
+use Rattle.std.proofs.Common.{◌≡◌, ℕ, List, Ok, refl, sym, subst, ◌∙◌, inl, inr}
 use Rattle.slate_types.specs.declared.types.RowEntry.{RowEntry}
 use Rattle.slate_block.specs.BlockSpelling.{IsKnown, IsBlockOf}
 use Rattle.slate_block.specs.ReadingLaws.{EachIsAByte, WalksRead}

@@ -1,9 +1,9 @@
 -- A block with longest fronts is spelled of one list of rows, the expiries of tombstones among them.
-use Rattle.std.proofs.Common.{◌≡◌, ℕ, ◌+◌, ◌<◌, ◌⊎◌, List, [], ◌∷◌, length, flat_map, inl, inr, refl, sym, subst, ap, ◌∙◌, arith}
+use Rattle.std.proofs.Common.{◌≡◌, ℕ, ◌+◌, ◌<◌, List, [], ◌∷◌, length, flat_map, inl, inr, refl, sym, subst, ap, ◌∙◌, arith}
 use Rattle.std.specs.List.{AllByRecursion}
 use Rattle.slate_types.specs.declared.types.RowEntry.{RowEntry}
 use Rattle.slate_block.specs.RowSpelling.{v2_bytes}
-use Rattle.slate_block.specs.BlockSpelling.{entry_v1, entry_v2, shared_with, longest, spelled, spelled_v1, spelled_v2, offsets_of, block_bytes, FitsRow, FitsBlock}
+use Rattle.slate_block.specs.BlockSpelling.{IsKnown, entry_v1, entry_v2, shared_with, longest, spelled, spelled_v1, spelled_v2, offsets_of, block_bytes, FitsRow, FitsBlock}
 use Rattle.slate_block.proofs.RowLaws.{same_row_v1, same_row_v2}
 use Rattle.slate_block.proofs.BlockLaws.{same_row_from_v1, same_row_from_v2, some_v2, same_body, nothing_shared}
 use Rattle.slate_block.proofs.LongestFronts.{shares_longest, fits_v1, fits_v2}

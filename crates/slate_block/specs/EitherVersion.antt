@@ -1,4 +1,4 @@
--- What is left of a walk over a block of either version.
+-- What is left of a walk over a block of any version.
 use Rattle.slate_block.specs.declared.data_block_iterator.DataBlockIterator.{DataBlockIterator}
 use Rattle.slate_block.specs.declared.data_block_iterator.DataBlockIterator.TheVariants.{V1, V2}
 use Rattle.slate_block.specs.BlockWalks.{ReadsLeft}

@@ -1,6 +1,6 @@
 -- A walk whose rows are all read refuses nothing.
 --     none_refused it e      what is left of it is no refusal, so no row of it is
-use Rattle.std.proofs.Common.{◌≡◌, ℕ, zero, suc, List, [], ◌∷◌, Option, Some, None, Result, Ok, Err, subst}
+use Rattle.std.proofs.Common.{◌≡◌, ℕ, zero, suc, List, [], ◌∷◌, Option, Some, Result, Ok, Err, subst}
 use Rattle.std.specs.Prelude.{slice_get}
 use Rattle.slate_types.specs.declared.error.SlateDBError.{SlateDBError}
 use Rattle.slate_types.specs.declared.types.RowEntry.{RowEntry}

@@ -6,7 +6,7 @@ ghost use Rattle.slate_block.specs.RowSpelling.{stamp_bytes, meta_bytes, v1_valu
 use crate::flags::RowFlags;
 use slate_types::ValueDeletable;
 
-/// What a row has beside the suffix of its key and its value is no longer than this, in either version.
+/// What a row has beside the suffix of its key and its value is no longer than this, in any version.
 pub const MAX_FIELDS_LEN: usize = 40;
 
 /// Appends bytes for which there is room.

@@ -5,14 +5,14 @@ use Rattle.slate_types.specs.declared.error.SlateDBError.{SlateDBError}
 use Rattle.slate_types.specs.declared.error.SlateDBError.TheVariants.{OutOfMemory, StoreFault, Callback, BlockTransformError}
 use Rattle.slate_types.specs.declared.types.RowEntry.{RowEntry}
 use Rattle.slate_types.specs.Outside.{IsCounted, no_faults}
-use Rattle.slate_block.specs.BlockSpelling.{AreRows, IsBlockOf}
+use Rattle.slate_block.specs.BlockSpelling.{IsBlockOf, IsKnown}
 use Rattle.slate_block.specs.BlockWalks.{Refuses}
 use Rattle.slate_block.specs.Damage.{◌>>=◌}
 use Rattle.slate_block.specs.ReadingLaws.{EachIsAByte}
 use Rattle.slate_block.specs.Walks.{RowRead, all_ok, before, block_reads, block_rows}
 use Rattle.slate_block.proofs.FieldLaws.{bind_ok}
-use Rattle.slate_block.proofs.WalkedBlocks.{block_again as again_v1}
-use Rattle.slate_block.proofs.BlocksReadAgainV2.{block_again as again_v2}
+use Rattle.slate_block.proofs.Versions.{block_known}
+use Rattle.slate_block.proofs.WalkedVersions.{block_again}
 
 pub if_ok : {X E : Type 0} (r : Result X E) (P Q : X → Type 0) → ((x : X) → P x → Q x) → IfOk r P → IfOk r Q
 if_ok (Ok x) P Q f h = f x h
@@ -26,17 +26,11 @@ pub if_err : {X E : Type 0} (r : Result X E) (P Q : E → Type 0) → ((e : E) �
 if_err (Ok x) P Q f h = tt
 if_err (Err e) P Q f h = f e h
 
-pub read_whole : (version : ℕ) (body offsets : List ℕ) (rows : List RowEntry) → EachIsAByte body → IsBlockOf body offsets version rows → (version ≡ 1) ⊎ (version ≡ 2) → block_rows version body offsets ≡ Ok rows
-read_whole version body offsets rows fits is (inl e) = ap (λ v. block_rows v body offsets) e ∙ again_v1 body offsets rows fits (subst (λ v. IsBlockOf body offsets v rows) e is)
-read_whole version body offsets rows fits is (inr e) = ap (λ v. block_rows v body offsets) e ∙ again_v2 body offsets rows fits (subst (λ v. IsBlockOf body offsets v rows) e is)
+pub read_whole : (version : ℕ) (body offsets : List ℕ) (rows : List RowEntry) → EachIsAByte body → IsBlockOf body offsets version rows → IsKnown version → block_rows version body offsets ≡ Ok rows
+read_whole version body offsets rows fits is known = block_again version body offsets rows fits is
 
-pub known_of : (version : ℕ) (body offsets : List ℕ) (rows : List RowEntry) → IsBlockOf body offsets version rows → (version ≡ 1) ⊎ (version ≡ 2)
-known_of version body offsets rows is = by rows is.are_rows
-  where
-    by : (xs : List RowEntry) → AreRows version is.pieces xs → (version ≡ 1) ⊎ (version ≡ 2)
-    by [] h = absurd h
-    by (r ∷ rs) (inl h) = inl h.0
-    by (r ∷ rs) (inr h) = inr h.0
+pub known_of : (version : ℕ) (body offsets : List ℕ) (rows : List RowEntry) → IsBlockOf body offsets version rows → IsKnown version
+known_of version body offsets rows is = block_known body offsets version rows is
 
 unread : (version : ℕ) (body offsets : List ℕ) (e : SlateDBError) → block_reads version body offsets ≡ Err e → block_rows version body offsets ≡ Err e
 unfolding block_rows

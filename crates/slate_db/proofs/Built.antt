@@ -2,13 +2,13 @@
 use Rattle.std.proofs.Common.{◌≡◌, ℕ, ◌+◌, ◌-◌, ◌^◌, ◌≤◌, ◌<◌, ◌⊎◌, min, List, [], ◌∷◌, ◌++◌, map, length, Option, Some, None, refl, sym, ap, subst, ◌∙◌, inl, inr, arith, append_assoc, append-nil}
 use Rattle.std.specs.List.{AllByRecursion}
 use Rattle.slate_types.specs.declared.config.BlockFormat.{BlockFormat}
-use Rattle.slate_types.specs.declared.config.BlockFormat.TheVariants.{V1, V2, Latest}
+use Rattle.slate_types.specs.declared.config.BlockFormat.TheVariants.{V1, V2, V3, Latest}
 use Rattle.slate_types.specs.declared.error.SlateDBError.{SlateDBError}
 use Rattle.slate_types.specs.declared.error.SlateDBError.TheVariants.{EmptyKey, LimitReached}
 use Rattle.slate_types.specs.declared.types.RowEntry.{RowEntry}
 use Rattle.slate_types.specs.declared.types.Ulid.{Ulid}
 use Rattle.slate_types.specs.Outside.{Objects}
-use Rattle.slate_block.specs.BlockSpelling.{as_read}
+use Rattle.slate_block.specs.BlockSpelling.{IsKnown, as_read}
 use Rattle.slate_block.specs.Building.{CanTake}
 use Rattle.slate_block.specs.ReadingLaws.{EachIsAByte}
 use Rattle.slate_filter.specs.Policy.{Policy}
@@ -41,6 +41,7 @@ read_again format (r ∷ rs) h = (λ i. one format i ∷ read_again format rs h.
     one : (format : BlockFormat) → as_read (version_of format) r ≡ r
     one V1 = h.0.read
     one V2 = refl
+    one V3 = refl
     one Latest = refl
 
 -- a fault since a later moment is one since an earlier one
@@ -48,9 +49,9 @@ pub wider_fault : (a b c : ℕ) (e : SlateDBError) → a ≤ b → IsTransformFa
 wider_fault a b c e h (inl memory) = inl memory
 wider_fault a b c e h (inr (is, rose)) = inr (is, let r : min (b + 1) (2 ^ 64 - 1) ≤ c = rose in omega arith)
 
-pub begun_encoded : (encode : Encode) (version size min : ℕ) → AreEncoded encode (begun version size min)
+pub begun_encoded : (encode : Encode) (version id size min : ℕ) → AreEncoded encode (begun version id size min)
 unfolding cutting
-begun_encoded encode version size min = record { are_bytes = refl; are_offsets = refl }
+begun_encoded encode version id size min = record { are_bytes = refl; are_offsets = refl }
 
 pub too_large : (layout : Layout) (b : TableBuilding) (r : RowEntry) (rest : Rows) (e : SlateDBError) → b.version ≡ layout.version → b.size ≡ layout.block_size → e ≡ LimitReached max_blocks → HasTooManyBlocks b r →
     IsTooLarge layout ((b.rows ++ (r ∷ [])) ++ rest) e
@@ -63,15 +64,16 @@ too_large layout b r rest e version size is passes = record { is = is; first = f
     more = subst (λ (s : ℕ). max_blocks < length (cut s layout.version first)) size (subst (λ (v : ℕ). max_blocks < length (cut b.size v first)) version passes)
 
 -- what is built of a builder's rows, said of what it was begun with
-pub built_as : (encode now : Encode) (policies handed : List Policy) (min few size s version v : ℕ) (bytes : List ℕ) (rows taken : Rows) → now ≡ encode → taken ≡ rows → few ≡ min → s ≡ size → v ≡ version → handed ≡ policies →
-    IsBuilt now handed few s v bytes taken → IsBuilt encode policies min size version bytes rows
-built_as encode now policies handed min few size s version v bytes rows taken same all fewest block_size known names h =
-    subst (λ (e : Encode). IsBuilt e policies min size version bytes rows) same
-    (subst (λ (xs : Rows). IsBuilt now policies min size version bytes xs) all
-    (subst (λ (n : ℕ). IsBuilt now policies n size version bytes taken) fewest
-    (subst (λ (n : ℕ). IsBuilt now policies few n version bytes taken) block_size
-    (subst (λ (n : ℕ). IsBuilt now policies few s n bytes taken) known
-    (subst (λ (ps : List Policy). IsBuilt now ps few s v bytes taken) names h)))))
+pub built_as : (encode now : Encode) (policies handed : List Policy) (min few size s version v id n : ℕ) (bytes : List ℕ) (rows taken : Rows) → now ≡ encode → taken ≡ rows → few ≡ min → s ≡ size → v ≡ version → n ≡ id → handed ≡ policies →
+    IsBuilt now handed few s v n bytes taken → IsBuilt encode policies min size version id bytes rows
+built_as encode now policies handed min few size s version v id n bytes rows taken same all fewest block_size known named names h =
+    subst (λ (e : Encode). IsBuilt e policies min size version id bytes rows) same
+    (subst (λ (xs : Rows). IsBuilt now policies min size version id bytes xs) all
+    (subst (λ (x : ℕ). IsBuilt now policies x size version id bytes taken) fewest
+    (subst (λ (x : ℕ). IsBuilt now policies few x version id bytes taken) block_size
+    (subst (λ (x : ℕ). IsBuilt now policies few s x id bytes taken) known
+    (subst (λ (x : ℕ). IsBuilt now policies few s v x bytes taken) named
+    (subst (λ (ps : List Policy). IsBuilt now ps few s v n bytes taken) names h))))))
 
 -- ---- one row more
 
@@ -114,19 +116,17 @@ may_take P objects acts t before after p (inr took) = by (objects before) took.s
     by (Some os) taken = inr (t ∷ [], p, taken os refl)
 
 -- what is kept of a table has the info that its bytes have
-pub handle_of : (t : Ulid × List ℕ) (h : SsTableHandle) (version made : ℕ) (info : SsTableInfo) → (version ≡ 1) ⊎ (version ≡ 2) → h.id ≡ t.0 → h.info ≡ info → h.format_version ≡ made → made ≡ version → HasInfo t.1 version (seen_info info) → EachIsAByte t.1 → IsHandle t h
+pub handle_of : (t : Ulid × List ℕ) (h : SsTableHandle) (version made : ℕ) (info : SsTableInfo) → IsKnown version → h.id ≡ t.0 → h.info ≡ info → h.format_version ≡ made → made ≡ version → HasInfo t.1 version t.0.0 (seen_info info) → EachIsAByte t.1 → IsHandle t h
 handle_of t h version made info known id same format is has bytes = record {
   id = id;
-  version = by known;
-  info = subst (λ (i : SsTableInfo). HasInfo t.1 h.format_version (seen_info i)) (sym same) (subst (λ (v : ℕ). HasInfo t.1 v (seen_info info)) (sym (format ∙ is)) has);
+  version = subst IsKnown (sym (format ∙ is)) known;
+  info = subst (λ (i : SsTableInfo). HasInfo t.1 h.format_version h.id.0 (seen_info i)) (sym same)
+      (subst (λ (v : ℕ). HasInfo t.1 v h.id.0 (seen_info info)) (sym (format ∙ is)) (subst (λ (u : Ulid). HasInfo t.1 version u.0 (seen_info info)) (sym id) has));
   bytes = bytes;
 }
-  where
-    by : (version ≡ 1) ⊎ (version ≡ 2) → (h.format_version ≡ 1) ⊎ (h.format_version ≡ 2)
-    by (inl one) = inl (format ∙ is ∙ one)
-    by (inr two) = inr (format ∙ is ∙ two)
 
-pub version_known : (format : BlockFormat) → (version_of format ≡ 1) ⊎ (version_of format ≡ 2)
+pub version_known : (format : BlockFormat) → IsKnown (version_of format)
 version_known V1 = inl refl
-version_known V2 = inr refl
-version_known Latest = inr refl
+version_known V2 = inr (inl refl)
+version_known V3 = inr (inr refl)
+version_known Latest = inr (inl refl)

@@ -1,4 +1,5 @@
 -- What is refused of a part that was read can't be read.
+use Rattle.slate_block.specs.BlockSpelling.{IsKnown}
 use Rattle.std.proofs.Common.{◌≡◌, ◌≢◌, ◌<◌, [], ◌∷◌, ℕ, zero, suc, ◌+◌, ◌-◌, ◌*◌, ◌⊎◌, inl, inr, Bool, true, false, cond, eqb, List, length, drop, take, Option, Some, None, Result, Ok, Err, refl, sym, subst, arith}
 use Rattle.std.specs.Prelude.{Contains, IfErr, ◌&&◌, ◌==◌, nat_lt, nat_le, min, slice_get, slice_range}
 use Rattle.std.specs.Int.{Width, w16, w32, w64, byte_len, from_be_bytes}
@@ -14,11 +15,12 @@ use Rattle.slate_block.specs.Damage.{◌>>=◌, number_field, block_field}
 use Rattle.slate_block.specs.RowReading.{refusal}
 use Rattle.slate_block.specs.Walks.{RowRead, block_reads}
 use Rattle.slate_filter.specs.Policy.{Policy}
+use Rattle.slate_block.proofs.Versions.{known_or_not}
 use Rattle.slate_table.specs.Checksum.{crc32}
 use Rattle.slate_table.specs.Filtered.{RefusesQuery}
 use Rattle.slate_table.specs.IndexReading.{counted, entries_from, entry_field, index_of, is_next_key, is_next_offset, offset_field, separator_field}
 use Rattle.slate_table.specs.Parts.{Encode}
-use Rattle.slate_table.specs.Reading.{IsRefused, RefusesBlock, RefusesIndex, stored_in}
+use Rattle.slate_table.specs.Reading.{SectionRead, IsRefused, RefusesBlock, RefusesIndex, stored_in, stored_of}
 use Rattle.slate_table.specs.SectionReading.{part_in, part_of_sum, stored_sum}
 use Rattle.slate_db.specs.Lookup.{IsUnknown}
 use Rattle.slate_db.specs.Shown.{IsUnreadable, RefusesRow}
@@ -87,23 +89,26 @@ index_damage end bytes =
 
 -- ---- sections
 
-part_damage : (bytes : List ℕ) → IfErr (part_in bytes) IsUnreadable
+part_damage : (cover bytes : List ℕ) → IfErr (part_in cover bytes) IsUnreadable
 unfolding part_in
-part_damage bytes =
+part_damage cover bytes =
     fails_or (nat_lt (length bytes) 4) (CorruptTable 0) _ tt
-    (passes (stored_sum bytes == crc32 (part_of_sum bytes)) (part_of_sum bytes) (ChecksumMismatch (stored_sum bytes) (crc32 (part_of_sum bytes))) tt)
+    (passes (stored_sum bytes == crc32 (cover ++ part_of_sum bytes)) (part_of_sum bytes) (ChecksumMismatch (stored_sum bytes) (crc32 (cover ++ part_of_sum bytes))) tt)
 
-stored_damage : (answer : Option (List ℕ)) → IfErr (stored_in answer) IsUnreadable
-stored_damage None = tt
-stored_damage (Some bytes) = part_damage bytes
+stored_damage : (s : SectionRead) → IfErr (stored_in s) IsUnreadable
+stored_damage s = by s.answer
+  where
+    by : (answer : Option (List ℕ)) → IfErr (stored_of s.cover answer) IsUnreadable
+    by None = tt
+    by (Some bytes) = part_damage s.cover bytes
 
 refused_damage : {A : Type 0} (r : Result A SlateDBError) (e : SlateDBError) → IfErr r IsUnreadable → refusal r ≡ Some e → IsUnreadable e
 refused_damage (Ok x) e h is = absurd cc
 refused_damage (Err f) e h is = let same : f ≡ e = cc in subst IsUnreadable same h
 
-section_damage : {A : Type 0} (decode : Encode) (read : List ℕ → Result A SlateDBError) (answer : Option (List ℕ)) (e : SlateDBError) → ((part : List ℕ) → IfErr (read part) IsUnreadable) → IsRefused decode (λ part. refusal (read part)) answer e → IsUnreadable e
-section_damage decode read answer e each (inl h) = refused_damage (stored_in answer) e (stored_damage answer) h
-section_damage decode read answer e each (inr (part, is, h)) = refused_damage (read part) e (each part) h
+section_damage : {A : Type 0} (decode : Encode) (read : List ℕ → Result A SlateDBError) (s : SectionRead) (e : SlateDBError) → ((part : List ℕ) → IfErr (read part) IsUnreadable) → IsRefused decode (λ part. refusal (read part)) s e → IsUnreadable e
+section_damage decode read s e each (inl h) = refused_damage (stored_in s) e (stored_damage s) h
+section_damage decode read s e each (inr (part, is, h)) = refused_damage (read part) e (each part) h
 
 -- ---- blocks
 
@@ -128,16 +133,16 @@ unfolding offsets_of_block
 offsets_of_damage bytes =
     bound (counted_offsets bytes) _ (count_of_block bytes) (λ counted. bound (offsets_from counted.1 0 (min 1 counted.0) counted.0 bytes counted.0) _ (offsets_damage counted.1 0 (min 1 counted.0) counted.0 bytes counted.0) (λ offsets. tt))
 
-pub index_unreadable : (decode : Encode) (end : ℕ) (answer : Option (List ℕ)) (e : SlateDBError) → RefusesIndex decode end answer e → IsUnreadable e
-index_unreadable decode end answer e h = section_damage decode (index_of end) answer e (index_damage end) h
+pub index_unreadable : (decode : Encode) (end : ℕ) (s : SectionRead) (e : SlateDBError) → RefusesIndex decode end s e → IsUnreadable e
+index_unreadable decode end s e h = section_damage decode (index_of end) s e (index_damage end) h
 
-pub filters_unreadable : (decode : Encode) (policies : List Policy) (query : FilterQuery) (answer : Option (List ℕ)) (e : SlateDBError) → RefusesQuery decode policies query answer e → IsUnreadable e
-filters_unreadable decode policies query answer e (inl (inl h)) = refused_damage (stored_in answer) e (stored_damage answer) h
-filters_unreadable decode policies query answer e (inl (inr (part, is, none))) = subst IsUnreadable (sym none.0) tt
-filters_unreadable decode policies query answer e (inr (part, filters, is, are, refused, named)) = subst IsUnreadable (sym named) tt
+pub filters_unreadable : (decode : Encode) (policies : List Policy) (query : FilterQuery) (s : SectionRead) (e : SlateDBError) → RefusesQuery decode policies query s e → IsUnreadable e
+filters_unreadable decode policies query s e (inl (inl h)) = refused_damage (stored_in s) e (stored_damage s) h
+filters_unreadable decode policies query s e (inl (inr (part, is, none))) = subst IsUnreadable (sym none.0) tt
+filters_unreadable decode policies query s e (inr (part, filters, is, are, refused, named)) = subst IsUnreadable (sym named) tt
 
-pub block_unreadable : (decode : Encode) (answer : Option (List ℕ)) (e : SlateDBError) → RefusesBlock decode answer e → IsUnreadable e
-block_unreadable decode answer e h = section_damage decode offsets_of_block answer e offsets_of_damage h
+pub block_unreadable : (decode : Encode) (s : SectionRead) (e : SlateDBError) → RefusesBlock decode s e → IsUnreadable e
+block_unreadable decode s e h = section_damage decode offsets_of_block s e offsets_of_damage h
 
 -- ---- rows of a block
 
@@ -147,24 +152,21 @@ in_block (InvalidRowFlags b) h = tt
 in_block _ h = absurd h
 
 -- none of them is read
-pub begin_cause : {A : Type 0} (version : ℕ) (block : Block) (r : Result A SlateDBError) (e : SlateDBError) → r ≡ Err e → ((version ≡ 1) ⊎ (version ≡ 2) → (e ≡ OutOfMemory) ⊎ (block_reads version block.body block.offsets.items ≡ Err e)) →
-    ((version ≡ 1) ⊎ (version ≡ 2) → (e ≡ OutOfMemory) ⊎ IsBlockDamage e) → (version ≢ 1 → version ≢ 2 → r ≡ Err (InvalidVersion version)) → (e ≡ OutOfMemory) ⊎ (IsUnreadable e × RefusesRow version block e) ⊎ IsUnknown version e
-begin_cause version block r e is cause known unknown = by (eqb version 1) (eqb version 2) refl refl
+pub begin_cause : {A : Type 0} (version : ℕ) (block : Block) (r : Result A SlateDBError) (e : SlateDBError) → r ≡ Err e → (IsKnown version → (e ≡ OutOfMemory) ⊎ (block_reads version block.body block.offsets.items ≡ Err e)) →
+    (IsKnown version → (e ≡ OutOfMemory) ⊎ IsBlockDamage e) → ((IsKnown version → ⊥) → r ≡ Err (InvalidVersion version)) → (e ≡ OutOfMemory) ⊎ (IsUnreadable e × RefusesRow version block e) ⊎ IsUnknown version e
+begin_cause version block r e is cause damage unknown = by (known_or_not version)
   where
     damaged : (e ≡ OutOfMemory) ⊎ (block_reads version block.body block.offsets.items ≡ Err e) → (e ≡ OutOfMemory) ⊎ IsBlockDamage e → (e ≡ OutOfMemory) ⊎ (IsUnreadable e × RefusesRow version block e) ⊎ IsUnknown version e
     damaged (inl m) k = inl m
     damaged (inr h) (inl m) = inl m
     damaged (inr h) (inr d) = inr (inl (in_block e d, inl h))
 
-    by : (t s : Bool) → eqb version 1 ≡ t → eqb version 2 ≡ s → (e ≡ OutOfMemory) ⊎ (IsUnreadable e × RefusesRow version block e) ⊎ IsUnknown version e
-    by true s first second = let one = eqb-true version 1 first in damaged (cause (inl one)) (known (inl one))
-    by false true first second = let two = eqb-true version 2 second in damaged (cause (inr two)) (known (inr two))
-    by false false first second =
-        let not_one : version ≢ 1 = λ one. cc in
-        let not_two : version ≢ 2 = λ two. cc in
-        let k : r ≡ Err (InvalidVersion version) = unknown not_one not_two in
+    by : IsKnown version ⊎ (IsKnown version → ⊥) → (e ≡ OutOfMemory) ⊎ (IsUnreadable e × RefusesRow version block e) ⊎ IsUnknown version e
+    by (inl k) = damaged (cause k) (damage k)
+    by (inr none) =
+        let k : r ≡ Err (InvalidVersion version) = unknown none in
         let same : e ≡ InvalidVersion version = cc in
-        inr (inr (not_one, not_two, same))
+        inr (inr (none, same))
 
 -- one of them is refused
 pub walk_cause : {U : Type 0} (version : ℕ) (block : Block) (reads : List RowRead) (e : SlateDBError) → block_reads version block.body block.offsets.items ≡ Ok reads → (e ≡ OutOfMemory) ⊎ Refuses reads e → (e ≡ OutOfMemory) ⊎ (IsUnreadable e × RefusesRow version block e) ⊎ U

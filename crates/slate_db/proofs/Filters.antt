@@ -20,7 +20,7 @@ use Rattle.slate_table.specs.Filtered.{asks_filters, AreLawful, HasFiltersOf, Is
 use Rattle.slate_table.specs.InfoReading.{seen_info}
 use Rattle.slate_table.specs.Parts.{Encode}
 use Rattle.slate_table.specs.Paths.{path_of}
-use Rattle.slate_table.specs.Reading.{Reads, IsStoreFault, FailsDecoding, whole_answer}
+use Rattle.slate_table.specs.Reading.{Reads, IsStoreFault, FailsDecoding, whole_answer, of_filters}
 use Rattle.slate_table.specs.SectionReading.{IsTransformFault}
 use Rattle.slate_table.proofs.FilteredLaws.{denied_lack}
 use Rattle.slate_table.proofs.ReadCalls.{call_of, call_quiet}
@@ -49,8 +49,8 @@ FiltersRead asking h a c means = Reads a.objects a.acts c.acts (path_of root h.i
 abbrev pub WhyNot : Asking → SsTableHandle → Reach → Reach → SlateDBError → Type 0
 WhyNot asking h a c e =
     IsStoreFault a.faults.store c.faults.store e
-    ⊎ FiltersRead asking h a c (λ answer. FailsDecoding a.faults.transformer c.faults.transformer answer e)
-    ⊎ FiltersRead asking h a c (λ answer. RefusesQuery a.meaning.decode asking.policies asking.query answer e)
+    ⊎ FiltersRead asking h a c (λ answer. FailsDecoding a.faults.transformer c.faults.transformer (of_filters h answer) e)
+    ⊎ FiltersRead asking h a c (λ answer. RefusesQuery a.meaning.decode asking.policies asking.query (of_filters h answer) e)
 
 -- what is known of the call that asks
 pub record IsAsking (asking : Asking) (h : SsTableHandle) (a c : Reach) (r : Result Bool SlateDBError) : Type 0 where
@@ -59,7 +59,7 @@ pub record IsAsking (asking : Asking) (h : SsTableHandle) (a c : Reach) (r : Res
   pub encode : c.meaning.encode ≡ a.meaning.encode
   pub decode : c.meaning.decode ≡ a.meaning.decode
   pub none : Asks asking h ≡ false → (r ≡ Ok true) × (c.acts ≡ a.acts)
-  pub asked : Asks asking h ≡ true → IfOk r (λ passes. FiltersRead asking h a c (λ answer. IsAsked a.meaning.decode asking.policies asking.query answer passes))
+  pub asked : Asks asking h ≡ true → IfOk r (λ passes. FiltersRead asking h a c (λ answer. IsAsked a.meaning.decode asking.policies asking.query (of_filters h answer) passes))
   pub cause : IfErr r (WhyNot asking h a c)
   pub once : OnErr r ((c.acts ≡ a.acts) ⊎ FiltersRead asking h a c (λ _. Unit {0}))
 
@@ -79,8 +79,8 @@ asked_passes asking h a c (Ok passes) k = by (Asks asking h) refl
   where
     by : (t : Bool) → Asks asking h ≡ t → Made a c (λ reads. passes ≡ true → LetsThrough a.meaning.decode asking h reads)
     by true is =
-        let call = call_of a c (path_of root h.id.0) h.info.filter_offset h.info.filter_len (λ answer. IsAsked a.meaning.decode asking.policies asking.query answer passes) k.objects (same_parts asking h a c _ k) (k.asked is) in
-        (filters_act h call.0 ∷ [], call.1, λ yes. inr (is, (call.0, refl, subst (λ (b : Bool). IsAsked a.meaning.decode asking.policies asking.query (whole_answer h.info.filter_len call.0) b) yes call.2)))
+        let call = call_of a c (path_of root h.id.0) h.info.filter_offset h.info.filter_len (λ answer. IsAsked a.meaning.decode asking.policies asking.query (of_filters h answer) passes) k.objects (same_parts asking h a c _ k) (k.asked is) in
+        (filters_act h call.0 ∷ [], call.1, λ yes. inr (is, (call.0, refl, subst (λ (b : Bool). IsAsked a.meaning.decode asking.policies asking.query (of_filters h (whole_answer h.info.filter_len call.0)) b) yes call.2)))
     by false is = ([], call_quiet a c k.objects (same_parts asking h a c _ k) (k.none is).1, λ yes. inl (is, refl))
 
 pub asks_err : (asking : Asking) (h : SsTableHandle) (a c : Reach) (e : SlateDBError) → IsAsking asking h a c (Err e) → Asks asking h ≡ true
@@ -99,8 +99,8 @@ asked_cause asking h a c (Err e) k = by k.cause
     by (inl f) = inl (store_fault a.faults c.faults e f)
     by (inr (inl f)) = inl (transform_fault a.faults c.faults e (inr (f.2.0, f.2.1)))
     by (inr (inr r)) =
-        let call = call_of a c (path_of root h.id.0) h.info.filter_offset h.info.filter_len (λ answer. RefusesQuery a.meaning.decode asking.policies asking.query answer e) k.objects (same_parts asking h a c _ k) r in
-        let kind = filters_unreadable a.meaning.decode asking.policies asking.query (whole_answer h.info.filter_len call.0) e call.2 in
+        let call = call_of a c (path_of root h.id.0) h.info.filter_offset h.info.filter_len (λ answer. RefusesQuery a.meaning.decode asking.policies asking.query (of_filters h answer) e) k.objects (same_parts asking h a c _ k) r in
+        let kind = filters_unreadable a.meaning.decode asking.policies asking.query (of_filters h (whole_answer h.info.filter_len call.0)) e call.2 in
         inr (filters_act h call.0 ∷ [], call.1, (kind, (asks_err asking h a c e k, (call.0, refl, call.2))))
 
 -- nothing else is read
@@ -113,7 +113,7 @@ asked_alone asking h a c (Err e) k = by k.once
 asked_alone asking h a c (Ok passes) k = by (Asks asking h) refl
   where
     by : (t : Bool) → Asks asking h ≡ t → Made a c (AllByRecursion (IsFiltersRead h))
-    by true is = filters_alone a c h (λ answer. IsAsked a.meaning.decode asking.policies asking.query answer passes) k.objects (same_parts asking h a c _ k) (k.asked is)
+    by true is = filters_alone a c h (λ answer. IsAsked a.meaning.decode asking.policies asking.query (of_filters h answer) passes) k.objects (same_parts asking h a c _ k) (k.asked is)
     by false is = ([], call_quiet a c k.objects (same_parts asking h a c _ k) (k.none is).1, tt)
 
 -- ---- where the objects that answer hold the table, with its filters
@@ -130,15 +130,15 @@ table_there m os h rows stored = subst (λ (o : Objects). object_at o (path_of r
 
 -- what the law says of such a table
 record Unhurt (asking : Asking) (m : Meaning) (os : Objects) (h : SsTableHandle) (rows : Rows) (stored : IsStoredAs m os h rows) (k : List ℕ) : Type 0 where
-  pub denied : IsAsked m.decode asking.policies asking.query (part_of (Some stored.bytes) h.info.filter_offset h.info.filter_len) false → of_key k rows ≡ []
-  pub refused : (e : SlateDBError) → RefusesQuery m.decode asking.policies asking.query (part_of (Some stored.bytes) h.info.filter_offset h.info.filter_len) e → ⊥
+  pub denied : IsAsked m.decode asking.policies asking.query (of_filters h (part_of (Some stored.bytes) h.info.filter_offset h.info.filter_len)) false → of_key k rows ≡ []
+  pub refused : (e : SlateDBError) → RefusesQuery m.decode asking.policies asking.query (of_filters h (part_of (Some stored.bytes) h.info.filter_offset h.info.filter_len)) e → ⊥
 
 unhurt : (asking : Asking) (m : Meaning) (os : Objects) (h : SsTableHandle) (rows : Rows) (k : List ℕ) → (stored : IsStoredAs m os h rows) → asking.query.target ≡ Point k → AreFilteredAs asking.policies m os (h ∷ []) →
     Asks asking h ≡ true → Unhurt asking m os h rows stored k
 unhurt asking m os h rows k stored target filtered asks =
     let query : asking.query ≡ point_query k asking.query.context = for_point asking.query k target in
     let section = part_of (Some stored.bytes) h.info.filter_offset h.info.filter_len in
-    let laws = denied_lack m.encode m.decode stored.lawful asking.policies filtered.0 stored.bytes h.format_version (seen_info h.info) rows stored.each stored.is (filtered.1.0 stored.bytes (table_there m os h rows stored)) k asking.query.context
+    let laws = denied_lack m.encode m.decode stored.lawful asking.policies filtered.0 stored.bytes h.format_version h.id.0 (seen_info h.info) rows stored.each stored.is (filtered.1.0 stored.bytes (table_there m os h rows stored)) k asking.query.context
     (asks_some asking.policies h.info.filter_len asks) in
     record {
       denied = λ d. laws.0 (subst (λ (q : FilterQuery). IsAsked m.decode asking.policies q section false) query d);
@@ -153,7 +153,7 @@ asked_denied asking h a c (Ok false) k rows os known target stored filtered answ
   where
     by : (t : Bool) → Asks asking h ≡ t → of_key k rows ≡ []
     by true is = (unhurt asking a.meaning os h rows k stored target filtered is).denied
-        (read_part a.objects a.acts c.acts (path_of root h.id.0) h.info.filter_offset h.info.filter_len (λ answer. IsAsked a.meaning.decode asking.policies asking.query answer false) stored.bytes (answered_by stored answers) (known.asked is))
+        (read_part a.objects a.acts c.acts (path_of root h.id.0) h.info.filter_offset h.info.filter_len (λ answer. IsAsked a.meaning.decode asking.policies asking.query (of_filters h answer) false) stored.bytes (answered_by stored answers) (known.asked is))
     by false is = let clash : Ok false ≡ Ok true = (known.none is).0 in absurd cc
 
 pub asked_whole : (asking : Asking) (h : SsTableHandle) (a c : Reach) (r : Result Bool SlateDBError) (k : List ℕ) (rows : Rows) (os : Objects) → IsAsking asking h a c r → asking.query.target ≡ Point k →
@@ -165,7 +165,7 @@ asked_whole asking h a c (Err e) k rows os known target stored filtered answers 
     by (inl f) = store_fault a.faults c.faults e f
     by (inr (inl f)) = transform_fault a.faults c.faults e (inr (f.2.0, f.2.1))
     by (inr (inr r)) = absurd ((unhurt asking a.meaning os h rows k stored target filtered (asks_err asking h a c e known)).refused e
-        (read_part a.objects a.acts c.acts (path_of root h.id.0) h.info.filter_offset h.info.filter_len (λ answer. RefusesQuery a.meaning.decode asking.policies asking.query answer e) stored.bytes (answered_by stored answers) r))
+        (read_part a.objects a.acts c.acts (path_of root h.id.0) h.info.filter_offset h.info.filter_len (λ answer. RefusesQuery a.meaning.decode asking.policies asking.query (of_filters h answer) e) stored.bytes (answered_by stored answers) r))
 
 -- ---- of several tables
 

@@ -119,10 +119,10 @@ can_flush c u w some = record {
 pub tables_of_parts : (m : Meaning) (encode : Encode) (layout : Layout) (number place : ℕ) (parts : List Rows) (ts : List (Ulid × List ℕ)) → m.encode ≡ encode → AreTablesAt encode layout number place parts ts → AreTables m ts parts
 tables_of_parts m encode layout number place [] [] same h = refl
 tables_of_parts m encode layout number place (rows ∷ parts) (t ∷ ts) same h =
-    (layout.version, rows, parts, subst (λ (e : Encode). IsTable e t.1 layout.version rows) (sym same) (table_is h.0), tables_of_parts m encode layout number (place + 1) parts ts same h.1, refl)
+    (layout.version, rows, parts, subst (λ (e : Encode). IsTable e t.1 layout.version t.0.0 rows) (sym same) (table_is h.0), tables_of_parts m encode layout number (place + 1) parts ts same h.1, refl)
   where
-    table_is : IsTableAt encode layout number place rows t → IsTable encode t.1 layout.version rows
-    table_is p = subst (IsTable encode t.1 layout.version) p.read (built_has encode layout.policies layout.min_filter_keys layout.block_size layout.version t.1 rows p.built)
+    table_is : IsTableAt encode layout number place rows t → IsTable encode t.1 layout.version t.0.0 rows
+    table_is p = subst (IsTable encode t.1 layout.version t.0.0) p.read (built_has encode layout.policies layout.min_filter_keys layout.block_size layout.version t.0.0 t.1 rows p.built)
 tables_of_parts m encode layout number place [] (t ∷ ts) same h = absurd h
 tables_of_parts m encode layout number place (rows ∷ parts) [] same h = absurd h
 

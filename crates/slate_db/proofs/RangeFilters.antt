@@ -194,4 +194,4 @@ out_of_reach m os h range rows stored out = none_ranged range rows (λ r has wit
   where
     by : (t : Bool) (r : RowEntry) → encloses (seen_info h.info) r.key ≡ t → Contains rows r → in_range range r.key ≡ true → ⊥
     by true r e has within = let clash : true ≡ false = sym (reached_by range h.info r.key within e) ∙ out in cc
-    by false r e has within = not_gone rows r has (outside_none m.encode stored.bytes h.format_version (seen_info h.info) rows stored.is r.key e)
+    by false r e has within = not_gone rows r has (outside_none m.encode stored.bytes h.format_version h.id.0 (seen_info h.info) rows stored.is r.key e)

@@ -1,4 +1,5 @@
 -- What is refused of a block's rows, and what reads of a scan show, can't be read.
+use Rattle.slate_block.specs.BlockSpelling.{IsKnown}
 use Rattle.std.proofs.Common.{◌≡◌, ◌≢◌, ◌⊎◌, inl, inr, [], ◌∷◌, ◌+◌, ℕ, Bool, true, false, cond, List, Option, Some, None, Result, Ok, Err, sym, subst}
 use Rattle.std.specs.Prelude.{Contains, IfErr, ◌&&◌, ◌==◌, length, nat_le, slice_get, slice_range}
 use Rattle.std.specs.Int.{w16, w32, w64}
@@ -15,6 +16,7 @@ use Rattle.slate_block.specs.RowSpelling.{are_flags}
 use Rattle.slate_block.specs.RowReading.{row_v1_of}
 use Rattle.slate_block.specs.Walks.{are_named, between, block_reads, block_reads_v1, first_key_v1, is_restored, moved, moved_result, next_place, reads_v2, row_upto, row_v1_in}
 use Rattle.slate_filter.specs.Policy.{Policy}
+use Rattle.slate_table.specs.Reading.{SectionRead}
 use Rattle.slate_table.specs.declared.info.SsTableHandle.{SsTableHandle}
 use Rattle.slate_table.specs.Parts.{Encode}
 use Rattle.slate_read.specs.Showing.{RefusesBlockOf, ShowsByReads}
@@ -122,17 +124,16 @@ reads_damage version body offsets =
 
 -- ---- what reads show
 
-rows_unreadable : (version : ℕ) (order : IterationOrder) (block : Block) (e : SlateDBError) → (version ≡ 1) ⊎ (version ≡ 2) → RefusesRows version order block e → IsUnreadable e
+rows_unreadable : (version : ℕ) (order : IterationOrder) (block : Block) (e : SlateDBError) → IsKnown version → RefusesRows version order block e → IsUnreadable e
 rows_unreadable version order block e known (inl h) = subst (λ (r : Result _ SlateDBError). IfErr r IsUnreadable) h.1 (reads_damage version block.body block.offsets.items)
-rows_unreadable version order block e (inl one) (inr (inl h)) = absurd (h.0 one)
-rows_unreadable version order block e (inr two) (inr (inl h)) = absurd (h.1 two)
+rows_unreadable version order block e known (inr (inl h)) = absurd (h.0 known)
 rows_unreadable version order block e known (inr (inr (it, walks, r))) = in_block e r.0
 
-block_of_unreadable : (decode : Encode) (version : ℕ) (answer : Option (List ℕ)) (e : SlateDBError) → (version ≡ 1) ⊎ (version ≡ 2) → RefusesBlockOf decode version answer e → IsUnreadable e
-block_of_unreadable decode version answer e known (inl h) = block_unreadable decode answer e h
-block_of_unreadable decode version answer e known (inr (block, read, (order, rows))) = rows_unreadable version order block e known rows
+block_of_unreadable : (decode : Encode) (version : ℕ) (s : SectionRead) (e : SlateDBError) → IsKnown version → RefusesBlockOf decode version s e → IsUnreadable e
+block_of_unreadable decode version s e known (inl h) = block_unreadable decode s e h
+block_of_unreadable decode version s e known (inr (block, read, (order, rows))) = rows_unreadable version order block e known rows
 
-shown_unreadable : (decode : Encode) (h : SsTableHandle) (acts : List Act) (e : SlateDBError) → (h.format_version ≡ 1) ⊎ (h.format_version ≡ 2) → ShowsByReads decode h acts e → IsUnreadable e
+shown_unreadable : (decode : Encode) (h : SsTableHandle) (acts : List Act) (e : SlateDBError) → IsKnown h.format_version → ShowsByReads decode h acts e → IsUnreadable e
 shown_unreadable decode h acts e known s = elim s.why as (λ _. IsUnreadable e) [
   | inl k ↦ index_unreadable decode h.info.filter_offset _ e k
   | inr k ↦ block_of_unreadable decode h.format_version _ e known k.2.refuses

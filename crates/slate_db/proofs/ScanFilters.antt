@@ -1,4 +1,5 @@
 -- What a scan is left by the filters of tables.
+use Rattle.slate_table.specs.Reading.{of_filters}
 use Rattle.std.proofs.Common.{◌≡◌, ℕ, zero, suc, ◌+◌, ◌<◌, ◌≤◌, ◌⊎◌, inl, inr, Bool, true, false, cond, List, [], ◌∷◌, ◌++◌, drop, length, get_or, Option, Some, Result, Ok, Err, refl, sym, ap, subst, ◌∙◌, arith, append_assoc, append-nil}
 use Rattle.std.specs.Prelude.{Contains, IfErr, IfOk}
 use Rattle.std.proofs.lemmas.Grind.{flat_map-append}
@@ -39,8 +40,8 @@ use Rattle.slate_db.proofs.Tables.{answered_by, read_part, table_as}
 -- ---- one table, whose filters were asked
 
 record Unhurt (asking : Asking) (m : Meaning) (h : SsTableHandle) (bytes : List ℕ) (range : BytesRange) (rows : Rows) : Type 0 where
-  pub denied : IsAsked m.decode asking.policies asking.query (part_of (Some bytes) h.info.filter_offset h.info.filter_len) false → ranged range rows ≡ []
-  pub refused : (e : SlateDBError) → RefusesQuery m.decode asking.policies asking.query (part_of (Some bytes) h.info.filter_offset h.info.filter_len) e → ⊥
+  pub denied : IsAsked m.decode asking.policies asking.query (of_filters h (part_of (Some bytes) h.info.filter_offset h.info.filter_len)) false → ranged range rows ≡ []
+  pub refused : (e : SlateDBError) → RefusesQuery m.decode asking.policies asking.query (of_filters h (part_of (Some bytes) h.info.filter_offset h.info.filter_len)) e → ⊥
 
 abbrev Matches : Asking → BytesRange → Type 0
 Matches asking range = (k : List ℕ) → in_range range k ≡ true → IsOf asking.query.target k
@@ -48,7 +49,7 @@ Matches asking range = (k : List ℕ) → in_range range k ≡ true → IsOf ask
 unhurt : (asking : Asking) (m : Meaning) (os : Objects) (h : SsTableHandle) (range : BytesRange) (rows : Rows) → (stored : IsStoredAs m os h rows) → Matches asking range → AreFilteredAs asking.policies m os (h ∷ []) →
     Asks asking h ≡ true → Unhurt asking m h stored.bytes range rows
 unhurt asking m os h range rows stored matches filtered asks =
-    let laws = denied_range m.encode m.decode stored.lawful asking.policies filtered.0 stored.bytes h.format_version (seen_info h.info) rows stored.each stored.is (filtered.1.0 stored.bytes (table_there m os h rows stored)) asking.query range matches
+    let laws = denied_range m.encode m.decode stored.lawful asking.policies filtered.0 stored.bytes h.format_version h.id.0 (seen_info h.info) rows stored.each stored.is (filtered.1.0 stored.bytes (table_there m os h rows stored)) asking.query range matches
     (asks_some asking.policies h.info.filter_len asks) in
     record { denied = laws.0; refused = laws.1 }
 
@@ -60,7 +61,7 @@ left_denied asking h a c (Ok false) range rows os known matches stored filtered 
   where
     by : (t : Bool) → Asks asking h ≡ t → ranged range rows ≡ []
     by true is = (unhurt asking a.meaning os h range rows stored matches filtered is).denied
-        (read_part a.objects a.acts c.acts (path_of root h.id.0) h.info.filter_offset h.info.filter_len (λ answer. IsAsked a.meaning.decode asking.policies asking.query answer false) stored.bytes (answered_by stored answers) (known.asked is))
+        (read_part a.objects a.acts c.acts (path_of root h.id.0) h.info.filter_offset h.info.filter_len (λ answer. IsAsked a.meaning.decode asking.policies asking.query (of_filters h answer) false) stored.bytes (answered_by stored answers) (known.asked is))
     by false is = let clash : Ok false ≡ Ok true = (known.none is).0 in absurd cc
 
 left_whole : (asking : Asking) (h : SsTableHandle) (a c : Reach) (e : SlateDBError) (range : BytesRange) (rows : Rows) (os : Objects) → IsAsking asking h a c (Err e) → Matches asking range →
@@ -71,7 +72,7 @@ left_whole asking h a c e range rows os known matches stored filtered answers = 
     by (inl f) = store_fault a.faults c.faults e f
     by (inr (inl f)) = transform_fault a.faults c.faults e (inr (f.2.0, f.2.1))
     by (inr (inr r)) = absurd ((unhurt asking a.meaning os h range rows stored matches filtered (asks_err asking h a c e known)).refused e
-        (read_part a.objects a.acts c.acts (path_of root h.id.0) h.info.filter_offset h.info.filter_len (λ answer. RefusesQuery a.meaning.decode asking.policies asking.query answer e) stored.bytes (answered_by stored answers) r))
+        (read_part a.objects a.acts c.acts (path_of root h.id.0) h.info.filter_offset h.info.filter_len (λ answer. RefusesQuery a.meaning.decode asking.policies asking.query (of_filters h answer) e) stored.bytes (answered_by stored answers) r))
 
 pub left_refused : (asking : Asking) (h : SsTableHandle) (a c : Reach) (r : Result Bool SlateDBError) (range : BytesRange) → IsAsking asking h a c r → Matches asking range → IfErr r (FailsAsking asking.policies (Some asking.query) a c (h ∷ []))
 left_refused asking h a c (Ok passes) range known matches = tt

@@ -10,7 +10,7 @@ use Rattle.slate_types.specs.declared.types.Ulid.{Ulid}
 use Rattle.slate_types.specs.Lawful.{IsLawfulTransform}
 use Rattle.slate_types.specs.Outside.{Act, Objects, Reach, object_at, part_of}
 use Rattle.slate_types.specs.World.{AnswersWorld, HoldsWorld, Kept, Sees, World}
-use Rattle.slate_block.specs.BlockSpelling.{as_read}
+use Rattle.slate_block.specs.BlockSpelling.{as_read, IsKnown}
 use Rattle.slate_block.specs.ReadingLaws.{EachIsAByte}
 use Rattle.slate_block.specs.RowSpelling.{be16, be64}
 use Rattle.slate_block.proofs.Pieces.{same_be16, same_ends, same_whole}
@@ -47,7 +47,7 @@ version_same encode bytes v info version bs fs t h =
     let e1 = same_ends ((h.before ++ summed h.part) ++ be64 (length h.before)) _ (be16 v) (be16 version) refl e0 in
     (same_be16 v version [] [] h.spelled.known (below t.known) (same_whole (be16 v) (be16 version) e1.1)).0
   where
-    below : (version ≡ 1) ⊎ (version ≡ 2) → version < 2 ^ 16
+    below : IsKnown version → version < 2 ^ 16
     below (inl e) = omega (arith, e)
     below (inr e) = omega (arith, e)
 

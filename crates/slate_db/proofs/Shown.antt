@@ -1,4 +1,5 @@
 -- What the reads of a call show of tables.
+use Rattle.slate_block.specs.BlockSpelling.{IsKnown, IsSecond}
 use Rattle.std.proofs.Common.{◌≡◌, ◌≢◌, ◌⊎◌, inl, inr, ◌<◌, ◌≤◌, ◌+◌, ◌-◌, ◌||◌, ℕ, zero, suc, Bool, true, false, cond, eqb, List, [], ◌∷◌, ◌++◌, length, get_or, Option, Some, None, refl, sym, ap, subst, ◌∙◌, arith, append-nil, append_assoc}
 use Rattle.std.specs.Prelude.{Contains, IsOk, Result, Ok, Err, slice_get}
 use Rattle.std.specs.List.{AllByRecursion}
@@ -19,15 +20,16 @@ use Rattle.slate_types.proofs.OutsideLaws.{counted_earlier}
 use Rattle.slate_block.specs.declared.block.Block.{Block}
 use Rattle.slate_block.specs.BlockWalks.{TakesRead}
 use Rattle.slate_block.specs.ReadingLaws.{EachIsAByte}
-use Rattle.slate_block.specs.Walks.{RowRead, are_named, block_reads, reads_v2}
+use Rattle.slate_block.specs.Walks.{RowRead, are_named, block_reads, block_reads_v1, reads_v2}
 use Rattle.slate_mem.specs.Lookup.{Brings, IsCallback, is_merge_among, newest_first}
 use Rattle.slate_mem.specs.Table.{newest}
 use Rattle.slate_mem.proofs.LayerLaws.{first_both}
 use Rattle.slate_mem.proofs.Brought.{newest_among}
+use Rattle.slate_block.proofs.Versions.{known_or_not, not_first}
 use Rattle.slate_table.specs.declared.info.SsTableHandle.{SsTableHandle}
 use Rattle.slate_table.specs.Parts.{Encode}
 use Rattle.slate_table.specs.Paths.{path_of}
-use Rattle.slate_table.specs.Reading.{Reads, IsStoreFault, FailsDecoding, IsIndexRead, RefusesIndex, AreBlocksRead, RefusesBlocks, FailsBlocks, block_answer, block_start, blocks_size, whole_answer}
+use Rattle.slate_table.specs.Reading.{Reads, IsStoreFault, FailsDecoding, IsIndexRead, RefusesIndex, AreBlocksRead, RefusesBlocks, FailsBlocks, SectionRead, block_start, blocks_size, of_blocks, of_index, whole_answer}
 use Rattle.slate_table.proofs.ReadCalls.{call_of, call_quiet}
 use Rattle.slate_db.specs.Installs.{AreHandles, root, tables_of}
 use Rattle.slate_db.specs.Lookup.{IsUnknown}
@@ -66,28 +68,30 @@ brought_reads left before all front found split (rows, after, steps, each) =
     (Contains-append_right front (left before) (Ok r)
     (All-contains (λ (x : RowEntry). Contains (left before) (Ok x)) rows r (All-from_recursion _ rows (steps_reads left before after rows steps)) among))) found each
 
-reads_2 : (body offsets : List ℕ) → IsOk (block_reads 2 body offsets) → block_reads 2 body offsets ≡ Ok (reads_v2 body offsets (length body))
+second_reads : (version : ℕ) (body offsets : List ℕ) → IsSecond version → IsOk (block_reads version body offsets) → block_reads version body offsets ≡ Ok (reads_v2 body offsets (length body))
 unfolding block_reads
-reads_2 body offsets h = by (are_named offsets) h
+second_reads version body offsets second = by (are_named offsets) (eqb version 1) (not_first version second)
   where
-    by : (t : Bool) → IsOk (cond t (Ok (reads_v2 body offsets (length body))) (Err (CorruptTable 0))) → cond t (Ok (reads_v2 body offsets (length body))) (Err (CorruptTable 0)) ≡ Ok (reads_v2 body offsets (length body))
-    by true h = refl
-    by false h = cc
+    v1 : Result (List RowRead) SlateDBError
+    v1 = block_reads_v1 body offsets
+
+    v2 : Result (List RowRead) SlateDBError
+    v2 = Ok (reads_v2 body offsets (length body))
+
+    by : (t s : Bool) → s ≡ false → IsOk (cond t (cond s v1 v2) (Err (CorruptTable 0))) → cond t (cond s v1 v2) (Err (CorruptTable 0)) ≡ v2
+    by true true e h = cc
+    by true false e h = refl
+    by false s e h = cc
 
 -- what a walk upwards has at its start
-pub walk_reads : {A : Type 0} (version : ℕ) (body offsets : List ℕ) (reads : List RowRead) (it : A) → (version ≡ 1 → block_reads 1 body offsets ≡ Ok reads) → (version ≡ 2 → reads ≡ reads_v2 body offsets (length body)) → IsOk (block_reads version body offsets) →
-    (version ≢ 1 → version ≢ 2 → Ok it ≡ Err (InvalidVersion version)) → block_reads version body offsets ≡ Ok reads
-walk_reads version body offsets reads it first second begins known = by (eqb version 1) (eqb version 2) refl refl
+pub walk_reads : {A : Type 0} (version : ℕ) (body offsets : List ℕ) (reads : List RowRead) (it : A) → (version ≡ 1 → block_reads 1 body offsets ≡ Ok reads) → (IsSecond version → reads ≡ reads_v2 body offsets (length body)) → IsOk (block_reads version body offsets) →
+    ((IsKnown version → ⊥) → Ok it ≡ Err (InvalidVersion version)) → block_reads version body offsets ≡ Ok reads
+walk_reads version body offsets reads it first second begins known = by (known_or_not version)
   where
-    by : (t s : Bool) → eqb version 1 ≡ t → eqb version 2 ≡ s → block_reads version body offsets ≡ Ok reads
-    by true s e f = let one : version ≡ 1 = eqb-true version 1 e in ap (λ v. block_reads v body offsets) one ∙ first one
-    by false true e f =
-        let two : version ≡ 2 = eqb-true version 2 f in
-        ap (λ v. block_reads v body offsets) two ∙ reads_2 body offsets (subst (λ v. IsOk (block_reads v body offsets)) two begins) ∙ ap (λ (rs : List RowRead). Ok rs) (sym (second two))
-    by false false e f =
-        let not_one : version ≢ 1 = λ one. cc in
-        let not_two : version ≢ 2 = λ two. cc in
-        let clash : Ok it ≡ Err (InvalidVersion version) = known not_one not_two in absurd cc
+    by : IsKnown version ⊎ (IsKnown version → ⊥) → block_reads version body offsets ≡ Ok reads
+    by (inl (inl one)) = ap (λ v. block_reads v body offsets) one ∙ first one
+    by (inl (inr two)) = second_reads version body offsets two begins ∙ ap (λ (rs : List RowRead). Ok rs) (sym (second two))
+    by (inr none) = let clash : Ok it ≡ Err (InvalidVersion version) = known none in absurd cc
 
 pub rows_read : (version : ℕ) (block : Block) (reads : List RowRead) (found : List RowEntry) → EachIsAByte block.body → block_reads version block.body block.offsets.items ≡ Ok reads → AllByRecursion (λ r. Contains reads (Ok r)) found → AllByRecursion (IsRowOf version block) found
 rows_read version block reads found fits is each = all_map (λ (r : RowEntry). Contains reads (Ok r)) (IsRowOf version block) (λ r h. (fits, reads, is, h)) found each
@@ -107,10 +111,10 @@ pub blocks_rows : (version : ℕ) (blocks : List Block) (block : Block) (found m
 blocks_rows version blocks block found more all among first last is =
     subst (AllByRecursion (IsRowAmong version blocks)) (sym is) (AllByRecursion-append (IsRowAmong version blocks) found more first (all_map (IsRowOf version block) (IsRowAmong version blocks) (λ r h. (block, among, h)) more last))
 
-pub of_blocks : {M U : Type 0} (version : ℕ) (blocks : List Block) (block : Block) (e : SlateDBError) → Contains blocks block → M ⊎ (IsUnreadable e × RefusesRow version block e) ⊎ U → M ⊎ ((block : Block) × Contains blocks block × IsUnreadable e × RefusesRow version block e) ⊎ U
-of_blocks version blocks block e among (inl m) = inl m
-of_blocks version blocks block e among (inr (inl d)) = inr (inl (block, among, d.0, d.1))
-of_blocks version blocks block e among (inr (inr u)) = inr (inr u)
+pub among_blocks : {M U : Type 0} (version : ℕ) (blocks : List Block) (block : Block) (e : SlateDBError) → Contains blocks block → M ⊎ (IsUnreadable e × RefusesRow version block e) ⊎ U → M ⊎ ((block : Block) × Contains blocks block × IsUnreadable e × RefusesRow version block e) ⊎ U
+among_blocks version blocks block e among (inl m) = inl m
+among_blocks version blocks block e among (inr (inl d)) = inr (inl (block, among, d.0, d.1))
+among_blocks version blocks block e among (inr (inr u)) = inr (inr u)
 
 -- ---- a read of two parts
 
@@ -136,14 +140,14 @@ pub record Known (a c : Reach) (h : SsTableHandle) (now : Encode) (entries : Lis
   pub decodes : now ≡ a.meaning.decode
   pub order : first ≤ stop
   pub within : stop ≤ length entries
-  pub index : Reads a.objects a.acts acts (path_of root h.id.0) h.info.index_offset h.info.index_len (λ answer. IsIndexRead a.meaning.decode h.info.filter_offset answer entries)
+  pub index : Reads a.objects a.acts acts (path_of root h.id.0) h.info.index_offset h.info.index_len (λ answer. IsIndexRead a.meaning.decode h.info.filter_offset (of_index h answer) entries)
 
-both_calls : (a c : Reach) (h : SsTableHandle) (now : Encode) (entries : List (ℕ × List ℕ)) (first stop : ℕ) (objects : Option Objects) (acts : Option (List Act)) (means : Encode → (ℕ → Option (List ℕ)) → Type 0) → Known a c h now entries first stop objects acts →
-    Reads objects acts c.acts (path_of root h.id.0) (block_start h.info.filter_offset entries first) (blocks_size h.info.filter_offset entries first stop) (λ answer. means now (block_answer h.info.filter_offset entries first answer)) →
+both_calls : (a c : Reach) (h : SsTableHandle) (now : Encode) (entries : List (ℕ × List ℕ)) (first stop : ℕ) (objects : Option Objects) (acts : Option (List Act)) (means : Encode → (ℕ → SectionRead) → Type 0) → Known a c h now entries first stop objects acts →
+    Reads objects acts c.acts (path_of root h.id.0) (block_start h.info.filter_offset entries first) (blocks_size h.info.filter_offset entries first stop) (λ answer. means now (of_blocks h entries first answer)) →
     Made a c (λ reads. (table : IsOpened a.meaning.decode h reads) × (table.first ≡ first) × (table.stop ≡ stop) × means a.meaning.decode (section_at table))
 both_calls a c h now entries first stop objects acts means k r =
     let both = two_calls a c (path_of root h.id.0) h.info.index_offset h.info.index_len (block_start h.info.filter_offset entries first) (blocks_size h.info.filter_offset entries first stop)
-    (λ answer. IsIndexRead a.meaning.decode h.info.filter_offset answer entries) (λ answer. means now (block_answer h.info.filter_offset entries first answer)) objects acts k.first_objects k.last_objects (same_meaning a.meaning c.meaning k.combine k.encode k.decode) k.index r in
+    (λ answer. IsIndexRead a.meaning.decode h.info.filter_offset (of_index h answer) entries) (λ answer. means now (of_blocks h entries first answer)) objects acts k.first_objects k.last_objects (same_meaning a.meaning c.meaning k.combine k.encode k.decode) k.index r in
     let table : IsOpened a.meaning.decode h (index_act h both.0 ∷ blocks_act h entries first stop both.1 ∷ []) = record { index = both.0; entries = entries; read = both.3; first = first; stop = stop; order = k.order; within = k.within; blocks = both.1; are = refl } in
     (index_act h both.0 ∷ blocks_act h entries first stop both.1 ∷ [], both.2, (table, refl, refl, subst (λ (d : Encode). means d (section_at table)) k.decodes both.4))
 
@@ -154,7 +158,7 @@ has_block decode h reads table first stop blocks block f s count are among =
     record { table = table; i = first + at.0; from = omega (arith, f); upto = omega (arith, s, count, few); read = are at.0 block at.2 }
 
 pub table_rows : (a c : Reach) (h : SsTableHandle) (now : Encode) (entries : List (ℕ × List ℕ)) (first stop : ℕ) (objects : Option Objects) (acts : Option (List Act)) (blocks : List Block) (found : List RowEntry) → Known a c h now entries first stop objects acts → length blocks ≡ stop - first →
-    Reads objects acts c.acts (path_of root h.id.0) (block_start h.info.filter_offset entries first) (blocks_size h.info.filter_offset entries first stop) (λ answer. AreBlocksRead now (block_answer h.info.filter_offset entries first answer) first blocks) →
+    Reads objects acts c.acts (path_of root h.id.0) (block_start h.info.filter_offset entries first) (blocks_size h.info.filter_offset entries first stop) (λ answer. AreBlocksRead now (of_blocks h entries first answer) first blocks) →
     AllByRecursion (λ r. (block : Block) × Contains blocks block × IsRowOf h.format_version block r) found → Made a c (λ reads. AllByRecursion (HasRowRead a.meaning.decode h reads) found)
 table_rows a c h now entries first stop objects acts blocks found k count r each =
     let both = both_calls a c h now entries first stop objects acts (λ decode answers. AreBlocksRead decode answers first blocks) k r in
@@ -169,20 +173,20 @@ table_rows a c h now entries first stop objects acts blocks found k count r each
 
 pub index_refused : {U : Type 0} (a c : Reach) (h : SsTableHandle) (e : SlateDBError) → c.objects ≡ a.objects → c.meaning.combine ≡ a.meaning.combine → c.meaning.encode ≡ a.meaning.encode → c.meaning.decode ≡ a.meaning.decode →
     IsStoreFault a.faults.store c.faults.store e
-    ⊎ Reads a.objects a.acts c.acts (path_of root h.id.0) h.info.index_offset h.info.index_len (λ answer. FailsDecoding a.faults.transformer c.faults.transformer answer e)
-    ⊎ Reads a.objects a.acts c.acts (path_of root h.id.0) h.info.index_offset h.info.index_len (λ answer. RefusesIndex a.meaning.decode h.info.filter_offset answer e) →
+    ⊎ Reads a.objects a.acts c.acts (path_of root h.id.0) h.info.index_offset h.info.index_len (λ answer. FailsDecoding a.faults.transformer c.faults.transformer (of_index h answer) e)
+    ⊎ Reads a.objects a.acts c.acts (path_of root h.id.0) h.info.index_offset h.info.index_len (λ answer. RefusesIndex a.meaning.decode h.info.filter_offset (of_index h answer) e) →
     IsFault a c e ⊎ Made a c (λ reads. ShowsRead a.meaning.decode h reads e) ⊎ U
 index_refused a c h e objects combine encode decode (inl f) = inl (store_fault a.faults c.faults e f)
 index_refused a c h e objects combine encode decode (inr (inl f)) = inl (transform_fault a.faults c.faults e (inr (f.2.0, f.2.1)))
 index_refused a c h e objects combine encode decode (inr (inr r)) =
-    let call = call_of a c (path_of root h.id.0) h.info.index_offset h.info.index_len (λ answer. RefusesIndex a.meaning.decode h.info.filter_offset answer e) objects (same_meaning a.meaning c.meaning combine encode decode) r in
-    inr (inl (index_act h call.0 ∷ [], call.1, (index_unreadable a.meaning.decode h.info.filter_offset (whole_answer h.info.index_len call.0) e call.2, inl (call.0, refl, call.2))))
+    let call = call_of a c (path_of root h.id.0) h.info.index_offset h.info.index_len (λ answer. RefusesIndex a.meaning.decode h.info.filter_offset (of_index h answer) e) objects (same_meaning a.meaning c.meaning combine encode decode) r in
+    inr (inl (index_act h call.0 ∷ [], call.1, (index_unreadable a.meaning.decode h.info.filter_offset (of_index h (whole_answer h.info.index_len call.0)) e call.2, inl (call.0, refl, call.2))))
 
 pub blocks_refused : {U : Type 0} (a c : Reach) (h : SsTableHandle) (now : Encode) (entries : List (ℕ × List ℕ)) (first stop : ℕ) (objects : Option Objects) (acts : Option (List Act)) (e : SlateDBError) (s t : ℕ) → Known a c h now entries first stop objects acts →
     a.faults.store ≤ s → a.faults.transformer ≤ t →
     IsStoreFault s c.faults.store e
-    ⊎ Reads objects acts c.acts (path_of root h.id.0) (block_start h.info.filter_offset entries first) (blocks_size h.info.filter_offset entries first stop) (λ answer. FailsBlocks now (block_answer h.info.filter_offset entries first answer) first stop t c.faults.transformer e)
-    ⊎ Reads objects acts c.acts (path_of root h.id.0) (block_start h.info.filter_offset entries first) (blocks_size h.info.filter_offset entries first stop) (λ answer. RefusesBlocks now (block_answer h.info.filter_offset entries first answer) first stop e) →
+    ⊎ Reads objects acts c.acts (path_of root h.id.0) (block_start h.info.filter_offset entries first) (blocks_size h.info.filter_offset entries first stop) (λ answer. FailsBlocks now (of_blocks h entries first answer) first stop t c.faults.transformer e)
+    ⊎ Reads objects acts c.acts (path_of root h.id.0) (block_start h.info.filter_offset entries first) (blocks_size h.info.filter_offset entries first stop) (λ answer. RefusesBlocks now (of_blocks h entries first answer) first stop e) →
     IsFault a c e ⊎ Made a c (λ reads. ShowsRead a.meaning.decode h reads e) ⊎ U
 blocks_refused a c h now entries first stop objects acts e s t k l m (inl f) = inl (store_fault a.faults c.faults e (store_earlier a.faults.store s c.faults.store e l f))
 blocks_refused a c h now entries first stop objects acts e s t k l m (inr (inl f)) = inl (transform_fault a.faults c.faults e (transform_earlier a.faults.transformer t c.faults.transformer e m (inr (f.2.3.0, f.2.3.1))))
@@ -193,7 +197,7 @@ blocks_refused a c h now entries first stop objects acts e s t k l m (inr (inr r
     inr (inl (both.0, both.1, (block_unreadable a.meaning.decode (section_at t.0 refused.0) e refused.3, inr (inl (t.0, refused)))))
 
 pub row_refused : {U : Type 0} (a c : Reach) (h : SsTableHandle) (now : Encode) (entries : List (ℕ × List ℕ)) (first stop : ℕ) (objects : Option Objects) (acts : Option (List Act)) (blocks : List Block) (e : SlateDBError) → Known a c h now entries first stop objects acts → length blocks ≡ stop - first →
-    Reads objects acts c.acts (path_of root h.id.0) (block_start h.info.filter_offset entries first) (blocks_size h.info.filter_offset entries first stop) (λ answer. AreBlocksRead now (block_answer h.info.filter_offset entries first answer) first blocks) →
+    Reads objects acts c.acts (path_of root h.id.0) (block_start h.info.filter_offset entries first) (blocks_size h.info.filter_offset entries first stop) (λ answer. AreBlocksRead now (of_blocks h entries first answer) first blocks) →
     (e ≡ OutOfMemory) ⊎ ((block : Block) × Contains blocks block × IsUnreadable e × RefusesRow h.format_version block e) ⊎ U → IsFault a c e ⊎ Made a c (λ reads. ShowsRead a.meaning.decode h reads e) ⊎ U
 row_refused a c h now entries first stop objects acts blocks e k count r (inl m) = inl (store_fault a.faults c.faults e (inl m))
 row_refused a c h now entries first stop objects acts blocks e k count r (inr (inl (block, among, damage, refused))) =
@@ -301,25 +305,21 @@ damage_on a b c asking hs h e among later first (inr (inr u)) = inr (inr (h, amo
 
 -- ---- of the journal
 
-known_all : (ts : List (Ulid × List ℕ)) (hs : List SsTableHandle) → AreHandles ts hs → AllByRecursion (λ (h : SsTableHandle). (h.format_version ≡ 1) ⊎ (h.format_version ≡ 2)) hs
+known_all : (ts : List (Ulid × List ℕ)) (hs : List SsTableHandle) → AreHandles ts hs → AllByRecursion (λ (h : SsTableHandle). IsKnown h.format_version) hs
 known_all [] [] are = tt
 known_all (t ∷ ts) (h ∷ hs) are = (are.0.version, known_all ts hs are.1)
 known_all [] (h ∷ hs) are = absurd are
 known_all (t ∷ ts) [] are = absurd are
 
--- each of them is of version 1 or 2
-pub known_version : (ts : List (Ulid × List ℕ)) (hs : List SsTableHandle) (h : SsTableHandle) → AreHandles ts hs → Contains hs h → (h.format_version ≡ 1) ⊎ (h.format_version ≡ 2)
-known_version ts hs h are among = All-contains (λ (x : SsTableHandle). (x.format_version ≡ 1) ⊎ (x.format_version ≡ 2)) hs h (All-from_recursion _ hs (known_all ts hs are)) among
+-- each of them is of a known version
+pub known_version : (ts : List (Ulid × List ℕ)) (hs : List SsTableHandle) (h : SsTableHandle) → AreHandles ts hs → Contains hs h → IsKnown h.format_version
+known_version ts hs h are among = All-contains (λ (x : SsTableHandle). IsKnown x.format_version) hs h (All-from_recursion _ hs (known_all ts hs are)) among
 
 pub journal_damage : (asking : Asking) (a b : Reach) (c : CoreModel) (hs : List SsTableHandle) (e : SlateDBError) → AreHandles (tables_of c.events) hs →
     IsFault a b e ⊎ Made a b (λ reads. ShowsDamage a.meaning.decode asking hs reads e) ⊎ ((x : SsTableHandle) × Contains hs x × IsUnknown x.format_version e) → IsReadError asking a b c e
 journal_damage asking a b c hs e are (inl f) = inl f
 journal_damage asking a b c hs e are (inr (inl d)) = inr (d.0, d.1, record { handles = hs; are = are; refused = inr d.2 })
-journal_damage asking a b c hs e are (inr (inr (x, among, u))) = absurd (by (All-contains (λ (h : SsTableHandle). (h.format_version ≡ 1) ⊎ (h.format_version ≡ 2)) hs x (All-from_recursion _ hs (known_all (tables_of c.events) hs are)) among))
-  where
-    by : (x.format_version ≡ 1) ⊎ (x.format_version ≡ 2) → ⊥
-    by (inl first) = u.0 first
-    by (inr second) = u.1 second
+journal_damage asking a b c hs e are (inr (inr (x, among, u))) = absurd (u.0 (known_version (tables_of c.events) hs x are among))
 
 operand_among : (P : RowEntry → Type 0) (rows : List RowEntry) → AllByRecursion P rows → is_merge_among rows ≡ true → (r : RowEntry) × P r × (is_operand r ≡ true)
 operand_among P [] h is = cc

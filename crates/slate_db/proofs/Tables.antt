@@ -18,7 +18,7 @@ use Rattle.slate_types.specs.Rows.{of_key}
 use Rattle.slate_table.specs.IndexReading.{index_keys}
 use Rattle.slate_table.specs.InfoReading.{seen_info}
 use Rattle.slate_table.specs.Paths.{path_of}
-use Rattle.slate_table.specs.Reading.{Reads, IsStoreFault, FailsDecoding, IsIndexRead, RefusesIndex, AreBlocksRead, RefusesBlocks, FailsBlocks, block_answer, block_start, blocks_size}
+use Rattle.slate_table.specs.Reading.{Reads, IsStoreFault, FailsDecoding, IsIndexRead, RefusesIndex, AreBlocksRead, RefusesBlocks, FailsBlocks, block_answer, block_start, blocks_size, of_index, of_blocks}
 use Rattle.slate_table.specs.SectionReading.{IsTransformFault}
 use Rattle.slate_table.proofs.TableFinds.{key_held, not_refused, outside_none}
 use Rattle.slate_db.specs.Installs.{root}
@@ -72,7 +72,7 @@ table_as m m2 os hs layers i h same are within is = table_at m.encode m2.encode 
 -- ---- one table
 
 pub outside_newest : (encode decode : Encode) (objects : Option Objects) (h : SsTableHandle) (rows : Rows) (k : List ℕ) (n : ℕ) → IsStored encode decode objects h rows → encloses (seen_info h.info) k ≡ false → [] ≡ newest k n rows
-outside_newest encode decode objects h rows k n stored out = newest_same k n [] rows (sym (outside_none encode stored.bytes h.format_version (seen_info h.info) rows stored.is k out))
+outside_newest encode decode objects h rows k n stored out = newest_same k n [] rows (sym (outside_none encode stored.bytes h.format_version h.id.0 (seen_info h.info) rows stored.is k out))
 
 -- what is answered where the objects that answer hold the table
 pub answered_by : {encode decode : Encode} {os : Objects} {told : Option Objects} {h : SsTableHandle} {rows : Rows} {before after : Option (List Act)} → (stored : IsStored encode decode (Some os) h rows) → Answering os told before after → Knows told before after (path_of root h.id.0) stored.bytes
@@ -85,13 +85,13 @@ read_part told before after path start size means bytes knows r = subst means (k
 
 pub index_whole : (encode decode : Encode) (objects told : Option Objects) (h : SsTableHandle) (rows : Rows) (before after : Option (List Act)) (e : SlateDBError) (a b c d : ℕ) → (stored : IsStored encode decode objects h rows) →
     Knows told before after (path_of root h.id.0) stored.bytes →
-    IsStoreFault a b e ⊎ Reads told before after (path_of root h.id.0) h.info.index_offset h.info.index_len (λ answer. FailsDecoding c d answer e)
-    ⊎ Reads told before after (path_of root h.id.0) h.info.index_offset h.info.index_len (λ answer. RefusesIndex decode h.info.filter_offset answer e) → IsStoreFault a b e ⊎ IsTransformFault c d e
+    IsStoreFault a b e ⊎ Reads told before after (path_of root h.id.0) h.info.index_offset h.info.index_len (λ answer. FailsDecoding c d (of_index h answer) e)
+    ⊎ Reads told before after (path_of root h.id.0) h.info.index_offset h.info.index_len (λ answer. RefusesIndex decode h.info.filter_offset (of_index h answer) e) → IsStoreFault a b e ⊎ IsTransformFault c d e
 index_whole encode decode objects told h rows before after e a b c d stored knows (inl f) = inl f
 index_whole encode decode objects told h rows before after e a b c d stored knows (inr (inl f)) = inr (inr (f.2.0, f.2.1))
 index_whole encode decode objects told h rows before after e a b c d stored knows (inr (inr r)) =
-    absurd ((not_refused encode decode stored.lawful stored.bytes h.format_version (seen_info h.info) rows stored.each stored.is).0 e
-    (read_part told before after (path_of root h.id.0) h.info.index_offset h.info.index_len (λ answer. RefusesIndex decode h.info.filter_offset answer e) stored.bytes knows r))
+    absurd ((not_refused encode decode stored.lawful stored.bytes h.format_version h.id.0 (seen_info h.info) rows stored.each stored.is).0 e
+    (read_part told before after (path_of root h.id.0) h.info.index_offset h.info.index_len (λ answer. RefusesIndex decode h.info.filter_offset (of_index h answer) e) stored.bytes knows r))
 
 pub store_earlier : (a b c : ℕ) (e : SlateDBError) → a ≤ b → IsStoreFault b c e → IsStoreFault a c e
 store_earlier a b c e h (inl m) = inl m
@@ -108,26 +108,26 @@ faults_earlier a b c x y z e h k (inr f) = inr (transform_earlier x y z e k f)
 -- the transformer reads as it did before the index was read
 pub blocks_whole : (encode decode now : Encode) (objects told told2 : Option Objects) (h : SsTableHandle) (rows : Rows) (entries : List (ℕ × List ℕ)) (first stop : ℕ) (before middle after : Option (List Act)) (e : SlateDBError) (a b c d : ℕ) → (stored : IsStored encode decode objects h rows) →
     Knows told before middle (path_of root h.id.0) stored.bytes → Knows told2 middle after (path_of root h.id.0) stored.bytes → now ≡ decode → first ≤ stop → stop ≤ length entries →
-    Reads told before middle (path_of root h.id.0) h.info.index_offset h.info.index_len (λ answer. IsIndexRead decode h.info.filter_offset answer entries) →
-    IsStoreFault a b e ⊎ Reads told2 middle after (path_of root h.id.0) (block_start h.info.filter_offset entries first) (blocks_size h.info.filter_offset entries first stop) (λ answer. FailsBlocks now (block_answer h.info.filter_offset entries first answer) first stop c d e)
-    ⊎ Reads told2 middle after (path_of root h.id.0) (block_start h.info.filter_offset entries first) (blocks_size h.info.filter_offset entries first stop) (λ answer. RefusesBlocks now (block_answer h.info.filter_offset entries first answer) first stop e) →
+    Reads told before middle (path_of root h.id.0) h.info.index_offset h.info.index_len (λ answer. IsIndexRead decode h.info.filter_offset (of_index h answer) entries) →
+    IsStoreFault a b e ⊎ Reads told2 middle after (path_of root h.id.0) (block_start h.info.filter_offset entries first) (blocks_size h.info.filter_offset entries first stop) (λ answer. FailsBlocks now (of_blocks h entries first answer) first stop c d e)
+    ⊎ Reads told2 middle after (path_of root h.id.0) (block_start h.info.filter_offset entries first) (blocks_size h.info.filter_offset entries first stop) (λ answer. RefusesBlocks now (of_blocks h entries first answer) first stop e) →
     IsStoreFault a b e ⊎ IsTransformFault c d e
 blocks_whole encode decode now objects told told2 h rows entries first stop before middle after e a b c d stored known knows decodes order within index (inl f) = inl f
 blocks_whole encode decode now objects told told2 h rows entries first stop before middle after e a b c d stored known knows decodes order within index (inr (inl f)) = inr (inr (f.2.3.0, f.2.3.1))
 blocks_whole encode decode now objects told told2 h rows entries first stop before middle after e a b c d stored known knows decodes order within index (inr (inr r)) =
-    absurd ((not_refused encode decode stored.lawful stored.bytes h.format_version (seen_info h.info) rows stored.each stored.is).1 entries
-    (read_part told before middle (path_of root h.id.0) h.info.index_offset h.info.index_len (λ answer. IsIndexRead decode h.info.filter_offset answer entries) stored.bytes known index) first stop order within e
-    (subst (λ (x : Encode). RefusesBlocks x (block_answer h.info.filter_offset entries first (blocks_answer stored.bytes (seen_info h.info) entries first stop)) first stop e) decodes
-    (read_part told2 middle after (path_of root h.id.0) (block_start h.info.filter_offset entries first) (blocks_size h.info.filter_offset entries first stop) (λ answer. RefusesBlocks now (block_answer h.info.filter_offset entries first answer) first stop e) stored.bytes knows r)))
+    absurd ((not_refused encode decode stored.lawful stored.bytes h.format_version h.id.0 (seen_info h.info) rows stored.each stored.is).1 entries
+    (read_part told before middle (path_of root h.id.0) h.info.index_offset h.info.index_len (λ answer. IsIndexRead decode h.info.filter_offset (of_index h answer) entries) stored.bytes known index) first stop order within e
+    (subst (λ (x : Encode). RefusesBlocks x (of_blocks h entries first (blocks_answer stored.bytes (seen_info h.info) entries first stop)) first stop e) decodes
+    (read_part told2 middle after (path_of root h.id.0) (block_start h.info.filter_offset entries first) (blocks_size h.info.filter_offset entries first stop) (λ answer. RefusesBlocks now (of_blocks h entries first answer) first stop e) stored.bytes knows r)))
 
 -- the rows of a key, in the blocks that are read
 pub key_read : (encode decode now : Encode) (objects told told2 : Option Objects) (h : SsTableHandle) (rows : Rows) (entries : List (ℕ × List ℕ)) (k : List ℕ) (first stop : ℕ) (before middle after : Option (List Act)) (blocks : List Block) → (stored : IsStored encode decode objects h rows) →
     Knows told before middle (path_of root h.id.0) stored.bytes → Knows told2 middle after (path_of root h.id.0) stored.bytes → now ≡ decode → first ≤ stop → stop ≤ length entries → ((i : ℕ) → CanHold (index_keys entries) i k → (first ≤ i) × (i < stop)) →
-    length blocks ≡ stop - first → Reads told before middle (path_of root h.id.0) h.info.index_offset h.info.index_len (λ answer. IsIndexRead decode h.info.filter_offset answer entries) →
-    Reads told2 middle after (path_of root h.id.0) (block_start h.info.filter_offset entries first) (blocks_size h.info.filter_offset entries first stop) (λ answer. AreBlocksRead now (block_answer h.info.filter_offset entries first answer) first blocks) →
+    length blocks ≡ stop - first → Reads told before middle (path_of root h.id.0) h.info.index_offset h.info.index_len (λ answer. IsIndexRead decode h.info.filter_offset (of_index h answer) entries) →
+    Reads told2 middle after (path_of root h.id.0) (block_start h.info.filter_offset entries first) (blocks_size h.info.filter_offset entries first stop) (λ answer. AreBlocksRead now (of_blocks h entries first answer) first blocks) →
     (found : List Rows) × AreBlocksOf h.format_version blocks found × AllByRecursion (IsInOrder Ascending) found × (of_key k (flat_map (λ b. b) found) ≡ of_key k rows)
 key_read encode decode now objects told told2 h rows entries k first stop before middle after blocks stored known knows decodes order within each count index r =
-    key_held encode decode stored.lawful stored.bytes h.format_version (seen_info h.info) rows stored.is entries
-    (read_part told before middle (path_of root h.id.0) h.info.index_offset h.info.index_len (λ answer. IsIndexRead decode h.info.filter_offset answer entries) stored.bytes known index) k first stop order within each blocks count
-    (subst (λ (x : Encode). AreBlocksRead x (block_answer h.info.filter_offset entries first (blocks_answer stored.bytes (seen_info h.info) entries first stop)) first blocks) decodes
-    (read_part told2 middle after (path_of root h.id.0) (block_start h.info.filter_offset entries first) (blocks_size h.info.filter_offset entries first stop) (λ answer. AreBlocksRead now (block_answer h.info.filter_offset entries first answer) first blocks) stored.bytes knows r))
+    key_held encode decode stored.lawful stored.bytes h.format_version h.id.0 (seen_info h.info) rows stored.is entries
+    (read_part told before middle (path_of root h.id.0) h.info.index_offset h.info.index_len (λ answer. IsIndexRead decode h.info.filter_offset (of_index h answer) entries) stored.bytes known index) k first stop order within each blocks count
+    (subst (λ (x : Encode). AreBlocksRead x (of_blocks h entries first (blocks_answer stored.bytes (seen_info h.info) entries first stop)) first blocks) decodes
+    (read_part told2 middle after (path_of root h.id.0) (block_start h.info.filter_offset entries first) (blocks_size h.info.filter_offset entries first stop) (λ answer. AreBlocksRead now (of_blocks h entries first answer) first blocks) stored.bytes knows r))

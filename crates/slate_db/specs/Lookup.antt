@@ -5,7 +5,7 @@
 --     AreFilteredAs policies m os hs      the policies are lawful, and the tables at these paths have their filters
 --     FindsBehind k n layers newer all      what was found in newer layers, with the key's rows of these behind it, to the first that decides; before it may stand operands of no layer
 --     Extends newer all      all begins with what was found in newer layers
---     IsUnknown version e      a refusal of a version that is neither 1 nor 2
+--     IsUnknown version e      a refusal of a version that isn't known
 use Rattle.std.specs.Prelude.{◌≡◌, ◌≢◌, ℕ, true, List, [], ◌∷◌, ◌++◌, Option, Some}
 use Rattle.std.specs.List.{AllByRecursion}
 use Rattle.slate_types.specs.declared.error.SlateDBError.{SlateDBError}
@@ -16,6 +16,7 @@ use Rattle.slate_types.specs.Rows.{is_operand}
 use Rattle.slate_mem.specs.Lookup.{newest_first}
 use Rattle.slate_mem.specs.Table.{newest}
 use Rattle.slate_store.specs.Store.{object_at}
+use Rattle.slate_block.specs.BlockSpelling.{IsKnown}
 use Rattle.slate_block.specs.ReadingLaws.{EachIsAByte}
 use Rattle.slate_table.specs.declared.info.SsTableHandle.{SsTableHandle}
 use Rattle.slate_filter.specs.Policy.{Policy}
@@ -61,4 +62,4 @@ abbrev pub Extends : Rows → Rows → Type 0
 Extends newer all = (more : Rows) × (all ≡ newer ++ more)
 
 abbrev pub IsUnknown : ℕ → SlateDBError → Type 0
-IsUnknown version e = (version ≢ 1) × (version ≢ 2) × (e ≡ InvalidVersion version)
+IsUnknown version e = (IsKnown version → ⊥) × (e ≡ InvalidVersion version)

@@ -103,7 +103,7 @@ built-filtered encode layout n p (rows ∷ parts) (t ∷ ts) h = (
     version = layout.version;
     min = layout.min_filter_keys;
     blocks = cut layout.block_size layout.version rows;
-    is = subst (λ (rs : Rows). IsTableOf encode t.1 layout.version (cut layout.block_size layout.version rows) (filters_of layout.policies layout.min_filter_keys rs)) (sym (cut_keeps layout.block_size layout.version rows)) h.0.built;
+    is = subst (λ (rs : Rows). IsTableOf encode t.1 layout.version t.0.0 (cut layout.block_size layout.version rows) (filters_of layout.policies layout.min_filter_keys rs)) (sym (cut_keeps layout.block_size layout.version rows)) h.0.built;
   },
   built-filtered encode layout n (p + 1) parts ts h.1,
 )

@@ -15,7 +15,7 @@ use Rattle.slate_store.specs.Store.{IsEmpty, with_object}
 use Rattle.slate_table.specs.Parts.{Encode}
 use Rattle.slate_table.specs.Paths.{path_of, table_id}
 use Rattle.slate_table.specs.Stored.{HoldRows, by_seq}
-use Rattle.slate_table.specs.Table.{IsTable}
+use Rattle.slate_table.specs.Table.{IsBuilt, IsTable}
 use Rattle.slate_table.proofs.CutLaws.{built_has}
 use Rattle.slate_mem.specs.KeyTests.{Segments}
 use Rattle.slate_txn.specs.declared.event.Event.TheVariants as events
@@ -70,20 +70,20 @@ record AreHeldApart (encode : Encode) (a b : Objects) (rows : Rows) : Type 0 whe
 
 held-apart : (encode : Encode) (a b : Objects) (rows : Rows) → HoldRows encode (a ++ b) rows → AreHeldApart encode a b rows
 held-apart encode [] b rows h = record { first = []; last = rows; here = refl; there = h; are = refl }
-held-apart encode (o ∷ a) b rows (inl (version, here, rest, is, others, same)) =
+held-apart encode (o ∷ a) b rows (inl (here, rest, is, others, same)) =
     let p = held-apart encode a b rest others in
-    record { first = here ++ p.first; last = p.last; here = inl (version, here, p.first, is, p.here, refl); there = p.there; are = same ∙ ap (λ xs. here ++ xs) p.are ∙ sym (append_assoc here p.first p.last) }
+    record { first = here ++ p.first; last = p.last; here = inl (here, p.first, is, p.here, refl); there = p.there; are = same ∙ ap (λ xs. here ++ xs) p.are ∙ sym (append_assoc here p.first p.last) }
 held-apart encode (o ∷ a) b rows (inr (none, others)) =
     let p = held-apart encode a b rows others in
     record { first = p.first; last = p.last; here = inr (none, p.here); there = p.there; are = p.are }
 
 held-together : (encode : Encode) (a b : Objects) (first last : Rows) → HoldRows encode a first → HoldRows encode b last → HoldRows encode (a ++ b) (first ++ last)
 held-together encode [] b first last h k = subst (λ (xs : Rows). HoldRows encode b (xs ++ last)) (sym h) k
-held-together encode (o ∷ a) b first last (inl (version, here, rest, is, others, same)) k =
-    inl (version, here, rest ++ last, is, held-together encode a b rest last others k, ap (λ xs. xs ++ last) same ∙ append_assoc here rest last)
+held-together encode (o ∷ a) b first last (inl (here, rest, is, others, same)) k =
+    inl (here, rest ++ last, is, held-together encode a b rest last others k, ap (λ xs. xs ++ last) same ∙ append_assoc here rest last)
 held-together encode (o ∷ a) b first last (inr (none, others)) k = inr (none, held-together encode a b first last others k)
 
-tables-more : (m : Meaning) (ts : List (Ulid × List ℕ)) (t : Ulid × List ℕ) (version : ℕ) (layers : List Rows) (rows : Rows) → AreTables m ts layers → IsTable m.encode t.1 version rows → AreTables m (ts ++ (t ∷ [])) (layers ++ (rows ∷ []))
+tables-more : (m : Meaning) (ts : List (Ulid × List ℕ)) (t : Ulid × List ℕ) (version : ℕ) (layers : List Rows) (rows : Rows) → AreTables m ts layers → IsTable m.encode t.1 version t.0.0 rows → AreTables m (ts ++ (t ∷ [])) (layers ++ (rows ∷ []))
 tables-more m [] t version layers rows h is = (version, rows, [], is, refl, ap (λ ls. ls ++ (rows ∷ [])) h)
 tables-more m (x ∷ ts) t version layers rows (v, first, rest, table, others, same) is =
     (v, first, rest ++ (rows ∷ []), table, tables-more m ts t version rest rows others is, ap (λ ls. ls ++ (rows ∷ [])) same)
@@ -123,19 +123,19 @@ path-apart m layout n p o fits place (t, h) same = by h
 table-alone : (m : Meaning) (layout : Layout) (n p : ℕ) (os : Objects) (ts : List (Ulid × List ℕ)) (t : Ulid × List ℕ) (here : Rows) → 1 ≤ n → n < 2 ^ 64 → IsTableAt m.encode layout n p here t → InOneSegment layout.segments here → HoldsAlone m layout n p os ts →
     HoldsAlone m layout n (p + 1) (with_object os (path_of root t.0.0) t.1) (ts ++ (t ∷ []))
 table-alone m layout n p os ts t here first fits made one h =
-    let is : IsTable m.encode t.1 layout.version here = subst (IsTable m.encode t.1 layout.version) made.read (built_has m.encode layout.policies layout.min_filter_keys layout.block_size layout.version t.1 here made.built) in
+    let is : IsTable m.encode t.1 layout.version t.0.0 here = subst (IsTable m.encode t.1 layout.version t.0.0) made.read (built_has m.encode layout.policies layout.min_filter_keys layout.block_size layout.version t.0.0 t.1 here made.built) in
     let place : IsPutAmong os (path_of root t.0.0) t.1 = put-among os (path_of root t.0.0) t.1 (each-as _ _ (λ o b same. path-apart m layout n p o fits made.fits b (sym (ap (path_of root) made.id) ∙ same)) os h.each) in
     let parts : AreHeldApart m.encode place.a place.b h.rows = held-apart m.encode place.a place.b h.rows (subst (λ (x : Objects). HoldRows m.encode x h.rows) place.before h.held) in
     let each : AllByRecursion (IsTableBefore m layout n (p + 1)) (place.a ++ place.b) = subst (AllByRecursion (IsTableBefore m layout n (p + 1))) place.before (each-as (IsTableBefore m layout n p) _ (later-place m layout n p) os h.each) in
     let new : IsTableBefore m layout n (p + 1) (path_of root t.0.0, t.1) =
-    (record { number = n; first = first; fits = fits; place = p; place_fits = made.fits; rows = here; path = ap (path_of root) made.id; built = made.built; prefix = one.0; one = one.1 }, inr (refl, omega arith)) in
+    (record { number = n; first = first; fits = fits; place = p; place_fits = made.fits; rows = here; path = ap (path_of root) made.id; built = subst (λ (id : ℕ). IsBuilt m.encode layout.policies layout.min_filter_keys layout.block_size layout.version id t.1 here) made.id made.built; prefix = one.0; one = one.1 }, inr (refl, omega arith)) in
     record {
       each = subst (AllByRecursion (IsTableBefore m layout n (p + 1))) (sym place.after) (all-both _ place.a ((path_of root t.0.0, t.1) ∷ place.b) (all-front _ place.a place.b each) (new, all-behind _ place.a place.b each));
       layers = h.layers ++ (here ∷ []);
       tables = tables-more m ts t layout.version h.layers here h.tables is;
       rows = parts.first ++ (here ++ parts.last);
       held = subst (λ (x : Objects). HoldRows m.encode x (parts.first ++ (here ++ parts.last))) (sym place.after)
-          (held-together m.encode place.a ((path_of root t.0.0, t.1) ∷ place.b) parts.first (here ++ parts.last) parts.here (inl (layout.version, here, parts.last, is, parts.there, refl)));
+          (held-together m.encode place.a ((path_of root t.0.0, t.1) ∷ place.b) parts.first (here ++ parts.last) parts.here (inl (here, parts.last, (root, t.0.0, layout.version, refl, is), parts.there, refl)));
       sorted = λ k. one-table-more k h.layers parts.first here parts.last h.rows parts.are (h.sorted k);
     }
 

@@ -1,5 +1,4 @@
-use Rattle.std.proofs.Common.{refl, ℕ, List, ap, arith, length, sym}
-use Rattle.std.proofs.lemmas.List.{append-nil}
+use Rattle.std.proofs.Common.{refl, ℕ, List, ap, arith, length}
 use Rattle.std.proofs.lemmas.Result.{IfOk-from_err, err_from_is_err_and}
 use Rattle.slate_block.proofs.Failing.{out_of_memory}
 use Rattle.slate_block.proofs.block.encoded.Goals as goal

@@ -8,6 +8,7 @@ use Rattle.slate_table.specs.SectionReading.{changed_by, IsTransformFault}
 use Rattle.slate_table.specs.InfoReading.{seen_info}
 use Rattle.slate_table.specs.TableBuilding.{TableBuilding, AreEncoded}
 use Rattle.slate_table.specs.TableEnd.{HasInfo}
+use Rattle.slate_table.specs.TableParts.{version_of}
 use Rattle.slate_types.specs.Faults.{faults_of}
 use Rattle.slate_db.specs.Flushed.{layout_of, IsTooLarge}
 use Rattle.slate_db.specs.Meaning.{segments_by}
@@ -23,9 +24,10 @@ loop-row-init g c =
     record {
       rows = (λ i. (begun i).rows ++ into_iter_items c.into_iter-row-iterator.result) ∙ gives;
       version = ap (λ (b : TableBuilding). b.version) begun;
+      id = ap (λ (b : TableBuilding). b.id) begun;
       size = ap (λ (b : TableBuilding). b.size) begun;
       min = ap (λ (b : TableBuilding). b.min) begun;
-      encoded = subst (λ (b : TableBuilding). AreEncoded (changed_by g.T.BlockTransformer.encoded c.args.transformer.now) b) (sym begun) (begun_encoded _ _ _ c.args.laws.now.options.min_filter_keys);
+      encoded = subst (λ (b : TableBuilding). AreEncoded (changed_by g.T.BlockTransformer.encoded c.args.transformer.now) b) (sym begun) (begun_encoded _ _ _ _ c.args.laws.now.options.min_filter_keys);
       same_encoded = λ i. changed_by g.T.BlockTransformer.encoded c.args.transformer.now;
       same_decoded = λ i. changed_by g.T.BlockTransformer.decoded c.args.transformer.now;
       later = omega arith;
@@ -37,6 +39,7 @@ loop-row-preserved g c =
     record {
       rows = ap (λ (xs : Rows). xs ++ into_iter_items c.next.new.self) c.in_ok-add.ensures.added ∙ one_more _ _ _ _ _ c.in-Some.ensures.steps.0 was.rows;
       version = c.add.ensures.version ∙ was.version;
+      id = c.add.ensures.id ∙ was.id;
       size = c.add.ensures.size ∙ was.size;
       min = c.add.ensures.min ∙ was.min;
       encoded = subst (λ (encode : Encode). AreEncoded encode c.add.new.self) was.same_encoded (c.add.ensures.encoded (subst (λ (encode : Encode). AreEncoded encode c.loop-row.builder) (sym was.same_encoded) was.encoded));
@@ -68,6 +71,7 @@ returns-in_err-add g c =
     record {
       built = IfOk-from_err c.from_residual-in_err-add.result _ c.from_residual-in_err-add.ensures.0;
       version = IfOk-from_err c.from_residual-in_err-add.result _ c.from_residual-in_err-add.ensures.0;
+      id = IfOk-from_err c.from_residual-in_err-add.result _ c.from_residual-in_err-add.ensures.0;
       info = IfOk-from_err c.from_residual-in_err-add.result _ c.from_residual-in_err-add.ensures.0;
       cause = (let was = c.loop-row.invariant in
           let row_ok = row_fits _ _ _ _ _ c.in-Some.ensures.steps.0 was.rows c.requires.ready.fit in
@@ -91,10 +95,14 @@ returns g c =
           let rows = all_taken _ _ _ none was.rows in
           let encoded = subst (λ (encode : Encode). AreEncoded encode c.loop-row.builder) (sym same) was.encoded in
           if_ok c.build.result _ _
-          (λ table h. built_as _ _ _ _ _ _ _ _ _ _ _ _ _ same rows was.min was.size was.version (ap (map (λ p. (goal.FilterPolicy-dyn g (p.vtable, p.value)).meaning p.value)) c.as_slice.ensures.value) (h encoded))
+          (λ table h. built_as _ _ _ _ _ _ _ _ _ _ _ _ _ _ _ same rows was.min was.size was.version was.id (ap (map (λ p. (goal.FilterPolicy-dyn g (p.vtable, p.value)).meaning p.value)) c.as_slice.ensures.value) (h encoded))
           c.build.ensures.built);
       version = if_ok c.build.result _ _ (λ table h. h ∙ c.loop-row.invariant.version) c.build.ensures.version;
-      info = if_ok c.build.result _ _ (λ table h. subst (λ (n : ℕ). HasInfo table.bytes n (seen_info table.info)) c.loop-row.invariant.version h) c.build.ensures.info;
+      id = if_ok c.build.result _ _ (λ table h. h ∙ c.loop-row.invariant.id) c.build.ensures.id;
+      info = (if_ok c.build.result _ _
+          (λ table h. subst (λ (n : ℕ). HasInfo table.bytes (version_of c.args.laws.now.options.block_format) n (seen_info table.info)) c.loop-row.invariant.id
+          (subst (λ (n : ℕ). HasInfo table.bytes n c.loop-row.builder.id (seen_info table.info)) c.loop-row.invariant.version h))
+          c.build.ensures.info);
       cause = if_err c.build.result _ _ (λ e h. inl (wider_fault _ _ _ e c.loop-row.invariant.later h)) c.build.ensures.cause;
       same_encoded = c.build.ensures.same_encoded ∙ c.loop-row.invariant.same_encoded;
       same_decoded = c.build.ensures.same_decoded ∙ c.loop-row.invariant.same_decoded;
@@ -106,6 +114,9 @@ returns-in_err-builder-clause-built g c = IfOk-from_err c.from_residual.result _
 
 pub returns-in_err-builder-clause-version : goal.returns-in_err-builder-clause-version
 returns-in_err-builder-clause-version g c = IfOk-from_err c.from_residual.result _ c.from_residual.ensures.0
+
+pub returns-in_err-builder-clause-id : goal.returns-in_err-builder-clause-id
+returns-in_err-builder-clause-id g c = IfOk-from_err c.from_residual.result _ c.from_residual.ensures.0
 
 pub returns-in_err-builder-clause-info : goal.returns-in_err-builder-clause-info
 returns-in_err-builder-clause-info g c = IfOk-from_err c.from_residual.result _ c.from_residual.ensures.0

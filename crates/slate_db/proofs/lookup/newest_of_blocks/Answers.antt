@@ -8,7 +8,7 @@ use Rattle.slate_types.specs.Iteration.{IsInOrder}
 use Rattle.slate_table.specs.Finding.{AreBlocksOf}
 use Rattle.slate_mem.specs.Lookup.{is_decided}
 use Rattle.slate_db.specs.Model.{Rows}
-use Rattle.slate_db.proofs.Shown.{blocks_rows, next_block, of_blocks}
+use Rattle.slate_db.proofs.Shown.{blocks_rows, next_block, among_blocks}
 use Rattle.slate_db.proofs.Walks.{Walked, walk_next, walk_goes_on, walk_ends, walk_decides}
 use Rattle.slate_db.proofs.lookup.newest_of_blocks.Goals as goal
 
@@ -75,7 +75,7 @@ pub returns-in_err-more-clause-cause : goal.returns-in_err-more-clause-cause
 returns-in_err-more-clause-cause c =
     let split : into_iter_items c.loop-block.block-iterator ≡ c.in-Some.block ∷ into_iter_items c.next.new.self = search rules in
     let p = err_from_is_err_and c.from_residual.result c.from_residual.ensures.1 in
-    rw (p.1, p.2) (of_blocks c.args.version c.args.blocks.items c.in-Some.block _ (next_block c.args.blocks.items c.in-Some.block _ _ split c.loop-block.invariant.rest).0 c.in_err-more.ensures.cause)
+    rw (p.1, p.2) (among_blocks c.args.version c.args.blocks.items c.in-Some.block _ (next_block c.args.blocks.items c.in-Some.block _ _ split c.loop-block.invariant.rest).0 c.in_err-more.ensures.cause)
 
 pub returns-in_err-append : goal.returns-in_err-append
 returns-in_err-append c =

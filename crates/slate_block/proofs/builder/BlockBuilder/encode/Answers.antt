@@ -1,7 +1,7 @@
 use Rattle.std.proofs.Common.{◌<◌, ◌≡◌, List, [], ℕ, refl, ap, subst, arith, ◌∙◌, inl}
 use Rattle.std.proofs.lemmas.List.{nil_from_length}
 use Rattle.std.specs.Prelude.{IfOk}
-use Rattle.slate_block.specs.BlockSpelling.{block_bytes, block_spelling, FitsBlock}
+use Rattle.slate_block.specs.BlockSpelling.{block_bytes, FitsBlock}
 use Rattle.slate_block.specs.Building.{Building}
 use Rattle.slate_types.proofs.Exits.{on_ok}
 use Rattle.slate_block.proofs.HeldLaws.{held_bytes, held_fits, few_held}
