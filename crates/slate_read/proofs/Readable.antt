@@ -1,6 +1,6 @@
 -- A table that is put is what a walk rests on.
-use Rattle.std.proofs.Common.{◌≡◌, ◌⊎◌, inl, inr, ◌<◌, ◌≤◌, ◌+◌, ◌-◌, ◌^◌, ℕ, suc, zero, Bool, true, false, List, [], ◌∷◌, ◌++◌, length, map, flat_map, take, drop, Option, Some, None, refl, sym, ap, subst, ◌∙◌, arith}
-use Rattle.std.specs.Prelude.{Contains, IsSorted, Ok, bytes_eq, slice_get}
+use Rattle.std.proofs.Common.{◌≡◌, ◌<◌, ◌≤◌, ◌+◌, ◌-◌, ◌^◌, ℕ, suc, zero, Bool, true, false, List, [], ◌∷◌, ◌++◌, length, map, flat_map, take, drop, Option, Some, None, refl, sym, ap, subst, ◌∙◌, arith}
+use Rattle.std.specs.Prelude.{Contains, IsSorted, bytes_eq, slice_get}
 use Rattle.std.specs.List.{AllByRecursion}
 use Rattle.std.proofs.lemmas.List.{length-append, length-map}
 use Rattle.std.proofs.lemmas.Option.{same_Some}
@@ -33,7 +33,7 @@ use Rattle.slate_table.specs.IndexReading.{index_keys}
 use Rattle.slate_table.specs.InfoReading.{seen_info}
 use Rattle.slate_table.specs.Parts.{Encode, block_kind, cover_of, index_bytes, index_kind, section, separators, sum_fits, summed}
 use Rattle.slate_table.specs.Reading.{SectionRead, AreBlocksRead, IsBlockRead, IsIndexRead, Reads, RefusesBlock, RefusesIndex, block_answer, block_start, blocks_size, of_block, of_index, section_read, whole_answer}
-use Rattle.slate_table.specs.Table.{AreInOrder, IsTableOf, block_places, block_sections, blocks_end, filters_section, index_section, info_section, info_start, later_places, placed, stats_section, table_places}
+use Rattle.slate_table.specs.Table.{AreInOrder, IsTableOf, block_places, block_sections, blocks_end, filters_section, index_section, info_section, info_start, later_places, placed, stats_section}
 use Rattle.slate_table.specs.TableEnd.{HasInfo}
 use Rattle.slate_table.proofs.IndexLaws.{places_count, separators_count}
 use Rattle.slate_table.proofs.Covering.{AreSome, Holds, not_above, separators_hold}
@@ -54,7 +54,7 @@ use Rattle.slate_block.specs.BlockSpelling.{FitsBlock, block_bytes}
 use Rattle.slate_table.specs.Checksum.{crc32}
 use Rattle.slate_types.specs.World.{Kept, Section, World}
 use Rattle.slate_read.specs.Readable.{kept_of}
-use Rattle.slate_read.specs.TableWalk.{IsReadable, block_lies, block_part, index_lies, index_part, path_in, size_of, start_of}
+use Rattle.slate_read.specs.TableWalk.{IsReadable, block_part, index_lies, index_part, path_in, size_of, start_of}
 use Rattle.slate_read.specs.WalkLaws.{whole_part}
 use Rattle.slate_read.proofs.OneBlock.{one_answer}
 
