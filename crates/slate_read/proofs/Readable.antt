@@ -329,7 +329,7 @@ readable same_end index_held index_found blocks_held encode decode lawful w h by
         let blocks = upto_end h.format_version h.id.0 0 ss in
         AllByRecursion-append (λ (q : Section). q.at + q.len ≤ length bytes) (block_places encode h.format_version h.id.0 bs) (later_places encode h.format_version h.id.0 bs fs)
         (weaker (0 + length (flat_map (λ x. x) ss)) (length bytes) (omega (arith, total)) (block_places encode h.format_version h.id.0 bs) blocks)
-        (omega (arith, total), omega (arith, total), omega (arith, total), omega (arith, total), tt)
+        (omega (arith, total), (omega (arith, total), (omega (arith, total), (omega (arith, total), tt))))
 
     at : Found encode bytes h.format_version h.id.0 (seen_info h.info) bs
     at = found_in encode bytes h.format_version h.id.0 (seen_info h.info) h.format_version bs fs table ends
