@@ -8,10 +8,24 @@ use Rattle.std.proofs.lemmas.Bool.{ltb-true, ltb-false, le-ltb, lt-ltb}
 use Rattle.std.proofs.lemmas.Bool.Decides.{nat_tests}
 use Rattle.std.proofs.Math.Nat.{mul-le-mul, mul-le-mul_right}
 use Rattle.slate_block.specs.Varint.{SpellsVarint, IsVarint, varint_within}
-use Rattle.slate_block.specs.Groups.{completed, weight_of, IsRest}
+use Rattle.slate_block.specs.Groups.{completed}
 use Rattle.slate_block.proofs.VarintLaws.{spells_group}
 use Rattle.slate_block.specs.Damage.{front_groups, before_high, of_32_bits, front_varint}
 use Rattle.std.proofs.Math.Bool.{and-false}
+
+-- what a group is worth
+abbrev pub weight_of : ℕ → ℕ
+weight_of zero = 1
+weight_of (suc k) = 128 * weight_of k
+
+-- after so many groups of a number of 32 bits, this is left
+abbrev pub IsRest : ℕ → ℕ → Type 0
+IsRest zero rest = rest < 2 ^ 32
+IsRest (suc zero) rest = rest < 2 ^ 25
+IsRest (suc (suc zero)) rest = rest < 2 ^ 18
+IsRest (suc (suc (suc zero))) rest = rest < 2 ^ 11
+IsRest (suc (suc (suc (suc zero)))) rest = rest < 2 ^ 4
+IsRest (suc (suc (suc (suc (suc k))))) rest = ⊥
 
 pub one_group : (k n : ℕ) → n < 128 → varint_within (suc k) n ≡ n ∷ []
 one_group k n p = rw lt-ltb refl

@@ -9,13 +9,16 @@ use Rattle.slate_types.specs.declared.error.SlateDBError.TheVariants.{EmptyKey, 
 use Rattle.slate_types.specs.declared.types.RowEntry.{RowEntry}
 use Rattle.slate_block.specs.BlockSpelling.{is_restart, offsets_of, longest, spelled, as_read, FitsRow, FitsBlock, IsBlockOf, block_spelling, block_bytes}
 use Rattle.slate_block.specs.Fitting.{offsets_counted, size_with, fits_in}
-use Rattle.slate_block.specs.Building.{front_key, row_bytes, named, named_size, number, next_front, Holds, SomeHeld, Held, part_size, has_room, IsSamePart, IsLongerPart, Building, with_row}
+use Rattle.slate_block.specs.Building.{front_key, row_bytes, named, named_size, number, next_front, Holds, SomeHeld, Held, part_size, IsSamePart, IsLongerPart, Building, with_row}
 use Rattle.slate_block.specs.declared.rows_part.RowsPart.{RowsPart}
 use Rattle.slate_block.proofs.RowMore.{spelled_more, offsets_more, length_spelled, few_named, some_bytes, bytes_each, joined_more, holds_more}
 use Rattle.slate_block.specs.declared.rows_part.Version.{Version}
 use Rattle.slate_block.specs.declared.rows_part.Version.TheVariants.{V1, V2, V3}
 use Rattle.slate_block.proofs.LongestFronts.{block_of_v1, block_of_v2, block_of_v3}
 use Rattle.slate_block.proofs.HeldOnce.{held_alone}
+
+abbrev pub has_room : ℕ → ℕ → RowsPart → RowEntry → Bool
+has_room size n part r = (part.num_rows == 0) || nat_le (part_size n part r) size
 
 abbrev pub PartHolds : RowsPart → List RowEntry → Type 0
 PartHolds part rows = Holds (number part.version) part.body.items part.offsets.items part.num_rows part.front_key rows

@@ -17,7 +17,13 @@ use Rattle.slate_block.specs.WholeKeys.{IsRestored}
 use Rattle.std.proofs.lemmas.Bool.{le-leb, lt-ltb}
 use Rattle.std.proofs.lemmas.List.{length-append, length-take}
 use Rattle.slate_block.proofs.WalkedBlocks.{restored, three_from}
-use Rattle.slate_block.specs.PlacedRows.{as_read, fields_of, found_of, placed, row_in, suffix_of, whole_of}
+use Rattle.slate_block.specs.PlacedRows.{as_read, fields_of, row_in, suffix_of, whole_of}
+
+abbrev pub found_of : List ℕ → ℕ → List ℕ → ℕ × RowFields → Result (RowEntry × ℕ) SlateDBError
+found_of other from bytes row = if is_restored row.0 other (suffix_of bytes row.1) then Ok (whole_of bytes other row.0 row.1, from + row.1.end) else Err (CorruptTable from)
+
+unfoldable pub placed : Version → List ℕ → ℕ → List ℕ → Result (RowEntry × ℕ) SlateDBError
+placed version other from bytes = moved_result from (fields_of version bytes) >>= found_of other from bytes
 
 abbrev found_v1 : List ℕ → ℕ → SstRowEntry × ℕ → Result (RowEntry × ℕ) SlateDBError
 found_v1 other from found = if is_restored found.0.key_prefix_len other found.0.key_suffix then Ok (whole_v1 other found.0, from + found.1) else Err (CorruptTable from)

@@ -16,13 +16,22 @@ use Rattle.slate_block.specs.Damage.{◌>>=◌, key_layout_v2, layout_v2, block_
 use Rattle.slate_block.specs.RowReading.{row_v2_of, entry_of_v2}
 use Rattle.slate_block.specs.Walks.{RowRead, next_place, moved_result, between, entry_v2_in, row_v2_in, read_then, group_reads, restart_reads, reads_v2, is_none_left, is_restored, whole_v2}
 use Rattle.slate_block.specs.BlockWalks.{LastBefore, IsPast, StopsAt, BeginsRead, Refuses}
-use Rattle.slate_block.specs.GroupWalks.{group_end, restart_at, group_left, left_v2, BeginsBefore, IsStart, IsBeforeIfRead}
+use Rattle.slate_block.specs.GroupWalks.{group_end, restart_at, group_left, left_v2, BeginsBefore}
 use Rattle.slate_block.proofs.FieldLaws.{bind_ok, ok_is}
 use Rattle.std.proofs.Math.Seq.{take-nil}
 use Rattle.std.proofs.lemmas.Bool.{leb-true}
 use Rattle.std.proofs.lemmas.List.{drop-drop}
 use Rattle.slate_block.proofs.GroupSteps.{reads_from, restart_some}
 use Rattle.slate_block.proofs.SeekLaws.{last_joined, part_fewer}
+
+abbrev pub IsBeforeIfRead : IterationOrder → List ℕ → RowRead → Type 0
+IsBeforeIfRead order key (Ok row) = comes_before order row.key key ≡ true
+IsBeforeIfRead order key (Err e) = Unit {0}
+
+pub record IsStart (order : IterationOrder) (key : List ℕ) (before start : List RowRead) : Type 0 where
+  pub front : List RowRead
+  pub parts : before ≡ front ++ start
+  pub begins : (front ≡ []) ⊎ ((read : RowRead) × (reads : List RowRead) × (start ≡ read ∷ reads) × IsBeforeIfRead order key read)
 
 -- ---- the walk within
 

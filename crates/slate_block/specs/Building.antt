@@ -7,11 +7,10 @@
 --     Held version body offsets count front      it is that of one list of rows, and of no other
 --     named_size version n      how many offsets that is
 --     part_size n part r      the size that is held to the block size, where the first n bytes of the row's key are left out
---     has_room size n part r      it is at most the block size; the first row always fits
 --     IsSamePart old new, IsLongerPart old n r new      the same is kept, or that with a row more, the first n bytes of its key left out
 --     Building      what a builder is seen as: the version, the block size, and the rows that it took
 --     with_row b r      the same with a row more
-use Rattle.std.specs.Prelude.{◌≡◌, ℕ, ◌+◌, ◌*◌, ◌^◌, ◌<◌, Bool, true, if◌then◌else◌, ◌==◌, ◌||◌, nat_le, List, [], ◌∷◌, ◌++◌, length, flat_map}
+use Rattle.std.specs.Prelude.{◌≡◌, ℕ, ◌+◌, ◌*◌, ◌^◌, ◌<◌, Bool, true, if◌then◌else◌, ◌==◌, List, [], ◌∷◌, ◌++◌, length, flat_map}
 use Rattle.std.specs.List.{AllByRecursion}
 use mathlib.Core.Equiv.{IsContr, IsContr-prop}
 use Rattle.slate_types.specs.declared.types.RowEntry.{RowEntry}
@@ -79,9 +78,6 @@ Held-prop version body offsets count front = IsContr-prop
 
 abbrev pub part_size : ℕ → RowsPart → RowEntry → ℕ
 part_size n part r = 2 + 2 * (length part.offsets.items + named_size (number part.version) part.num_rows) + length part.body.items + length (row_bytes (number part.version) n r)
-
-abbrev pub has_room : ℕ → ℕ → RowsPart → RowEntry → Bool
-has_room size n part r = (part.num_rows == 0) || nat_le (part_size n part r) size
 
 pub record IsSamePart (old new : RowsPart) : Type 0 where
   pub version : new.version ≡ old.version

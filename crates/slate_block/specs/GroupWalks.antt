@@ -3,12 +3,10 @@
 --     group_left body group      what is left of a group; is_over group      nothing is
 --     left_v2 body offsets place      what is left of a block of version 2
 --     BeginsBefore order body offsets n key      the order puts a group's first key, where its row is read, before the key
---     IsBeforeIfRead order key read      the order puts a row, where it is read, before the key
---     IsStart order key before start      rows from which a seek can go on row by row: some first ones may be taken off where the order puts the next one, where it is read, before the key
 --     reads_back n body offsets      what the rows of so many groups are read as, the last first: a group is read as a whole, and one that fails is refused as a whole
 --     left_back body offsets groups rows      what is left before a group's rows and behind so many groups
 --     walk_in order body offsets      what the rows of a block of version 2 are read as in an order
-use Rattle.std.specs.Prelude.{◌≡◌, ◌⊎◌, ℕ, zero, suc, reverse, map, ◌+◌, Bool, true, ◌&&◌, ◌||◌, ◌==◌, List, [], ◌∷◌, ◌++◌, length, drop, slice_index, Result, Ok, Err}
+use Rattle.std.specs.Prelude.{◌≡◌, ℕ, zero, suc, reverse, map, ◌+◌, Bool, true, ◌&&◌, ◌||◌, ◌==◌, List, [], ◌∷◌, ◌++◌, length, drop, slice_index, Result, Ok, Err}
 use Rattle.slate_types.specs.declared.error.SlateDBError.{SlateDBError}
 use Rattle.slate_types.specs.declared.types.RowEntry.{RowEntry}
 use Rattle.slate_types.specs.declared.iter.IterationOrder.{IterationOrder}
@@ -35,15 +33,6 @@ left_v2 body offsets place = group_left body place.group ++ reads_v2 body (drop 
 
 abbrev pub BeginsBefore : IterationOrder → List ℕ → List ℕ → ℕ → List ℕ → Type 0
 BeginsBefore order body offsets n key = (row : RowEntry) (reads : List RowRead) → restart_at body offsets n ≡ Ok row ∷ reads → comes_before order row.key key ≡ true
-
-abbrev pub IsBeforeIfRead : IterationOrder → List ℕ → RowRead → Type 0
-IsBeforeIfRead order key (Ok row) = comes_before order row.key key ≡ true
-IsBeforeIfRead order key (Err e) = Unit {0}
-
-pub record IsStart (order : IterationOrder) (key : List ℕ) (before start : List RowRead) : Type 0 where
-  pub front : List RowRead
-  pub parts : before ≡ front ++ start
-  pub begins : (front ≡ []) ⊎ ((read : RowRead) × (reads : List RowRead) × (start ≡ read ∷ reads) × IsBeforeIfRead order key read)
 
 -- ---- from the end
 

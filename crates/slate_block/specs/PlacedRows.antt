@@ -2,12 +2,9 @@
 --     fields_of version bytes      the length that the row shares which begins the bytes, and its other fields, with the expiry that is read; or the refusal
 --     suffix_of bytes fields      the suffix of its key
 --     whole_of bytes other shared fields      the row, whose key leaves out a front of the other key
---     found_of other from bytes row      the row with these fields, and the place behind it; or the refusal of its key
---     placed version other from bytes      the row that begins bytes, which begin at a place, and the place behind it; or the refusal
---     row_in version body other from upto      the same of the bytes between two places of the rows' part
-use Rattle.std.specs.Prelude.{ℕ, ◌+◌, if◌then◌else◌, List, slice_range, Result, Ok, Err}
+--     row_in version body other from upto      the row that begins the bytes between two places of the rows' part, and the place behind it; or the refusal
+use Rattle.std.specs.Prelude.{ℕ, List, slice_range, Result, Ok}
 use Rattle.slate_types.specs.declared.error.SlateDBError.{SlateDBError}
-use Rattle.slate_types.specs.declared.error.SlateDBError.TheVariants.{CorruptTable}
 use Rattle.slate_types.specs.declared.types.RowEntry.{RowEntry}
 use Rattle.slate_block.specs.declared.fields.RowFields.{RowFields}
 use Rattle.slate_block.specs.declared.rows_part.Version.{Version}
@@ -15,7 +12,7 @@ use Rattle.slate_block.specs.declared.rows_part.Version.TheVariants.{V1, V2, V3}
 use Rattle.slate_block.specs.BlockSpelling.{whole_key}
 use Rattle.slate_block.specs.Damage.{◌>>=◌, layout_v1, layout_v2}
 use Rattle.slate_block.specs.RowReading.{expiry_of, fields_value}
-use Rattle.slate_block.specs.Walks.{is_restored, moved_result, row_v1_in, row_v2_in}
+use Rattle.slate_block.specs.Walks.{row_v1_in, row_v2_in}
 
 abbrev pub as_read : RowFields → RowFields
 as_read f = record { suffix_at = f.suffix_at; suffix_end = f.suffix_end; value_at = f.value_at; value_end = f.value_end; seq = f.seq; flags = f.flags; expire_ts = expiry_of f.flags f.expire_ts; create_ts = f.create_ts; end = f.end }
@@ -30,12 +27,6 @@ suffix_of bytes fields = slice_range bytes fields.suffix_at fields.suffix_end
 
 abbrev pub whole_of : List ℕ → List ℕ → ℕ → RowFields → RowEntry
 whole_of bytes other shared fields = record { key = whole_key shared other (suffix_of bytes fields); value = fields_value bytes fields; seq = fields.seq; create_ts = fields.create_ts; expire_ts = fields.expire_ts }
-
-abbrev pub found_of : List ℕ → ℕ → List ℕ → ℕ × RowFields → Result (RowEntry × ℕ) SlateDBError
-found_of other from bytes row = if is_restored row.0 other (suffix_of bytes row.1) then Ok (whole_of bytes other row.0 row.1, from + row.1.end) else Err (CorruptTable from)
-
-unfoldable pub placed : Version → List ℕ → ℕ → List ℕ → Result (RowEntry × ℕ) SlateDBError
-placed version other from bytes = moved_result from (fields_of version bytes) >>= found_of other from bytes
 
 abbrev pub row_in : Version → List ℕ → List ℕ → ℕ → ℕ → Result (RowEntry × ℕ) SlateDBError
 row_in V1 body other from upto = row_v1_in body other from upto

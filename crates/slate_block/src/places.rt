@@ -3,7 +3,7 @@ ghost use Rattle.std.specs.Prelude.{◌≡◌, ◌+◌, ◌<◌, ◌^◌, ◌⊎
 ghost use Rattle.slate_block.specs.Damage.{AreWithin, IsDamageIn};
 ghost use Rattle.slate_block.specs.Walks.{moved, between, next_place, row_upto, is_restored, reads_v1, first_key_v1, are_named, block_reads};
 ghost use Rattle.slate_block.specs.BlockWalks.{IsBlockDamage};
-ghost use Rattle.slate_block.specs.PlacedRows.{fields_of, placed, row_in, suffix_of, whole_of};
+ghost use Rattle.slate_block.specs.PlacedRows.{fields_of, row_in, suffix_of, whole_of};
 
 use crate::fields::{RowFields, corrupt, fields_v1, fields_v2};
 use crate::keys::restored_key;

@@ -4,7 +4,7 @@ ghost use Rattle.slate_types.specs.declared.types.RowEntry.{RowEntry};
 ghost use Rattle.slate_types.specs.Iteration.{comes_before};
 ghost use Rattle.slate_block.specs.Walks.{reads_v2, RowRead};
 ghost use Rattle.slate_block.specs.BlockWalks.{BeginsRead, IsBlockDamage, IsPast, Refuses, StopsAt};
-ghost use Rattle.slate_block.specs.GroupWalks.{is_over, left_v2, restart_at, BeginsBefore, IsStart};
+ghost use Rattle.slate_block.specs.GroupWalks.{is_over, left_v2, restart_at, BeginsBefore};
 
 use crate::fields::key_fields_v2;
 use crate::places::place_behind;

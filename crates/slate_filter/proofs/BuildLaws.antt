@@ -1,13 +1,17 @@
 -- What a builder makes of the keys that it took.
 use Rattle.std.proofs.Common.{◌≡◌, ℕ, suc, ◌-◌, ◌*◌, ◌^◌, Bool, true, false, cond, ltb, List, [], ◌∷◌, ◌++◌, length, map, Option, Some, None, Result, Ok, Err, append_assoc, refl, sym, subst, ap, ◌∙◌}
-use Rattle.std.specs.Prelude.{IfOk, IfSome, IsErrAnd, MatchResult}
+use Rattle.std.specs.Prelude.{IfOk, IfSome, IsErrAnd, MatchResult, if◌then◌else◌}
 use Rattle.std.specs.Option.{option_map, option_or}
 use Rattle.std.proofs.lemmas.List.Folds.{flat_map-map}
 use Rattle.slate_types.specs.declared.filter_policy.PrefixTarget.TheVariants.{Point}
 use Rattle.slate_types.specs.Lawful.{Lengths, IsWithinTarget}
 use Rattle.slate_filter.specs.Hash.{filter_hash}
 use Rattle.slate_filter.specs.Bloom.{Bloom, prefix_of, new_prefix, last_prefix, hashed, probes, probe_count, bits_from, bit_bytes_len, bloom_bytes, bloom_build}
-use Rattle.slate_filter.specs.Building.{HasHashed, strings_of, last_of, bits_of, some_bits, encoded}
+use Rattle.slate_filter.specs.Building.{HasHashed, last_of, bits_of, some_bits, encoded}
+
+-- the strings of one key
+abbrev pub strings_of : Bloom → Option (List ℕ) → List ℕ → List (List ℕ)
+strings_of bloom last k = new_prefix last (prefix_of bloom.lengths (Point k)) ++ (if bloom.whole then k ∷ [] else [])
 
 append_none : (xs : List (List ℕ)) → xs ++ [] ≡ xs
 append_none [] = refl

@@ -8,11 +8,7 @@ use Rattle.std.specs.List.{flat_map}
 use Rattle.std.specs.Int.{w16, to_be_bytes}
 use Rattle.slate_types.specs.declared.filter_policy.PrefixTarget.TheVariants.{Point}
 use Rattle.slate_filter.specs.Hash.{filter_hash}
-use Rattle.slate_filter.specs.Bloom.{Bloom, prefix_of, last_prefix, new_prefix, hashed, probes, probe_count, bits_from, bit_bytes_len}
-
--- the strings of one key
-abbrev pub strings_of : Bloom → Option (List ℕ) → List ℕ → List (List ℕ)
-strings_of bloom last k = new_prefix last (prefix_of bloom.lengths (Point k)) ++ (if bloom.whole then k ∷ [] else [])
+use Rattle.slate_filter.specs.Bloom.{Bloom, prefix_of, last_prefix, hashed, probes, probe_count, bits_from, bit_bytes_len}
 
 abbrev pub last_of : Bloom → Option (List ℕ) → List (List ℕ) → Option (List ℕ)
 last_of bloom last [] = last

@@ -1,19 +1,20 @@
 -- The table of what a builder kept, once its last block was ended.
-use Rattle.std.proofs.Common.{◌≡◌, ℕ, ◌+◌, ◌^◌, ◌<◌, List, [], ◌∷◌, ◌++◌, length, map, flat_map, refl, sym, ap, subst, ◌∙◌, ◌⊎◌, inl, inr, arith}
+use Rattle.std.proofs.Common.{◌≡◌, ℕ, ◌+◌, ◌^◌, ◌<◌, List, [], ◌∷◌, ◌++◌, length, map, flat_map, refl, sym, ap, subst, ◌∙◌, inl, inr, arith}
 use Rattle.std.specs.Prelude.{sum_by}
 use Rattle.std.specs.List.{AllByRecursion}
 use Rattle.std.proofs.lemmas.List.{length-append, length-map, map-append}
 use Rattle.slate_types.specs.declared.types.RowEntry.{RowEntry}
+use Rattle.slate_types.specs.declared.types.Ulid.{Ulid}
 use Rattle.slate_types.specs.declared.config.BlockFormat.{BlockFormat}
-use Rattle.slate_types.specs.declared.config.BlockFormat.TheVariants.{V1, V2, Latest}
+use Rattle.slate_types.specs.declared.config.BlockFormat.TheVariants.{V1, V2, V3, Latest}
 use Rattle.slate_types.specs.Rows.{operand}
 use Rattle.slate_filter.specs.Policy.{Policy, filters_of}
 use Rattle.slate_block.specs.RowSpelling.{be16, be32, be64}
-use Rattle.slate_block.specs.BlockSpelling.{block_bytes, places, FitsBlock, FitsRow}
+use Rattle.slate_block.specs.BlockSpelling.{block_bytes, places, FitsBlock, FitsRow, IsKnown}
 use Rattle.slate_block.specs.Building.{Building}
 use Rattle.slate_block.specs.Counting.{stats_of}
 use Rattle.slate_table.specs.declared.table_parts.TableParts.{TableParts}
-use Rattle.slate_table.specs.Parts.{Encode, section, counts, separators, index_bytes, stats_bytes}
+use Rattle.slate_table.specs.Parts.{Encode, cover_of, block_kind, filters_kind, index_kind, stats_kind, section, counts, separators, index_bytes, stats_bytes}
 use Rattle.slate_table.specs.Decoded.{FitsShort, counts_bytes}
 use Rattle.slate_table.specs.StatsReading.{counts_of}
 use Rattle.slate_table.specs.Table.{AreInOrder, IsTableOf, IsBuilt, block_sections, filter_section, cut, some_first, some_last, table_bytes, sections_then_info}
@@ -21,11 +22,11 @@ use Rattle.slate_table.specs.declared.info.SsTableInfo.{SsTableInfo}
 use Rattle.slate_table.specs.InfoReading.{seen_info}
 use Rattle.slate_table.specs.TableBuilding.{all_blocks, TableBuilding, AreEncoded}
 use Rattle.slate_table.specs.TableParts.{version_of, cut_parts, seen, Stands, IsEnded}
-use Rattle.slate_table.specs.TableEnd.{counted_bytes, parts_index, parts_stats, parts_bytes, IsReady, IsFinished, HasInfo}
+use Rattle.slate_table.specs.TableEnd.{counted_bytes, parts_index, parts_stats, filters_behind, parts_bytes, IsReady, IsFinished, HasInfo}
 use Rattle.slate_table.proofs.IndexLaws.{separators_count, separators_short}
 use Rattle.slate_table.proofs.CutLaws.{cut_keeps}
 use Rattle.slate_table.proofs.Cuttings.{Begun, cut_is, places_end, with_begun}
-use Rattle.slate_table.proofs.PartsLaws.{Sections, cutting_begun, begun_some, all_end, fits_block, flat_end}
+use Rattle.slate_table.proofs.PartsLaws.{Sections, cutting_begun, begun_some, all_end, fits_block, flat_end, block_behind, block_added}
 
 -- ---- the last block has a row
 
@@ -128,24 +129,28 @@ stats_spelled bs =
     let spelled = counts_spelled bs in
     λ i. counts be64 rows ++ be64 (sum_by (λ r. length r.key) rows) ++ be64 (sum_by (λ r. length (operand r)) rows) ++ be32 (count i) ++ spelled i
 
-known : (f : BlockFormat) → (version_of f ≡ 1) ⊎ (version_of f ≡ 2)
+known : (f : BlockFormat) → IsKnown (version_of f)
 known V1 = inl refl
-known V2 = inr refl
-known Latest = inr refl
+known V2 = inr (inl refl)
+known V3 = inr (inr refl)
+known Latest = inr (inl refl)
+
+sections_of : Encode → TableParts → List (List ℕ)
+sections_of encode p = block_sections encode (version_of p.format) p.id.0 (every p)
 
 record AreSealed (encode : Encode) (p q : TableParts) : Type 0 where
-  pub bytes : q.bytes.items ≡ flat_map (λ b. b) (block_sections encode (version_of p.format) (every p))
-  pub offsets : q.offsets.items ≡ places 0 (block_sections encode (version_of p.format) (every p))
+  pub bytes : q.bytes.items ≡ flat_map (λ b. b) (sections_of encode p)
+  pub offsets : q.offsets.items ≡ places 0 (sections_of encode p)
 
 are_sealed : (encode : Encode) (p q : TableParts) → Stands p → IsEnded encode p q → Sections encode p → AreSealed encode p q
-unfolding every
+unfolding every sections_of
 are_sealed encode p q s e a =
     let c = cut_parts p in
     let version = version_of p.format in
-    let ss = block_sections encode version c.ended in
-    let x = section encode (block_bytes version c.filling) in
-    let more : ss ++ x ∷ [] ≡ block_sections encode version (every p) = sym (map-append (λ (b : List RowEntry). section encode (block_bytes version b)) c.ended (c.filling ∷ [])) in
-    let last = ap (λ (b : Building). section encode (block_bytes b.version b.rows)) s.builder in
+    let ss = block_sections encode version p.id.0 c.ended in
+    let x = section (cover_of version p.id.0 block_kind (length (flat_map (λ y. y) ss))) encode (block_bytes version c.filling) in
+    let more : ss ++ x ∷ [] ≡ block_sections encode version p.id.0 (every p) = block_added encode version p.id.0 c.ended c.filling in
+    let last = block_behind encode p s a in
     let whole : q.bytes.items ≡ flat_map (λ y. y) ss ++ x = e.bytes ∙ (λ i. a.are_bytes i ++ last i) in
     let begin : length p.bytes.items ≡ 0 + length (flat_map (λ y. y) ss) = ap length a.are_bytes ∙ omega arith in
     record {
@@ -154,20 +159,35 @@ are_sealed encode p q s e a =
     }
 
 -- every part, in the place that it has in a table
-whole_bytes : Encode → List (List ℕ × List ℕ) → ℕ → List RowEntry → List ℕ → List ℕ → List ℕ → List ℕ
-whole_bytes encode filters version rows blocks index stats = sections_then_info version rows blocks (filter_section encode filters) (section encode index) (section encode stats)
+whole_bytes : Encode → List (List ℕ × List ℕ) → ℕ → ℕ → List RowEntry → List ℕ → List ℕ → List ℕ → List ℕ
+whole_bytes encode filters version id rows blocks index stats =
+    let fs = filter_section (cover_of version id filters_kind (length blocks)) encode filters in
+    let ix = section (cover_of version id index_kind (length blocks + length fs)) encode index in
+    sections_then_info version id rows blocks fs ix (section (cover_of version id stats_kind (length blocks + length fs + length ix)) encode stats)
 
-whole_is : (encode : Encode) (filters : List (List ℕ × List ℕ)) (version : ℕ) (bs : List (List RowEntry)) →
-    whole_bytes encode filters version (flat_map (λ b. b) bs) (flat_map (λ b. b) (block_sections encode version bs)) (index_bytes (places 0 (block_sections encode version bs)) (separators bs)) (stats_bytes bs) ≡ table_bytes encode version bs filters
+whole_is : (encode : Encode) (filters : List (List ℕ × List ℕ)) (version id : ℕ) (bs : List (List RowEntry)) →
+    whole_bytes encode filters version id (flat_map (λ b. b) bs) (flat_map (λ b. b) (block_sections encode version id bs)) (index_bytes (places 0 (block_sections encode version id bs)) (separators bs)) (stats_bytes bs)
+    ≡ table_bytes encode version id bs filters
 unfolding whole_bytes
-whole_is encode filters version bs = refl
+whole_is encode filters version id bs = refl
 
-parts_are : (encode : Encode) (filters : List (List ℕ × List ℕ)) (q : TableParts) → parts_bytes encode filters q ≡ whole_bytes encode filters (version_of q.format) q.rows.items q.bytes.items (parts_index q) (parts_stats q)
+parts_are : (encode : Encode) (filters : List (List ℕ × List ℕ)) (q : TableParts) →
+    parts_bytes encode filters q ≡ whole_bytes encode filters (version_of q.format) q.id.0 q.rows.items q.bytes.items (parts_index q) (parts_stats q)
 unfolding whole_bytes
-parts_are encode filters q = refl
+parts_are encode filters q =
+    let version = version_of q.format in
+    let b = q.bytes.items in
+    let fs = filters_behind encode filters q in
+    let index_at = length-append b fs in
+    let ix = λ (n : ℕ). section (cover_of version q.id.0 index_kind n) encode (parts_index q) in
+    let st = λ (n : ℕ). section (cover_of version q.id.0 stats_kind n) encode (parts_stats q) in
+    let stats_at : length ((b ++ fs) ++ ix (length (b ++ fs))) ≡ length b + length fs + length (ix (length b + length fs)) =
+    length-append (b ++ fs) (ix (length (b ++ fs))) ∙ (λ i. index_at i + length (ix (index_at i))) in
+    λ i. sections_then_info version q.id.0 q.rows.items b fs (ix (index_at i)) (st (stats_at i))
 
 table_is : (encode : Encode) (filters : List (List ℕ × List ℕ)) (p q : TableParts) → Stands p → 0 < length p.rows.items → IsEnded encode p q → Sections encode p →
-    parts_bytes encode filters q ≡ table_bytes encode (version_of p.format) (every p) filters
+    parts_bytes encode filters q ≡ table_bytes encode (version_of p.format) p.id.0 (every p) filters
+unfolding sections_of
 table_is encode filters p q s h e a =
     let ended = are_ended encode p q s h e in
     let sealed = are_sealed encode p q s e a in
@@ -176,13 +196,14 @@ table_is encode filters p q s h e a =
     let format = ap version_of e.format in
     let keys = e.keys ∙ s.keys ∙ ap (λ (l : List RowEntry). sum_by (λ r. length r.key) l) rows in
     let values = e.values ∙ s.values ∙ ap (λ (l : List RowEntry). sum_by (λ r. length (operand r)) l) rows in
-    let index : parts_index q ≡ index_bytes (places 0 (block_sections encode (version_of p.format) (every p))) (separators (every p)) = λ i. index_bytes (sealed.offsets i) (ended.seps i) in
+    let id : q.id.0 ≡ p.id.0 = ap (λ (u : Ulid). u.0) e.id in
+    let index : parts_index q ≡ index_bytes (places 0 (sections_of encode p)) (separators (every p)) = λ i. index_bytes (sealed.offsets i) (ended.seps i) in
     let stats : parts_stats q ≡ stats_bytes (every p) = (λ i. counted_bytes (all i) (keys i) (values i) (ended.stats i)) ∙ stats_spelled (every p) in
-    parts_are encode filters q ∙ (λ i. whole_bytes encode filters (format i) (all i) (sealed.bytes i) (index i) (stats i)) ∙ whole_is encode filters (version_of p.format) (every p)
+    parts_are encode filters q ∙ (λ i. whole_bytes encode filters (format i) (id i) (all i) (sealed.bytes i) (index i) (stats i)) ∙ whole_is encode filters (version_of p.format) p.id.0 (every p)
 
-pub finished_table : (encode : Encode) (filters : List (List ℕ × List ℕ)) (p : TableParts) (bytes : List ℕ) (i : SsTableInfo) → Stands p → 0 < length p.rows.items → Sections encode p →
-    IsFinished encode filters p bytes i → IsTableOf encode bytes (version_of p.format) (cut p.block_size (version_of p.format) p.rows.items) filters
-finished_table encode filters p bytes i s h a f =
+pub finished_table : (encode : Encode) (filters : List (List ℕ × List ℕ)) (p : TableParts) (bytes : List ℕ) (i : SsTableInfo) → Stands p → p.id.0 < 2 ^ 128 → 0 < length p.rows.items → Sections encode p →
+    IsFinished encode filters p bytes i → IsTableOf encode bytes (version_of p.format) p.id.0 (cut p.block_size (version_of p.format) p.rows.items) filters
+finished_table encode filters p bytes i s named h a f =
     let q = f.ended in
     let e : IsEnded encode p q = f.end in
     let keys = f.keys in
@@ -190,8 +211,9 @@ finished_table encode filters p bytes i s h a f =
     let ended = are_ended encode p q s h e in
     let rows = sym (ap (λ (l : List (List RowEntry)). flat_map (λ b. b) l) (every_cut p h) ∙ cut_keeps p.block_size (version_of p.format) p.rows.items) in
     let count = every_count p in
-    subst (λ (bs : List (List RowEntry)). IsTableOf encode bytes (version_of p.format) bs filters) (every_cut p h) (record {
+    subst (λ (bs : List (List RowEntry)). IsTableOf encode bytes (version_of p.format) p.id.0 bs filters) (every_cut p h) (record {
       known = known p.format;
+      named = named;
       each = ended.each;
       some = omega (arith, count);
       few = ended.few;
@@ -206,14 +228,14 @@ finished_table encode filters p bytes i s h a f =
 
 -- ---- as a builder is seen
 
-pub built_of : (encode : Encode) (policies : List Policy) (min : ℕ) (p : TableParts) (v : TableBuilding) (bytes : List ℕ) (i : SsTableInfo) → seen min p ≡ v → Stands p → 0 < length v.rows →
-    IsFinished encode (filters_of policies min p.rows.items) p bytes i → AreEncoded encode v → IsBuilt encode policies v.min v.size v.version bytes v.rows
-built_of encode policies min p v bytes i is s h f a =
+pub built_of : (encode : Encode) (policies : List Policy) (min : ℕ) (p : TableParts) (v : TableBuilding) (bytes : List ℕ) (i : SsTableInfo) → seen min p ≡ v → Stands p → p.id.0 < 2 ^ 128 → 0 < length v.rows →
+    IsFinished encode (filters_of policies min p.rows.items) p bytes i → AreEncoded encode v → IsBuilt encode policies v.min v.size v.version v.id bytes v.rows
+built_of encode policies min p v bytes i is s named h f a =
     let row = subst (λ (b : TableBuilding). 0 < length b.rows) (sym is) h in
     let sections = subst (λ (b : TableBuilding). AreEncoded encode b) (sym is) a in
-    let table = finished_table encode (filters_of policies min p.rows.items) p bytes i s row sections f in
-    subst (λ (b : TableBuilding). IsBuilt encode policies b.min b.size b.version bytes b.rows) is table
+    let table = finished_table encode (filters_of policies min p.rows.items) p bytes i s named row sections f in
+    subst (λ (b : TableBuilding). IsBuilt encode policies b.min b.size b.version b.id bytes b.rows) is table
 
 pub info_of_built : {encode : Encode} {filters : List (List ℕ × List ℕ)} (min : ℕ) (p : TableParts) (v : TableBuilding) (bytes : List ℕ) (i : SsTableInfo) → seen min p ≡ v →
-    IsFinished encode filters p bytes i → HasInfo bytes v.version (seen_info i)
-info_of_built min p v bytes i is f = subst (λ (b : TableBuilding). HasInfo bytes b.version (seen_info i)) is f.info
+    IsFinished encode filters p bytes i → HasInfo bytes v.version v.id (seen_info i)
+info_of_built min p v bytes i is f = subst (λ (b : TableBuilding). HasInfo bytes b.version b.id (seen_info i)) is f.info

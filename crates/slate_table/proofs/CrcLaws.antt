@@ -240,6 +240,10 @@ from_joined : (c : ℕ) (bs later : List ℕ) → crc_from c (bs ++ later) ≡ c
 from_joined c [] later = refl
 from_joined c (b ∷ bs) later = from_joined (crc_bits 8 (bit_xor c b)) bs later
 
+-- a number behind other bytes, and more behind it
+pub from_parts : (c kind : ℕ) (id at bytes : List ℕ) → crc_from (crc_from (crc_from (crc_from c id) (kind ∷ [])) at) bytes ≡ crc_from c ((id ++ kind ∷ at) ++ bytes)
+from_parts c kind id at bytes = sym (from_joined c (id ++ kind ∷ at) bytes ∙ ap (λ (x : ℕ). crc_from x bytes) (from_joined c id (kind ∷ at)))
+
 number_word : (a b c d e f g h : ℕ) → from_le_bytes w64 (a ∷ b ∷ c ∷ d ∷ e ∷ f ∷ g ∷ h ∷ []) ≡ number (a ∷ b ∷ c ∷ d ∷ e ∷ f ∷ g ∷ h ∷ [])
 number_word a b c d e f g h = omega arith
 

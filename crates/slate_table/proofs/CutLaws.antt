@@ -20,7 +20,7 @@ pub cut_keeps : (size version : ℕ) (rows : List RowEntry) → flat_map (λ b. 
 cut_keeps size version [] = refl
 cut_keeps size version (r ∷ rs) = cut_from_keeps size version (r ∷ []) rs
 
-pub built_has : (encode : Encode) (policies : List Policy) (min size version : ℕ) (bytes : List ℕ) (rows : List RowEntry) →
-    IsBuilt encode policies min size version bytes rows → IsTable encode bytes version (map (as_read version) rows)
-built_has encode policies min size version bytes rows t =
+pub built_has : (encode : Encode) (policies : List Policy) (min size version id : ℕ) (bytes : List ℕ) (rows : List RowEntry) →
+    IsBuilt encode policies min size version id bytes rows → IsTable encode bytes version id (map (as_read version) rows)
+built_has encode policies min size version id bytes rows t =
     (cut size version rows, filters_of policies min rows, t, ap (λ l. map (as_read version) l) (sym (cut_keeps size version rows)))

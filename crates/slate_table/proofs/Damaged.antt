@@ -1,5 +1,5 @@
 -- What is refused of a part that was read is damage.
-use Rattle.std.proofs.Common.{◌≡◌, ◌<◌, [], ◌∷◌, ℕ, zero, suc, ◌+◌, ◌-◌, ◌*◌, inl, inr, Bool, true, false, cond, List, length, drop, take, Option, Some, None, Result, Ok, Err, subst}
+use Rattle.std.proofs.Common.{◌≡◌, ◌<◌, [], ◌∷◌, ℕ, zero, suc, ◌+◌, ◌-◌, ◌*◌, inl, inr, Bool, true, false, cond, List, ◌++◌, length, drop, take, Option, Some, None, Result, Ok, Err, subst}
 use Rattle.std.specs.Prelude.{IfErr, ◌&&◌, ◌==◌, nat_lt, nat_le, min, slice_range}
 use Rattle.std.specs.Int.{Width, w16, w32, w64, byte_len, from_be_bytes}
 use Rattle.slate_types.specs.declared.error.SlateDBError.{SlateDBError}
@@ -11,7 +11,7 @@ use Rattle.slate_block.specs.RowReading.{refusal}
 use Rattle.slate_table.specs.Checksum.{crc32}
 use Rattle.slate_table.specs.IndexReading.{counted, entries_from, entry_field, index_of, is_next_key, is_next_offset, offset_field, separator_field}
 use Rattle.slate_table.specs.Parts.{Encode}
-use Rattle.slate_table.specs.Reading.{IsRefused, RefusesBlock, RefusesIndex, stored_in}
+use Rattle.slate_table.specs.Reading.{SectionRead, IsRefused, RefusesBlock, RefusesIndex, stored_of}
 use Rattle.slate_table.specs.SectionReading.{part_in, part_of_sum, stored_sum}
 
 -- ---- fields
@@ -73,23 +73,23 @@ index_damage end bytes =
 
 -- ---- sections
 
-pub part_damage : (bytes : List ℕ) → IfErr (part_in bytes) IsDamage
+pub part_damage : (cover bytes : List ℕ) → IfErr (part_in cover bytes) IsDamage
 unfolding part_in
-part_damage bytes =
-    fails_or (nat_lt (length bytes) 4) (CorruptTable 0) _ tt
-    (passes (stored_sum bytes == crc32 (part_of_sum bytes)) (part_of_sum bytes) (ChecksumMismatch (stored_sum bytes) (crc32 (part_of_sum bytes))) tt)
+part_damage cover bytes =
+    let sum = crc32 (cover ++ part_of_sum bytes) in
+    fails_or (nat_lt (length bytes) 4) (CorruptTable 0) _ tt (passes (stored_sum bytes == sum) (part_of_sum bytes) (ChecksumMismatch (stored_sum bytes) sum) tt)
 
-stored_damage : (answer : Option (List ℕ)) → IfErr (stored_in answer) IsDamage
-stored_damage None = tt
-stored_damage (Some bytes) = part_damage bytes
+stored_damage : (cover : List ℕ) (answer : Option (List ℕ)) → IfErr (stored_of cover answer) IsDamage
+stored_damage cover None = tt
+stored_damage cover (Some bytes) = part_damage cover bytes
 
 refused_damage : {A : Type 0} (r : Result A SlateDBError) (e : SlateDBError) → IfErr r IsDamage → refusal r ≡ Some e → IsDamage e
 refused_damage (Ok x) e h is = absurd cc
 refused_damage (Err f) e h is = let same : f ≡ e = cc in subst IsDamage same h
 
-pub section_damage : {A : Type 0} (decode : Encode) (read : List ℕ → Result A SlateDBError) (answer : Option (List ℕ)) (e : SlateDBError) → ((part : List ℕ) → IfErr (read part) IsDamage) → IsRefused decode (λ part. refusal (read part)) answer e → IsDamage e
-section_damage decode read answer e each (inl h) = refused_damage (stored_in answer) e (stored_damage answer) h
-section_damage decode read answer e each (inr (part, is, h)) = refused_damage (read part) e (each part) h
+pub section_damage : {A : Type 0} (decode : Encode) (read : List ℕ → Result A SlateDBError) (s : SectionRead) (e : SlateDBError) → ((part : List ℕ) → IfErr (read part) IsDamage) → IsRefused decode (λ part. refusal (read part)) s e → IsDamage e
+section_damage decode read s e each (inl h) = refused_damage (stored_of s.cover s.answer) e (stored_damage s.cover s.answer) h
+section_damage decode read s e each (inr (part, is, h)) = refused_damage (read part) e (each part) h
 
 -- ---- blocks
 
@@ -116,8 +116,8 @@ offsets_of_damage bytes =
 
 -- ---- what calls refuse for
 
-pub index_refusal : (decode : Encode) (end : ℕ) (answer : Option (List ℕ)) (e : SlateDBError) → RefusesIndex decode end answer e → IsDamage e
-index_refusal decode end answer e r = section_damage decode (index_of end) answer e (index_damage end) r
+pub index_refusal : (decode : Encode) (end : ℕ) (s : SectionRead) (e : SlateDBError) → RefusesIndex decode end s e → IsDamage e
+index_refusal decode end s e r = section_damage decode (index_of end) s e (index_damage end) r
 
-pub block_refusal : (decode : Encode) (answer : Option (List ℕ)) (e : SlateDBError) → RefusesBlock decode answer e → IsDamage e
-block_refusal decode answer e r = section_damage decode offsets_of_block answer e offsets_of_damage r
+pub block_refusal : (decode : Encode) (s : SectionRead) (e : SlateDBError) → RefusesBlock decode s e → IsDamage e
+block_refusal decode s e r = section_damage decode offsets_of_block s e offsets_of_damage r

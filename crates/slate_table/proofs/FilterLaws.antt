@@ -1,13 +1,13 @@
 -- A filter section is read one way.
-use Rattle.std.proofs.Common.{◌≡◌, ℕ, ◌<◌, ◌^◌, List, [], ◌∷◌, ◌++◌, length, flat_map, refl, sym, ap, ◌∙◌, append_assoc, arith, length-append}
+use Rattle.std.proofs.Common.{◌≡◌, ℕ, ◌<◌, ◌^◌, List, [], ◌∷◌, ◌++◌, length, flat_map, refl, sym, ap, ◌∙◌, append_assoc, arith}
 use Rattle.std.specs.List.{AllByRecursion}
 use Rattle.slate_types.specs.Lawful.{IsLawfulTransform}
-use Rattle.slate_block.specs.RowSpelling.{be32, be64}
+use Rattle.slate_block.specs.RowSpelling.{be64}
 use Rattle.slate_block.proofs.Pieces.{same_pieces, same_be16, same_be64}
-use Rattle.slate_table.specs.Checksum.{crc32}
 use Rattle.slate_table.specs.Parts.{Encode, section, filter_bytes, filters_bytes}
 use Rattle.slate_table.specs.Table.{FitsFilter, filter_section}
 use Rattle.slate_table.proofs.IndexLaws.{same_part}
+use Rattle.slate_table.proofs.Sections.{section_length}
 
 filter_apart : (name bytes size rest : List ℕ) → ((name ++ size) ++ bytes) ++ rest ≡ name ++ (size ++ (bytes ++ rest))
 filter_apart name bytes size rest = append_assoc (name ++ size) bytes rest ∙ append_assoc name size (bytes ++ rest)
@@ -27,10 +27,10 @@ same_filters (x ∷ fs) (y ∷ gs) n f g h =
     let rest = same_filters fs gs (omega (arith, n)) f.1 g.1 bytes.1 in
     λ i. (name.0 i, bytes.0 i) ∷ rest i
 
-no_section : (encode : Encode) (part : List ℕ) → [] ≡ section encode part → ⊥
-no_section encode part h =
+no_section : (cover : List ℕ) (encode : Encode) (part : List ℕ) → [] ≡ section cover encode part → ⊥
+no_section cover encode part h =
     let n = ap (λ l. length l) h in
-    let m = length-append (encode part) (be32 (crc32 (encode part))) in
+    let m = section_length cover encode part in
     absurd (omega (arith, n, m))
 
 pub same_filter_part : (fs gs : List (List ℕ × List ℕ)) → length fs < 2 ^ 16 → length gs < 2 ^ 16 → AllByRecursion FitsFilter fs → AllByRecursion FitsFilter gs → filters_bytes fs ≡ filters_bytes gs → fs ≡ gs
@@ -38,10 +38,10 @@ same_filter_part fs gs p q f g h =
     let count = same_be16 (length fs) (length gs) (flat_map filter_bytes fs) (flat_map filter_bytes gs) p q h in
     same_filters fs gs count.0 f g count.1
 
-pub same_filter_section : (encode decode : Encode) → IsLawfulTransform encode decode → (fs gs : List (List ℕ × List ℕ)) → length fs < 2 ^ 16 → length gs < 2 ^ 16 →
-    AllByRecursion FitsFilter fs → AllByRecursion FitsFilter gs → filter_section encode fs ≡ filter_section encode gs → fs ≡ gs
-same_filter_section encode decode lawful [] [] p q f g h = refl
-same_filter_section encode decode lawful [] (y ∷ gs) p q f g h = absurd (no_section encode (filters_bytes (y ∷ gs)) h)
-same_filter_section encode decode lawful (x ∷ fs) [] p q f g h = absurd (no_section encode (filters_bytes (x ∷ fs)) (sym h))
-same_filter_section encode decode lawful (x ∷ fs) (y ∷ gs) p q f g h =
-    same_filter_part (x ∷ fs) (y ∷ gs) p q f g (same_part encode decode lawful (filters_bytes (x ∷ fs)) (filters_bytes (y ∷ gs)) h)
+pub same_filter_section : (cover other : List ℕ) (encode decode : Encode) → IsLawfulTransform encode decode → (fs gs : List (List ℕ × List ℕ)) → length fs < 2 ^ 16 → length gs < 2 ^ 16 →
+    AllByRecursion FitsFilter fs → AllByRecursion FitsFilter gs → filter_section cover encode fs ≡ filter_section other encode gs → fs ≡ gs
+same_filter_section cover other encode decode lawful [] [] p q f g h = refl
+same_filter_section cover other encode decode lawful [] (y ∷ gs) p q f g h = absurd (no_section other encode (filters_bytes (y ∷ gs)) h)
+same_filter_section cover other encode decode lawful (x ∷ fs) [] p q f g h = absurd (no_section cover encode (filters_bytes (x ∷ fs)) (sym h))
+same_filter_section cover other encode decode lawful (x ∷ fs) (y ∷ gs) p q f g h =
+    same_filter_part (x ∷ fs) (y ∷ gs) p q f g (same_part cover other encode decode lawful (filters_bytes (x ∷ fs)) (filters_bytes (y ∷ gs)) h)

@@ -64,15 +64,15 @@ short_names ps m rows fs is names =
 not_none : {A : Type 0} (x : A) (xs : List A) → (length (x ∷ xs) == 0) ≡ true → ⊥
 not_none x xs h = let none : length (x ∷ xs) ≡ 0 = grind (arith, nat_tests) in absurd (omega arith)
 
-pub none_appended : (encode : Encode) (out : List ℕ) (fs : List NamedFilter) → (length fs == 0) ≡ true → out ≡ out ++ filter_section encode (map named_pair fs)
-none_appended encode out [] h = sym (append-nil out)
-none_appended encode out (f ∷ fs) h = absurd (not_none f fs h)
+pub none_appended : (cover : List ℕ) (encode : Encode) (out : List ℕ) (fs : List NamedFilter) → (length fs == 0) ≡ true → out ≡ out ++ filter_section cover encode (map named_pair fs)
+none_appended cover encode out [] h = sym (append-nil out)
+none_appended cover encode out (f ∷ fs) h = absurd (not_none f fs h)
 
 pub none_fit : (fs : List NamedFilter) → (length fs == 0) ≡ true → AllByRecursion FitsFilter (map named_pair fs)
 none_fit [] h = tt
 none_fit (f ∷ fs) h = absurd (not_none f fs h)
 
-pub some_section : (encode : Encode) (fs : List NamedFilter) → (length fs == 0) ≡ false →
-    section encode (be16 (length fs) ++ flat_map filter_bytes (map named_pair fs)) ≡ filter_section encode (map named_pair fs)
-some_section encode [] h = absurd cc
-some_section encode (f ∷ fs) h = ap (λ (n : ℕ). section encode (be16 n ++ flat_map filter_bytes (map named_pair (f ∷ fs)))) (sym (length-map (f ∷ fs) named_pair))
+pub some_section : (cover : List ℕ) (encode : Encode) (fs : List NamedFilter) → (length fs == 0) ≡ false →
+    section cover encode (be16 (length fs) ++ flat_map filter_bytes (map named_pair fs)) ≡ filter_section cover encode (map named_pair fs)
+some_section cover encode [] h = absurd cc
+some_section cover encode (f ∷ fs) h = ap (λ (n : ℕ). section cover encode (be16 n ++ flat_map filter_bytes (map named_pair (f ∷ fs)))) (sym (length-map (f ∷ fs) named_pair))

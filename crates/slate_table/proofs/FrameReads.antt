@@ -9,15 +9,14 @@ use Rattle.slate_types.specs.declared.types.RowEntry.{RowEntry}
 use Rattle.slate_types.specs.Lawful.{IsLawfulTransform}
 use Rattle.slate_types.specs.Outside.{Objects}
 use Rattle.slate_store.specs.Store.{Act, object_at, part_of}
-use Rattle.slate_block.specs.RowSpelling.{be16, be32, be64}
+use Rattle.slate_block.specs.RowSpelling.{be16, be64}
 use Rattle.slate_block.specs.BlockSpelling.{places}
-use Rattle.slate_block.proofs.Pieces.{same_ends}
-use Rattle.slate_table.specs.Checksum.{crc32}
-use Rattle.slate_table.specs.Parts.{Encode, section, summed}
+use Rattle.slate_table.specs.Parts.{Encode, cover_of, info_kind, section, summed}
 use Rattle.slate_table.specs.Table.{info_of, sections_then_info}
 use Rattle.slate_table.specs.SectionReading.{footer_bytes}
-use Rattle.slate_table.specs.Reading.{IsRead, IsPart, whole_answer, block_start}
+use Rattle.slate_table.specs.Reading.{SectionRead, IsRead, IsPart, whole_answer, block_start}
 use Rattle.slate_table.specs.FileLaws.{paired}
+use Rattle.slate_table.proofs.Sections.{same_summed}
 
 -- ---- a range of an object
 
@@ -64,24 +63,23 @@ answered objects told before after path bytes start len answer tells there read 
     let given : read.0 ≡ part_of (Some bytes) start len = read.1 told tells ∙ ap (λ (o : Option (List ℕ)). part_of o start len) there in
     read.3 ∙ ap (whole_answer len) given ∙ whole_part bytes start len
 
-pub same_summed : (a b : List ℕ) → summed a ≡ summed b → a ≡ b
-same_summed a b h = (same_ends a b (be32 (crc32 a)) (be32 (crc32 b)) refl h).0
-
-pub same_section : (encode decode : Encode) → IsLawfulTransform encode decode → (text part : List ℕ) (answer : Option (List ℕ)) → answer ≡ Some (section encode text) → IsPart decode answer part → part ≡ text
-same_section encode decode lawful text part answer is p =
-    let same : summed p.0 ≡ summed (encode text) = same_Some (summed p.0) (summed (encode text)) (sym p.1 ∙ is) in
-    p.2 ∙ ap decode (same_summed p.0 (encode text) same) ∙ lawful text
+-- the part that is read of a section
+pub part_is : (encode decode : Encode) → IsLawfulTransform encode decode → (text part : List ℕ) (s : SectionRead) → s.answer ≡ Some (section s.cover encode text) → IsPart decode s part → part ≡ text
+part_is encode decode lawful text part s is p =
+    let same : summed s.cover p.0 ≡ summed s.cover (encode text) = same_Some (summed s.cover p.0) (summed s.cover (encode text)) (sym p.1 ∙ is) in
+    p.2 ∙ ap decode (same_summed s.cover p.0 (encode text) same) ∙ lawful text
 
 -- ---- all sections
 
-pub sections_split : (version : ℕ) (rows : List RowEntry) (b f i s : List ℕ) →
-    sections_then_info version rows b f i s ≡ (((b ++ f) ++ i) ++ s) ++ (summed (info_of version rows (length b) f i s) ++ footer_bytes (length (((b ++ f) ++ i) ++ s)) version)
-sections_split version rows b f i s =
+pub sections_split : (version id : ℕ) (rows : List RowEntry) (b f i s : List ℕ) →
+    sections_then_info version id rows b f i s
+    ≡ (((b ++ f) ++ i) ++ s) ++ (summed (cover_of version id info_kind (length (((b ++ f) ++ i) ++ s))) (info_of version rows (length b) f i s) ++ footer_bytes (length (((b ++ f) ++ i) ++ s)) version)
+sections_split version id rows b f i s =
     let front = ((b ++ f) ++ i) ++ s in
-    let sealed = summed (info_of version rows (length b) f i s) in
+    let sealed = λ (k : ℕ). summed (cover_of version id info_kind k) (info_of version rows (length b) f i s) in
     let n = length b + length f + length i + length s in
     let size : n ≡ length front = omega (arith, length-append b f, length-append (b ++ f) i, length-append ((b ++ f) ++ i) s) in
-    append_assoc (front ++ sealed) (be64 n) (be16 version) ∙ append_assoc front sealed (be64 n ++ be16 version) ∙ ap (λ (k : ℕ). front ++ (sealed ++ footer_bytes k version)) size
+    append_assoc (front ++ sealed n) (be64 n) (be16 version) ∙ append_assoc front (sealed n) (be64 n ++ be16 version) ∙ ap (λ (k : ℕ). front ++ (sealed k ++ footer_bytes k version)) size
 
 pub in_stats : (bytes b f i s t : List ℕ) → bytes ≡ (((b ++ f) ++ i) ++ s) ++ t → part_of (Some bytes) (length b + length f + length i) (length s) ≡ Some s
 in_stats bytes b f i s t is =
@@ -141,6 +139,13 @@ stands at end (t ∷ ss) (x ∷ ks) (suc k) s n h there =
       start = later.start ∙ omega (arith, more);
       next = ap (block_start end (paired (places at (t ∷ ss)) (x ∷ ks))) (same_place k) ∙ later.next ∙ omega (arith, more);
     }
+
+-- the start of a block is its place
+pub starts_at : (end : ℕ) (ats : List ℕ) (ks : List (List ℕ)) (k at : ℕ) → length ks ≡ length ats → slice_get ats k ≡ Some at → block_start end (paired ats ks) k ≡ at
+starts_at end [] ks k at n h = absurd cc
+starts_at end (a ∷ ats) [] k at n h = absurd (omega (arith, n))
+starts_at end (a ∷ ats) (x ∷ ks) zero at n h = same_Some a at h
+starts_at end (a ∷ ats) (x ∷ ks) (suc k) at n h = starts_at end ats ks k at (omega (arith, n)) h
 
 -- ---- starts rise
 

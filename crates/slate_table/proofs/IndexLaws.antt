@@ -1,22 +1,24 @@
 -- The offsets of an index say where blocks end.
-use Rattle.std.proofs.Common.{◌≡◌, ℕ, ◌+◌, ◌<◌, ◌^◌, ◌⊎◌, Bool, true, false, cond, List, [], ◌∷◌, ◌++◌, length, map, take, flat_map, refl, sym, ap, ◌∙◌, arith, length-append}
+use Rattle.std.proofs.Common.{◌≡◌, ℕ, ◌+◌, ◌<◌, ◌^◌, Bool, true, false, cond, List, [], ◌∷◌, ◌++◌, length, map, take, flat_map, refl, sym, ap, ◌∙◌, arith, length-append}
 use Rattle.std.specs.Prelude.{bytes_eq}
 use Rattle.std.specs.List.{AllByRecursion}
 use Rattle.std.proofs.lemmas.List.{length-take}
 use Rattle.slate_types.specs.declared.types.RowEntry.{RowEntry}
 use Rattle.slate_types.specs.Lawful.{IsLawfulTransform}
 use Rattle.slate_block.specs.RowSpelling.{be16, be32}
-use Rattle.slate_block.specs.BlockSpelling.{block_bytes, places, longest, FitsBlock}
+use Rattle.slate_block.specs.BlockSpelling.{block_bytes, places, longest, FitsBlock, IsKnown}
 use Rattle.slate_block.proofs.Pieces.{same_head, same_tail, same_pieces, same_ends, same_be16, same_be32, same_be64}
 use Rattle.slate_block.proofs.WrittenLaws.{one_written}
 use Rattle.slate_table.specs.Checksum.{crc32}
-use Rattle.slate_table.specs.Parts.{Encode, section, separator, later_separators, separators, first_key, last_key, index_entries, index_bytes}
+use Rattle.slate_table.specs.Parts.{Encode, section, cover_of, block_kind, separator, later_separators, separators, first_key, last_key, index_entries, index_bytes}
+use Rattle.slate_table.specs.Table.{sections_from}
 
 -- ---- sections
 
-pub same_part : (encode decode : Encode) → IsLawfulTransform encode decode → (a b : List ℕ) → section encode a ≡ section encode b → a ≡ b
-same_part encode decode lawful a b h =
-    let parts = same_ends (encode a) (encode b) (be32 (crc32 (encode a))) (be32 (crc32 (encode b))) refl h in
+-- whatever their checksums cover
+pub same_part : (cover other : List ℕ) (encode decode : Encode) → IsLawfulTransform encode decode → (a b : List ℕ) → section cover encode a ≡ section other encode b → a ≡ b
+same_part cover other encode decode lawful a b h =
+    let parts = same_ends (encode a) (encode b) (be32 (crc32 (cover ++ encode a))) (be32 (crc32 (other ++ encode b))) refl h in
     sym (lawful a) ∙ ap decode parts.0 ∙ lawful b
 
 -- ---- separators are short
@@ -97,29 +99,31 @@ same_first x y [] (t ∷ ts) h n = let m = ap (λ l. length l) h in absurd (omeg
 same_first x y (s ∷ ss) [] h n = let m = ap (λ l. length l) h in absurd (omega (arith, m))
 same_first x y (s ∷ ss) (t ∷ ts) h n = same_head x y (places (x + length s) ss) (places (y + length t) ts) h
 
-block_section : Encode → ℕ → List RowEntry → List ℕ
-block_section encode version b = section encode (block_bytes version b)
-
-pub same_blocks : (encode decode : Encode) → IsLawfulTransform encode decode → (version at : ℕ) → (version ≡ 1) ⊎ (version ≡ 2) → (bs cs : List (List RowEntry)) →
+-- of versions, ids and places that their checksums may cover
+pub same_blocks : (encode decode : Encode) → IsLawfulTransform encode decode → (version id at x y : ℕ) → IsKnown version → (bs cs : List (List RowEntry)) →
     AllByRecursion (FitsBlock version) bs → AllByRecursion (FitsBlock version) cs →
-    places at (map (λ b. section encode (block_bytes version b)) bs) ≡ places at (map (λ b. section encode (block_bytes version b)) cs) →
-    flat_map (λ s. s) (map (λ b. section encode (block_bytes version b)) bs) ≡ flat_map (λ s. s) (map (λ b. section encode (block_bytes version b)) cs) → bs ≡ cs
-unfolding block_section
-same_blocks encode decode lawful version at known [] [] f g p h = refl
-same_blocks encode decode lawful version at known [] (c ∷ cs) f g p h = let m = ap (λ l. length l) p in absurd (omega (arith, m))
-same_blocks encode decode lawful version at known (b ∷ bs) [] f g p h = let m = ap (λ l. length l) p in absurd (omega (arith, m))
-same_blocks encode decode lawful version at known (b ∷ bs) (c ∷ cs) f g p h =
-    let s = block_section encode version b in
-    let t = block_section encode version c in
-    let bytes = λ (x : List (List RowEntry)). flat_map (λ y. y) (map (block_section encode version) x) in
-    let ends : places (at + length s) (map (block_section encode version) bs) ≡ places (at + length t) (map (block_section encode version) cs) =
-    same_tail at at (places (at + length s) (map (block_section encode version) bs)) (places (at + length t) (map (block_section encode version) cs)) p in
-    let all : length (s ++ bytes bs) ≡ length (t ++ bytes cs) = ap (λ l. length l) h in
-    let ls = length-append s (bytes bs) in
-    let lt = length-append t (bytes cs) in
-    let first = same_first (at + length s) (at + length t) (map (block_section encode version) bs) (map (block_section encode version) cs) ends (omega (arith, all, ls, lt)) in
+    let ss = sections_from version id encode x (map (λ b. block_bytes version b) bs) in
+    let ts = sections_from version id encode y (map (λ b. block_bytes version b) cs) in
+    places at ss ≡ places at ts → flat_map (λ s. s) ss ≡ flat_map (λ s. s) ts → bs ≡ cs
+same_blocks encode decode lawful version id at x y known [] [] f g p h = refl
+same_blocks encode decode lawful version id at x y known [] (c ∷ cs) f g p h = let m = ap (λ l. length l) p in absurd (omega (arith, m))
+same_blocks encode decode lawful version id at x y known (b ∷ bs) [] f g p h = let m = ap (λ l. length l) p in absurd (omega (arith, m))
+same_blocks encode decode lawful version id at x y known (b ∷ bs) (c ∷ cs) f g p h =
+    let here = block_bytes version b in
+    let there = block_bytes version c in
+    let s = section (cover_of version id block_kind x) encode here in
+    let t = section (cover_of version id block_kind y) encode there in
+    let ss = sections_from version id encode (x + (length (encode here) + 4)) (map (λ d. block_bytes version d) bs) in
+    let ts = sections_from version id encode (y + (length (encode there) + 4)) (map (λ d. block_bytes version d) cs) in
+    let rest = flat_map (λ d. d) ss in
+    let more = flat_map (λ d. d) ts in
+    let ends : places (at + length s) ss ≡ places (at + length t) ts = same_tail at at (places (at + length s) ss) (places (at + length t) ts) p in
+    let all : length (s ++ rest) ≡ length (t ++ more) = ap (λ l. length l) h in
+    let ls = length-append s rest in
+    let lt = length-append t more in
+    let first = same_first (at + length s) (at + length t) ss ts ends (omega (arith, all, ls, lt)) in
     let size : length s ≡ length t = omega (arith, first) in
-    let both = same_pieces s t (bytes bs) (bytes cs) size h in
-    let block = one_written version b c known f.0 g.0 (same_part encode decode lawful (block_bytes version b) (block_bytes version c) both.0) in
-    let rest = same_blocks encode decode lawful version (at + length s) known bs cs f.1 g.1 (ends ∙ ap (λ n. places (at + n) (map (block_section encode version) cs)) (sym size)) both.1 in
-    λ i. block i ∷ rest i
+    let both = same_pieces s t rest more size h in
+    let block = one_written version b c known f.0 g.0 (same_part (cover_of version id block_kind x) (cover_of version id block_kind y) encode decode lawful here there both.0) in
+    let later = same_blocks encode decode lawful version id (at + length s) (x + (length (encode here) + 4)) (y + (length (encode there) + 4)) known bs cs f.1 g.1 (ends ∙ ap (λ n. places (at + n) ts) (sym size)) both.1 in
+    λ i. block i ∷ later i

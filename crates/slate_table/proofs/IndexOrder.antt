@@ -1,5 +1,5 @@
 -- The index of a table is one: its offsets rise, and its separators don't fall.
-use Rattle.std.proofs.Common.{◌≡◌, ℕ, zero, suc, ◌+◌, ◌^◌, ◌<◌, ◌≤◌, Bool, true, false, cond, eqb, List, [], ◌∷◌, ◌++◌, length, take, flat_map, refl, sym, ap, subst, ◌∙◌, arith}
+use Rattle.std.proofs.Common.{◌≡◌, ℕ, zero, suc, ◌+◌, ◌^◌, ◌<◌, ◌≤◌, Bool, true, false, cond, eqb, List, [], ◌∷◌, ◌++◌, length, map, take, flat_map, refl, sym, ap, subst, ◌∙◌, arith}
 use Rattle.std.specs.Prelude.{bytes_eq, nat_lt, ◌||◌, ◌&&◌}
 use Rattle.std.specs.List.{AllByRecursion}
 use Rattle.std.specs.Ordering.{is_le, nat_cmp, ordering_then}
@@ -7,7 +7,7 @@ use Rattle.std.specs.declared.cmp.Ordering.{Ordering}
 use Rattle.std.specs.declared.cmp.Ordering.TheVariants.{Less, Equal, Greater}
 use Rattle.std.proofs.lemmas.Bool.{eqb-true, eq-eqb}
 use Rattle.std.proofs.lemmas.Cmp.{nat_cmp_total, nat_list_cmp_total, tied_itself}
-use Rattle.std.proofs.lemmas.List.{length-append, length-map}
+use Rattle.std.proofs.lemmas.List.{length-append}
 use Rattle.std.proofs.lemmas.List.Concat.{flat_map-cons}
 use Rattle.std.proofs.lemmas.Slice.Eq.{bytes_eq-Decides}
 use Rattle.slate_types.specs.declared.types.RowEntry.{RowEntry}
@@ -18,11 +18,11 @@ use Rattle.slate_types.proofs.PartitionLaws.{le-trans}
 use Rattle.slate_block.specs.RowSpelling.{be16, be32, be64}
 use Rattle.slate_block.specs.BlockSpelling.{block_bytes, places, longest, FitsBlock}
 use Rattle.slate_block.proofs.Pieces.{same_head}
-use Rattle.slate_table.specs.Checksum.{crc32}
-use Rattle.slate_table.specs.Parts.{Encode, section, separator, later_separators, separators, last_key, index_bytes, index_entries}
-use Rattle.slate_table.specs.Table.{AreInOrder, block_sections}
+use Rattle.slate_table.specs.Parts.{Encode, cover_of, block_kind, separator, later_separators, separators, last_key, index_bytes, index_entries}
+use Rattle.slate_table.specs.Table.{AreInOrder, sections_from, block_sections}
 use Rattle.slate_table.specs.Decoded.{IsIndex, FitsEntry, RisesFrom, RisesFromZero, entry_bytes}
 use Rattle.slate_table.specs.FileLaws.{paired, table_entries}
+use Rattle.slate_table.proofs.Sections.{block_count, section_length}
 use Rattle.slate_table.proofs.IndexLaws.{places_count, separators_count, separators_short}
 
 -- ---- a separator stands between the keys
@@ -141,13 +141,12 @@ entries_rise version ((r ∷ b) ∷ bs) (s ∷ ss) some n order fits long =
 
 -- ---- the index
 
-sections_longer : (encode : Encode) (version : ℕ) (bs : List (List RowEntry)) → Longer (block_sections encode version bs)
+sections_longer : (version id : ℕ) (encode : Encode) (at : ℕ) (ps : List (List ℕ)) → Longer (sections_from version id encode at ps)
 unfolding Longer
-sections_longer encode version [] = tt
-sections_longer encode version (b ∷ bs) =
-    let text = encode (block_bytes version b) in
-    let size = length-append text (be32 (crc32 text)) in
-    (omega (arith, size), sections_longer encode version bs)
+sections_longer version id encode at [] = tt
+sections_longer version id encode at (p ∷ ps) =
+    let size = section_length (cover_of version id block_kind at) encode p in
+    (omega (arith, size), sections_longer version id encode (at + (length (encode p) + 4)) ps)
 
 each_fits : (at end : ℕ) (ss : List (List ℕ)) (ks : List (List ℕ)) → length ks ≡ length ss → at + length (flat_map (λ x. x) ss) ≤ end → end < 2 ^ 64 → AllByRecursion (λ k. length k < 2 ^ 16) ks → AllByRecursion (FitsEntry end) (paired (places at ss) ks)
 each_fits at end [] ks n h lt short = tt
@@ -168,13 +167,13 @@ paired_count [] ks n = refl
 paired_count (a ∷ ats) [] n = absurd (omega (arith, n))
 paired_count (a ∷ ats) (k ∷ ks) n = let rest = paired_count ats ks (omega (arith, n)) in omega (arith, rest)
 
-pub index_is : (encode : Encode) (version end : ℕ) (blocks : List (List RowEntry)) → AllByRecursion (FitsBlock version) blocks → 0 < length blocks → length blocks < 2 ^ 32 → AreInOrder (flat_map (λ b. b) blocks) →
-    length (flat_map (λ b. b) (block_sections encode version blocks)) ≡ end → end < 2 ^ 64 → IsIndex end (index_bytes (places 0 (block_sections encode version blocks)) (separators blocks)) (table_entries encode version blocks)
-index_is encode version end blocks fits some few order whole lt =
-    let ss = block_sections encode version blocks in
+pub index_is : (encode : Encode) (version id end : ℕ) (blocks : List (List RowEntry)) → AllByRecursion (FitsBlock version) blocks → 0 < length blocks → length blocks < 2 ^ 32 → AreInOrder (flat_map (λ b. b) blocks) →
+    length (flat_map (λ b. b) (block_sections encode version id blocks)) ≡ end → end < 2 ^ 64 → IsIndex end (index_bytes (places 0 (block_sections encode version id blocks)) (separators blocks)) (table_entries encode version id blocks)
+index_is encode version id end blocks fits some few order whole lt =
+    let ss = block_sections encode version id blocks in
     let ats = places 0 ss in
     let ks = separators blocks in
-    let sections = length-map blocks (λ b. section encode (block_bytes version b)) in
+    let sections = block_count encode version id blocks in
     let placed = places_count 0 ss in
     let named = separators_count blocks in
     let count = paired_count ats ks (omega (arith, placed, named, sections)) in
@@ -182,6 +181,6 @@ index_is encode version end blocks fits some few order whole lt =
     record {
       few = omega (arith, count, placed, sections, few);
       each = each_fits 0 end ss ks (omega (arith, named, sections)) (omega (arith, whole)) lt (separators_short version blocks fits);
-      rises = entries_rise version blocks ss some sections order fits (sections_longer encode version blocks);
+      rises = entries_rise version blocks ss some sections order fits (sections_longer version id encode 0 (map (λ b. block_bytes version b) blocks));
       is = λ j. be32 (sym count j) ++ text j;
     }

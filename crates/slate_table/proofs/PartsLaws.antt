@@ -1,5 +1,5 @@
 -- What a table builder keeps, row by row.
-use Rattle.std.proofs.Common.{◌≡◌, ℕ, ◌+◌, ◌-◌, ◌^◌, ◌<◌, ◌≤◌, Bool, true, false, cond, ◌==◌, List, [], ◌∷◌, ◌++◌, length, fold, flat_map, Option, Some, None, refl, sym, ap, subst, ◌∙◌, ◌⊎◌, inl, inr, arith}
+use Rattle.std.proofs.Common.{◌≡◌, ℕ, ◌+◌, ◌-◌, ◌^◌, ◌<◌, ◌≤◌, Bool, true, false, cond, ◌==◌, List, [], ◌∷◌, ◌++◌, length, fold, map, flat_map, Option, Some, None, refl, sym, ap, subst, ◌∙◌, ◌⊎◌, inl, inr, arith}
 use Rattle.std.specs.Prelude.{slice_get, sum_by, IsSome}
 use Rattle.std.specs.List.{AllByRecursion}
 use Rattle.std.proofs.lemmas.List.{append-nil, length-append, map-append}
@@ -14,11 +14,12 @@ use Rattle.slate_block.specs.Building.{Building, CanTake, with_row}
 use Rattle.slate_block.specs.Counting.{Counting, stats_of}
 use Rattle.slate_block.specs.Fitting.{fits_in}
 use Rattle.slate_table.specs.declared.table_parts.TableParts.{TableParts}
-use Rattle.slate_table.specs.Parts.{Encode, section, summed, separator, separators, last_key}
-use Rattle.slate_table.specs.Table.{AreInOrder, block_sections, cut}
+use Rattle.slate_table.specs.Parts.{Encode, cover_of, block_kind, section, summed, separator, separators, last_key}
+use Rattle.slate_table.specs.Table.{AreInOrder, sections_from, block_sections, cut}
 use Rattle.slate_table.specs.TableBuilding.{Cutting, cut_more, cutting, with_last, all_blocks, AreSections, section_size, HasTooManyBlocks}
-use Rattle.slate_table.specs.TableParts.{version_of, separator_behind, cut_parts, filled, seen, ended_size, fits_parts, HasSums, IsAdded, IsBegun, IsBehind, IsEnded, IsEndedBy, IsFull, IsInBlock, IsKept, IsSame, IsTaken, IsWritten, StandsOn, Stands}
+use Rattle.slate_table.specs.TableParts.{version_of, cover_behind, separator_behind, cut_parts, filled, seen, ended_size, fits_parts, HasSums, IsAdded, IsBegun, IsBehind, IsEnded, IsEndedBy, IsFull, IsInBlock, IsKept, IsSame, IsTaken, IsWritten, StandsOn, Stands}
 use Rattle.slate_table.proofs.IndexLaws.{separators_count}
+use Rattle.slate_table.proofs.Sections.{sections_end}
 use Rattle.slate_table.proofs.Cuttings.{Begun, cut_is, cutting_more, cut_same, cut_next, cutting_rows, separators_next, separators_same, places_end}
 
 pub last_of : (k : List ℕ) (rows : List RowEntry) (q r : RowEntry) → slice_get (r ∷ rows) (length rows) ≡ Some q → last_key r.key rows ≡ q.key
@@ -229,15 +230,16 @@ same_stands p q e s =
     })
 
 pub same_seen : (min : ℕ) (p q : TableParts) → IsSame p q → seen min q ≡ seen min p
-same_seen min p q e = λ i. record { version = version_of (e.format i); size = e.size i; min = min; rows = e.rows i; bytes = e.bytes i; offsets = e.offsets i }
+same_seen min p q e = λ i. record { version = version_of (e.format i); id = (e.id i).0; size = e.size i; min = min; rows = e.rows i; bytes = e.bytes i; offsets = e.offsets i }
 
 pub same_again : (p : TableParts) → IsSame p p
-same_again p = record { size = refl; format = refl; rows = refl; block = refl; bytes = refl; offsets = refl; separators = refl; stats = refl; keys = refl; values = refl }
+same_again p = record { size = refl; format = refl; id = refl; rows = refl; block = refl; bytes = refl; offsets = refl; separators = refl; stats = refl; keys = refl; values = refl }
 
 pub same_then : (p m q : TableParts) → IsSame p m → IsSame m q → IsSame p q
 same_then p m q a b = record {
   size = b.size ∙ a.size;
   format = b.format ∙ a.format;
+  id = b.id ∙ a.id;
   rows = b.rows ∙ a.rows;
   block = b.block ∙ a.block;
   bytes = b.bytes ∙ a.bytes;
@@ -248,17 +250,21 @@ same_then p m q a b = record {
   values = b.values ∙ a.values;
 }
 
+pub same_cover : (p m : TableParts) → IsSame p m → cover_behind m ≡ cover_behind p
+same_cover p m e = λ i. cover_of (version_of (e.format i)) (e.id i).0 block_kind (length (e.bytes i))
+
 pub begun_again : (p m q : TableParts) (stored part : List ℕ) (r : RowEntry) → IsSame p m → IsBegun stored m r q → stored ≡ part → IsBegun part p r q
 begun_again p m q stored part r e b is = record {
   size = b.size ∙ e.size;
   format = b.format ∙ e.format;
+  id = b.id ∙ e.id;
   rows = b.rows ∙ e.rows;
   separators = b.separators ∙ (λ i. e.separators i ++ separator_behind (e.rows i) r.key ∷ []);
   keys = b.keys ∙ e.keys;
   values = b.values ∙ e.values;
   builder = b.builder ∙ next_filled m p (r ∷ []) (sym e.size) (sym e.format);
   counts = b.counts;
-  bytes = b.bytes ∙ (λ i. e.bytes i ++ summed (is i));
+  bytes = b.bytes ∙ (λ i. e.bytes i ++ summed (same_cover p m e i) (is i));
   offsets = b.offsets ∙ (λ i. e.offsets i ++ length (e.bytes i) ∷ []);
   stats = b.stats ∙ (λ i. e.stats i ++ (e.block i).stats ∷ []);
 }
@@ -270,11 +276,12 @@ pub ended_of : (encode : Encode) (p m q : TableParts) (stored : List ℕ) (next 
 ended_of encode p m q stored next e b rows is fits = record {
   size = b.size ∙ e.size;
   format = b.format ∙ e.format;
+  id = b.id ∙ e.id;
   rows = (λ i. (rows i).items) ∙ e.rows;
   separators = b.separators ∙ e.separators;
   keys = b.keys ∙ e.keys;
   values = b.values ∙ e.values;
-  bytes = b.bytes ∙ (λ i. e.bytes i ++ summed (is i));
+  bytes = b.bytes ∙ (λ i. e.bytes i ++ summed (same_cover p m e i) (is i));
   offsets = b.offsets ∙ (λ i. e.offsets i ++ length (e.bytes i) ∷ []);
   stats = b.stats ∙ (λ i. e.stats i ++ (e.block i).stats ∷ []);
   fits = fits;
@@ -286,6 +293,7 @@ kept_taken : (p m q : TableParts) (r : RowEntry) → IsInBlock p r m → IsKept 
 kept_taken p m q r w k = record {
   size = k.size ∙ w.size;
   format = k.format ∙ w.format;
+  id = k.id ∙ w.id;
   rows = k.rows ∙ ap (λ (l : List RowEntry). l ++ r ∷ []) w.rows;
   separators = (λ i. (k.separators i).items) ∙ w.separators;
   keys = k.keys ∙ ap (λ (n : ℕ). n + length r.key) w.keys;
@@ -302,6 +310,7 @@ kept_behind : (encode : Encode) (p m q : TableParts) (r : RowEntry) → FitsBloc
 kept_behind encode p m q r fits w k = record {
   size = k.size ∙ w.size;
   format = k.format ∙ w.format;
+  id = k.id ∙ w.id;
   rows = k.rows ∙ ap (λ (l : List RowEntry). l ++ r ∷ []) w.rows;
   separators = (λ i. (k.separators i).items) ∙ w.separators;
   keys = k.keys ∙ ap (λ (n : ℕ). n + length r.key) w.keys;
@@ -326,27 +335,46 @@ written_sums encode p m r q (inr w) h = record { keys = omega (arith, w.2.keys, 
 -- ---- sections
 
 abbrev pub Sections : Encode → TableParts → Type 0
-Sections encode p = AreSections encode (version_of p.format) (cut_parts p).ended p.bytes.items p.offsets.items
+Sections encode p = AreSections encode (version_of p.format) p.id.0 (cut_parts p).ended p.bytes.items p.offsets.items
 
 taken_sections : (encode : Encode) (p q : TableParts) (r : RowEntry) → Stands p → fits_parts p r ≡ true → IsTaken p r q → Sections encode p → Sections encode q
 taken_sections encode p q r s fit t a =
     let next = ap (λ (c : Cutting). c.ended) (next_same p q r s fit t) in
-    let same : block_sections encode (version_of p.format) (cut_parts p).ended ≡ block_sections encode (version_of q.format) (cut_parts q).ended = λ i. block_sections encode (version_of (sym t.format i)) (sym next i) in
+    let id : p.id ≡ q.id = sym t.id in
+    let same : block_sections encode (version_of p.format) p.id.0 (cut_parts p).ended ≡ block_sections encode (version_of q.format) q.id.0 (cut_parts q).ended = λ i. block_sections encode (version_of (sym t.format i)) (id i).0 (sym next i) in
     record { are_bytes = t.bytes ∙ a.are_bytes ∙ ap (λ (l : List (List ℕ)). flat_map (λ x. x) l) same; are_offsets = t.offsets ∙ a.are_offsets ∙ ap (places 0) same }
 
 pub flat_end : (ss : List (List ℕ)) (x : List ℕ) → flat_map (λ y. y) (ss ++ x ∷ []) ≡ flat_map (λ y. y) ss ++ x
 flat_end ss x = flat_map-append (λ (y : List ℕ). y) ss (x ∷ []) ∙ ap (λ (l : List ℕ). flat_map (λ y. y) ss ++ l) (append-nil x)
 
+-- the section of a block behind those that were ended
+pub block_added : (encode : Encode) (version id : ℕ) (ended : List (List RowEntry)) (block : List RowEntry) →
+    block_sections encode version id ended ++ section (cover_of version id block_kind (length (flat_map (λ s. s) (block_sections encode version id ended)))) encode (block_bytes version block) ∷ []
+    ≡ block_sections encode version id (ended ++ block ∷ [])
+block_added encode version id ended block =
+    let ss = block_sections encode version id ended in
+    let at : 0 + length (flat_map (λ s. s) ss) ≡ length (flat_map (λ s. s) ss) = omega arith in
+    sym (ap (sections_from version id encode 0) (map-append (λ (b : List RowEntry). block_bytes version b) ended (block ∷ []))
+    ∙ sections_end version id encode 0 (map (λ (b : List RowEntry). block_bytes version b) ended) (block_bytes version block)
+    ∙ ap (λ (n : ℕ). ss ++ section (cover_of version id block_kind n) encode (block_bytes version block) ∷ []) at)
+
+pub block_behind : (encode : Encode) (p : TableParts) → Stands p → Sections encode p → let ss = block_sections encode (version_of p.format) p.id.0 (cut_parts p).ended in
+    section (cover_behind p) encode (block_bytes p.block.builder.version p.block.builder.rows)
+    ≡ section (cover_of (version_of p.format) p.id.0 block_kind (length (flat_map (λ s. s) ss))) encode (block_bytes (version_of p.format) (cut_parts p).filling)
+block_behind encode p s a =
+    let begin = ap length a.are_bytes in
+    λ i. section (cover_of (version_of p.format) p.id.0 block_kind (begin i)) encode (block_bytes (s.builder i).version (s.builder i).rows)
+
 behind_sections : (encode : Encode) (p q : TableParts) (r : RowEntry) → Stands p → fits_parts p r ≡ false → IsBehind encode p r q → Sections encode p → Sections encode q
 behind_sections encode p q r s fit b a =
     let c = cut_parts p in
     let version = version_of p.format in
-    let ss = block_sections encode version c.ended in
-    let x = section encode (block_bytes version c.filling) in
+    let ss = block_sections encode version p.id.0 c.ended in
+    let x = section (cover_of version p.id.0 block_kind (length (flat_map (λ y. y) ss))) encode (block_bytes version c.filling) in
     let next = ap (λ (d : Cutting). d.ended) (next_behind encode p q r s fit b) in
-    let more : ss ++ x ∷ [] ≡ block_sections encode version (c.ended ++ c.filling ∷ []) = sym (map-append (λ (b : List RowEntry). section encode (block_bytes version b)) c.ended (c.filling ∷ [])) in
-    let same : ss ++ x ∷ [] ≡ block_sections encode (version_of q.format) (cut_parts q).ended = more ∙ (λ i. block_sections encode (version_of (sym b.format i)) (sym next i)) in
-    let last = ap (λ (b : Building). section encode (block_bytes b.version b.rows)) s.builder in
+    let id : p.id ≡ q.id = sym b.id in
+    let same : ss ++ x ∷ [] ≡ block_sections encode (version_of q.format) q.id.0 (cut_parts q).ended = block_added encode version p.id.0 c.ended c.filling ∙ (λ i. block_sections encode (version_of (sym b.format i)) (id i).0 (sym next i)) in
+    let last = block_behind encode p s a in
     let whole : q.bytes.items ≡ flat_map (λ y. y) ss ++ x = b.bytes ∙ (λ i. a.are_bytes i ++ last i) in
     let begin : length p.bytes.items ≡ 0 + length (flat_map (λ y. y) ss) = ap length a.are_bytes ∙ omega arith in
     record {
@@ -382,11 +410,11 @@ fresh_stands p some few rows builder counts seps stats offsets keys values =
     })
 
 pub old_size : (encode : Encode) (min : ℕ) (p : TableParts) (r : RowEntry) → Stands p → ended_size encode p r ≡ section_size encode (seen min p) r
-old_size encode min p r s = ap (λ (b : Building). cond (fits_in b.size b.version b.rows r) None (Some (length (section encode (block_bytes b.version b.rows))))) s.builder
+old_size encode min p r s = ap (λ (b : Building). cond (fits_in b.size b.version b.rows r) None (Some (length (section (cover_behind p) encode (block_bytes b.version b.rows))))) s.builder
 
 pub ends_a_block : (encode : Encode) (min : ℕ) (p : TableParts) (r : RowEntry) → Stands p → fits_parts p r ≡ false → IsSome (section_size encode (seen min p) r)
 ends_a_block encode min p r s past =
-    let size = length (section encode (block_bytes p.block.builder.version p.block.builder.rows)) in
+    let size = length (section (cover_behind p) encode (block_bytes p.block.builder.version p.block.builder.rows)) in
     let ended : ended_size encode p r ≡ Some size = ap (λ (t : Bool). cond t None (Some size)) past in
     subst (λ (o : Option ℕ). IsSome o) (sym ended ∙ old_size encode min p r s) refl
 
@@ -459,3 +487,7 @@ added_format encode p q r (inr a) = a.1.format
 pub added_size : (encode : Encode) (p q : TableParts) (r : RowEntry) → IsAdded encode p r q → q.block_size ≡ p.block_size
 added_size encode p q r (inl a) = a.1.size
 added_size encode p q r (inr a) = a.1.size
+
+pub added_id : (encode : Encode) (p q : TableParts) (r : RowEntry) → IsAdded encode p r q → q.id ≡ p.id
+added_id encode p q r (inl a) = a.1.id
+added_id encode p q r (inr a) = a.1.id

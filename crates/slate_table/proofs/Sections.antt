@@ -1,6 +1,7 @@
 -- Sections of a table, whatever their checksums cover.
-use Rattle.std.proofs.Common.{◌≡◌, ℕ, suc, zero, ◌+◌, ◌<◌, Bool, true, false, List, [], ◌∷◌, ◌++◌, length, map, flat_map, Option, Some, None, refl, sym, ap, ◌∙◌, arith, length-append, append-nil}
+use Rattle.std.proofs.Common.{◌≡◌, ℕ, suc, zero, ◌+◌, List, [], ◌∷◌, ◌++◌, length, map, flat_map, Option, Some, None, refl, sym, ap, ◌∙◌, arith, length-append}
 use Rattle.std.specs.Prelude.{slice_get}
+use Rattle.std.proofs.lemmas.List.{length-map}
 use Rattle.slate_types.specs.declared.types.RowEntry.{RowEntry}
 use Rattle.slate_types.specs.Lawful.{IsLawfulTransform}
 use Rattle.slate_block.specs.RowSpelling.{be32}
@@ -28,6 +29,9 @@ same_section cover encode decode lawful a b h = sym (lawful a) ∙ ap decode (sa
 pub sections_count : (version id : ℕ) (encode : Encode) (at : ℕ) (ps : List (List ℕ)) → length (sections_from version id encode at ps) ≡ length ps
 sections_count version id encode at [] = refl
 sections_count version id encode at (p ∷ ps) = let n = sections_count version id encode (at + (length (encode p) + 4)) ps in omega (arith, n)
+
+pub block_count : (encode : Encode) (version id : ℕ) (bs : List (List RowEntry)) → length (block_sections encode version id bs) ≡ length bs
+block_count encode version id bs = sections_count version id encode 0 (map (λ b. block_bytes version b) bs) ∙ length-map bs (λ b. block_bytes version b)
 
 -- a further one stands behind all others
 pub sections_end : (version id : ℕ) (encode : Encode) (at : ℕ) (ps : List (List ℕ)) (p : List ℕ) →

@@ -1,5 +1,5 @@
 -- What is read of the bytes of a table by its info.
-use Rattle.std.proofs.Common.{◌≡◌, ℕ, zero, suc, ◌+◌, ◌-◌, ◌^◌, ◌<◌, ◌≤◌, ◌⊎◌, inl, inr, Bool, true, false, cond, ◌&&◌, List, [], ◌∷◌, ◌++◌, length, take, drop, map, flat_map, Option, Some, None, Ok, refl, sym, ap, subst, ◌∙◌, arith, bytes_eq, append_assoc, length-append}
+use Rattle.std.proofs.Common.{◌≡◌, ℕ, zero, suc, ◌+◌, ◌-◌, ◌^◌, ◌<◌, ◌≤◌, inl, inr, Bool, true, false, cond, ◌&&◌, List, [], ◌∷◌, ◌++◌, length, take, drop, map, flat_map, Option, Some, None, Ok, refl, sym, ap, subst, ◌∙◌, arith, bytes_eq, append_assoc, length-append}
 use Rattle.std.specs.Prelude.{◌==◌, IsTrue, nat_le, slice_get}
 use Rattle.std.specs.List.{AllByRecursion}
 use Rattle.std.proofs.lemmas.Bool.Decides.{nat_tests}
@@ -17,7 +17,7 @@ use Rattle.slate_store.specs.Store.{part_of}
 use Rattle.slate_block.specs.declared.block.Block.{Block}
 use Rattle.slate_block.specs.RowSpelling.{be16, be32, be64}
 use Rattle.slate_block.specs.BlockReading.{IsApart, offsets_of_block}
-use Rattle.slate_block.specs.BlockSpelling.{IsBlockOf, block_bytes, places, as_read, FitsBlock}
+use Rattle.slate_block.specs.BlockSpelling.{IsBlockOf, block_bytes, places, as_read, FitsBlock, IsKnown}
 use Rattle.slate_block.specs.ReadingLaws.{EachIsAByte}
 use Rattle.slate_block.specs.RowReading.{refusal}
 use Rattle.slate_block.proofs.ApartLaws.{block_apart, apart_once}
@@ -25,21 +25,23 @@ use Rattle.slate_block.proofs.FieldLaws.{ok_is}
 use Rattle.slate_block.proofs.LongestFronts.{longest_fronts}
 use Rattle.slate_block.proofs.OffsetLaws.{block_again_apart}
 use Rattle.slate_block.proofs.Pieces.{same_pieces, same_ends, same_be16, same_be32, same_be64, same_whole}
+use Rattle.slate_block.proofs.Versions.{below_16}
 use Rattle.slate_table.specs.Checksum.{crc32}
 use Rattle.slate_table.specs.Decoded.{Info, IsIndex, FitsShort, FitsEntry, RisesFrom, RisesFromZero, entry_bytes}
-use Rattle.slate_table.specs.Finding.{encloses, is_from, is_upto, IsTableWith, AreBlocksOf, index_answer, blocks_answer}
+use Rattle.slate_table.specs.Finding.{encloses, is_from, is_upto, IsTableWith, AreBlocksOf, index_answer, blocks_answer, block_read}
 use Rattle.slate_table.specs.IndexReading.{index_keys, index_of}
 use Rattle.slate_table.specs.InfoReading.{info_in}
-use Rattle.slate_table.specs.Parts.{Encode, section, summed, separators, later_separators, index_bytes, index_entries, stats_bytes, first_key, last_key}
-use Rattle.slate_table.specs.Reading.{stored_in, IsPart, IsRefused, IsIndexRead, RefusesIndex, IsBlockRead, AreBlocksRead, RefusesBlocks, block_start, blocks_size, block_answer}
+use Rattle.slate_table.specs.Parts.{Encode, cover_of, block_kind, filters_kind, index_kind, info_kind, section, summed, separators, later_separators, index_bytes, index_entries, first_key, last_key}
+use Rattle.slate_table.specs.Reading.{SectionRead, stored_of, IsPart, IsRefused, IsIndexRead, RefusesIndex, IsBlockRead, AreBlocksRead, RefusesBlocks, block_start, blocks_size, block_answer}
 use Rattle.slate_table.specs.SectionReading.{footer_bytes}
-use Rattle.slate_table.specs.Table.{filter_section, some_first, some_last, info_of, sections_then_info, block_sections, AreInOrder, IsTableOf}
+use Rattle.slate_table.specs.Table.{filter_section, some_first, some_last, info_of, sections_then_info, sections_from, block_sections, filters_section, index_section, stats_section, info_section, info_start, AreInOrder, IsTableOf}
 use Rattle.slate_table.specs.TableEnd.{HasInfo}
-use Rattle.slate_table.proofs.Covering.{le_itself, from_first, upto_last, AllFrom, AllUpto, AreSome, Follow, Holds, separators_hold, separators_follow, Outside, outside, covers, none_beyond, order_front}
+use Rattle.slate_table.proofs.Covering.{from_first, upto_last, AllFrom, AllUpto, AreSome, Follow, Holds, separators_hold, separators_follow, outside, covers, none_beyond, order_front}
 use Rattle.slate_table.proofs.IndexLaws.{separators_short, separators_count}
 use Rattle.slate_table.proofs.IndexReads.{index_again}
 use Rattle.slate_table.proofs.InfoReads.{info_again}
-use Rattle.slate_table.proofs.SectionReads.{part_again}
+use Rattle.slate_table.proofs.SectionReads.{cover_bytes, part_again}
+use Rattle.slate_table.proofs.Sections.{block_count, same_summed, section_length, section_placed}
 
 -- ---- the info
 
@@ -59,27 +61,29 @@ fronts_length b f i s =
     let l3 = length-append (b ++ f ++ i) s in
     omega (arith, l1, l2, l3)
 
-info_is : (bytes : List ℕ) (v : ℕ) (info : Info) (version : ℕ) (rows : List RowEntry) (b f i s : List ℕ) → version < 2 ^ 16 → length bytes < 2 ^ 64 → FitsShort (some_first rows) → FitsShort (some_last rows) →
-    bytes ≡ sections_then_info version rows b f i s → HasInfo bytes v info → (v ≡ version) × (info ≡ made_info rows b f i s)
+info_is : (bytes : List ℕ) (v id : ℕ) (info : Info) (version : ℕ) (rows : List RowEntry) (b f i s : List ℕ) → version < 2 ^ 16 → length bytes < 2 ^ 64 → FitsShort (some_first rows) → FitsShort (some_last rows) →
+    bytes ≡ sections_then_info version id rows b f i s → HasInfo bytes v id info → (v ≡ version) × (info ≡ made_info rows b f i s)
 unfolding made_info
-info_is bytes v info version rows b f i s known short first last is h =
+info_is bytes v id info version rows b f i s known short first last is h =
     let x = b ++ f ++ i ++ s in
     let n = length b + length f + length i + length s in
     let part = info_of version rows (length b) f i s in
     let front : length x ≡ n = fronts_length b f i s in
-    let e0 : ((h.before ++ summed h.part) ++ be64 (length h.before)) ++ be16 v ≡ ((x ++ summed part) ++ be64 n) ++ be16 version =
-    append_assoc (h.before ++ summed h.part) (be64 (length h.before)) (be16 v) ∙ append_assoc h.before (summed h.part) (footer_bytes (length h.before) v) ∙ sym h.is ∙ is in
-    let all : length bytes ≡ length h.before + length (summed h.part ++ footer_bytes (length h.before) v) = ap length h.is ∙ length-append h.before (summed h.part ++ footer_bytes (length h.before) v) in
-    let l1 = length-append x (summed part) in
-    let l2 = length-append (x ++ summed part) (be64 n) in
-    let l3 = length-append ((x ++ summed part) ++ be64 n) (be16 version) in
-    let whole : length bytes ≡ length (((x ++ summed part) ++ be64 n) ++ be16 version) = ap length is in
-    let e1 = same_ends ((h.before ++ summed h.part) ++ be64 (length h.before)) ((x ++ summed part) ++ be64 n) (be16 v) (be16 version) refl e0 in
+    let there = cover_of v id info_kind (length h.before) in
+    let here = cover_of version id info_kind n in
+    let e0 : ((h.before ++ summed there h.part) ++ be64 (length h.before)) ++ be16 v ≡ ((x ++ summed here part) ++ be64 n) ++ be16 version =
+    append_assoc (h.before ++ summed there h.part) (be64 (length h.before)) (be16 v) ∙ append_assoc h.before (summed there h.part) (footer_bytes (length h.before) v) ∙ sym h.is ∙ is in
+    let all : length bytes ≡ length h.before + length (summed there h.part ++ footer_bytes (length h.before) v) = ap length h.is ∙ length-append h.before (summed there h.part ++ footer_bytes (length h.before) v) in
+    let l1 = length-append x (summed here part) in
+    let l2 = length-append (x ++ summed here part) (be64 n) in
+    let l3 = length-append ((x ++ summed here part) ++ be64 n) (be16 version) in
+    let whole : length bytes ≡ length (((x ++ summed here part) ++ be64 n) ++ be16 version) = ap length is in
+    let e1 = same_ends ((h.before ++ summed there h.part) ++ be64 (length h.before)) ((x ++ summed here part) ++ be64 n) (be16 v) (be16 version) refl e0 in
     let versions = same_be16 v version [] [] h.spelled.known known (same_whole (be16 v) (be16 version) e1.1) in
-    let e2 = same_ends (h.before ++ summed h.part) (x ++ summed part) (be64 (length h.before)) (be64 n) refl e1.0 in
+    let e2 = same_ends (h.before ++ summed there h.part) (x ++ summed here part) (be64 (length h.before)) (be64 n) refl e1.0 in
     let ats = same_be64 (length h.before) n [] [] (omega (arith, short, all)) (omega (arith, short, whole, l1, l2, l3, front)) (same_whole (be64 (length h.before)) (be64 n) e2.1) in
-    let parts = same_pieces h.before x (summed h.part) (summed part) (ats.0 ∙ sym front) e2.0 in
-    let infos = same_ends h.part part (be32 (crc32 h.part)) (be32 (crc32 part)) refl parts.1 in
+    let parts = same_pieces h.before x (summed there h.part) (summed here part) (ats.0 ∙ sym front) e2.0 in
+    let infos = same_ends h.part part (be32 (crc32 (there ++ h.part))) (be32 (crc32 (here ++ part))) refl parts.1 in
     let read : info_in v (length h.before) h.part ≡ Ok info = info_again v (length h.before) h.part info (record { is = h.spelled; before = h.lies }) in
     let again : info_in version (length x) part ≡ Ok (made_info rows b f i s) = info_again version (length x) part (made_info rows b f i s) (record {
       is = record {
@@ -124,25 +128,21 @@ some_last_short : (rows : List RowEntry) → AllByRecursion (λ r. length r.key 
 some_last_short [] h = tt
 some_last_short (r ∷ rs) h = last_short r rs h
 
-below_16 : (version : ℕ) → (version ≡ 1) ⊎ (version ≡ 2) → version < 2 ^ 16
-below_16 version (inl e) = omega (arith, e)
-below_16 version (inr e) = omega (arith, e)
-
 rows_in : List (List RowEntry) → List RowEntry
 rows_in bs = flat_map (λ b. b) bs
 
-body_of : Encode → ℕ → List (List RowEntry) → List ℕ
-body_of encode version bs = flat_map (λ b. b) (block_sections encode version bs)
+body_of : Encode → ℕ → ℕ → List (List RowEntry) → List ℕ
+body_of encode version id bs = flat_map (λ b. b) (block_sections encode version id bs)
 
-index_part : Encode → ℕ → List (List RowEntry) → List ℕ
-index_part encode version bs = index_bytes (places 0 (block_sections encode version bs)) (separators bs)
-
-table_info : (encode : Encode) (bytes : List ℕ) (v : ℕ) (info : Info) (version : ℕ) (bs : List (List RowEntry)) (fs : List (List ℕ × List ℕ)) → IsTableOf encode bytes version bs fs → HasInfo bytes v info →
-    (v ≡ version) × (info ≡ made_info (rows_in bs) (body_of encode version bs) (filter_section encode fs) (section encode (index_part encode version bs)) (section encode (stats_bytes bs)))
-unfolding rows_in body_of index_part
-table_info encode bytes v info version bs fs t h =
-    info_is bytes v info version (rows_in bs) (body_of encode version bs) (filter_section encode fs) (section encode (index_part encode version bs)) (section encode (stats_bytes bs))
+table_info : (encode : Encode) (bytes : List ℕ) (v id : ℕ) (info : Info) (version : ℕ) (bs : List (List RowEntry)) (fs : List (List ℕ × List ℕ)) → IsTableOf encode bytes version id bs fs → HasInfo bytes v id info →
+    (v ≡ version) × (info ≡ made_info (rows_in bs) (body_of encode version id bs) (filters_section encode version id bs fs) (index_section encode version id bs fs) (stats_section encode version id bs fs))
+unfolding rows_in body_of
+table_info encode bytes v id info version bs fs t h =
+    info_is bytes v id info version (rows_in bs) (body_of encode version id bs) (filters_section encode version id bs fs) (index_section encode version id bs fs) (stats_section encode version id bs fs)
     (below_16 version t.known) t.short (first_short (rows_in bs) (all_short version bs t.each)) (some_last_short (rows_in bs) (all_short version bs t.each)) t.is h
+
+pub same_version : (encode : Encode) (bytes : List ℕ) (v id : ℕ) (info : Info) (version : ℕ) (bs : List (List RowEntry)) (fs : List (List ℕ × List ℕ)) → IsTableOf encode bytes version id bs fs → HasInfo bytes v id info → v ≡ version
+same_version encode bytes v id info version bs fs t h = (table_info encode bytes v id info version bs fs t h).0
 
 -- ---- keys outside
 
@@ -176,12 +176,12 @@ of_key_read version k (r ∷ rs) =
     by true rest = ap (λ xs. as_read version r ∷ xs) rest
     by false rest = rest
 
-pub outside_none : (encode : Encode) (bytes : List ℕ) (version : ℕ) (info : Info) (rows : List RowEntry) → IsTableWith encode bytes version info rows → (k : List ℕ) → encloses info k ≡ false → of_key k rows ≡ []
+pub outside_none : (encode : Encode) (bytes : List ℕ) (version id : ℕ) (info : Info) (rows : List RowEntry) → IsTableWith encode bytes version id info rows → (k : List ℕ) → encloses info k ≡ false → of_key k rows ≡ []
 unfolding rows_in made_info
-outside_none encode bytes version info rows t k h =
+outside_none encode bytes version id info rows t k h =
     let w = t.written in
     let bs = t.is.0 in
-    let is = table_info encode bytes version info w bs t.is.1 t.is.2 t.info in
+    let is = table_info encode bytes version id info w bs t.is.1 t.is.2 t.info in
     ap (of_key k) t.is.3 ∙ of_key_read w k (rows_in bs) ∙ ap (map (as_read w)) (first_of (rows_in bs) k t.is.2.order (sym (ap (λ x. encloses x k) is.1) ∙ h))
 
 -- ---- ranges of bytes
@@ -270,8 +270,8 @@ one_longer (x ∷ ss) (suc i) s h =
     let rest = one_longer ss i s h in
     omega (arith, rest, length-append x (flat_map (λ x. x) (take (suc i) ss)), length-append x (flat_map (λ x. x) (take i ss)))
 
-section_read : (bytes rest : List ℕ) (ss : List (List ℕ)) (i : ℕ) (s : List ℕ) (a n : ℕ) → bytes ≡ flat ss ++ rest → slice_get ss i ≡ Some s → a ≡ length (flat (take i ss)) → n ≡ length s → part_of (Some bytes) a n ≡ Some s
-section_read bytes rest ss i s a n is h at size =
+section_there : (bytes rest : List ℕ) (ss : List (List ℕ)) (i : ℕ) (s : List ℕ) (a n : ℕ) → bytes ≡ flat ss ++ rest → slice_get ss i ≡ Some s → a ≡ length (flat (take i ss)) → n ≡ length s → part_of (Some bytes) a n ≡ Some s
+section_there bytes rest ss i s a n is h at size =
     ap (λ b. part_of (Some b) a n) (is ∙ splits ss i s rest h) ∙ part_at (flat (take i ss)) s (flat (drop (suc i) ss) ++ rest) a n at size
 
 -- what an answer from the first block on says of a block
@@ -290,7 +290,7 @@ answer_is bytes rest ss es end first stop i s is ends are low high found =
     let whole : length bytes ≡ length (flat ss) + length rest = ap length is ∙ length-append (flat ss) rest in
     part_twice bytes (block_start end es first) (blocks_size end es first stop) (blocks_size end es first i) (blocks_size end es i (i + 1))
     (omega (arith, f, z, r1, r2, r3, longer, whole)) (omega (arith, f, g, next, z, r1, r2, longer))
-    ∙ section_read bytes rest ss i s (block_start end es first + blocks_size end es first i) (blocks_size end es i (i + 1)) is found (omega (arith, f, g, r1)) (omega (arith, g, next, longer))
+    ∙ section_there bytes rest ss i s (block_start end es first + blocks_size end es first i) (blocks_size end es i (i + 1)) is found (omega (arith, f, g, r1)) (omega (arith, g, next, longer))
 
 -- ---- the index
 
@@ -319,18 +319,17 @@ entries_are end (e ∷ es) (a ∷ ats) (x ∷ ks) n p f g k h =
     let rest = entries_are end es ats ks (omega (arith, n)) (omega (arith, p)) f.1 g.1 k.1 key.1 in
     ((λ i. at.0 i ∷ rest.0 i), (λ i. key.0 i ∷ rest.1 i))
 
-pub part_is : (encode decode : Encode) → IsLawfulTransform encode decode → (part found : List ℕ) (answer : Option (List ℕ)) → answer ≡ Some (section encode part) → IsPart decode answer found → found ≡ part
-part_is encode decode lawful part found answer is p =
-    let same : summed p.0 ≡ summed (encode part) = same_Some (summed p.0) (summed (encode part)) (sym p.1 ∙ is) in
-    let stored = same_ends p.0 (encode part) (be32 (crc32 p.0)) (be32 (crc32 (encode part))) refl same in
-    p.2 ∙ ap decode stored.0 ∙ lawful part
+pub part_is : (encode decode : Encode) → IsLawfulTransform encode decode → (part found : List ℕ) (s : SectionRead) → s.answer ≡ Some (section s.cover encode part) → IsPart decode s found → found ≡ part
+part_is encode decode lawful part found s is p =
+    let same : summed s.cover p.0 ≡ summed s.cover (encode part) = same_Some (summed s.cover p.0) (summed s.cover (encode part)) (sym p.1 ∙ is) in
+    p.2 ∙ ap decode (same_summed s.cover p.0 (encode part) same) ∙ lawful part
 
 -- the entries are those of the blocks
-index_is : (encode decode : Encode) → IsLawfulTransform encode decode → (version end : ℕ) (bs : List (List RowEntry)) (ss : List (List ℕ)) (answer : Option (List ℕ)) (es : List (ℕ × List ℕ)) →
-    AllByRecursion (FitsBlock version) bs → length ss ≡ length bs → length bs < 2 ^ 32 → length (flat ss) < 2 ^ 64 → answer ≡ Some (section encode (index_bytes (places 0 ss) (separators bs))) →
-    IsIndexRead decode end answer es → (map (λ e. e.0) es ≡ places 0 ss) × (index_keys es ≡ separators bs)
-index_is encode decode lawful version end bs ss answer es each count few short is read =
-    let part = part_is encode decode lawful (index_bytes (places 0 ss) (separators bs)) read.0 answer is read.1 in
+index_is : (encode decode : Encode) → IsLawfulTransform encode decode → (version end : ℕ) (bs : List (List RowEntry)) (ss : List (List ℕ)) (s : SectionRead) (es : List (ℕ × List ℕ)) →
+    AllByRecursion (FitsBlock version) bs → length ss ≡ length bs → length bs < 2 ^ 32 → length (flat ss) < 2 ^ 64 → s.answer ≡ Some (section s.cover encode (index_bytes (places 0 ss) (separators bs))) →
+    IsIndexRead decode end s es → (map (λ e. e.0) es ≡ places 0 ss) × (index_keys es ≡ separators bs)
+index_is encode decode lawful version end bs ss s es each count few short is read =
+    let part = part_is encode decode lawful (index_bytes (places 0 ss) (separators bs)) read.0 s is read.1 in
     let ats = places_count 0 ss in
     let ks = separators_count bs in
     let number = same_be32 (length es) (length (places 0 ss)) (flat_map entry_bytes es) (index_entries (places 0 ss) (separators bs)) read.2.few (omega (arith, ats, count, few)) (sym read.2.is ∙ part) in
@@ -338,10 +337,10 @@ index_is encode decode lawful version end bs ss answer es each count few short i
 
 -- ---- blocks
 
-block_is : (encode decode : Encode) → IsLawfulTransform encode decode → (version : ℕ) (b : List RowEntry) (answer : Option (List ℕ)) (block : Block) → (version ≡ 1) ⊎ (version ≡ 2) → FitsBlock version b →
-    answer ≡ Some (section encode (block_bytes version b)) → IsBlockRead decode answer block → IsBlockOf block.body block.offsets.items version (map (as_read version) b)
-block_is encode decode lawful version b answer block known fits is read =
-    let part = part_is encode decode lawful (block_bytes version b) read.0 answer is read.1 in
+block_is : (encode decode : Encode) → IsLawfulTransform encode decode → (version : ℕ) (b : List RowEntry) (s : SectionRead) (block : Block) → IsKnown version → FitsBlock version b →
+    s.answer ≡ Some (section s.cover encode (block_bytes version b)) → IsBlockRead decode s block → IsBlockOf block.body block.offsets.items version (map (as_read version) b)
+block_is encode decode lawful version b s block known fits is read =
+    let part = part_is encode decode lawful (block_bytes version b) read.0 s is read.1 in
     let spelled = longest_fronts version b known fits in
     let apart = block_apart spelled.0 spelled.1 (block_bytes version b) version (map (as_read version) b) spelled.2 spelled.3 in
     let same = apart_once block.body spelled.0 block.offsets.items spelled.1 (block_bytes version b) (subst (λ p. IsApart block.body block.offsets.items p) part read.2) apart in
@@ -370,6 +369,19 @@ mapped_get : {X Y : Type 0} (f : X → Y) (xs : List X) (i : ℕ) (x : X) → sl
 mapped_get f [] i x h = cc
 mapped_get f (y ∷ xs) zero x h = ap (λ z. Some (f z)) (same_Some y x h)
 mapped_get f (y ∷ xs) (suc i) x h = mapped_get f xs i x h
+
+begin_is : (end : ℕ) (es : List (ℕ × List ℕ)) (i at : ℕ) → slice_get (map (λ e. e.0) es) i ≡ Some at → block_start end es i ≡ at
+begin_is end [] i at h = cc
+begin_is end (e ∷ es) zero at h = same_Some e.0 at h
+begin_is end (e ∷ es) (suc i) at h = begin_is end es i at h
+
+-- its checksum covers where the index says that it begins
+pub block_there : (encode : Encode) (version id end : ℕ) (bs : List (List RowEntry)) (es : List (ℕ × List ℕ)) (i : ℕ) (b : List RowEntry) → map (λ e. e.0) es ≡ places 0 (block_sections encode version id bs) → slice_get bs i ≡ Some b →
+    slice_get (block_sections encode version id bs) i ≡ Some (section (cover_of version id block_kind (block_start end es i)) encode (block_bytes version b))
+block_there encode version id end bs es i b are here =
+    let at = section_placed version id encode 0 (map (λ c. block_bytes version c) bs) i (block_bytes version b) (mapped_get (λ c. block_bytes version c) bs i b here) in
+    let begins_at : block_start end es i ≡ at.begin = begin_is end es i at.begin (ap (λ xs. slice_get xs i) are ∙ at.place) in
+    at.there ∙ ap (λ n. Some (section (cover_of version id block_kind n) encode (block_bytes version b))) (sym begins_at)
 
 -- ---- the rows of blocks stand in order
 
@@ -424,66 +436,74 @@ mid_bytes : (front mid rest : List ℕ) → EachIsAByte (front ++ (mid ++ rest))
 mid_bytes [] mid rest fits = front_bytes mid rest fits
 mid_bytes (x ∷ front) mid rest fits = mid_bytes front mid rest (λ i. fits (suc i))
 
-pub record Found (encode : Encode) (bytes : List ℕ) (version : ℕ) (info : Info) (bs : List (List RowEntry)) : Type 0 where
+pub record Found (encode : Encode) (bytes : List ℕ) (version id : ℕ) (info : Info) (bs : List (List RowEntry)) : Type 0 where
   pub ss : List (List ℕ)
-  pub are : ss ≡ block_sections encode version bs
+  pub are : ss ≡ block_sections encode version id bs
   pub rest : List ℕ
   pub is : bytes ≡ flat ss ++ rest
   pub end : info.filters.at ≡ length (flat ss)
-  pub index : index_answer bytes info ≡ Some (section encode (index_bytes (places 0 ss) (separators bs)))
-  pub index_is : EachIsAByte bytes → EachIsAByte (section encode (index_bytes (places 0 ss) (separators bs)))
+  pub index : (index_answer version id bytes info).answer ≡ Some (section (cover_of version id index_kind info.index.at) encode (index_bytes (places 0 ss) (separators bs)))
+  pub index_is : EachIsAByte bytes → EachIsAByte (section (cover_of version id index_kind info.index.at) encode (index_bytes (places 0 ss) (separators bs)))
 
-pub found_in : (encode : Encode) (bytes : List ℕ) (v : ℕ) (info : Info) (version : ℕ) (bs : List (List RowEntry)) (fs : List (List ℕ × List ℕ)) → IsTableOf encode bytes version bs fs → HasInfo bytes v info → Found encode bytes version info bs
-unfolding made_info body_of index_part flat rows_in
-found_in encode bytes v info version bs fs t h =
-    let is = table_info encode bytes v info version bs fs t h in
-    let b = flat_map (λ s. s) (block_sections encode version bs) in
-    let f = filter_section encode fs in
-    let i = section encode (index_bytes (places 0 (block_sections encode version bs)) (separators bs)) in
-    let s = section encode (stats_bytes bs) in
-    let n = summed (info_of version (flat_map (λ x. x) bs) (length b) f i s) in
-    let end = be64 (length b + length f + length i + length s) in
+pub found_in : (encode : Encode) (bytes : List ℕ) (v id : ℕ) (info : Info) (version : ℕ) (bs : List (List RowEntry)) (fs : List (List ℕ × List ℕ)) → IsTableOf encode bytes version id bs fs → HasInfo bytes v id info →
+    Found encode bytes version id info bs
+unfolding made_info body_of flat rows_in
+found_in encode bytes v id info version bs fs t h =
+    let is = table_info encode bytes v id info version bs fs t h in
+    let part = index_bytes (places 0 (block_sections encode version id bs)) (separators bs) in
+    let b = flat_map (λ s. s) (block_sections encode version id bs) in
+    let f = filters_section encode version id bs fs in
+    let i = index_section encode version id bs fs in
+    let s = stats_section encode version id bs fs in
+    let n = info_section encode version id bs fs in
+    let end = be64 (info_start encode version id bs fs) in
     let whole : bytes ≡ (b ++ f) ++ (i ++ (s ++ (n ++ (end ++ be16 version)))) =
     t.is ∙ append_assoc (b ++ f ++ i ++ s ++ n) end (be16 version) ∙ append_assoc (b ++ f ++ i ++ s) n (end ++ be16 version) ∙ append_assoc (b ++ f ++ i) s (n ++ (end ++ be16 version)) ∙ append_assoc (b ++ f) i (s ++ (n ++ (end ++ be16 version))) in
+    let covered : i ≡ section (cover_of version id index_kind info.index.at) encode part =
+    ap (λ (x : Info). section (cover_of version id index_kind x.index.at) encode part) (sym is.1) in
     record {
-      ss = block_sections encode version bs;
+      ss = block_sections encode version id bs;
       are = refl;
       rest = f ++ (i ++ (s ++ (n ++ (end ++ be16 version))));
       is = whole ∙ append_assoc b f (i ++ (s ++ (n ++ (end ++ be16 version))));
       end = ap (λ x. x.filters.at) is.1;
-      index = (λ j. part_of (Some (whole j)) (is.1 j).index.at (is.1 j).index.len) ∙ part_at (b ++ f) i (s ++ (n ++ (end ++ be16 version))) (length b + length f) (length i) (sym (length-append b f)) refl;
-      index_is = λ fits. mid_bytes (b ++ f) i (s ++ (n ++ (end ++ be16 version))) (subst EachIsAByte whole fits);
+      index = (λ j. part_of (Some (whole j)) (is.1 j).index.at (is.1 j).index.len) ∙ part_at (b ++ f) i (s ++ (n ++ (end ++ be16 version))) (length b + length f) (length i) (sym (length-append b f)) refl ∙ ap Some covered;
+      index_is = λ fits. subst EachIsAByte covered (mid_bytes (b ++ f) i (s ++ (n ++ (end ++ be16 version))) (subst EachIsAByte whole fits));
     }
 
-pub key_held : (encode decode : Encode) → IsLawfulTransform encode decode → (bytes : List ℕ) (version : ℕ) (info : Info) (rows : List RowEntry) → IsTableWith encode bytes version info rows →
-    (entries : List (ℕ × List ℕ)) → IsIndexRead decode info.filters.at (index_answer bytes info) entries →
+pub key_held : (encode decode : Encode) → IsLawfulTransform encode decode → (bytes : List ℕ) (version id : ℕ) (info : Info) (rows : List RowEntry) → IsTableWith encode bytes version id info rows →
+    (entries : List (ℕ × List ℕ)) → IsIndexRead decode info.filters.at (index_answer version id bytes info) entries →
     (k : List ℕ) (first stop : ℕ) → first ≤ stop → stop ≤ length entries → ((i : ℕ) → CanHold (index_keys entries) i k → (first ≤ i) × (i < stop)) →
-    (blocks : List Block) → length blocks ≡ stop - first → AreBlocksRead decode (block_answer info.filters.at entries first (blocks_answer bytes info entries first stop)) first blocks →
+    (blocks : List Block) → length blocks ≡ stop - first → AreBlocksRead decode (block_read version id info entries first (blocks_answer bytes info entries first stop)) first blocks →
     (found : List (List RowEntry)) × AreBlocksOf version blocks found × AllByRecursion (IsInOrder Ascending) found × (of_key k (flat_map (λ b. b) found) ≡ of_key k rows)
 unfolding Holds
-key_held encode decode lawful bytes version info rows t es read k first stop order within cover blocks count are =
+key_held encode decode lawful bytes version id info rows t es read k first stop order within cover blocks count are =
     (map (map (as_read version)) xs, blocks_are, each_in_order version xs (all_taken AreInOrder (stop - first) (drop first bs) (all_dropped AreInOrder first bs (each_ordered bs table.order))), held)
   where
     bs : List (List RowEntry)
     bs = t.is.0
 
-    table : IsTableOf encode bytes t.written t.is.0 t.is.1
+    table : IsTableOf encode bytes t.written id t.is.0 t.is.1
     table = t.is.2
 
     same : version ≡ t.written
-    same = (table_info encode bytes version info t.written t.is.0 t.is.1 t.is.2 t.info).0
+    same = same_version encode bytes version id info t.written t.is.0 t.is.1 t.is.2 t.info
 
-    at : Found encode bytes t.written info t.is.0
-    at = found_in encode bytes version info t.written t.is.0 t.is.1 t.is.2 t.info
+    at : Found encode bytes t.written id info t.is.0
+    at = found_in encode bytes version id info t.written t.is.0 t.is.1 t.is.2 t.info
 
     count_ss : length at.ss ≡ length t.is.0
-    count_ss = ap length at.are ∙ length-map t.is.0 (λ b. section encode (block_bytes t.written b))
+    count_ss = ap length at.are ∙ block_count encode t.written id t.is.0
 
     short : length (flat at.ss) < 2 ^ 64
     short = let l : length bytes ≡ length (flat at.ss) + length at.rest = ap length at.is ∙ length-append (flat at.ss) at.rest in omega (arith, l, t.is.2.short)
 
     index : (map (λ e. e.0) es ≡ places 0 at.ss) × (index_keys es ≡ separators t.is.0)
-    index = index_is encode decode lawful t.written info.filters.at t.is.0 at.ss (index_answer bytes info) es t.is.2.each count_ss t.is.2.few short at.index read
+    index = index_is encode decode lawful t.written info.filters.at t.is.0 at.ss (index_answer t.written id bytes info) es t.is.2.each count_ss t.is.2.few short at.index
+        (subst (λ v. IsIndexRead decode info.filters.at (index_answer v id bytes info) es) same read)
+
+    blocks_read : AreBlocksRead decode (block_read t.written id info es first (blocks_answer bytes info es first stop)) first blocks
+    blocks_read = subst (λ v. AreBlocksRead decode (block_read v id info es first (blocks_answer bytes info es first stop)) first blocks) same are
 
     entries_count : length es ≡ length t.is.0
     entries_count = sym (length-map es (λ e. e.0)) ∙ ap length index.0 ∙ places_count 0 at.ss ∙ count_ss
@@ -498,9 +518,12 @@ key_held encode decode lawful bytes version info rows t es read k first stop ord
     one i block b e f =
         let inside = taken_get (drop first t.is.0) (stop - first) i b f in
         let place : slice_get t.is.0 (first + i) ≡ Some b = dropped_get t.is.0 first i b inside.0 in
-        let there : slice_get at.ss (first + i) ≡ Some (section encode (block_bytes t.written b)) = ap (λ ss. slice_get ss (first + i)) at.are ∙ mapped_get (λ x. section encode (block_bytes t.written x)) t.is.0 (first + i) b place in
-        let answer = answer_is bytes at.rest at.ss es info.filters.at first stop (first + i) (section encode (block_bytes t.written b)) at.is at.end index.0 (omega arith) (omega (arith, inside.1)) there in
-        block_is encode decode lawful t.written b (block_answer info.filters.at es first (blocks_answer bytes info es first stop) (first + i)) block t.is.2.known (all_get (FitsBlock t.written) t.is.0 (first + i) b t.is.2.each place) answer (are i block e)
+        let cover = cover_of t.written id block_kind (block_start info.filters.at es (first + i)) in
+        let there : slice_get at.ss (first + i) ≡ Some (section cover encode (block_bytes t.written b)) =
+        ap (λ ss. slice_get ss (first + i)) at.are ∙ block_there encode t.written id info.filters.at t.is.0 es (first + i) b (index.0 ∙ ap (places 0) at.are) place in
+        let answer = answer_is bytes at.rest at.ss es info.filters.at first stop (first + i) (section cover encode (block_bytes t.written b)) at.is at.end index.0 (omega arith) (omega (arith, inside.1)) there in
+        block_is encode decode lawful t.written b (block_read t.written id info es first (blocks_answer bytes info es first stop) (first + i)) block t.is.2.known
+        (all_get (FitsBlock t.written) t.is.0 (first + i) b t.is.2.each place) answer (blocks_read i block e)
 
     blocks_are : AreBlocksOf version blocks (map (map (as_read version)) xs)
     blocks_are = subst (λ v. AreBlocksOf v blocks (map (map (as_read v)) xs)) (sym same) (all_of t.written blocks xs xs_count one)
@@ -516,12 +539,12 @@ key_held encode decode lawful bytes version info rows t es read k first stop ord
 
 -- ---- nothing of a table is refused
 
-nothing_refused : (encode decode : Encode) → IsLawfulTransform encode decode → (refused : List ℕ → Option SlateDBError) (part : List ℕ) (answer : Option (List ℕ)) (e : SlateDBError) →
-    answer ≡ Some (section encode part) → EachIsAByte (section encode part) → refused part ≡ None → IsRefused decode refused answer e → ⊥
-nothing_refused encode decode lawful refused part answer e is fits fine (inl h) =
-    let clash : None ≡ Some e = sym (ap (λ o. refusal (stored_in o)) is ∙ ap refusal (part_again (section encode part) (encode part) fits refl)) ∙ h in cc
-nothing_refused encode decode lawful refused part answer e is fits fine (inr h) =
-    let clash : None ≡ Some e = sym (ap refused (part_is encode decode lawful part h.0 answer is h.1) ∙ fine) ∙ h.2 in cc
+nothing_refused : (encode decode : Encode) → IsLawfulTransform encode decode → (refused : List ℕ → Option SlateDBError) (part : List ℕ) (s : SectionRead) (e : SlateDBError) →
+    s.answer ≡ Some (section s.cover encode part) → EachIsAByte s.cover → EachIsAByte (section s.cover encode part) → refused part ≡ None → IsRefused decode refused s e → ⊥
+nothing_refused encode decode lawful refused part s e is covered fits fine (inl h) =
+    let clash : None ≡ Some e = sym (ap (λ o. refusal (stored_of s.cover o)) is ∙ ap refusal (part_again s.cover (section s.cover encode part) (encode part) covered fits refl)) ∙ h in cc
+nothing_refused encode decode lawful refused part s e is covered fits fine (inr h) =
+    let clash : None ≡ Some e = sym (ap refused (part_is encode decode lawful part h.0 s is h.1) ∙ fine) ∙ h.2 in cc
 
 pairs : List ℕ → List (List ℕ) → List (ℕ × List ℕ)
 pairs [] ks = []
@@ -552,112 +575,130 @@ pairs_rise at s [] k ks some more follow = tt
 pairs_rise at s (t ∷ ss) k [] some more follow = tt
 pairs_rise at s (t ∷ ss) k (j ∷ ks) some more follow = (omega (arith, some), follow.0, pairs_rise (at + length s) t ss j ks more.0 more.1 follow.1)
 
-section_some : (encode : Encode) (part : List ℕ) → 0 < length (section encode part)
-section_some encode part = let l = length-append (encode part) (be32 (crc32 (encode part))) in omega (arith, l)
+section_some : (cover : List ℕ) (encode : Encode) (part : List ℕ) → 0 < length (section cover encode part)
+section_some cover encode part = let l = section_length cover encode part in omega (arith, l)
 
-sections_some : (encode : Encode) (version : ℕ) (bs : List (List RowEntry)) → AllByRecursion (λ x. 0 < length x) (map (λ b. section encode (block_bytes version b)) bs)
-sections_some encode version [] = tt
-sections_some encode version (b ∷ bs) = (section_some encode (block_bytes version b), sections_some encode version bs)
+sections_some : (version id : ℕ) (encode : Encode) (at : ℕ) (ps : List (List ℕ)) → AllByRecursion (λ x. 0 < length x) (sections_from version id encode at ps)
+sections_some version id encode at [] = tt
+sections_some version id encode at (p ∷ ps) = (section_some (cover_of version id block_kind at) encode p, sections_some version id encode (at + (length (encode p) + 4)) ps)
 
-rises_zero : (encode : Encode) (version : ℕ) (bs : List (List RowEntry)) → 0 < length bs → AreSome bs → AreInOrder (flat_map (λ x. x) bs) → RisesFromZero (pairs (places 0 (map (λ b. section encode (block_bytes version b)) bs)) (separators bs))
+rises_zero : (encode : Encode) (version id : ℕ) (bs : List (List RowEntry)) → 0 < length bs → AreSome bs → AreInOrder (flat_map (λ x. x) bs) → RisesFromZero (pairs (places 0 (block_sections encode version id bs)) (separators bs))
 unfolding pairs
-rises_zero encode version [] some each order = absurd (omega (arith, some))
-rises_zero encode version (b ∷ bs) some each order = (
-  refl,
-  pairs_rise 0 (section encode (block_bytes version b)) (map (λ b. section encode (block_bytes version b)) bs) (first_key b) (later_separators (last_key [] b) bs)
-      (section_some encode (block_bytes version b)) (sections_some encode version bs) (separators_follow b bs each order),
-)
+rises_zero encode version id [] some each order = absurd (omega (arith, some))
+rises_zero encode version id (b ∷ bs) some each order =
+    let part = block_bytes version b in
+    let cover = cover_of version id block_kind 0 in
+    let next = 0 + (length (encode part) + 4) in (
+      refl,
+      pairs_rise 0 (section cover encode part) (sections_from version id encode next (map (λ c. block_bytes version c) bs)) (first_key b) (later_separators (last_key [] b) bs)
+          (section_some cover encode part) (sections_some version id encode next (map (λ c. block_bytes version c) bs)) (separators_follow b bs each order),
+    )
 
-index_stands : (encode : Encode) (version end : ℕ) (bs : List (List RowEntry)) → 0 < length bs → length bs < 2 ^ 32 → AllByRecursion (FitsBlock version) bs → AreInOrder (flat_map (λ x. x) bs) →
-    end ≡ length (flat (block_sections encode version bs)) → length (flat (block_sections encode version bs)) < 2 ^ 64 →
-    IsIndex end (index_bytes (places 0 (block_sections encode version bs)) (separators bs)) (pairs (places 0 (block_sections encode version bs)) (separators bs))
-index_stands encode version end bs some few each order ends short =
-    let ss = block_sections encode version bs in
+index_stands : (encode : Encode) (version id end : ℕ) (bs : List (List RowEntry)) → 0 < length bs → length bs < 2 ^ 32 → AllByRecursion (FitsBlock version) bs → AreInOrder (flat_map (λ x. x) bs) →
+    end ≡ length (flat (block_sections encode version id bs)) → length (flat (block_sections encode version id bs)) < 2 ^ 64 →
+    IsIndex end (index_bytes (places 0 (block_sections encode version id bs)) (separators bs)) (pairs (places 0 (block_sections encode version id bs)) (separators bs))
+index_stands encode version id end bs some few each order ends short =
+    let ss = block_sections encode version id bs in
     let count = places_count 0 ss in
-    let sections = length-map bs (λ b. section encode (block_bytes version b)) in
+    let sections = block_count encode version id bs in
     let keys = separators_count bs in
     let all = pairs_count (places 0 ss) (separators bs) (omega (arith, count, sections, keys)) in
     record {
       few = omega (arith, all, count, sections, few);
       each = pairs_fit end (places 0 ss) (separators bs) (places_below 0 (end + 1) ss (omega (arith, ends))) (places_below 0 (2 ^ 64) ss (omega (arith, short))) (separators_short version bs each);
-      rises = rises_zero encode version bs some (all_some version bs each) order;
+      rises = rises_zero encode version id bs some (all_some version bs each) order;
       is = (λ i. be32 (sym all i) ++ pairs_spelled (places 0 ss) (separators bs) i);
     }
 
-pub not_refused : (encode decode : Encode) → IsLawfulTransform encode decode → (bytes : List ℕ) (version : ℕ) (info : Info) (rows : List RowEntry) → EachIsAByte bytes → IsTableWith encode bytes version info rows →
-    ((e : SlateDBError) → RefusesIndex decode info.filters.at (index_answer bytes info) e → ⊥)
-    × ((entries : List (ℕ × List ℕ)) → IsIndexRead decode info.filters.at (index_answer bytes info) entries → (first stop : ℕ) → first ≤ stop → stop ≤ length entries →
-    (e : SlateDBError) → RefusesBlocks decode (block_answer info.filters.at entries first (blocks_answer bytes info entries first stop)) first stop e → ⊥)
-not_refused encode decode lawful bytes version info rows fits t = (index_fine, blocks_fine)
+pub not_refused : (encode decode : Encode) → IsLawfulTransform encode decode → (bytes : List ℕ) (version id : ℕ) (info : Info) (rows : List RowEntry) → EachIsAByte bytes → IsTableWith encode bytes version id info rows →
+    ((e : SlateDBError) → RefusesIndex decode info.filters.at (index_answer version id bytes info) e → ⊥)
+    × ((entries : List (ℕ × List ℕ)) → IsIndexRead decode info.filters.at (index_answer version id bytes info) entries → (first stop : ℕ) → first ≤ stop → stop ≤ length entries →
+    (e : SlateDBError) → RefusesBlocks decode (block_read version id info entries first (blocks_answer bytes info entries first stop)) first stop e → ⊥)
+not_refused encode decode lawful bytes version id info rows fits t = (index_fine, blocks_fine)
   where
-    at : Found encode bytes t.written info t.is.0
-    at = found_in encode bytes version info t.written t.is.0 t.is.1 t.is.2 t.info
+    same : version ≡ t.written
+    same = same_version encode bytes version id info t.written t.is.0 t.is.1 t.is.2 t.info
+
+    at : Found encode bytes t.written id info t.is.0
+    at = found_in encode bytes version id info t.written t.is.0 t.is.1 t.is.2 t.info
 
     count_ss : length at.ss ≡ length t.is.0
-    count_ss = ap length at.are ∙ length-map t.is.0 (λ b. section encode (block_bytes t.written b))
+    count_ss = ap length at.are ∙ block_count encode t.written id t.is.0
 
     short : length (flat at.ss) < 2 ^ 64
     short = let l : length bytes ≡ length (flat at.ss) + length at.rest = ap length at.is ∙ length-append (flat at.ss) at.rest in omega (arith, l, t.is.2.short)
 
-    stands : IsIndex info.filters.at (index_bytes (places 0 (block_sections encode t.written t.is.0)) (separators t.is.0)) (pairs (places 0 (block_sections encode t.written t.is.0)) (separators t.is.0))
-    stands = index_stands encode t.written info.filters.at t.is.0 t.is.2.some t.is.2.few t.is.2.each t.is.2.order (at.end ∙ ap (λ ss. length (flat ss)) at.are) (subst (λ ss. length (flat ss) < 2 ^ 64) at.are short)
+    stands : IsIndex info.filters.at (index_bytes (places 0 (block_sections encode t.written id t.is.0)) (separators t.is.0)) (pairs (places 0 (block_sections encode t.written id t.is.0)) (separators t.is.0))
+    stands = index_stands encode t.written id info.filters.at t.is.0 t.is.2.some t.is.2.few t.is.2.each t.is.2.order (at.end ∙ ap (λ ss. length (flat ss)) at.are) (subst (λ ss. length (flat ss) < 2 ^ 64) at.are short)
 
-    index_fine : (e : SlateDBError) → RefusesIndex decode info.filters.at (index_answer bytes info) e → ⊥
+    index_fine : (e : SlateDBError) → RefusesIndex decode info.filters.at (index_answer version id bytes info) e → ⊥
     index_fine e refuses =
-        nothing_refused encode decode lawful (λ part. refusal (index_of info.filters.at part)) (index_bytes (places 0 at.ss) (separators t.is.0)) (index_answer bytes info) e at.index (at.index_is fits)
-        (ap (λ ss. refusal (index_of info.filters.at (index_bytes (places 0 ss) (separators t.is.0)))) at.are ∙ ap refusal (index_again info.filters.at _ _ stands)) refuses
+        nothing_refused encode decode lawful (λ part. refusal (index_of info.filters.at part)) (index_bytes (places 0 at.ss) (separators t.is.0)) (index_answer t.written id bytes info) e at.index
+        (cover_bytes t.written id index_kind info.index.at (omega arith)) (at.index_is fits)
+        (ap (λ ss. refusal (index_of info.filters.at (index_bytes (places 0 ss) (separators t.is.0)))) at.are ∙ ap refusal (index_again info.filters.at _ _ stands))
+        (subst (λ v. RefusesIndex decode info.filters.at (index_answer v id bytes info) e) same refuses)
 
-    blocks_fine : (entries : List (ℕ × List ℕ)) → IsIndexRead decode info.filters.at (index_answer bytes info) entries → (first stop : ℕ) → first ≤ stop → stop ≤ length entries →
-        (e : SlateDBError) → RefusesBlocks decode (block_answer info.filters.at entries first (blocks_answer bytes info entries first stop)) first stop e → ⊥
-    blocks_fine es read first stop order within e refuses =
-        let index = index_is encode decode lawful t.written info.filters.at t.is.0 at.ss (index_answer bytes info) es t.is.2.each count_ss t.is.2.few short at.index read in
+    blocks_fine : (entries : List (ℕ × List ℕ)) → IsIndexRead decode info.filters.at (index_answer version id bytes info) entries → (first stop : ℕ) → first ≤ stop → stop ≤ length entries →
+        (e : SlateDBError) → RefusesBlocks decode (block_read version id info entries first (blocks_answer bytes info entries first stop)) first stop e → ⊥
+    blocks_fine es read first stop order within e refused =
+        let refuses = subst (λ v. RefusesBlocks decode (block_read v id info es first (blocks_answer bytes info es first stop)) first stop e) same refused in
+        let index = index_is encode decode lawful t.written info.filters.at t.is.0 at.ss (index_answer t.written id bytes info) es t.is.2.each count_ss t.is.2.few short at.index
+        (subst (λ v. IsIndexRead decode info.filters.at (index_answer v id bytes info) es) same read) in
         let count : length es ≡ length t.is.0 = sym (length-map es (λ e. e.0)) ∙ ap length index.0 ∙ places_count 0 at.ss ∙ count_ss in
         elim (slice_get_cases t.is.0 refuses.0).1 [
           | inl found ↦
               let b = found.0 in
-              let there : slice_get at.ss refuses.0 ≡ Some (section encode (block_bytes t.written b)) = ap (λ ss. slice_get ss refuses.0) at.are ∙ mapped_get (λ x. section encode (block_bytes t.written x)) t.is.0 refuses.0 b found.2 in
-              let answer = answer_is bytes at.rest at.ss es info.filters.at first stop refuses.0 (section encode (block_bytes t.written b)) at.is at.end index.0 refuses.1 refuses.2 there in
+              let begin = block_start info.filters.at es refuses.0 in
+              let cover = cover_of t.written id block_kind begin in
+              let piece = section cover encode (block_bytes t.written b) in
+              let there : slice_get at.ss refuses.0 ≡ Some piece =
+              ap (λ ss. slice_get ss refuses.0) at.are ∙ block_there encode t.written id info.filters.at t.is.0 es refuses.0 b (index.0 ∙ ap (places 0) at.are) found.2 in
+              let answer = answer_is bytes at.rest at.ss es info.filters.at first stop refuses.0 piece at.is at.end index.0 refuses.1 refuses.2 there in
               let spelled = longest_fronts t.written b t.is.2.known (all_get (FitsBlock t.written) t.is.0 refuses.0 b t.is.2.each found.2) in
               let apart = block_apart spelled.0 spelled.1 (block_bytes t.written b) t.written (map (as_read t.written) b) spelled.2 spelled.3 in
               let again = block_again_apart spelled.0 spelled.1 (block_bytes t.written b) apart in
-              nothing_refused encode decode lawful (λ part. refusal (offsets_of_block part)) (block_bytes t.written b) (block_answer info.filters.at es first (blocks_answer bytes info es first stop) refuses.0) e answer
-              (mid_bytes (flat (take refuses.0 at.ss)) (section encode (block_bytes t.written b)) (flat (drop (suc refuses.0) at.ss) ++ at.rest) (subst EachIsAByte (at.is ∙ splits at.ss refuses.0 (section encode (block_bytes t.written b)) at.rest there) fits))
+              nothing_refused encode decode lawful (λ part. refusal (offsets_of_block part)) (block_bytes t.written b) (block_read t.written id info es first (blocks_answer bytes info es first stop) refuses.0) e answer
+              (cover_bytes t.written id block_kind begin (omega arith))
+              (mid_bytes (flat (take refuses.0 at.ss)) piece (flat (drop (suc refuses.0) at.ss) ++ at.rest) (subst EachIsAByte (at.is ∙ splits at.ss refuses.0 piece at.rest there) fits))
               (ap refusal again.1) refuses.3
           | inr past ↦ absurd (omega (arith, past.0, refuses.2, within, count))
         ]
 
 -- ---- the keys of an info
 
-pub info_keys : (encode : Encode) (bytes : List ℕ) (v : ℕ) (info : Info) (version : ℕ) (bs : List (List RowEntry)) (fs : List (List ℕ × List ℕ)) → IsTableOf encode bytes version bs fs → HasInfo bytes v info →
+pub info_keys : (encode : Encode) (bytes : List ℕ) (v id : ℕ) (info : Info) (version : ℕ) (bs : List (List RowEntry)) (fs : List (List ℕ × List ℕ)) → IsTableOf encode bytes version id bs fs → HasInfo bytes v id info →
     (info.first ≡ some_first (flat_map (λ b. b) bs)) × (info.last ≡ some_last (flat_map (λ b. b) bs))
 unfolding rows_in made_info
-info_keys encode bytes v info version bs fs t h =
-    let is = table_info encode bytes v info version bs fs t h in
+info_keys encode bytes v id info version bs fs t h =
+    let is = table_info encode bytes v id info version bs fs t h in
     (ap (λ (x : Info). x.first) is.1, ap (λ (x : Info). x.last) is.1)
 
 -- ---- the filters
 
-pub record FiltersFound (encode : Encode) (bytes : List ℕ) (info : Info) (fs : List (List ℕ × List ℕ)) : Type 0 where
-  pub answer : part_of (Some bytes) info.filters.at info.filters.len ≡ Some (filter_section encode fs)
-  pub len : info.filters.len ≡ length (filter_section encode fs)
-  pub bytes_are : EachIsAByte bytes → EachIsAByte (filter_section encode fs)
+pub record FiltersFound (encode : Encode) (bytes : List ℕ) (version id : ℕ) (info : Info) (fs : List (List ℕ × List ℕ)) : Type 0 where
+  pub answer : part_of (Some bytes) info.filters.at info.filters.len ≡ Some (filter_section (cover_of version id filters_kind info.filters.at) encode fs)
+  pub len : info.filters.len ≡ length (filter_section (cover_of version id filters_kind info.filters.at) encode fs)
+  pub bytes_are : EachIsAByte bytes → EachIsAByte (filter_section (cover_of version id filters_kind info.filters.at) encode fs)
 
-pub filters_found : (encode : Encode) (bytes : List ℕ) (v : ℕ) (info : Info) (version : ℕ) (bs : List (List RowEntry)) (fs : List (List ℕ × List ℕ)) → IsTableOf encode bytes version bs fs → HasInfo bytes v info → FiltersFound encode bytes info fs
-unfolding made_info body_of index_part rows_in
-filters_found encode bytes v info version bs fs t h =
-    let is = table_info encode bytes v info version bs fs t h in
-    let b = flat_map (λ s. s) (block_sections encode version bs) in
-    let f = filter_section encode fs in
-    let i = section encode (index_bytes (places 0 (block_sections encode version bs)) (separators bs)) in
-    let s = section encode (stats_bytes bs) in
-    let n = summed (info_of version (flat_map (λ x. x) bs) (length b) f i s) in
-    let end = be64 (length b + length f + length i + length s) in
+pub filters_found : (encode : Encode) (bytes : List ℕ) (v id : ℕ) (info : Info) (version : ℕ) (bs : List (List RowEntry)) (fs : List (List ℕ × List ℕ)) → IsTableOf encode bytes version id bs fs → HasInfo bytes v id info →
+    FiltersFound encode bytes version id info fs
+unfolding made_info body_of rows_in
+filters_found encode bytes v id info version bs fs t h =
+    let is = table_info encode bytes v id info version bs fs t h in
+    let b = flat_map (λ s. s) (block_sections encode version id bs) in
+    let f = filters_section encode version id bs fs in
+    let i = index_section encode version id bs fs in
+    let s = stats_section encode version id bs fs in
+    let n = info_section encode version id bs fs in
+    let end = be64 (info_start encode version id bs fs) in
     let rest = i ++ (s ++ (n ++ (end ++ be16 version))) in
     let whole : bytes ≡ b ++ (f ++ rest) =
     t.is ∙ append_assoc (b ++ f ++ i ++ s ++ n) end (be16 version) ∙ append_assoc (b ++ f ++ i ++ s) n (end ++ be16 version) ∙ append_assoc (b ++ f ++ i) s (n ++ (end ++ be16 version))
     ∙ append_assoc (b ++ f) i (s ++ (n ++ (end ++ be16 version))) ∙ append_assoc b f rest in
+    let covered : f ≡ filter_section (cover_of version id filters_kind info.filters.at) encode fs =
+    ap (λ (x : Info). filter_section (cover_of version id filters_kind x.filters.at) encode fs) (sym is.1) in
     record {
-      answer = (λ j. part_of (Some (whole j)) (is.1 j).filters.at (is.1 j).filters.len) ∙ part_at b f rest (length b) (length f) refl refl;
-      len = ap (λ (x : Info). x.filters.len) is.1;
-      bytes_are = λ fits. mid_bytes b f rest (subst EachIsAByte whole fits);
+      answer = (λ j. part_of (Some (whole j)) (is.1 j).filters.at (is.1 j).filters.len) ∙ part_at b f rest (length b) (length f) refl refl ∙ ap Some covered;
+      len = ap (λ (x : Info). x.filters.len) is.1 ∙ ap length covered;
+      bytes_are = λ fits. subst EachIsAByte covered (mid_bytes b f rest (subst EachIsAByte whole fits));
     }

@@ -24,12 +24,7 @@ impl Model for EncodedSsTable {
 }
 
 impl EncodedSsTable {
-    pub(crate) fn new(
-        bytes: Bytes,
-        info: SsTableInfo,
-        version: u16,
-        id: Ulid,
-    ) -> EncodedSsTable
+    pub(crate) fn new(bytes: Bytes, info: SsTableInfo, version: u16, id: Ulid) -> EncodedSsTable
         ensures bytes { result.bytes ≡ bytes }
         ensures info { result.info ≡ info }
         ensures version { result.version ≡ version }

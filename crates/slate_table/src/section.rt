@@ -29,9 +29,13 @@ const COVERING_VERSION: u16 = 3;
 
 /// The kinds of sections.
 pub const BLOCK_KIND: u8 = 1;
+
 pub const FILTERS_KIND: u8 = 2;
+
 pub const INDEX_KIND: u8 = 3;
+
 pub const STATS_KIND: u8 = 4;
+
 pub const INFO_KIND: u8 = 5;
 
 /// Where a section stands: in a table of which version and id, as which kind, and at which offset in bytes.

@@ -14,10 +14,10 @@ ghost use Rattle.slate_table.specs.FileReading.{rows_in, ReadsRows, RefusesReadR
 
 use crate::info::{ObjectMetadata, SsTableHandle, SsTableInfo};
 use crate::opening::object_len;
+use crate::section::STATS_KIND;
 use crate::sst_index::SstIndex;
 use crate::sst_reader::SstReader;
 use crate::sst_stats::SstStats;
-use crate::section::STATS_KIND;
 use crate::table_store::{TableStore, read_block, read_part};
 use slate_block::fields::corrupt;
 use slate_block::{Block, DataBlockIterator};
@@ -101,7 +101,15 @@ impl SstFile {
         let root = reader.root_path.as_str();
         let transformer = &mut reader.transformer;
         let store = &mut reader.store;
-        let part = read_part(alloc, store, root, &self.handle, STATS_KIND, place, transformer)?;
+        let part = read_part(
+            alloc,
+            store,
+            root,
+            &self.handle,
+            STATS_KIND,
+            place,
+            transformer,
+        )?;
         SstStats::decode(alloc, part).map(Some)
     }
 

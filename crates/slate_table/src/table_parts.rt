@@ -22,8 +22,8 @@ use crate::filters_writing::{append_filter_section, filters_of_rows};
 use crate::index_writing::encode_index;
 use crate::info::SsTableInfo;
 use crate::section::{
-    BLOCK_KIND, CHECKSUM_SIZE, FILTERS_KIND, INDEX_KIND, STATS_KIND, SectionPlace, encoded, put_summed,
-    seal_section,
+    BLOCK_KIND, CHECKSUM_SIZE, FILTERS_KIND, INDEX_KIND, STATS_KIND, SectionPlace, encoded,
+    put_summed, seal_section,
 };
 use crate::separator::separator;
 use crate::stats_writing::encode_stats;

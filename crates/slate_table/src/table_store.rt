@@ -342,7 +342,12 @@ pub(crate) fn read_block<S: Store, T: BlockTransformer>(
 {
     let place = place_of_block(index, table.info.filter_offset, block);
     let answer = read(alloc, store, root, table.id, place)?;
-    block_in(alloc, answer, place_in(table, BLOCK_KIND, place.0), transformer)
+    block_in(
+        alloc,
+        answer,
+        place_in(table, BLOCK_KIND, place.0),
+        transformer,
+    )
 }
 
 /// Where a section of a table stands.

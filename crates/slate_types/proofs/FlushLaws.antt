@@ -6,9 +6,9 @@ use Rattle.slate_types.specs.declared.types.ValueDeletable.{ValueDeletable}
 use Rattle.slate_types.specs.declared.types.ValueDeletable.TheVariants.{Value, Merge, Tombstone}
 use Rattle.slate_types.specs.declared.types.RowEntry.{RowEntry}
 use Rattle.slate_types.specs.Fold.{Combine, fold_rows, AreShort, IsLawful, KeepsShort}
-use Rattle.slate_types.specs.Join.{picked, join, joins}
+use Rattle.slate_types.specs.Join.{picked, join}
 use Rattle.slate_types.specs.Laws.{rows_to}
-use Rattle.slate_types.proofs.FoldLaws.{fold-joins, fold-middle}
+use Rattle.slate_types.proofs.FoldLaws.{fold-joins, fold-middle, joins}
 
 abbrev AreUpTo : ℕ → List RowEntry → Type 0
 AreUpTo b rows = AllByRecursion (λ r. r.seq ≤ b) rows

@@ -7,9 +7,14 @@ use Rattle.slate_types.specs.declared.types.ValueDeletable.{ValueDeletable}
 use Rattle.slate_types.specs.declared.types.ValueDeletable.TheVariants.{Value, Merge, Tombstone}
 use Rattle.slate_types.specs.declared.types.RowEntry.{RowEntry}
 use Rattle.slate_types.specs.Rows.{is_base, is_merge, operand, bytes_of, latest, earliest}
-use Rattle.slate_types.specs.Join.{join_value, picked, join, joins, AreOf}
+use Rattle.slate_types.specs.Join.{join_value, picked, join, AreOf}
 use Rattle.slate_types.specs.Fold.{Combine, taken, onto, value_of_taken, greatest_seq, latest_creation, earliest_expiry, fold_taken, fold_rows, IsShort, AreShort, IsLawful, KeepsShort, merge_all}
 use Rattle.std.proofs.lemmas.Bool.{or_right}
+
+-- the row, with the rows after it joined on one by one
+abbrev pub joins : Combine → RowEntry → List RowEntry → RowEntry
+joins c r [] = r
+joins c r (s ∷ rs) = joins c (join c r s) rs
 
 -- ---- the stamps
 

@@ -1,9 +1,8 @@
 -- The join of two rows of a key, the older first: what a fold does with one row more. This is how code folds, row by row.
 -- Only lemmas and the clauses of private functions cite these words; a public clause says `fold_rows`.
 --     join c a b      the newer row, or, where it is an operand, what both make
---     joins c r rs      a row, with the rows after it joined on one by one
 --     AreOf k rows      rows that can be folded
-use Rattle.std.specs.Prelude.{◌≡◌, ℕ, max, List, [], ◌∷◌, Some, None}
+use Rattle.std.specs.Prelude.{◌≡◌, ℕ, max, List, Some, None}
 use Rattle.slate_types.specs.declared.types.ValueDeletable.{ValueDeletable}
 use Rattle.slate_types.specs.declared.types.ValueDeletable.TheVariants.{Value, Merge, Tombstone}
 use Rattle.slate_types.specs.declared.types.RowEntry.{RowEntry}
@@ -33,11 +32,6 @@ join c a b = record {
   create_ts = picked b.value (latest a.create_ts b.create_ts) b.create_ts;
   expire_ts = picked b.value (earliest a.expire_ts b.expire_ts) b.expire_ts;
 }
-
--- the row, with the rows after it joined on one by one
-abbrev pub joins : Combine → RowEntry → List RowEntry → RowEntry
-joins c r [] = r
-joins c r (s ∷ rs) = joins c (join c r s) rs
 
 -- the rows are of the key, and their values are short
 abbrev pub AreOf : List ℕ → List RowEntry → Type 0

@@ -4,8 +4,8 @@ use Rattle.std.specs.Prelude.{IfOk, IfErr}
 use Rattle.slate_types.specs.declared.error.SlateDBError.{SlateDBError}
 use Rattle.slate_types.specs.declared.error.SlateDBError.TheVariants.{OutOfMemory}
 use Rattle.slate_types.specs.declared.types.RowEntry.{RowEntry}
-use Rattle.slate_block.specs.PlacedRows.{placed, row_in}
-use Rattle.slate_block.proofs.PlacedLaws.{placed_found, placed_cause, placed_refused, row_placed, no_row_refused, place_within, whole_damage}
+use Rattle.slate_block.specs.PlacedRows.{row_in}
+use Rattle.slate_block.proofs.PlacedLaws.{placed_found, placed_cause, placed_refused, row_placed, no_row_refused, place_within, whole_damage, placed}
 use Rattle.slate_block.proofs.GroupSteps.{damage_moved}
 use Rattle.slate_block.proofs.places.row_in.Goals as goal
 use Rattle.slate_block.proofs.places.row_in.Goals.{in-Ok, in-Err}

@@ -1,7 +1,8 @@
 use Rattle.std.proofs.Common.{◌≡◌, ◌<◌, ◌≤◌, drop}
 use Rattle.slate_block.specs.Damage.{front_groups}
-use Rattle.slate_block.specs.Groups.{completed, weight_of}
+use Rattle.slate_block.specs.Groups.{completed}
 use Rattle.slate_block.proofs.varint.first_varint.Given as goal
+use Rattle.slate_block.proofs.Groups.{weight_of}
 
 abbrev pub invariant-loop-index : goal.invariant-loop-index
 invariant-loop-index l = record {

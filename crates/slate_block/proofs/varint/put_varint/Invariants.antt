@@ -1,7 +1,7 @@
 use Rattle.std.proofs.Common.{◌≡◌, ◌-◌, ◌++◌, length, take}
 use Rattle.slate_block.specs.Varint.{varint, varint_within}
-use Rattle.slate_block.specs.Groups.{IsRest}
 use Rattle.slate_block.proofs.varint.put_varint.Given as goal
+use Rattle.slate_block.proofs.Groups.{IsRest}
 
 abbrev pub invariant-loop-rest : goal.invariant-loop-rest
 invariant-loop-rest l = record {

@@ -2,8 +2,8 @@ use Rattle.std.proofs.Common.{◌≡◌, ℕ, List, [], inl, ap, refl, sym}
 use Rattle.slate_types.specs.declared.error.SlateDBError.TheVariants.{OutOfMemory}
 use Rattle.slate_types.specs.declared.iter.IterationOrder.TheVariants.{Ascending}
 use Rattle.slate_block.specs.Walks.{RowRead}
-use Rattle.slate_block.specs.GroupWalks.{left_v2, IsStart}
-use Rattle.slate_block.proofs.SeekSteps.{all_past, all_refused, jump_start}
+use Rattle.slate_block.specs.GroupWalks.{left_v2}
+use Rattle.slate_block.proofs.SeekSteps.{all_past, all_refused, jump_start, IsStart}
 use Rattle.slate_block.proofs.walk_v2.seek_key.Goals.{in-Some, in-None+in_ok-start-in-None}
 use Rattle.slate_block.proofs.walk_v2.seek_key.Goals as goal
 

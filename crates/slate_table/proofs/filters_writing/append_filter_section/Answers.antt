@@ -2,7 +2,7 @@ use Rattle.std.proofs.Common.{◌≡◌, ◌∙◌, ◌++◌, ◌==◌, List, �
 use Rattle.std.proofs.lemmas.Result.{IfOk-from_err, on_ok_weaker}
 use Rattle.slate_types.specs.declared.error.SlateDBError.TheVariants.{OutOfMemory}
 use Rattle.slate_table.specs.Parts.{section}
-use Rattle.slate_table.specs.SectionReading.{changed_by}
+use Rattle.slate_table.specs.SectionReading.{changed_by, covered_by}
 use Rattle.slate_table.proofs.Asking.{unasked, memory_exit, asks_of}
 use Rattle.slate_table.proofs.FilterWrites.{none_appended, none_fit, some_section}
 use Rattle.slate_table.proofs.Results.{on_ok}
@@ -13,7 +13,7 @@ returns-then-is_empty g c =
     let encode = changed_by g.T.BlockTransformer.encoded c.args.transformer.now in
     let none : (length c.args.filters.now == 0) ≡ true = sym c.is_empty.ensures ∙ c.if-is_empty.true in
     record {
-      appended = none_appended encode c.args.out.now.items c.args.filters.now none;
+      appended = none_appended (covered_by c.args.place) encode c.args.out.now.items c.args.filters.now none;
       fit = none_fit c.args.filters.now none;
       asks = unasked tt;
     }
@@ -31,10 +31,10 @@ returns g c =
     let encode = changed_by g.T.BlockTransformer.encoded c.args.transformer.now in
     let some : (length c.args.filters.now == 0) ≡ false = sym c.is_empty.ensures ∙ c.if-is_empty.false in
     let out = c.args.out.now.items in
-    let part = ap (λ (l : List ℕ). out ++ section encode l) c.in_ok-part.ensures.bytes in
+    let part = ap (λ (l : List ℕ). out ++ section (covered_by c.args.place) encode l) c.in_ok-part.ensures.bytes in
     let call = c.seal_section.ensures in
     record {
-      appended = on_ok_weaker c.seal_section.result (λ h. h ∙ part ∙ ap (λ (l : List ℕ). out ++ l) (some_section encode c.args.filters.now some)) call.appended;
+      appended = on_ok_weaker c.seal_section.result (λ h. h ∙ part ∙ ap (λ (l : List ℕ). out ++ l) (some_section (covered_by c.args.place) encode c.args.filters.now some)) call.appended;
       fit = on_ok c.seal_section.result c.in_ok-part.ensures.fit;
       asks = asks_of call.same_encoded call.same_decoded call.later call.still call.cause;
     }

@@ -2,6 +2,7 @@ use Rattle.std.proofs.Common.{◌∙◌, ◌++◌, ℕ, List, ap, refl}
 use Rattle.std.proofs.lemmas.Result.{IfOk-from_err}
 use Rattle.slate_types.specs.declared.error.SlateDBError.TheVariants.{OutOfMemory}
 use Rattle.slate_table.specs.Parts.{summed}
+use Rattle.slate_table.specs.SectionReading.{covered_by}
 use Rattle.slate_table.proofs.Asking.{memory_exit}
 use Rattle.slate_table.proofs.Results.{on_err}
 use Rattle.slate_table.proofs.section.append_summed.Goals as goal
@@ -17,7 +18,7 @@ returns-in_err-reserve c =
 pub returns : goal.returns
 returns c =
     record {
-      appended = c.put_summed.ensures ∙ ap (λ (l : List ℕ). l ++ summed c.args.bytes.now) c.in_ok-reserve.ensures.items;
+      appended = c.put_summed.ensures ∙ ap (λ (l : List ℕ). l ++ summed (covered_by c.args.place) c.args.bytes.now) c.in_ok-reserve.ensures.items;
       unchanged = tt;
       cause = tt;
     }

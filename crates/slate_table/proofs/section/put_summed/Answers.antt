@@ -9,4 +9,4 @@ put-requires-2 c = omega (arith, c.requires, c.put.ensures.len, c.put.ensures.ca
 pub returns : goal.returns
 returns c =
     grown c.args.out.now.items c.args.bytes.now _ _ _ c.put.ensures.appended
-    (c.put-2.ensures.appended ∙ ap (λ (l : List ℕ). c.put.new.out.items ++ l) (c.to_be_bytes.ensures ∙ ap be32 c.checksum.ensures))
+    (c.put-2.ensures.appended ∙ ap (λ (l : List ℕ). c.put.new.out.items ++ l) (c.to_be_bytes.ensures ∙ ap be32 c.checksum_at.ensures))

@@ -3,13 +3,14 @@ use Rattle.slate_table.proofs.PartReads.{still_ok, still_err}
 use Rattle.std.proofs.Common.{◌∙◌, ◌++◌, ℕ, List, refl, ap, inl, inr}
 use Rattle.std.proofs.lemmas.Result.{on_ok_weaker, IfErr-weaker, err_from_is_err_and, IfOk-from_err}
 use Rattle.slate_table.specs.Parts.{summed}
+use Rattle.slate_table.specs.SectionReading.{covered_by}
 use Rattle.slate_table.proofs.section.seal_section.Goals as goal
 
 pub returns : goal.returns
 returns g c =
     record {
       appended = (on_ok_weaker c.append_summed-sealed.result
-          (λ h. h ∙ ap (λ (l : List ℕ). c.args.out.now.items ++ summed l) (c.as_slice.ensures ∙ c.in_ok-stored.ensures.bytes))
+          (λ h. h ∙ ap (λ (l : List ℕ). c.args.out.now.items ++ summed (covered_by c.args.place) l) (c.as_slice.ensures ∙ c.in_ok-stored.ensures.bytes))
           c.append_summed-sealed.ensures.appended);
       unchanged = c.append_summed-sealed.ensures.unchanged;
       cause = IfErr-weaker c.append_summed-sealed.result _ _ (λ e h. inl h) c.append_summed-sealed.ensures.cause;

@@ -1,5 +1,5 @@
 use Rattle.std.proofs.Common.{◌≡◌, ◌∙◌, ◌++◌, length, rules, arith, sym, subst}
-use Rattle.slate_table.specs.Parts.{summed}
+use Rattle.slate_table.specs.Parts.{cover_of, info_kind, summed}
 use Rattle.slate_table.specs.Decoded.{Info, SectionsLieBefore}
 use Rattle.slate_table.specs.InfoReading.{seen_info}
 use Rattle.slate_table.specs.SectionReading.{footer_bytes}
@@ -19,7 +19,7 @@ returns-in-Ok c =
           let high = c.requires.stats in
           let lies : SectionsLieBefore (length out) (placed_info rows at (length out)) = (omega arith, omega arith, omega arith) in
           record {
-            is = c.in-Ok.ensures.appended ∙ (λ j. out ++ (summed (part_of_info c.args.version (info j)) ++ footer_bytes (length out) c.args.version));
+            is = c.in-Ok.ensures.appended ∙ (λ j. out ++ (summed (cover_of c.args.version c.args.id.0 info_kind (length out)) (part_of_info c.args.version (info j)) ++ footer_bytes (length out) c.args.version));
             info = c.in-Ok.ensures.info (subst (λ (made : Info). SectionsLieBefore (length out) made) (sym info) lies);
           });
       cause = tt;

@@ -1,9 +1,9 @@
 use Rattle.std.proofs.Common.{◌≡◌, ◌==◌, ◌||◌, Bool, nat_le, false, refl, sym, ap, ◌∙◌}
 use Rattle.std.proofs.lemmas.Bool.{ne_eqb}
 use Rattle.slate_block.specs.BlockSpelling.{longest}
-use Rattle.slate_block.specs.Building.{Building, front_key, has_room, part_size}
+use Rattle.slate_block.specs.Building.{Building, front_key, part_size}
 use Rattle.slate_block.specs.Fitting.{fits_in}
-use Rattle.slate_block.proofs.HeldLaws.{few_offsets_held, fits_held}
+use Rattle.slate_block.proofs.HeldLaws.{few_offsets_held, fits_held, has_room}
 use Rattle.slate_block.proofs.builder.BlockBuilder.has_room.Goals as goal
 
 pub size_with-requires-clause-offsets : goal.size_with-requires-clause-offsets

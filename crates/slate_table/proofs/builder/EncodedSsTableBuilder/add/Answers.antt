@@ -2,6 +2,7 @@ use Rattle.std.proofs.Common.{◌≡◌, ◌∙◌, ◌++◌, ◌∷◌, ◌<◌
 use Rattle.std.specs.Prelude.{Result, IfErr, IsSome}
 use Rattle.std.proofs.lemmas.Result.{IfOk-weaker, IfErr-weaker, on_ok_weaker, on_err_weaker}
 use Rattle.slate_types.specs.declared.types.RowEntry.{RowEntry}
+use Rattle.slate_types.specs.declared.types.Ulid.{Ulid}
 use Rattle.slate_types.specs.declared.error.SlateDBError.{SlateDBError}
 use Rattle.slate_types.specs.declared.error.SlateDBError.TheVariants.{EmptyKey, BlockTransformError, LimitReached, OutOfMemory}
 use Rattle.slate_table.specs.Table.{AreInOrder}
@@ -11,7 +12,7 @@ use Rattle.slate_table.specs.TableParts.{version_of, seen, Stands, IsAdded, IsFu
 use Rattle.slate_table.proofs.Asking.{cause_of, later_of, still_of}
 use Rattle.slate_table.proofs.Results.{either_way, err_is}
 use Rattle.slate_table.proofs.SumLaws.{has_sums}
-use Rattle.slate_table.proofs.PartsLaws.{added_stands, added_sections, added_rows, added_format, added_size, same_stands, same_seen, full_passes, room_passes_none, old_size, ends_a_block}
+use Rattle.slate_table.proofs.PartsLaws.{added_stands, added_sections, added_rows, added_format, added_id, added_size, same_stands, same_seen, full_passes, room_passes_none, old_size, ends_a_block}
 use Rattle.slate_table.proofs.builder.EncodedSsTableBuilder.add.Goals as goal
 
 not_empty : {T : Type 0} (r : Result T SlateDBError) (before after : ℕ) → IfErr r (λ e. IsTransformFault before after e) → r ≡ Err EmptyKey → ⊥
@@ -44,6 +45,7 @@ returns-in-Err g c =
       added = tt;
       unspoilt = refl;
       version = refl;
+      id = refl;
       size = refl;
       min = refl;
       encoded = λ h. h;
@@ -115,6 +117,9 @@ returns-in-Ok g c =
       version = either_way result
           (on_ok_weaker result (λ h. ap version_of (added_format encode p q c.args.entry h) ∙ ap (λ (b : TableBuilding). b.version) c.self.view_is) c.add.ensures.added)
           (on_err_weaker result (λ same. ap (λ (b : TableBuilding). b.version) same) unspoilt);
+      id = either_way result
+          (on_ok_weaker result (λ h. ap (λ (u : Ulid). u.0) (added_id encode p q c.args.entry h) ∙ ap (λ (b : TableBuilding). b.id) c.self.view_is) c.add.ensures.added)
+          (on_err_weaker result (λ same. ap (λ (b : TableBuilding). b.id) same) unspoilt);
       size = either_way result
           (on_ok_weaker result (λ h. added_size encode p q c.args.entry h ∙ ap (λ (b : TableBuilding). b.size) c.self.view_is) c.add.ensures.added)
           (on_err_weaker result (λ same. ap (λ (b : TableBuilding). b.size) same) unspoilt);

@@ -1,6 +1,7 @@
-use Rattle.std.proofs.Common.{◌∙◌, ◌<◌, List, length, map, ap, subst, sym}
+use Rattle.std.proofs.Common.{◌∙◌, ◌<◌, List, length, map, ap, subst, sym, rules}
 use Rattle.std.proofs.lemmas.Result.{IfOk-weaker}
 use Rattle.slate_types.specs.declared.types.RowEntry.{RowEntry}
+use Rattle.slate_types.specs.declared.types.Ulid.{Ulid}
 use Rattle.slate_table.specs.SectionReading.{changed_by}
 use Rattle.slate_table.specs.TableBuilding.{TableBuilding}
 use Rattle.slate_table.specs.TableParts.{Stands}
@@ -22,12 +23,13 @@ returns g c =
     record {
       built = (let stands : Stands inside.parts = c.self.invariant in
           IfOk-weaker c.finish-table.result _ _
-          (λ table made. built_of encode policies inside.min_filter_keys inside.parts c.args.self table.bytes table.info c.self.view_is stands c.requires.rows made)
+          (λ table made. built_of encode policies inside.min_filter_keys inside.parts c.args.self table.bytes table.info c.self.view_is stands (search rules) c.requires.rows made)
           c.finish-table.ensures.finished);
       info = (IfOk-weaker c.finish-table.result _ _
           (λ table made. info_of_built inside.min_filter_keys inside.parts c.args.self table.bytes table.info c.self.view_is made)
           c.finish-table.ensures.finished);
       version = IfOk-weaker c.finish-table.result _ _ (λ table is. is ∙ ap (λ (b : TableBuilding). b.version) c.self.view_is) c.finish-table.ensures.version;
+      id = IfOk-weaker c.finish-table.result _ _ (λ table is. ap (λ (u : Ulid). u.0) is ∙ ap (λ (b : TableBuilding). b.id) c.self.view_is) c.finish-table.ensures.id;
       cause = cause_of _ _ c.finish-table.result c.finish-table.ensures.asks.counts;
       same_encoded = c.finish-table.ensures.asks.same_encoded;
       same_decoded = c.finish-table.ensures.asks.same_decoded;

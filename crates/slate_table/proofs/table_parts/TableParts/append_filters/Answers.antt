@@ -7,7 +7,7 @@ use Rattle.slate_types.specs.declared.error.SlateDBError.TheVariants.{OutOfMemor
 use Rattle.slate_filter.specs.declared.named_filter.NamedFilter.{NamedFilter}
 use Rattle.slate_filter.specs.Named.{named_pair}
 use Rattle.slate_filter.specs.Policy.{filters_of}
-use Rattle.slate_table.specs.SectionReading.{changed_by}
+use Rattle.slate_table.specs.SectionReading.{changed_by, covered_by}
 use Rattle.slate_table.specs.Table.{FitsFilter, filter_section}
 use Rattle.slate_table.proofs.Asking.{unasked, memory_exit}
 use Rattle.slate_table.proofs.FilterWrites.{both_ok}
@@ -32,9 +32,10 @@ returns g c =
     record {
       filtered = both_ok c.append_filter_section.result
           (λ appended fit. record {
-            bytes = appended ∙ ap (λ (l : List (List ℕ × List ℕ)). p.bytes.items ++ filter_section encode l) same;
+            bytes = appended ∙ (λ i. p.bytes.items ++ filter_section (covered_by (c.next_place-place.ensures i)) encode (same i));
             rows = refl;
             format = refl;
+            id = refl;
             offsets = refl;
             separators = refl;
             stats = refl;

@@ -1,9 +1,11 @@
-use Rattle.std.proofs.Common.{◌≡◌, ◌∙◌, ◌++◌, ap, arith, length, refl, rules}
+use Rattle.std.proofs.Common.{◌≡◌, ◌∙◌, ◌++◌, ap, arith, length, refl}
 use Rattle.std.proofs.lemmas.Result.{IfOk-from_err}
 use Rattle.slate_types.specs.declared.error.SlateDBError.TheVariants.{OutOfMemory}
-use Rattle.slate_table.specs.Parts.{section, index_bytes}
-use Rattle.slate_table.specs.SectionReading.{changed_by}
-use Rattle.slate_table.specs.TableEnd.{counted_bytes, parts_index, parts_stats}
+use Rattle.slate_table.specs.declared.section.SectionPlace.{SectionPlace}
+use Rattle.slate_table.specs.Parts.{cover_of, stats_kind, section, index_bytes}
+use Rattle.slate_table.specs.SectionReading.{changed_by, covered_by}
+use Rattle.slate_table.specs.TableParts.{version_of}
+use Rattle.slate_table.specs.TableEnd.{counted_bytes, parts_index, parts_stats, index_behind}
 use Rattle.slate_table.proofs.Asking.{unasked, asked_before, memory_exit, failed_asks, asks_again, asks_of}
 use Rattle.slate_table.proofs.table_parts.TableParts.append_sections.Goals as goal
 
@@ -13,15 +15,18 @@ returns g c =
       sealed = (let encode = changed_by g.T.BlockTransformer.encoded c.args.transformer.now in
           let p = c.args.self.now in
           let index : c.in_ok-index.index ≡ parts_index p = c.in_ok-index.ensures.bytes ∙ (λ i. index_bytes (c.deref.ensures.value i) (c.deref-2.ensures.value i)) in
-          let first = c.in_ok-seal_section.ensures.appended ∙ (λ i. p.bytes.items ++ section encode (index i)) in
+          let first : c.seal_section.new.out.items ≡ p.bytes.items ++ index_behind encode p.bytes.items p = c.in_ok-seal_section.ensures.appended
+          ∙ (λ i. p.bytes.items ++ section (covered_by (c.next_place-place.ensures i)) encode (index i)) in
+          let cover : covered_by c.next_place-place-2.result ≡ cover_of (version_of p.format) p.id.0 stats_kind (length (p.bytes.items ++ index_behind encode p.bytes.items p)) =
+          ap covered_by c.next_place-place-2.ensures ∙ (λ i. cover_of (version_of p.format) p.id.0 stats_kind (length (first i))) in
           let stats : c.in_ok-stats.stats ≡ parts_stats p = c.in_ok-stats.ensures.bytes
           ∙ (λ i. counted_bytes (c.deref-3.ensures.value i) p.raw_key_size p.raw_val_size (c.replace-block_stats.ensures.value i).items) in
-          let size : c.len-stats_offset.result ≡ length c.seal_section.new.out.items = search rules in
           record {
-            place = size ∙ ap length first;
-            bytes = c.in_ok-seal_section-2.ensures.appended ∙ (λ i. first i ++ section (c.seal_section.ensures.same_encoded i) (stats i));
+            place = ap (λ (at : SectionPlace). at.offset) c.next_place-place-2.ensures ∙ ap length first;
+            bytes = c.in_ok-seal_section-2.ensures.appended ∙ (λ i. first i ++ section (cover i) (c.seal_section.ensures.same_encoded i) (stats i));
             rows = refl;
             format = refl;
+            id = refl;
             keys = omega arith;
             values = omega arith;
           });

@@ -7,7 +7,7 @@ use Rattle.slate_block.specs.Fitting.{fits_in}
 use Rattle.slate_table.specs.Parts.{summed}
 use Rattle.slate_table.specs.TableParts.{separator_behind}
 use Rattle.slate_table.proofs.Asking.{memory_exit}
-use Rattle.slate_table.proofs.PartsLaws.{same_again}
+use Rattle.slate_table.proofs.PartsLaws.{same_again, same_cover}
 use Rattle.slate_table.proofs.Results.{on_err}
 use Rattle.slate_table.proofs.table_parts.TableParts.begin.Goals as goal
 
@@ -43,6 +43,7 @@ returns-in_err-write_row c =
       same = on_err c.from_residual-in_err-write_row.result (record {
         size = e.size;
         format = e.format;
+        id = e.id;
         rows = e.rows;
         block = e.block;
         bytes = e.bytes;
@@ -62,11 +63,13 @@ returns c =
     let b = c.end_with.ensures.ended in
     let key = c.args.entry.now.key in
     let m = c.reserve_section.new.self in
+    let cover = same_cover c.args.self.now m e in
     let rows : c.deref.result.now ≡ c.args.self.now.rows.items = c.deref.ensures.value ∙ e.rows in
     record {
       begun = record {
         size = b.size ∙ e.size;
         format = b.format ∙ e.format;
+        id = b.id ∙ e.id;
         rows = (λ i. (c.end_with.ensures.rows i).items) ∙ e.rows;
         separators = b.separators ∙ c.in_ok-write_row.ensures.begun
             ∙ (λ i. cond (length (c.in_ok-next.ensures.builder i).rows == 0) (m.separators.items ++ separator_behind c.deref.result.now key ∷ []) m.separators.items)
@@ -75,12 +78,12 @@ returns c =
         values = b.values ∙ e.values;
         builder = (λ i. (b.block i).builder) ∙ c.in_ok-write_row.ensures.taken ∙ (λ i. with_row (c.in_ok-next.ensures.builder i) c.args.entry.now);
         counts = (λ i. (b.block i).stats) ∙ c.in_ok-write_row.ensures.counted [] c.in_ok-next.ensures.counts;
-        bytes = b.bytes ∙ (λ i. e.bytes i ++ summed c.args.stored.now);
+        bytes = b.bytes ∙ (λ i. e.bytes i ++ summed (cover i) c.args.stored.now);
         offsets = b.offsets ∙ (λ i. e.offsets i ++ length (e.bytes i) ∷ []);
         stats = b.stats ∙ (λ i. e.stats i ++ (e.block i).stats ∷ []);
       };
       rows = c.end_with.ensures.rows ∙ c.in_ok-reserve_section.ensures.rows;
       same = tt;
-      size = c.end_with.ensures.size;
+      size = c.end_with.ensures.size ∙ (λ i. length (summed (cover i) c.args.stored.now));
       cause = tt;
     }

@@ -12,5 +12,6 @@ returns c =
           c.frozen.ensures.same c.frozen.ensures.info);
       short = IfOk-weaker c.frozen.result _ _ (λ made same. omega (arith, ap length same, c.frozen.ensures.short)) c.frozen.ensures.same;
       version = IfOk-weaker c.frozen.result _ _ (λ made is. is ∙ c.version_number-version.ensures) c.frozen.ensures.version;
+      id = c.frozen.ensures.id;
       cause = c.frozen.ensures.cause;
     }

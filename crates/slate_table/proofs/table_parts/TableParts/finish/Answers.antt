@@ -2,14 +2,14 @@ use Rattle.std.proofs.Common.{◌≡◌, ◌∙◌, ◌++◌, List, ap, arith, l
 use Rattle.std.proofs.lemmas.List.{length-append}
 use Rattle.std.proofs.lemmas.Result.{IfOk-weaker, IfOk-from_err}
 use Rattle.slate_types.specs.declared.types.RowEntry.{RowEntry}
-use Rattle.slate_table.specs.Parts.{Encode, section}
+use Rattle.slate_table.specs.Parts.{Encode}
 use Rattle.slate_filter.specs.Policy.{filters_of}
 use Rattle.slate_table.specs.declared.table_end.SectionOffsets.{SectionOffsets}
-use Rattle.slate_table.specs.Table.{filter_section, some_first, some_last}
+use Rattle.slate_table.specs.Table.{some_first, some_last}
 use Rattle.slate_table.specs.Decoded.{FitsShort}
 use Rattle.slate_table.specs.SectionReading.{changed_by}
 use Rattle.slate_table.specs.TableParts.{version_of, IsEnded}
-use Rattle.slate_table.specs.TableEnd.{parts_index, parts_stats, IsFiltered, IsReady, IsSealed}
+use Rattle.slate_table.specs.TableEnd.{filters_behind, index_behind, stats_behind, IsFiltered, IsReady, IsSealed}
 use Rattle.slate_table.proofs.Asking.{asked_before, failed_asks, asks_again}
 use Rattle.slate_table.proofs.BuiltLaws.{last_has_row, ended_ready}
 use Rattle.slate_table.proofs.EndLaws.{closed, filtered_ready}
@@ -44,14 +44,14 @@ close-requires g c =
     let s : IsSealed between m c.in_ok-stats.stats c.append_sections.new.self = c.in_ok-stats.ensures.sealed in
     let first : c.len-filters.result ≡ length q.bytes.items = search rules in
     let second : c.len-index.result ≡ length m.bytes.items = search rules in
-    let index = section between (parts_index m) in
-    let section_of = filter_section (changed_by g.T.BlockTransformer.encoded c.end_block.new.transformer) fs in
+    let index = index_behind between m.bytes.items m in
+    let section_of = filters_behind (changed_by g.T.BlockTransformer.encoded c.end_block.new.transformer) fs q in
     record {
       first = subst (λ (rows : List RowEntry). FitsShort (some_first rows)) (sym s.rows) ready.first;
       last = subst (λ (rows : List RowEntry). FitsShort (some_last rows)) (sym s.rows) ready.last;
       filters = omega (arith, first, second, ap length f.bytes, length-append q.bytes.items section_of);
       index = omega (arith, second, s.place, length-append m.bytes.items index);
-      stats = omega (arith, s.place, ap length s.bytes, length-append (m.bytes.items ++ index) (section between (parts_stats m)));
+      stats = omega (arith, s.place, ap length s.bytes, length-append (m.bytes.items ++ index) (stats_behind between (m.bytes.items ++ index) m));
     }
 
 pub returns : goal.returns
@@ -75,6 +75,8 @@ returns g c =
           c.close.ensures.ended c.close.ensures.short);
       version = (let end : IsEnded (changed_by g.T.BlockTransformer.encoded c.args.transformer.now) c.args.self.now c.end_block.new.self = c.in_ok-end_block.ensures.ended in
           IfOk-weaker c.close.result _ _ (λ made is. is ∙ ap version_of (c.in_ok-stats.ensures.sealed.format ∙ c.in_ok-append_filters.ensures.filtered.format ∙ end.format)) c.close.ensures.version);
+      id = (let end : IsEnded (changed_by g.T.BlockTransformer.encoded c.args.transformer.now) c.args.self.now c.end_block.new.self = c.in_ok-end_block.ensures.ended in
+          IfOk-weaker c.close.result _ _ (λ made is. is ∙ c.in_ok-stats.ensures.sealed.id ∙ c.in_ok-append_filters.ensures.filtered.id ∙ end.id) c.close.ensures.id);
       asks = asks_again c.in_ok-end_block.ensures.asks (asks_again c.in_ok-append_filters.ensures.asks (asked_before c.in_ok-stats.ensures.asks c.close.ensures.cause));
     }
 
@@ -83,6 +85,7 @@ returns-in_err-end_block g c =
     record {
       finished = IfOk-from_err c.from_residual.result _ c.from_residual.ensures.0;
       version = IfOk-from_err c.from_residual.result _ c.from_residual.ensures.0;
+      id = IfOk-from_err c.from_residual.result _ c.from_residual.ensures.0;
       asks = failed_asks c.in_err-end_block.ensures.asks c.from_residual.ensures.1;
     }
 
@@ -91,6 +94,7 @@ returns-in_err-append_filters g c =
     record {
       finished = IfOk-from_err c.from_residual-in_err-append_filters.result _ c.from_residual-in_err-append_filters.ensures.0;
       version = IfOk-from_err c.from_residual-in_err-append_filters.result _ c.from_residual-in_err-append_filters.ensures.0;
+      id = IfOk-from_err c.from_residual-in_err-append_filters.result _ c.from_residual-in_err-append_filters.ensures.0;
       asks = asks_again c.in_ok-end_block.ensures.asks (failed_asks c.in_err-append_filters.ensures.asks c.from_residual-in_err-append_filters.ensures.1);
     }
 
@@ -99,5 +103,6 @@ returns-in_err-stats g c =
     record {
       finished = IfOk-from_err c.from_residual-in_err-stats.result _ c.from_residual-in_err-stats.ensures.0;
       version = IfOk-from_err c.from_residual-in_err-stats.result _ c.from_residual-in_err-stats.ensures.0;
+      id = IfOk-from_err c.from_residual-in_err-stats.result _ c.from_residual-in_err-stats.ensures.0;
       asks = asks_again c.in_ok-end_block.ensures.asks (asks_again c.in_ok-append_filters.ensures.asks (failed_asks c.in_err-stats.ensures.asks c.from_residual-in_err-stats.ensures.1));
     }

@@ -5,7 +5,7 @@ use Rattle.slate_types.specs.declared.error.SlateDBError.TheVariants.{OutOfMemor
 use Rattle.slate_block.specs.BlockSpelling.{block_bytes}
 use Rattle.slate_table.specs.Parts.{summed, section}
 use Rattle.slate_table.specs.SectionReading.{changed_by}
-use Rattle.slate_table.specs.TableParts.{fits_parts, separator_behind, IsSame}
+use Rattle.slate_table.specs.TableParts.{cover_behind, fits_parts, separator_behind, IsSame}
 use Rattle.slate_table.proofs.Asking.{unasked, asked_before, memory_exit, memory_no_fault, failed_asks}
 use Rattle.slate_table.proofs.PartsLaws.{begun_again, same_then, some_rows}
 use Rattle.slate_table.proofs.Results.{on_err}
@@ -23,7 +23,7 @@ returns-in_err-reserve g c =
     record {
       written = IfOk-from_err c.from_residual.result _ c.from_residual.ensures.0;
       room = IfOk-from_err c.from_residual.result _ c.from_residual.ensures.0;
-      same = on_err c.from_residual.result (record { size = refl; format = refl; rows = c.in_err-reserve.ensures.items; block = refl; bytes = refl; offsets = refl; separators = refl; stats = refl; keys = refl; values = refl });
+      same = on_err c.from_residual.result (record { size = refl; format = refl; id = refl; rows = c.in_err-reserve.ensures.items; block = refl; bytes = refl; offsets = refl; separators = refl; stats = refl; keys = refl; values = refl });
       size = IfOk-from_err c.from_residual.result _ c.from_residual.ensures.0;
       asks = unasked memory;
       fault = λ is. absurd (memory_no_fault c.from_residual.result memory is);
@@ -35,7 +35,7 @@ returns-in_err-write_row g c =
     record {
       written = IfOk-from_err c.from_residual-in_err-write_row.result _ c.from_residual-in_err-write_row.ensures.0;
       room = IfOk-from_err c.from_residual-in_err-write_row.result _ c.from_residual-in_err-write_row.ensures.0;
-      same = on_err c.from_residual-in_err-write_row.result (record { size = refl; format = refl; rows = c.in_ok-reserve.ensures.items; block = c.in_err-write_row.ensures.same_block; bytes = refl; offsets = refl; separators = c.in_err-write_row.ensures.same_separators; stats = refl; keys = refl; values = refl });
+      same = on_err c.from_residual-in_err-write_row.result (record { size = refl; format = refl; id = refl; rows = c.in_ok-reserve.ensures.items; block = c.in_err-write_row.ensures.same_block; bytes = refl; offsets = refl; separators = c.in_err-write_row.ensures.same_separators; stats = refl; keys = refl; values = refl });
       size = IfOk-from_err c.from_residual-in_err-write_row.result _ c.from_residual-in_err-write_row.ensures.0;
       asks = unasked memory;
       fault = λ is. absurd (memory_no_fault c.from_residual-in_err-write_row.result memory is);
@@ -53,6 +53,7 @@ returns-then-would_fit g c =
         record {
           size = refl;
           format = refl;
+          id = refl;
           rows = c.in_ok-reserve.ensures.items;
           separators = c.in_ok-write_row.ensures.begun ∙ (λ i. cond (length p.block.builder.rows == 0) (p.separators.items ++ separator_behind (rows i) key ∷ []) p.separators.items);
           keys = refl;
@@ -66,7 +67,7 @@ returns-then-would_fit g c =
       );
       room = omega (arith, c.in_ok-reserve.ensures.ok);
       same = tt;
-      size = sym (ap (λ (t : Bool). cond t None (Some (length (section (changed_by g.T.BlockTransformer.encoded c.args.transformer.now) (block_bytes p.block.builder.version p.block.builder.rows))))) fit);
+      size = sym (ap (λ (t : Bool). cond t None (Some (length (section (cover_behind p) (changed_by g.T.BlockTransformer.encoded c.args.transformer.now) (block_bytes p.block.builder.version p.block.builder.rows))))) fit);
       asks = unasked tt;
       fault = λ failed. absurd (cc failed);
     }
@@ -76,7 +77,7 @@ returns-in_err-stored g c =
     record {
       written = IfOk-from_err c.from_residual-in_err-stored.result _ c.from_residual-in_err-stored.ensures.0;
       room = IfOk-from_err c.from_residual-in_err-stored.result _ c.from_residual-in_err-stored.ensures.0;
-      same = on_err c.from_residual-in_err-stored.result (record { size = refl; format = refl; rows = c.in_ok-reserve.ensures.items; block = refl; bytes = refl; offsets = refl; separators = refl; stats = refl; keys = refl; values = refl });
+      same = on_err c.from_residual-in_err-stored.result (record { size = refl; format = refl; id = refl; rows = c.in_ok-reserve.ensures.items; block = refl; bytes = refl; offsets = refl; separators = refl; stats = refl; keys = refl; values = refl });
       size = IfOk-from_err c.from_residual-in_err-stored.result _ c.from_residual-in_err-stored.ensures.0;
       asks = failed_asks c.in_err-stored.ensures.asks c.from_residual-in_err-stored.ensures.1;
       fault = λ _. sym c.if-would_fit.ensures;
@@ -84,7 +85,7 @@ returns-in_err-stored g c =
 
 pub returns-in_err-size : goal.returns-in_err-size
 returns-in_err-size g c =
-    let before : IsSame c.args.self.now (record c.args.self.now { rows = c.reserve.new.self }) = (record { size = refl; format = refl; rows = c.in_ok-reserve.ensures.items; block = refl; bytes = refl; offsets = refl; separators = refl; stats = refl; keys = refl; values = refl }) in
+    let before : IsSame c.args.self.now (record c.args.self.now { rows = c.reserve.new.self }) = (record { size = refl; format = refl; id = refl; rows = c.in_ok-reserve.ensures.items; block = refl; bytes = refl; offsets = refl; separators = refl; stats = refl; keys = refl; values = refl }) in
     let memory = memory_exit c.from_residual-in_err-size.result _ c.from_residual-in_err-size.ensures.1 OutOfMemory c.in_err-size.ensures.cause in
     record {
       written = IfOk-from_err c.from_residual-in_err-size.result _ c.from_residual-in_err-size.ensures.0;
@@ -102,12 +103,12 @@ returns g c =
     let part : List ℕ = encode (block_bytes p.block.builder.version p.block.builder.rows) in
     let fit : fits_parts p c.args.entry.now ≡ false = sym c.if-would_fit.ensures in
     let stored : c.as_slice.result.now ≡ part = c.as_slice.ensures ∙ c.in_ok-stored.ensures.stored in
-    let before : IsSame p (record p { rows = c.reserve.new.self }) = record { size = refl; format = refl; rows = c.in_ok-reserve.ensures.items; block = refl; bytes = refl; offsets = refl; separators = refl; stats = refl; keys = refl; values = refl } in
+    let before : IsSame p (record p { rows = c.reserve.new.self }) = record { size = refl; format = refl; id = refl; rows = c.in_ok-reserve.ensures.items; block = refl; bytes = refl; offsets = refl; separators = refl; stats = refl; keys = refl; values = refl } in
     record {
       written = inr (fit, c.in_ok-stored.ensures.fits, begun_again p (record p { rows = c.reserve.new.self }) c.begin.new.self c.as_slice.result.now part c.args.entry.now before c.in_ok-size.ensures.begun stored);
       room = rw c.in_ok-size.ensures.rows (omega (arith, c.in_ok-reserve.ensures.ok));
       same = tt;
-      size = ap Some (c.in_ok-size.ensures.size ∙ ap (λ (l : List ℕ). length (summed l)) stored) ∙ sym (ap (λ (t : Bool). cond t None (Some (length (summed part)))) fit);
+      size = ap Some (c.in_ok-size.ensures.size ∙ ap (λ (l : List ℕ). length (summed (cover_behind p) l)) stored) ∙ sym (ap (λ (t : Bool). cond t None (Some (length (summed (cover_behind p) part)))) fit);
       asks = asked_before c.in_ok-stored.ensures.asks tt;
       fault = λ failed. absurd (cc failed);
     }

@@ -1,6 +1,6 @@
 use Rattle.std.proofs.Common.{◌∙◌}
 use Rattle.slate_table.proofs.FoldLaws.{part_taken}
-use Rattle.slate_table.proofs.crc.checksum.Goals as goal
+use Rattle.slate_table.proofs.crc.crc_more.Goals as goal
 
 pub loop-rest-preserved : goal.loop-rest-preserved
 loop-rest-preserved c =
