@@ -46,34 +46,34 @@ whole_bytes size (Some x) bytes h = by (eqb (length x) size) refl h
     by false e k = cc
 
 -- a section that was read, whose checksum fits, is the world's, or it slipped
-pub section_checked : (w : World) (path : List ℕ) (kept : Kept) (start size : ℕ) (given : Option (List ℕ)) (stored : List ℕ) → w.holds path ≡ Some kept → Contains kept.sections (record { at = start; len = size }) → start + size ≤ length kept.bytes → w.fits (summed stored) ≡ true →
-    whole_answer size given ≡ Some (summed stored) → AnswersWorld w (Act.read path start size given) ⊎ IsSlip w (Act.read path start size given)
-section_checked w path kept start size given stored held among inside fits is = by (bytes_eq (summed stored) (part start size kept.bytes)) refl
+pub section_checked : (w : World) (path : List ℕ) (kept : Kept) (start size : ℕ) (cover : List ℕ) (given : Option (List ℕ)) (stored : List ℕ) → w.holds path ≡ Some kept → Contains kept.sections (record { at = start; len = size; cover = cover }) → start + size ≤ length kept.bytes →
+    w.fits cover (summed cover stored) ≡ true → whole_answer size given ≡ Some (summed cover stored) → AnswersWorld w (Act.read path start size given) ⊎ IsSlip w (Act.read path start size given)
+section_checked w path kept start size cover given stored held among inside fits is = by (bytes_eq (summed cover stored) (part start size kept.bytes)) refl
   where
-    known : (given ≡ Some (summed stored)) × (length (summed stored) ≡ size)
-    known = whole_bytes size given (summed stored) is
+    known : (given ≡ Some (summed cover stored)) × (length (summed cover stored) ≡ size)
+    known = whole_bytes size given (summed cover stored) is
 
     there : part_of (Some kept.bytes) start size ≡ Some (part start size kept.bytes)
     there = let t : leb (start + size) (length kept.bytes) ≡ true = le-leb (start + size) (length kept.bytes) inside in rw t refl
 
-    all : part (start - start) size (summed stored) ≡ summed stored
-    all = ap (λ (n : ℕ). take size (drop n (summed stored))) (sub_self start) ∙ ap (λ (n : ℕ). take n (summed stored)) (sym known.1) ∙ take-length (summed stored)
+    all : part (start - start) size (summed cover stored) ≡ summed cover stored
+    all = ap (λ (n : ℕ). take size (drop n (summed cover stored))) (sub_self start) ∙ ap (λ (n : ℕ). take n (summed cover stored)) (sym known.1) ∙ take-length (summed cover stored)
 
-    by : (b : Bool) → bytes_eq (summed stored) (part start size kept.bytes) ≡ b → AnswersWorld w (Act.read path start size given) ⊎ IsSlip w (Act.read path start size given)
-    by true e = inl (subst (λ (o : Option Kept). IfSome o (λ k. given ≡ part_of (Some k.bytes) start size)) (sym held) (known.0 ∙ ap (λ (l : List ℕ). Some l) ((bytes_eq-Decides (summed stored) (part start size kept.bytes)).0 e) ∙ sym there))
+    by : (b : Bool) → bytes_eq (summed cover stored) (part start size kept.bytes) ≡ b → AnswersWorld w (Act.read path start size given) ⊎ IsSlip w (Act.read path start size given)
+    by true e = inl (subst (λ (o : Option Kept). IfSome o (λ k. given ≡ part_of (Some k.bytes) start size)) (sym held) (known.0 ∙ ap (λ (l : List ℕ). Some l) ((bytes_eq-Decides (summed cover stored) (part start size kept.bytes)).0 e) ∙ sym there))
     by false e = inr (
       kept,
-      summed stored,
+      summed cover stored,
       held,
       known.0,
       record {
-        place = record { at = start; len = size };
+        place = record { at = start; len = size; cover = cover };
         among = among;
         whole = known.1;
         from = omega arith;
         upto = omega arith;
-        differs = λ same. let clash = (bytes_eq-Decides (summed stored) (part start size kept.bytes)).1 (sym all ∙ same) in let no : true ≡ false = sym clash ∙ e in cc;
-        passes = subst (λ (l : List ℕ). w.fits l ≡ true) (sym all) fits;
+        differs = λ same. let clash = (bytes_eq-Decides (summed cover stored) (part start size kept.bytes)).1 (sym all ∙ same) in let no : true ≡ false = sym clash ∙ e in cc;
+        passes = subst (λ (l : List ℕ). w.fits cover l ≡ true) (sym all) fits;
       },
     )
 

@@ -25,9 +25,9 @@ use Rattle.slate_block.specs.Walks.{block_rows}
 use Rattle.slate_table.specs.declared.info.SsTableHandle.{SsTableHandle}
 use Rattle.slate_table.specs.IndexValue.{entries_of}
 use Rattle.slate_table.specs.Parts.{summed}
-use Rattle.slate_table.specs.Reading.{IsBlockRead, block_answer, whole_answer}
+use Rattle.slate_table.specs.Reading.{SectionRead, IsBlockRead, block_answer, whole_answer}
 use Rattle.slate_read.specs.declared.table_state.Cursor.{Cursor}
-use Rattle.slate_read.specs.TableWalk.{AreReadAhead, Fetches, IsFetched, IsReadable, IsSoundCursor, IsWhole, RefusesLeft, RefusesReady, RefusesRows, RefusesSome, RefusesWalk, StandsNext, answer_at, left_in, nth_block, read_of, refuses_behind, rest_after, rest_behind, rows_between, size_between, size_of, start_of, unread_first, unread_stop}
+use Rattle.slate_read.specs.TableWalk.{AreReadAhead, Fetches, IsFetched, IsReadable, IsSoundCursor, IsWhole, RefusesLeft, RefusesReady, RefusesRows, RefusesSome, RefusesWalk, StandsNext, answer_at, block_lies, left_in, nth_block, read_of, refuses_behind, rest_after, rest_behind, rows_between, size_between, size_of, start_of, unread_first, unread_stop}
 use Rattle.slate_read.specs.Sections.{starts_apart, starts_upto, starts_within}
 use Rattle.slate_read.specs.WalkLaws.{known_section, some_more}
 use Rattle.slate_read.proofs.Cursors.{AllOrSlip, call_checked, whole_bytes}
@@ -99,8 +99,11 @@ piece_of g d n stored = by (leb (d + n) (length g))
     by true h = sym (same_Some (part d n g) stored h)
     by false h = cc
 
+abbrev cover_at : SsTableHandle → List (ℕ × List ℕ) → ℕ → List ℕ
+cover_at h entries i = (block_lies h entries i).cover
+
 module _ (w : World) (h : SsTableHandle) (kept : Kept) (table : IsReadable w h kept) (first stop : ℕ) (within : stop ≤ length table.entries) (g : List ℕ) (whole : length g ≡ size_between h table.entries first stop)
-    (pieces : (i : ℕ) → first + i < stop → (stored : List ℕ) × (part_of (Some g) (size_between h table.entries first (first + i)) (size_of h table.entries (first + i)) ≡ Some (summed stored))) where
+    (pieces : (i : ℕ) → first + i < stop → (stored : List ℕ) × (part_of (Some g) (size_between h table.entries first (first + i)) (size_of h table.entries (first + i)) ≡ Some (summed (cover_at h table.entries (first + i)) stored))) where
   front_checked : (n : ℕ) → first + n ≤ stop → (take (size_between h table.entries first (first + n)) g ≡ part (start_of h table.entries first) (size_between h table.entries first (first + n)) kept.bytes) ⊎ IsSlip w (read_of h table.entries first stop (Some g))
   front_checked zero le =
       let none : size_between h table.entries first (first + 0) ≡ 0 = (let same : first + 0 ≡ first = omega arith in ap (λ k. size_between h table.entries first k) same ∙ omega arith) in
@@ -137,11 +140,11 @@ module _ (w : World) (h : SsTableHandle) (kept : Kept) (table : IsReadable w h k
       begins : start_of h table.entries first + front ≡ start_of h table.entries at
       begins = omega (arith, rise)
 
-      stored : (s : List ℕ) × (part_of (Some g) front size ≡ Some (summed s))
+      stored : (s : List ℕ) × (part_of (Some g) front size ≡ Some (summed (cover_at h table.entries at) s))
       stored = pieces n (omega (arith, le))
 
-      is : summed stored.0 ≡ here
-      is = piece_of g front size (summed stored.0) stored.1
+      is : summed (cover_at h table.entries at) stored.0 ≡ here
+      is = piece_of g front size (summed (cover_at h table.entries at) stored.0) stored.1
 
       by : (take front g ≡ part (start_of h table.entries first) front kept.bytes) ⊎ IsSlip w (read_of h table.entries first stop (Some g)) → (t : Bool) → bytes_eq here there ≡ t →
           (take (size_between h table.entries first (first + suc n)) g ≡ part (start_of h table.entries first) (size_between h table.entries first (first + suc n)) kept.bytes) ⊎ IsSlip w (read_of h table.entries first stop (Some g))
@@ -161,13 +164,13 @@ module _ (w : World) (h : SsTableHandle) (kept : Kept) (table : IsReadable w h k
             table.held,
             refl,
             record {
-              place = record { at = start_of h table.entries at; len = size };
+              place = block_lies h table.entries at;
               among = table.block_place at (omega (arith, le, within));
               whole = whole;
               from = rise;
               upto = omega (arith, rise, apart, upto);
               differs = λ same. let clash = (bytes_eq-Decides here there).1 same in let no : true ≡ false = sym clash ∙ e in cc;
-              passes = subst (λ (l : List ℕ). w.fits l ≡ true) is (table.sums stored.0);
+              passes = subst (λ (l : List ℕ). w.fits (cover_at h table.entries at) l ≡ true) is (table.sums (cover_at h table.entries at) stored.0);
             },
           )
 
@@ -216,7 +219,7 @@ fetched_checked w p h kept table first stop reads blocks some within fetched = b
         get_some (x ∷ xs) zero h = (x, refl)
         get_some (x ∷ xs) (suc i) h = get_some xs i (omega (arith, h))
 
-    summed_at : (answer : Option (List ℕ)) → whole_answer size given ≡ answer → (i : ℕ) → first + i < stop → (stored : List ℕ) × (block_answer h.info.filter_offset table.entries first answer (first + i) ≡ Some (summed stored))
+    summed_at : (answer : Option (List ℕ)) → whole_answer size given ≡ answer → (i : ℕ) → first + i < stop → (stored : List ℕ) × (block_answer h.info.filter_offset table.entries first answer (first + i) ≡ Some (summed (cover_at h table.entries (first + i)) stored))
     summed_at answer is i lt =
         let count = r.0 in
         let b = there i (omega (arith, count, lt)) in
@@ -287,7 +290,7 @@ fetches_moves h order bytes a b reads x y call f = record {
             let answered = (subst (AllByRecursion (AnswersWorld w)) read.1.1 (seen w a b reads s call)).0 in
             let answer = known_section w h sound.kept sound.table f.from f.upto (f.from + i) read.1.0 (omega arith) (omega (arith, lt, count)) (inside w sound) answered in
             let found = subst (λ (m : Meaning). IsBlockRead m.decode (answer_at h sound.table.entries f.from f.upto read.1.0 (f.from + i)) block) (sym s.meaning) (read.1.2 i block p.at) in
-            sound.table.block (f.from + i) rows block (ap (slice_get sound.kept.blocks) (sym p.place) ∙ among) each (subst (λ (o : Option (List ℕ)). IsBlockRead w.meaning.decode o block) answer found)
+            sound.table.block (f.from + i) rows block (ap (slice_get sound.kept.blocks) (sym p.place) ∙ among) each (subst (λ (s : SectionRead). IsBlockRead w.meaning.decode s block) answer found)
 
     fewer : NoMore (refuses_behind h order x a.meaning) reads (refuses_behind h order y a.meaning)
     fewer later at e (damage, inl k) = (damage, inl (subst (λ (o : Option (DataBlockIterator Block)). RefusesLeft o e) f.rows k))

@@ -11,13 +11,13 @@ use Rattle.slate_types.specs.declared.iter.IterationOrder.{IterationOrder}
 use Rattle.slate_types.specs.Iteration.{IsInOrder, in_order}
 use Rattle.slate_types.specs.Outside.{Counts, IsCounted}
 use Rattle.slate_types.proofs.IterationLaws.{taken_in_order}
-use Rattle.slate_store.specs.Store.{Act}
+use Rattle.slate_store.specs.Store.{Act, part_of}
 use Rattle.slate_block.specs.declared.block.Block.{Block}
 use Rattle.slate_block.specs.declared.data_block_iterator.DataBlockIterator.{DataBlockIterator}
 use Rattle.slate_block.specs.Walks.{before}
 use Rattle.slate_table.specs.declared.info.SsTableHandle.{SsTableHandle}
 use Rattle.slate_table.specs.IndexValue.{entries_of}
-use Rattle.slate_table.specs.Reading.{whole_answer, IsIndexRead}
+use Rattle.slate_table.specs.Reading.{SectionRead, of_index, whole_answer, IsIndexRead}
 use Rattle.slate_read.specs.declared.table_state.Cursor.{Cursor}
 use Rattle.slate_read.specs.declared.table_state.TableState.{TableState}
 use Rattle.slate_read.specs.declared.table_state.TableState.TheVariants.{New, Walking, Refused}
@@ -25,7 +25,7 @@ use Rattle.slate_types.specs.World.{IsSlip, Kept, World, AnswersWorld, Made, See
 use Rattle.slate_types.specs.Outside.{Meaning, Reach}
 use Rattle.slate_types.specs.Refusing.{IsDamage, NoMoreBut}
 use Rattle.slate_types.specs.Steps.{Step}
-use Rattle.slate_read.specs.TableWalk.{AreReadAhead, BeginsIn, IsSoundRising, IsWalking, StaysIn, Sought, Begins, BeginsAt, IsIndexed, RefusesIndexed, left_in, rest_behind, rest_covered, rows_between, IsReadable, IsSoundAt, IsSoundCursor, IsWhole, Keeps, RefusesLeft, RefusesReady, RefusesSome, RefusesUnread, index_part, no_words, path_in, refuses_at, refuses_behind, refuses_in, rest_after, rest_at}
+use Rattle.slate_read.specs.TableWalk.{AreReadAhead, BeginsIn, IsSoundRising, IsWalking, StaysIn, Sought, Begins, BeginsAt, IsIndexed, RefusesIndexed, left_in, rest_behind, rest_covered, rows_between, IsReadable, IsSoundAt, IsSoundCursor, IsWhole, Keeps, RefusesLeft, RefusesReady, RefusesSome, RefusesUnread, index_lies, index_part, no_words, path_in, refuses_at, refuses_behind, refuses_in, rest_after, rest_at}
 use Rattle.slate_types.proofs.Calls.{call_none, seen}
 use Rattle.slate_read.specs.WalkLaws.{known_answer, refuses_whole, some_more, whole_part}
 use Rattle.slate_read.proofs.Cursors.{AllOrSlip, call_checked, section_checked}
@@ -156,14 +156,14 @@ indexed : (w : World) (p : Meaning) (h : SsTableHandle) (kept : Kept) (table : I
 unfolding IsIndexed
 indexed w p h kept table reads entries same (given, once, read) answered =
     let by_world = subst (AllByRecursion (AnswersWorld w)) once answered in
-    let is : given ≡ index_part h kept = known_answer w (path_in h) kept h.info.index_offset h.info.index_len given table.held by_world.0 in
-    let answer : whole_answer h.info.index_len given ≡ index_part h kept = ap (whole_answer h.info.index_len) is ∙ whole_part kept.bytes h.info.index_offset h.info.index_len in
-    table.index entries (subst (λ (a : Option (List ℕ)). IsIndexRead w.meaning.decode h.info.filter_offset a entries) answer (subst (λ (q : Meaning). IsIndexRead q.decode h.info.filter_offset (whole_answer h.info.index_len given) entries) (sym same) read))
+    let is : given ≡ part_of (Some kept.bytes) h.info.index_offset h.info.index_len = known_answer w (path_in h) kept h.info.index_offset h.info.index_len given table.held by_world.0 in
+    let answer : of_index h (whole_answer h.info.index_len given) ≡ index_part h kept = ap (λ (a : Option (List ℕ)). of_index h a) (ap (whole_answer h.info.index_len) is ∙ whole_part kept.bytes h.info.index_offset h.info.index_len) in
+    table.index entries (subst (λ (s : SectionRead). IsIndexRead w.meaning.decode h.info.filter_offset s entries) answer (subst (λ (q : Meaning). IsIndexRead q.decode h.info.filter_offset (of_index h (whole_answer h.info.index_len given)) entries) (sym same) read))
 
 index_checked : (w : World) (p : Meaning) (h : SsTableHandle) (kept : Kept) (table : IsReadable w h kept) (reads : List Act) (entries : List (ℕ × List ℕ)) → IsIndexed p h reads entries → AllOrSlip w reads
 unfolding IsIndexed
 index_checked w p h kept table reads entries (given, once, read) =
-    by (section_checked w (path_in h) kept h.info.index_offset h.info.index_len given read.1.0 table.held table.index_place (table.inside _ table.index_place) (table.sums read.1.0) read.1.1)
+    by (section_checked w (path_in h) kept h.info.index_offset h.info.index_len (index_lies h).cover given read.1.0 table.held table.index_place (table.inside _ table.index_place) (table.sums (index_lies h).cover read.1.0) read.1.1)
   where
     act : Act
     act = Act.read (path_in h) h.info.index_offset h.info.index_len given
