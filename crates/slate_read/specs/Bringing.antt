@@ -24,7 +24,7 @@ use Rattle.slate_block.specs.ReadingLaws.{EachIsAByte}
 use Rattle.slate_block.specs.Walks.{RowRead}
 use Rattle.slate_table.specs.declared.info.SsTableHandle.{SsTableHandle}
 use Rattle.slate_table.specs.IndexValue.{entries_of}
-use Rattle.slate_table.specs.Reading.{whole_answer, IsIndexRead, IsBlockRead}
+use Rattle.slate_table.specs.Reading.{of_index, whole_answer, IsIndexRead, IsBlockRead}
 use Rattle.slate_read.specs.declared.table_state.Cursor.{Cursor}
 use Rattle.slate_read.specs.declared.table_state.TableState.{TableState}
 use Rattle.slate_read.specs.declared.table_state.TableState.TheVariants.{New, Walking, Refused}
@@ -67,7 +67,7 @@ brings_behind h order cursor m reads r = BringsLeft cursor.rows r ⊎ BringsRead
 abbrev pub BringsUnread : Meaning → SsTableHandle → IterationOrder → List Act → RowEntry → Type 0
 BringsUnread m h order reads r =
     (given : Option (List ℕ)) × Contains reads (Act.read (path_in h) h.info.index_offset h.info.index_len given)
-    × ((entries : List (ℕ × List ℕ)) × IsIndexRead m.decode h.info.filter_offset (whole_answer h.info.index_len given) entries × BringsSome m h entries order reads r)
+    × ((entries : List (ℕ × List ℕ)) × IsIndexRead m.decode h.info.filter_offset (of_index h (whole_answer h.info.index_len given)) entries × BringsSome m h entries order reads r)
 
 abbrev pub brings_in : TableState → SsTableHandle → IterationOrder → Meaning → List Act → RowEntry → Type 0
 brings_in New h order m reads r = BringsUnread m h order reads r
