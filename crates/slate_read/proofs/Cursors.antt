@@ -46,34 +46,34 @@ whole_bytes size (Some x) bytes h = by (eqb (length x) size) refl h
     by false e k = cc
 
 -- a section that was read, whose checksum fits, is the world's, or it slipped
-pub section_checked : (w : World) (path : List ℕ) (kept : Kept) (start size : ℕ) (given : Option (List ℕ)) (stored : List ℕ) → w.holds path ≡ Some kept → Contains kept.sections (record { at = start; len = size }) → start + size ≤ length kept.bytes → w.fits (summed stored) ≡ true →
-    whole_answer size given ≡ Some (summed stored) → AnswersWorld w (Act.read path start size given) ⊎ IsSlip w (Act.read path start size given)
-section_checked w path kept start size given stored held among inside fits is = by (bytes_eq (summed stored) (part start size kept.bytes)) refl
+pub section_checked : (w : World) (path : List ℕ) (kept : Kept) (start size : ℕ) (cover : List ℕ) (given : Option (List ℕ)) (stored : List ℕ) → w.holds path ≡ Some kept → Contains kept.sections (record { at = start; len = size; cover = cover }) → start + size ≤ length kept.bytes →
+    w.fits cover (summed cover stored) ≡ true → whole_answer size given ≡ Some (summed cover stored) → AnswersWorld w (Act.read path start size given) ⊎ IsSlip w (Act.read path start size given)
+section_checked w path kept start size cover given stored held among inside fits is = by (bytes_eq (summed cover stored) (part start size kept.bytes)) refl
   where
-    known : (given ≡ Some (summed stored)) × (length (summed stored) ≡ size)
-    known = whole_bytes size given (summed stored) is
+    known : (given ≡ Some (summed cover stored)) × (length (summed cover stored) ≡ size)
+    known = whole_bytes size given (summed cover stored) is
 
     there : part_of (Some kept.bytes) start size ≡ Some (part start size kept.bytes)
     there = let t : leb (start + size) (length kept.bytes) ≡ true = le-leb (start + size) (length kept.bytes) inside in rw t refl
 
-    all : part (start - start) size (summed stored) ≡ summed stored
-    all = ap (λ (n : ℕ). take size (drop n (summed stored))) (sub_self start) ∙ ap (λ (n : ℕ). take n (summed stored)) (sym known.1) ∙ take-length (summed stored)
+    all : part (start - start) size (summed cover stored) ≡ summed cover stored
+    all = ap (λ (n : ℕ). take size (drop n (summed cover stored))) (sub_self start) ∙ ap (λ (n : ℕ). take n (summed cover stored)) (sym known.1) ∙ take-length (summed cover stored)
 
-    by : (b : Bool) → bytes_eq (summed stored) (part start size kept.bytes) ≡ b → AnswersWorld w (Act.read path start size given) ⊎ IsSlip w (Act.read path start size given)
-    by true e = inl (subst (λ (o : Option Kept). IfSome o (λ k. given ≡ part_of (Some k.bytes) start size)) (sym held) (known.0 ∙ ap (λ (l : List ℕ). Some l) ((bytes_eq-Decides (summed stored) (part start size kept.bytes)).0 e) ∙ sym there))
+    by : (b : Bool) → bytes_eq (summed cover stored) (part start size kept.bytes) ≡ b → AnswersWorld w (Act.read path start size given) ⊎ IsSlip w (Act.read path start size given)
+    by true e = inl (subst (λ (o : Option Kept). IfSome o (λ k. given ≡ part_of (Some k.bytes) start size)) (sym held) (known.0 ∙ ap (λ (l : List ℕ). Some l) ((bytes_eq-Decides (summed cover stored) (part start size kept.bytes)).0 e) ∙ sym there))
     by false e = inr (
       kept,
-      summed stored,
+      summed cover stored,
       held,
       known.0,
       record {
-        place = record { at = start; len = size };
+        place = record { at = start; len = size; cover = cover };
         among = among;
         whole = known.1;
         from = omega arith;
         upto = omega arith;
-        differs = λ same. let clash = (bytes_eq-Decides (summed stored) (part start size kept.bytes)).1 (sym all ∙ same) in let no : true ≡ false = sym clash ∙ e in cc;
-        passes = subst (λ (l : List ℕ). w.fits l ≡ true) (sym all) fits;
+        differs = λ same. let clash = (bytes_eq-Decides (summed cover stored) (part start size kept.bytes)).1 (sym all ∙ same) in let no : true ≡ false = sym clash ∙ e in cc;
+        passes = subst (λ (l : List ℕ). w.fits cover l ≡ true) (sym all) fits;
       },
     )
 
@@ -175,12 +175,20 @@ next_then : (order : IterationOrder) (x : Cursor) (n : ℕ) → nth_block order 
 next_then Ascending x n = omega arith
 next_then Descending x n = omega arith
 
+pub opens_fewer : (h : SsTableHandle) (order : IterationOrder) (m : Meaning) (x y : Cursor) → Opens h order x y → NoMore (refuses_behind h order x m) [] (refuses_behind h order y m)
+opens_fewer h order m x y o later at e (damage, why) = (damage, inr (by why))
+  where
+    by : RefusesLeft y.rows e ⊎ RefusesReady h.format_version order y.ready.items e ⊎ RefusesSome m h (entries_of y.index) order later e → RefusesReady h.format_version order x.ready.items e ⊎ RefusesSome m h (entries_of x.index) order later e
+    by (inl k) = inl (0, o.block, ap (λ (l : List Block). slice_get l 0) o.ready, o.bytes, refused_opened h.format_version order o.block y.rows e o.rows k)
+    by (inr (inl (n, block, is, bytes, k))) = inl (suc n, block, ap (λ (l : List Block). slice_get l (suc n)) o.ready ∙ is, bytes, k)
+    by (inr (inr k)) = inr (subst (λ (es : List (ℕ × List ℕ)). RefusesSome m h es order later e) (ap entries_of o.index) k)
+
 pub opens_moves : (h : SsTableHandle) (order : IterationOrder) (t : Reach) (x y : Cursor) → Opens h order x y → reads_in x.rows ≡ 0 → Moves (rest_after h order) (IsSoundCursor h order) (refuses_behind h order) t t x y
 opens_moves h order t x y o spent = record {
   rows = λ w sees sound. rows w sound;
   still = λ w sees sound. record { kept = sound.kept; table = sound.table; index = ap entries_of o.index ∙ sound.index; ready = behind w sound; whole = (now w sound).1 };
   checked = λ w sound. checks_none w t;
-  made = ([], call_none t, fewer);
+  made = ([], call_none t, opens_fewer h order t.meaning x y o);
 }
   where
     lt : x.first < x.stop
@@ -205,14 +213,6 @@ opens_moves h order t x y o spent = record {
         (λ i. (now w sound).0 i ++ in_order order (rows_between sound.kept (o.first i) (o.stop i))) ∙ sym (next w sound).is in
         let right_x : rest_behind x order (Some sound.kept) ≡ in_order order (rows_between sound.kept x.first x.stop) = ap (λ (l : List RowEntry). l ++ in_order order (rows_between sound.kept x.first x.stop)) front in
         ap (rest_behind y order) held ∙ left_y ∙ sym right_x ∙ sym (ap (rest_behind x order) held)
-
-    fewer : NoMore (refuses_behind h order x t.meaning) [] (refuses_behind h order y t.meaning)
-    fewer later at e (damage, why) = (damage, inr (by why))
-      where
-        by : RefusesLeft y.rows e ⊎ RefusesReady h.format_version order y.ready.items e ⊎ RefusesSome t.meaning h (entries_of y.index) order later e → RefusesReady h.format_version order x.ready.items e ⊎ RefusesSome t.meaning h (entries_of x.index) order later e
-        by (inl k) = inl (0, o.block, ap (λ (l : List Block). slice_get l 0) o.ready, o.bytes, refused_opened h.format_version order o.block y.rows e o.rows k)
-        by (inr (inl (n, block, is, bytes, k))) = inl (suc n, block, ap (λ (l : List Block). slice_get l (suc n)) o.ready ∙ is, bytes, k)
-        by (inr (inr k)) = inr (subst (λ (es : List (ℕ × List ℕ)). RefusesSome t.meaning h es order later e) (ap entries_of o.index) k)
 
 -- ---- rows of the block that is open
 

@@ -25,9 +25,9 @@ use Rattle.slate_block.specs.Walks.{block_rows}
 use Rattle.slate_table.specs.declared.info.SsTableHandle.{SsTableHandle}
 use Rattle.slate_table.specs.IndexValue.{entries_of}
 use Rattle.slate_table.specs.Parts.{summed}
-use Rattle.slate_table.specs.Reading.{IsBlockRead, block_answer, whole_answer}
+use Rattle.slate_table.specs.Reading.{SectionRead, IsBlockRead, block_answer, whole_answer}
 use Rattle.slate_read.specs.declared.table_state.Cursor.{Cursor}
-use Rattle.slate_read.specs.TableWalk.{AreReadAhead, Fetches, IsFetched, IsReadable, IsSoundCursor, IsWhole, RefusesLeft, RefusesReady, RefusesRows, RefusesSome, RefusesWalk, StandsNext, answer_at, left_in, nth_block, read_of, refuses_behind, rest_after, rest_behind, rows_between, size_between, size_of, start_of, unread_first, unread_stop}
+use Rattle.slate_read.specs.TableWalk.{AreReadAhead, Fetches, IsFetched, IsReadable, IsSoundCursor, IsWhole, RefusesLeft, RefusesReady, RefusesRows, RefusesSome, RefusesWalk, StandsNext, answer_at, block_lies, left_in, nth_block, read_of, refuses_behind, rest_after, rest_behind, rows_between, size_between, size_of, start_of, unread_first, unread_stop}
 use Rattle.slate_read.specs.Sections.{starts_apart, starts_upto, starts_within}
 use Rattle.slate_read.specs.WalkLaws.{known_section, some_more}
 use Rattle.slate_read.proofs.Cursors.{AllOrSlip, call_checked, whole_bytes}
@@ -69,7 +69,7 @@ pub record Stands (order : IterationOrder) (x : Cursor) (from : ℕ) (blocks : L
   pub at : slice_get blocks i ≡ Some block
   pub place : nth_block order x.first x.stop n ≡ from + i
 
-stands : (order : IterationOrder) (x : Cursor) (from upto : ℕ) (blocks : List Block) (n : ℕ) (block : Block) → StandsNext order (unread_first order x) (unread_stop order x) from upto → length blocks ≡ upto - from → from < upto →
+pub stands : (order : IterationOrder) (x : Cursor) (from upto : ℕ) (blocks : List Block) (n : ℕ) (block : Block) → StandsNext order (unread_first order x) (unread_stop order x) from upto → length blocks ≡ upto - from → from < upto →
     length x.ready.items ≤ n → slice_get (in_order order blocks) (n - length x.ready.items) ≡ Some block → Stands order x from blocks n block
 stands Ascending x from upto blocks n block next count some behind at =
     let lt = slice_get_within blocks (n - length x.ready.items) block at in
@@ -85,7 +85,7 @@ pub next_within : (order : IterationOrder) (x : Cursor) (from upto : ℕ) → St
 next_within Ascending x from upto next = let a = next.1 in let b = x.within in omega (arith, a, b)
 next_within Descending x from upto next = let a = next.0 in let b = x.within in omega (arith, a, b)
 
-block_read : (p : Meaning) (h : SsTableHandle) (entries : List (ℕ × List ℕ)) (first stop : ℕ) (reads : List Act) (blocks : List Block) → IsFetched p h entries first stop reads blocks → (length blocks ≡ stop - first) ×
+pub block_read : (p : Meaning) (h : SsTableHandle) (entries : List (ℕ × List ℕ)) (first stop : ℕ) (reads : List Act) (blocks : List Block) → IsFetched p h entries first stop reads blocks → (length blocks ≡ stop - first) ×
     ((given : Option (List ℕ)) × (reads ≡ read_of h entries first stop given ∷ []) × ((i : ℕ) (block : Block) → slice_get blocks i ≡ Some block → IsBlockRead p.decode (answer_at h entries first stop given (first + i)) block))
 unfolding IsFetched
 block_read p h entries first stop reads blocks (given, once, are, count) = (count, (given, once, are))
@@ -99,8 +99,11 @@ piece_of g d n stored = by (leb (d + n) (length g))
     by true h = sym (same_Some (part d n g) stored h)
     by false h = cc
 
+abbrev cover_at : SsTableHandle → List (ℕ × List ℕ) → ℕ → List ℕ
+cover_at h entries i = (block_lies h entries i).cover
+
 module _ (w : World) (h : SsTableHandle) (kept : Kept) (table : IsReadable w h kept) (first stop : ℕ) (within : stop ≤ length table.entries) (g : List ℕ) (whole : length g ≡ size_between h table.entries first stop)
-    (pieces : (i : ℕ) → first + i < stop → (stored : List ℕ) × (part_of (Some g) (size_between h table.entries first (first + i)) (size_of h table.entries (first + i)) ≡ Some (summed stored))) where
+    (pieces : (i : ℕ) → first + i < stop → (stored : List ℕ) × (part_of (Some g) (size_between h table.entries first (first + i)) (size_of h table.entries (first + i)) ≡ Some (summed (cover_at h table.entries (first + i)) stored))) where
   front_checked : (n : ℕ) → first + n ≤ stop → (take (size_between h table.entries first (first + n)) g ≡ part (start_of h table.entries first) (size_between h table.entries first (first + n)) kept.bytes) ⊎ IsSlip w (read_of h table.entries first stop (Some g))
   front_checked zero le =
       let none : size_between h table.entries first (first + 0) ≡ 0 = (let same : first + 0 ≡ first = omega arith in ap (λ k. size_between h table.entries first k) same ∙ omega arith) in
@@ -137,11 +140,11 @@ module _ (w : World) (h : SsTableHandle) (kept : Kept) (table : IsReadable w h k
       begins : start_of h table.entries first + front ≡ start_of h table.entries at
       begins = omega (arith, rise)
 
-      stored : (s : List ℕ) × (part_of (Some g) front size ≡ Some (summed s))
+      stored : (s : List ℕ) × (part_of (Some g) front size ≡ Some (summed (cover_at h table.entries at) s))
       stored = pieces n (omega (arith, le))
 
-      is : summed stored.0 ≡ here
-      is = piece_of g front size (summed stored.0) stored.1
+      is : summed (cover_at h table.entries at) stored.0 ≡ here
+      is = piece_of g front size (summed (cover_at h table.entries at) stored.0) stored.1
 
       by : (take front g ≡ part (start_of h table.entries first) front kept.bytes) ⊎ IsSlip w (read_of h table.entries first stop (Some g)) → (t : Bool) → bytes_eq here there ≡ t →
           (take (size_between h table.entries first (first + suc n)) g ≡ part (start_of h table.entries first) (size_between h table.entries first (first + suc n)) kept.bytes) ⊎ IsSlip w (read_of h table.entries first stop (Some g))
@@ -161,13 +164,13 @@ module _ (w : World) (h : SsTableHandle) (kept : Kept) (table : IsReadable w h k
             table.held,
             refl,
             record {
-              place = record { at = start_of h table.entries at; len = size };
+              place = block_lies h table.entries at;
               among = table.block_place at (omega (arith, le, within));
               whole = whole;
               from = rise;
               upto = omega (arith, rise, apart, upto);
               differs = λ same. let clash = (bytes_eq-Decides here there).1 same in let no : true ≡ false = sym clash ∙ e in cc;
-              passes = subst (λ (l : List ℕ). w.fits l ≡ true) is (table.sums stored.0);
+              passes = subst (λ (l : List ℕ). w.fits (cover_at h table.entries at) l ≡ true) is (table.sums (cover_at h table.entries at) stored.0);
             },
           )
 
@@ -216,7 +219,7 @@ fetched_checked w p h kept table first stop reads blocks some within fetched = b
         get_some (x ∷ xs) zero h = (x, refl)
         get_some (x ∷ xs) (suc i) h = get_some xs i (omega (arith, h))
 
-    summed_at : (answer : Option (List ℕ)) → whole_answer size given ≡ answer → (i : ℕ) → first + i < stop → (stored : List ℕ) × (block_answer h.info.filter_offset table.entries first answer (first + i) ≡ Some (summed stored))
+    summed_at : (answer : Option (List ℕ)) → whole_answer size given ≡ answer → (i : ℕ) → first + i < stop → (stored : List ℕ) × (block_answer h.info.filter_offset table.entries first answer (first + i) ≡ Some (summed (cover_at h table.entries (first + i)) stored))
     summed_at answer is i lt =
         let count = r.0 in
         let b = there i (omega (arith, count, lt)) in
@@ -244,13 +247,46 @@ rows_refused p h entries order first stop at given block e bytes read k = inr (b
 
 -- ---- a read ahead
 
+pub fetches_fewer : (h : SsTableHandle) (order : IterationOrder) (bytes : ℕ) (m : Meaning) (reads : List Act) (x y : Cursor) → Fetches m h order bytes reads x y → NoMore (refuses_behind h order x m) reads (refuses_behind h order y m)
+fetches_fewer h order bytes m reads x y f = fewer
+  where
+    r : (length f.blocks ≡ f.upto - f.from) × ((given : Option (List ℕ)) × (reads ≡ read_of h (entries_of x.index) f.from f.upto given ∷ []) × ((i : ℕ) (block : Block) → slice_get f.blocks i ≡ Some block → IsBlockRead m.decode (answer_at h (entries_of x.index) f.from f.upto given (f.from + i)) block))
+    r = block_read m h (entries_of x.index) f.from f.upto reads f.blocks f.fetched
+
+    placed : (n : ℕ) (block : Block) → length x.ready.items ≤ n → slice_get (in_order order f.blocks) (n - length x.ready.items) ≡ Some block → Stands order x f.from f.blocks n block
+    placed n block behind at = stands order x f.from f.upto f.blocks n block f.next.next r.0 f.next.some behind at
+
+    fewer : NoMore (refuses_behind h order x m) reads (refuses_behind h order y m)
+    fewer later at e (damage, inl k) = (damage, inl (subst (λ (o : Option (DataBlockIterator Block)). RefusesLeft o e) f.rows k))
+    fewer later at e (damage, inr (inr k)) = (damage, inr (inr (some_more m h (entries_of x.index) order reads later e (subst (λ (es : List (ℕ × List ℕ)). RefusesSome m h es order later e) (ap entries_of f.index) k))))
+    fewer later at e (damage, inr (inl (n, block, is, bytes, k))) = (damage, inr (by (get_both x.ready.items (in_order order f.blocks) n block (ap (λ l. slice_get l n) (sym f.ready) ∙ is))))
+      where
+        by : (slice_get x.ready.items n ≡ Some block) ⊎ ((length x.ready.items ≤ n) × (slice_get (in_order order f.blocks) (n - length x.ready.items) ≡ Some block)) → RefusesReady h.format_version order x.ready.items e ⊎ RefusesSome m h (entries_of x.index) order (reads ++ later) e
+        by (inl l) = inl (n, block, l, bytes, k)
+        by (inr l) =
+            let p = placed n block l.0 l.1 in
+            let i = p.i in
+            let lt = p.within in
+            let count = r.0 in
+            inr (record {
+              first = f.from;
+              stop = f.upto;
+              at = f.from + i;
+              given = r.1.0;
+              from = omega arith;
+              below = omega (arith, lt, count);
+              within = next_within order x f.from f.upto f.next.next;
+              among = Contains-append_left reads later _ (subst (λ (l : List Act). Contains l (read_of h (entries_of x.index) f.from f.upto r.1.0)) (sym r.1.1) (0, omega arith, refl));
+              why = rows_refused m h (entries_of x.index) order f.from f.upto (f.from + i) r.1.0 block e bytes (r.1.2 i block p.at) k;
+            })
+
 pub fetches_moves : (h : SsTableHandle) (order : IterationOrder) (bytes : ℕ) (a b : Reach) (reads : List Act) (x y : Cursor) → IsCall a b reads → Fetches a.meaning h order bytes reads x y →
     Moves (rest_after h order) (IsSoundCursor h order) (refuses_behind h order) a b x y
 fetches_moves h order bytes a b reads x y call f = record {
   rows = λ w s sound. ap (rest_behind y order) sound.table.held ∙ here w sound ∙ sym (ap (rest_behind x order) sound.table.held);
   still = λ w s sound. record { kept = sound.kept; table = sound.table; index = ap entries_of f.index ∙ sound.index; ready = ahead w s sound; whole = subst (IsWhole order) (sym f.rows) sound.whole };
   checked = λ w sound. call_checked w a b reads call (fetched_checked w a.meaning h sound.kept sound.table f.from f.upto reads f.blocks f.next.some (inside w sound) (of_table w sound));
-  made = (reads, call, fewer);
+  made = (reads, call, fetches_fewer h order bytes a.meaning reads x y f);
 }
   where
     r : (length f.blocks ≡ f.upto - f.from) × ((given : Option (List ℕ)) × (reads ≡ read_of h (entries_of x.index) f.from f.upto given ∷ []) × ((i : ℕ) (block : Block) → slice_get f.blocks i ≡ Some block → IsBlockRead a.meaning.decode (answer_at h (entries_of x.index) f.from f.upto given (f.from + i)) block))
@@ -287,31 +323,7 @@ fetches_moves h order bytes a b reads x y call f = record {
             let answered = (subst (AllByRecursion (AnswersWorld w)) read.1.1 (seen w a b reads s call)).0 in
             let answer = known_section w h sound.kept sound.table f.from f.upto (f.from + i) read.1.0 (omega arith) (omega (arith, lt, count)) (inside w sound) answered in
             let found = subst (λ (m : Meaning). IsBlockRead m.decode (answer_at h sound.table.entries f.from f.upto read.1.0 (f.from + i)) block) (sym s.meaning) (read.1.2 i block p.at) in
-            sound.table.block (f.from + i) rows block (ap (slice_get sound.kept.blocks) (sym p.place) ∙ among) each (subst (λ (o : Option (List ℕ)). IsBlockRead w.meaning.decode o block) answer found)
-
-    fewer : NoMore (refuses_behind h order x a.meaning) reads (refuses_behind h order y a.meaning)
-    fewer later at e (damage, inl k) = (damage, inl (subst (λ (o : Option (DataBlockIterator Block)). RefusesLeft o e) f.rows k))
-    fewer later at e (damage, inr (inr k)) = (damage, inr (inr (some_more a.meaning h (entries_of x.index) order reads later e (subst (λ (es : List (ℕ × List ℕ)). RefusesSome a.meaning h es order later e) (ap entries_of f.index) k))))
-    fewer later at e (damage, inr (inl (n, block, is, bytes, k))) = (damage, inr (by (get_both x.ready.items (in_order order f.blocks) n block (ap (λ l. slice_get l n) (sym f.ready) ∙ is))))
-      where
-        by : (slice_get x.ready.items n ≡ Some block) ⊎ ((length x.ready.items ≤ n) × (slice_get (in_order order f.blocks) (n - length x.ready.items) ≡ Some block)) → RefusesReady h.format_version order x.ready.items e ⊎ RefusesSome a.meaning h (entries_of x.index) order (reads ++ later) e
-        by (inl l) = inl (n, block, l, bytes, k)
-        by (inr l) =
-            let p = placed n block l.0 l.1 in
-            let i = p.i in
-            let lt = p.within in
-            let count = r.0 in
-            inr (record {
-              first = f.from;
-              stop = f.upto;
-              at = f.from + i;
-              given = r.1.0;
-              from = omega arith;
-              below = omega (arith, lt, count);
-              within = next_within order x f.from f.upto f.next.next;
-              among = Contains-append_left reads later _ (subst (λ (l : List Act). Contains l (read_of h (entries_of x.index) f.from f.upto r.1.0)) (sym r.1.1) (0, omega arith, refl));
-              why = rows_refused a.meaning h (entries_of x.index) order f.from f.upto (f.from + i) r.1.0 block e bytes (r.1.2 i block p.at) k;
-            })
+            sound.table.block (f.from + i) rows block (ap (slice_get sound.kept.blocks) (sym p.place) ∙ among) each (subst (λ (s : SectionRead). IsBlockRead w.meaning.decode s block) answer found)
 
 pub fetched_some : (p : Meaning) (h : SsTableHandle) (order : IterationOrder) (bytes : ℕ) (reads : List Act) (x y : Cursor) → Fetches p h order bytes reads x y → 0 < length y.ready.items
 fetched_some p h order bytes reads x y f =

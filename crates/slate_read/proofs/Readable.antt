@@ -1,10 +1,10 @@
 -- A table that is put is what a walk rests on.
-use Rattle.std.proofs.Common.{◌≡◌, ◌⊎◌, inl, inr, ◌<◌, ◌≤◌, ◌+◌, ◌-◌, ◌^◌, ℕ, suc, zero, Bool, true, false, List, [], ◌∷◌, ◌++◌, length, map, flat_map, take, drop, Option, Some, None, refl, sym, ap, subst, ◌∙◌, arith}
-use Rattle.std.specs.Prelude.{Contains, IsSorted, Ok, bytes_eq, slice_get}
+use Rattle.std.proofs.Common.{◌≡◌, ◌<◌, ◌≤◌, ◌+◌, ◌-◌, ◌^◌, ℕ, suc, zero, Bool, true, false, List, [], ◌∷◌, ◌++◌, length, map, flat_map, take, drop, Option, Some, None, refl, sym, ap, subst, ◌∙◌, arith}
+use Rattle.std.specs.Prelude.{Contains, IsSorted, bytes_eq, slice_get}
 use Rattle.std.specs.List.{AllByRecursion}
 use Rattle.std.proofs.lemmas.List.{length-append, length-map}
 use Rattle.std.proofs.lemmas.Option.{same_Some}
-use Rattle.std.proofs.lemmas.List.Elements.{All-contains, All-from_recursion}
+use Rattle.std.proofs.lemmas.List.Elements.{All-contains, All-from_recursion, Contains-append_left, Contains-append_right}
 use Rattle.std.proofs.lemmas.Slice.Eq.{bytes_eq-Decides}
 use Rattle.std.proofs.lemmas.Bool.{ltb-true}
 use Rattle.slate_types.specs.declared.error.SlateDBError.{SlateDBError}
@@ -14,6 +14,7 @@ use Rattle.slate_types.specs.Iteration.{IsInOrder, NoneBefore}
 use Rattle.slate_types.specs.Keys.{key_cmp, key_lt}
 use Rattle.slate_types.specs.RowTurns.{AreInTurn, NoneEarlier, row_before}
 use Rattle.slate_types.proofs.KeyOrder.{bytes_eq-same, is-less, turned-key}
+use Rattle.slate_types.proofs.Lists.{AllByRecursion-append}
 use Rattle.slate_types.specs.Lawful.{IsLawfulTransform}
 use Rattle.slate_types.specs.Outside.{Objects}
 use Rattle.slate_types.specs.Partitions.{CanHold}
@@ -23,24 +24,22 @@ use Rattle.slate_store.specs.Store.{object_at, part_of}
 use Rattle.slate_block.specs.declared.block.Block.{Block}
 use Rattle.slate_block.specs.BlockSpelling.{as_read, places, IsBlockOf}
 use Rattle.slate_block.specs.ReadingLaws.{EachIsAByte}
-use Rattle.slate_block.specs.Walks.{block_rows}
-use Rattle.slate_block.proofs.WalkedBlocks.{block_again as again_v1}
-use Rattle.slate_block.proofs.BlocksReadAgainV2.{block_again as again_v2}
+use Rattle.slate_block.proofs.WalkedVersions.{block_again}
 use Rattle.slate_table.specs.declared.info.SsTableHandle.{SsTableHandle}
 use Rattle.slate_table.specs.Decoded.{Info}
-use Rattle.slate_table.specs.FileLaws.{BlocksReadAreTheTables, IndexIsFound, IndexIsTheTables, InfosAreTheTables, index_section, stats_section, HoldsTable, paired, table_entries, table_info}
-use Rattle.slate_table.specs.Finding.{IsTableWith, encloses, index_answer}
+use Rattle.slate_table.specs.FileLaws.{BlocksReadAreTheTables, IndexIsFound, IndexIsTheTables, InfosAreTheTables, HoldsTable, paired, table_entries, table_info}
+use Rattle.slate_table.specs.Finding.{IsTableWith, block_read, encloses, index_answer}
 use Rattle.slate_table.specs.IndexReading.{index_keys}
 use Rattle.slate_table.specs.InfoReading.{seen_info}
-use Rattle.slate_table.specs.Parts as P
-use Rattle.slate_table.specs.Parts.{Encode, index_bytes, section, separators, sum_fits, summed}
-use Rattle.slate_table.specs.Reading.{AreBlocksRead, IsBlockRead, IsIndexRead, Reads, RefusesBlock, RefusesIndex, block_answer, block_start, blocks_size, whole_answer}
-use Rattle.slate_table.specs.Table.{filter_section, info_of, later_sections, placed, AreInOrder, IsTableOf, block_sections, blocks_end, table_places}
+use Rattle.slate_table.specs.Parts.{Encode, block_kind, cover_of, index_bytes, index_kind, section, separators, sum_fits, summed}
+use Rattle.slate_table.specs.Reading.{SectionRead, AreBlocksRead, IsBlockRead, IsIndexRead, Reads, RefusesBlock, RefusesIndex, block_answer, block_start, blocks_size, of_block, of_index, section_read, whole_answer}
+use Rattle.slate_table.specs.Table.{AreInOrder, IsTableOf, block_places, block_sections, blocks_end, filters_section, index_section, info_section, info_start, later_places, placed, stats_section}
 use Rattle.slate_table.specs.TableEnd.{HasInfo}
 use Rattle.slate_table.proofs.IndexLaws.{places_count, separators_count}
 use Rattle.slate_table.proofs.Covering.{AreSome, Holds, not_above, separators_hold}
 use Rattle.slate_table.proofs.IndexOrder.{index_is}
 use Rattle.slate_table.proofs.IndexReads.{sorted_keys}
+use Rattle.slate_table.proofs.Sections.{sections_count}
 use Rattle.slate_table.proofs.TableFinds.{Found, flat, found_in, not_refused, outside_none}
 use Rattle.slate_table.specs.Decoded.{IsIndex}
 use Rattle.std.proofs.lemmas.List.{drop_at, take_at}
@@ -53,9 +52,9 @@ use Rattle.std.proofs.Common.{cond}
 use Rattle.slate_block.specs.RowSpelling.{be16, be32, be64, read_expiry}
 use Rattle.slate_block.specs.BlockSpelling.{FitsBlock, block_bytes}
 use Rattle.slate_table.specs.Checksum.{crc32}
-use Rattle.slate_types.specs.World.{Kept, Place, World}
+use Rattle.slate_types.specs.World.{Kept, Section, World}
 use Rattle.slate_read.specs.Readable.{kept_of}
-use Rattle.slate_read.specs.TableWalk.{IsReadable, block_part, index_part, path_in, size_of, start_of}
+use Rattle.slate_read.specs.TableWalk.{IsReadable, block_part, index_lies, index_part, path_in, size_of, start_of}
 use Rattle.slate_read.specs.WalkLaws.{whole_part}
 use Rattle.slate_read.proofs.OneBlock.{one_answer}
 
@@ -157,24 +156,26 @@ paired_keys (a ∷ ats) (k ∷ keys) h = ap (λ (l : List (List ℕ)). k ∷ l) 
 paired_count : (ats : List ℕ) (keys : List (List ℕ)) → length ats ≡ length keys → length (paired ats keys) ≡ length keys
 paired_count ats keys h = sym (length-map (paired ats keys) (λ e. e.1)) ∙ ap length (paired_keys ats keys h)
 
-read_whole : (version : ℕ) (body offsets : List ℕ) (rows : List RowEntry) → EachIsAByte body → IsBlockOf body offsets version rows → (version ≡ 1) ⊎ (version ≡ 2) → block_rows version body offsets ≡ Ok rows
-read_whole version body offsets rows fits is (inl e) = ap (λ v. block_rows v body offsets) e ∙ again_v1 body offsets rows fits (subst (λ v. IsBlockOf body offsets v rows) e is)
-read_whole version body offsets rows fits is (inr e) = ap (λ v. block_rows v body offsets) e ∙ again_v2 body offsets rows fits (subst (λ v. IsBlockOf body offsets v rows) e is)
-
-single : (decode : Encode) (end : ℕ) (entries : List (ℕ × List ℕ)) (i : ℕ) (answer : Option (List ℕ)) (block : Block) → whole_answer (blocks_size end entries i (i + 1)) answer ≡ answer → IsBlockRead decode answer block → AreBlocksRead decode (block_answer end entries i answer) i (block ∷ [])
-single decode end entries i answer block whole read zero b h =
+single : (decode : Encode) (version id : ℕ) (info : Info) (entries : List (ℕ × List ℕ)) (i : ℕ) (answer : Option (List ℕ)) (block : Block) → whole_answer (blocks_size info.filters.at entries i (i + 1)) answer ≡ answer →
+    IsBlockRead decode (section_read version id block_kind (block_start info.filters.at entries i) answer) block → AreBlocksRead decode (block_read version id info entries i answer) i (block ∷ [])
+single decode version id info entries i answer block whole read zero b h =
+    let end = info.filters.at in
     let same : block ≡ b = same_Some block b h in
     let zero_more : i + 0 ≡ i = omega arith in
-    let is : block_answer end entries i answer (i + 0) ≡ answer = ap (block_answer end entries i answer) zero_more ∙ ap (λ (a : Option (List ℕ)). block_answer end entries i a i) (sym whole) ∙ one_answer end entries i answer ∙ whole in
-    subst (λ (a : Option (List ℕ)). IsBlockRead decode a b) (sym is) (subst (λ (x : Block). IsBlockRead decode answer x) same read)
-single decode end entries i answer block whole read (suc j) b h = cc
+    let alone : block_answer end entries i answer i ≡ answer = ap (λ (a : Option (List ℕ)). block_answer end entries i a i) (sym whole) ∙ one_answer end entries i answer ∙ whole in
+    let is : block_read version id info entries i answer (i + 0) ≡ section_read version id block_kind (block_start end entries i) answer =
+    ap (λ (n : ℕ). block_read version id info entries i answer n) zero_more ∙ ap (λ (a : Option (List ℕ)). section_read version id block_kind (block_start end entries i) a) alone in
+    subst (λ (s : SectionRead). IsBlockRead decode s b) (sym is) (subst (λ (x : Block). IsBlockRead decode (section_read version id block_kind (block_start end entries i) answer) x) same read)
+single decode version id info entries i answer block whole read (suc j) b h = cc
 
-sum_passes : (stored : List ℕ) → sum_fits (summed stored) ≡ true
-sum_passes stored =
-    let sum = be32 (crc32 stored) in
-    let size : length (summed stored) - 4 ≡ length stored = let n = length-append stored sum in omega (arith, n) in
-    (bytes_eq-Decides (drop (length (summed stored) - 4) (summed stored)) (be32 (crc32 (take (length (summed stored) - 4) (summed stored))))).1
-    (ap (λ (n : ℕ). drop n (summed stored)) size ∙ drop_at stored sum (length stored) refl ∙ ap (λ (l : List ℕ). be32 (crc32 l)) (sym (ap (λ (n : ℕ). take n (summed stored)) size ∙ take_at stored sum (length stored) refl)))
+sum_passes : (cover stored : List ℕ) → sum_fits cover (summed cover stored) ≡ true
+sum_passes cover stored =
+    let sum = be32 (crc32 (cover ++ stored)) in
+    let all = summed cover stored in
+    let size : length all - 4 ≡ length stored = let n = length-append stored sum in omega (arith, n) in
+    (bytes_eq-Decides (drop (length all - 4) all) (be32 (crc32 (cover ++ take (length all - 4) all)))).1
+    (ap (λ (n : ℕ). drop n all) size ∙ drop_at stored sum (length stored) refl
+    ∙ ap (λ (l : List ℕ). be32 (crc32 (cover ++ l))) (sym (ap (λ (n : ℕ). take n all) size ∙ take_at stored sum (length stored) refl)))
 
 all_read : (version : ℕ) (keys : List (List ℕ)) (i : ℕ) (b : List RowEntry) → AllByRecursion (λ r. CanHold keys i r.key) b → AllByRecursion (λ r. CanHold keys i r.key) (map (as_read version) b)
 all_read version keys i [] h = tt
@@ -198,125 +199,91 @@ contains_at [] i x h = cc
 contains_at (y ∷ xs) zero x h = (0, omega arith, same_Some y x h)
 contains_at (y ∷ xs) (suc i) x h = let r = contains_at xs i x h in (suc r.0, (let lt = r.1 in omega (arith, lt)), r.2)
 
-conv : P.Place → Place
-conv p = record { at = p.at; len = p.len }
-
-mapped_at : {X Y : Type 0} (f : X → Y) (xs : List X) (i : ℕ) (x : X) → slice_get xs i ≡ Some x → slice_get (map f xs) i ≡ Some (f x)
-mapped_at f [] i x h = cc
-mapped_at f (y ∷ xs) zero x h = ap (λ (z : _). Some (f z)) (same_Some y x h)
-mapped_at f (y ∷ xs) (suc i) x h = mapped_at f xs i x h
-
 begins_at : (at end : ℕ) (ss : List (List ℕ)) (ks : List (List ℕ)) → length ks ≡ length ss → at + length (flat_map (λ x. x) ss) ≡ end → block_start end (paired (places at ss) ks) 0 ≡ at
 begins_at at end [] ks n h = omega (arith, h)
 begins_at at end (s ∷ ss) [] n h = absurd (omega (arith, n))
 begins_at at end (s ∷ ss) (x ∷ ks) n h = refl
 
-block_at : (at end : ℕ) (ss more : List (List ℕ)) (ks : List (List ℕ)) (k : ℕ) → length ks ≡ length ss → at + length (flat_map (λ x. x) ss) ≡ end → k < length ss →
-    slice_get (placed at (ss ++ more)) k ≡ Some (record { at = block_start end (paired (places at ss) ks) k; len = blocks_size end (paired (places at ss) ks) k (k + 1) })
-block_at at end [] more ks k n h lt = absurd (omega (arith, lt))
-block_at at end (s ∷ ss) more [] k n h lt = absurd (omega (arith, n))
-block_at at end (s ∷ ss) more (x ∷ ks) zero n h lt =
+block_at : (version id at end : ℕ) (ss : List (List ℕ)) (ks : List (List ℕ)) (k : ℕ) → length ks ≡ length ss → at + length (flat_map (λ x. x) ss) ≡ end → k < length ss →
+    let start = block_start end (paired (places at ss) ks) k in
+    slice_get (placed version id at ss) k ≡ Some (record { at = start; len = blocks_size end (paired (places at ss) ks) k (k + 1); cover = cover_of version id block_kind start })
+block_at version id at end [] ks k n h lt = absurd (omega (arith, lt))
+block_at version id at end (s ∷ ss) [] k n h lt = absurd (omega (arith, n))
+block_at version id at end (s ∷ ss) (x ∷ ks) zero n h lt =
     let l = length-append s (flat_map (λ x. x) ss) in
     let next : block_start end (paired (places (at + length s) ss) ks) 0 ≡ at + length s = begins_at (at + length s) end ss ks (omega (arith, n)) (omega (arith, h, l)) in
     let size : length s ≡ block_start end (paired (places (at + length s) ss) ks) 0 - at = omega (arith, next) in
-    ap (λ (m : ℕ). Some (record { at = at; len = m })) size
-block_at at end (s ∷ ss) more (x ∷ ks) (suc k) n h lt =
+    ap (λ (m : ℕ). Some (record { at = at; len = m; cover = cover_of version id block_kind at })) size
+block_at version id at end (s ∷ ss) (x ∷ ks) (suc k) n h lt =
     let l = length-append s (flat_map (λ x. x) ss) in
     let next : suc (k + 1) ≡ suc k + 1 = omega arith in
     let es = paired (places at (s ∷ ss)) (x ∷ ks) in
-    block_at (at + length s) end ss more ks k (omega (arith, n)) (omega (arith, h, l)) (omega (arith, lt)) ∙ ap (λ (m : ℕ). Some (record { at = block_start end es (suc k); len = blocks_size end es (suc k) m })) next
+    let start = block_start end es (suc k) in
+    block_at version id (at + length s) end ss ks k (omega (arith, n)) (omega (arith, h, l)) (omega (arith, lt))
+    ∙ ap (λ (m : ℕ). Some (record { at = start; len = blocks_size end es (suc k) m; cover = cover_of version id block_kind start })) next
 
-place_behind : (at : ℕ) (ss more : List (List ℕ)) (j : ℕ) → slice_get (placed at (ss ++ more)) (length ss + j) ≡ slice_get (placed (at + length (flat_map (λ x. x) ss)) more) j
-place_behind at [] more j = (λ i. slice_get (placed (zero_more i) more) (zero_less i))
-  where
-    zero_more : at ≡ at + 0
-    zero_more = omega arith
-
-    zero_less : 0 + j ≡ j
-    zero_less = omega arith
-place_behind at (s ∷ ss) more j =
-    let next : suc (length ss) + j ≡ suc (length ss + j) = omega arith in
-    let l = length-append s (flat_map (λ x. x) ss) in
-    let there : at + length s + length (flat_map (λ x. x) ss) ≡ at + length (s ++ flat_map (λ x. x) ss) = omega (arith, l) in
-    ap (slice_get (placed at ((s ∷ ss) ++ more))) next ∙ place_behind (at + length s) ss more j ∙ ap (λ (n : ℕ). slice_get (placed n more) j) there
-
-weaker : (m n : ℕ) → m ≤ n → (ps : List P.Place) → AllByRecursion (λ (p : P.Place). p.at + p.len ≤ m) ps → AllByRecursion (λ (p : P.Place). p.at + p.len ≤ n) ps
+weaker : (m n : ℕ) → m ≤ n → (ps : List Section) → AllByRecursion (λ (p : Section). p.at + p.len ≤ m) ps → AllByRecursion (λ (p : Section). p.at + p.len ≤ n) ps
 weaker m n le [] h = tt
 weaker m n le (p ∷ ps) h = (let a = h.0 in omega (arith, a, le), weaker m n le ps h.1)
 
-flat_count : (xs ys : List (List ℕ)) → length (flat_map (λ x. x) (xs ++ ys)) ≡ length (flat_map (λ x. x) xs) + length (flat_map (λ x. x) ys)
-flat_count [] ys = omega arith
-flat_count (x ∷ xs) ys =
-    let n = flat_count xs ys in
-    let a = length-append x (flat_map (λ z. z) (xs ++ ys)) in
-    let b = length-append x (flat_map (λ z. z) xs) in
-    omega (arith, n, a, b)
-
-upto_end : (at : ℕ) (ss : List (List ℕ)) → AllByRecursion (λ (p : P.Place). p.at + p.len ≤ at + length (flat_map (λ x. x) ss)) (placed at ss)
-upto_end at [] = tt
-upto_end at (s ∷ ss) =
+upto_end : (version id at : ℕ) (ss : List (List ℕ)) → AllByRecursion (λ (p : Section). p.at + p.len ≤ at + length (flat_map (λ x. x) ss)) (placed version id at ss)
+upto_end version id at [] = tt
+upto_end version id at (s ∷ ss) =
     let l = length-append s (flat_map (λ x. x) ss) in
-    (omega (arith, l), weaker (at + length s + length (flat_map (λ x. x) ss)) (at + length (s ++ flat_map (λ x. x) ss)) (omega (arith, l)) (placed (at + length s) ss) (upto_end (at + length s) ss))
-
-conv_all : (n : ℕ) (ps : List P.Place) → AllByRecursion (λ (p : P.Place). p.at + p.len ≤ n) ps → AllByRecursion (λ (p : Place). p.at + p.len ≤ n) (map (λ p. record { at = p.at; len = p.len }) ps)
-conv_all n [] h = tt
-conv_all n (p ∷ ps) h = (h.0, conv_all n ps h.1)
+    (omega (arith, l), weaker (at + length s + length (flat_map (λ x. x) ss)) (at + length (s ++ flat_map (λ x. x) ss)) (omega (arith, l)) (placed version id (at + length s) ss) (upto_end version id (at + length s) ss))
 
 pub readable : InfosAreTheTables → IndexIsTheTables → IndexIsFound → BlocksReadAreTheTables → (encode decode : Encode) → IsLawfulTransform encode decode → (w : World) (h : SsTableHandle) (bytes : List ℕ) (bs : List (List RowEntry)) (fs : List (List ℕ × List ℕ)) →
-    w.meaning.decode ≡ decode → w.fits ≡ sum_fits → w.holds (path_in h) ≡ Some (kept_of encode h.format_version bs fs bytes) → EachIsAByte bytes → IsTableOf encode bytes h.format_version bs fs → HasInfo bytes h.format_version (seen_info h.info) →
-    IsReadable w h (kept_of encode h.format_version bs fs bytes)
+    w.meaning.decode ≡ decode → w.fits ≡ sum_fits → w.holds (path_in h) ≡ Some (kept_of encode h.format_version h.id.0 bs fs bytes) → EachIsAByte bytes → IsTableOf encode bytes h.format_version h.id.0 bs fs → HasInfo bytes h.format_version h.id.0 (seen_info h.info) →
+    IsReadable w h (kept_of encode h.format_version h.id.0 bs fs bytes)
 unfolding flat
 readable same_end index_held index_found blocks_held encode decode lawful w h bytes bs fs decodes sums held each table ends = record {
   held = held;
   entries = entries;
   keys = paired_keys (places 0 ss) (separators bs) count;
   count = length-map bs (map (as_read h.format_version)) ∙ sym (separators_count bs) ∙ sym (paired_count (places 0 ss) (separators bs) count);
-  index = λ es read. index_held encode decode lawful (Some os) None None path h.format_version bs fs es holds
-      (subst (λ (i : Info). Reads (Some os) None None path i.index.at i.index.len (λ answer. IsIndexRead decode i.filters.at answer es)) same
-      (held_read os path bytes h.info.index_offset h.info.index_len (λ answer. IsIndexRead decode h.info.filter_offset answer es) refl (subst (λ (d : Encode). IsIndexRead d h.info.filter_offset (index_part h kept) es) decodes read)));
-  index_fine = λ e refused. index_found encode decode lawful (Some os) None None path h.format_version bs fs e holds each
-      (subst (λ (i : Info). Reads (Some os) None None path i.index.at i.index.len (λ answer. RefusesIndex decode i.filters.at answer e)) same
-      (held_read os path bytes h.info.index_offset h.info.index_len (λ answer. RefusesIndex decode h.info.filter_offset answer e) refl (subst (λ (d : Encode). RefusesIndex d h.info.filter_offset (index_part h kept) e) decodes refused)));
+  index = λ es read. index_held encode decode lawful (Some os) None None path h.format_version h.id.0 bs fs es holds
+      (subst (λ (i : Info). Reads (Some os) None None path i.index.at i.index.len (λ answer. IsIndexRead decode i.filters.at (section_read h.format_version h.id.0 index_kind i.index.at answer) es)) same
+      (held_read os path bytes h.info.index_offset h.info.index_len (λ answer. IsIndexRead decode h.info.filter_offset (of_index h answer) es) refl (subst (λ (d : Encode). IsIndexRead d h.info.filter_offset (index_part h kept) es) decodes read)));
+  index_fine = λ e refused. index_found encode decode lawful (Some os) None None path h.format_version h.id.0 bs fs e holds each
+      (subst (λ (i : Info). Reads (Some os) None None path i.index.at i.index.len (λ answer. RefusesIndex decode i.filters.at (section_read h.format_version h.id.0 index_kind i.index.at answer) e)) same
+      (held_read os path bytes h.info.index_offset h.info.index_len (λ answer. RefusesIndex decode h.info.filter_offset (of_index h answer) e) refl (subst (λ (d : Encode). RefusesIndex d h.info.filter_offset (index_part h kept) e) decodes refused)));
   known = table.known;
   block = λ i rows block at fits read.
       let m = mapped_some (map (as_read h.format_version)) bs i rows at in
       let zero_more : i + 0 ≡ i = omega arith in
       let there = subst (λ (d : Encode). IsBlockRead d (block_part h kept entries i) block) decodes read in
-      let moved = subst (λ (n : ℕ). IsBlockRead decode (part_of (Some bytes) (block_start n entries i) (blocks_size n entries i (i + 1))) block) end_is there in
-      let is = blocks_held encode decode lawful (Some os) None None path h.format_version bs fs i (i + 1) 0 (block ∷ []) block m.0 holds
-      (held_read os path bytes (block_start end entries i) (blocks_size end entries i (i + 1)) (λ answer. AreBlocksRead decode (block_answer end entries i answer) i (block ∷ [])) refl
-      (single decode end entries i (part_of (Some bytes) (block_start end entries i) (blocks_size end entries i (i + 1))) block (whole_part bytes (block_start end entries i) (blocks_size end entries i (i + 1))) moved))
+      let moved = subst (λ (n : ℕ). IsBlockRead decode (section_read h.format_version h.id.0 block_kind (block_start n entries i) (part_of (Some bytes) (block_start n entries i) (blocks_size n entries i (i + 1)))) block) end_is there in
+      let is = blocks_held encode decode lawful (Some os) None None path h.format_version h.id.0 bs fs i (i + 1) 0 (block ∷ []) block m.0 holds
+      (held_read os path bytes (block_start end entries i) (blocks_size end entries i (i + 1)) (λ answer. AreBlocksRead decode (block_read h.format_version h.id.0 info entries i answer) i (block ∷ [])) refl
+      (single decode h.format_version h.id.0 info entries i (part_of (Some bytes) (block_start end entries i) (blocks_size end entries i (i + 1))) block (whole_part bytes (block_start end entries i) (blocks_size end entries i (i + 1))) moved))
       refl (omega arith) (ap (slice_get bs) zero_more ∙ m.1) in
-      read_whole h.format_version block.body block.offsets.items rows fits (subst (IsBlockOf block.body block.offsets.items h.format_version) (sym m.2) is) table.known;
+      block_again h.format_version block.body block.offsets.items rows fits (subst (IsBlockOf block.body block.offsets.items h.format_version) (sym m.2) is);
   block_fine = λ i e within refused. fine i e (omega (arith, within)) refused;
   index_place =
-      let z : 0 + length (flat_map (λ x. x) ss) ≡ length (flat_map (λ x. x) ss) = omega arith in
-      let got = place_behind 0 ss (later_sections encode h.format_version bs fs) 1 ∙ (λ i. Some (record { at = z i + length (filter_section encode fs); len = length (index_section encode h.format_version bs) })) in
-      let at = contains_at _ (length ss + 1) _ (mapped_at (λ (p : P.Place). record { at = p.at; len = p.len }) (table_places encode h.format_version bs fs) (length ss + 1) _ got) in
-      subst (λ (p : P.Place). Contains (kept_of encode h.format_version bs fs bytes).sections (record { at = p.at; len = p.len })) (sym (ap (λ (i : Info). i.index) same)) at;
+      let there = Contains-append_right (block_places encode h.format_version h.id.0 bs) (later_places encode h.format_version h.id.0 bs fs) _ (contains_at (later_places encode h.format_version h.id.0 bs fs) 1 _ refl) in
+      subst (λ (i : Info). Contains kept.sections (record { at = i.index.at; len = i.index.len; cover = cover_of h.format_version h.id.0 index_kind i.index.at })) (sym same) there;
   block_place = λ i within.
-      let few : i < length ss = (let n = paired_count (places 0 ss) (separators bs) count in let k = separators_count bs in let m = length-map bs (λ (b : List RowEntry). section encode (block_bytes h.format_version b)) in omega (arith, within, n, k, m)) in
-      let there = block_at 0 end ss (later_sections encode h.format_version bs fs) (separators bs) i (sym count ∙ places_count 0 ss) (omega arith) few in
-      let at = contains_at _ i _ (mapped_at (λ (p : P.Place). record { at = p.at; len = p.len }) (table_places encode h.format_version bs fs) i _ there) in
-      subst (λ (n : ℕ). Contains (kept_of encode h.format_version bs fs bytes).sections (record { at = block_start n entries i; len = blocks_size n entries i (i + 1) })) (sym end_is) at;
-  inside = λ p among. All-contains (λ (q : Place). q.at + q.len ≤ length bytes) (kept_of encode h.format_version bs fs bytes).sections p
-      (All-from_recursion (λ (q : Place). q.at + q.len ≤ length bytes) (kept_of encode h.format_version bs fs bytes).sections (conv_all (length bytes) (table_places encode h.format_version bs fs) (weaker (0 + length (flat_map (λ x. x) (ss ++ later_sections encode h.format_version bs fs))) (length bytes) total (table_places encode h.format_version bs fs) (upto_end 0 (ss ++ later_sections encode h.format_version bs fs))))) among;
-  sums = λ stored. ap (λ (f : List ℕ → Bool). f (summed stored)) sums ∙ sum_passes stored;
+      let few : i < length ss = (let n = paired_count (places 0 ss) (separators bs) count in let k = separators_count bs in let m = sections in omega (arith, within, n, k, m)) in
+      let at = block_at h.format_version h.id.0 0 end ss (separators bs) i (sym count ∙ places_count 0 ss) (omega arith) few in
+      let there = Contains-append_left (block_places encode h.format_version h.id.0 bs) (later_places encode h.format_version h.id.0 bs fs) _ (contains_at (block_places encode h.format_version h.id.0 bs) i _ at) in
+      subst (λ (n : ℕ). Contains kept.sections (record { at = block_start n entries i; len = blocks_size n entries i (i + 1); cover = cover_of h.format_version h.id.0 block_kind (block_start n entries i) })) (sym end_is) there;
+  inside = λ p among. All-contains (λ (q : Section). q.at + q.len ≤ length bytes) kept.sections p (All-from_recursion (λ (q : Section). q.at + q.len ≤ length bytes) kept.sections all_inside) among;
+  sums = λ cover stored. ap (λ (f : List ℕ → List ℕ → Bool). f cover (summed cover stored)) sums ∙ sum_passes cover stored;
   rising = subst (IsInOrder Ascending) (sym (read_flat h.format_version bs)) (read_order h.format_version (flat_map (λ b. b) bs) table.order);
   turn = subst (λ (rows : List RowEntry). AreInTurn (row_before Ascending) rows) (sym (read_flat h.format_version bs)) (read_turn h.format_version (flat_map (λ b. b) bs) table.order);
-  enclosed = subst (AllByRecursion (λ r. encloses (seen_info h.info) r.key ≡ true)) (sym (read_flat h.format_version bs)) (all_enclosed (seen_info h.info) (map (as_read h.format_version) (flat_map (λ b. b) bs)) (λ k out. outside_none encode bytes h.format_version (seen_info h.info) (map (as_read h.format_version) (flat_map (λ b. b) bs)) with_info k out));
+  enclosed = subst (AllByRecursion (λ r. encloses (seen_info h.info) r.key ≡ true)) (sym (read_flat h.format_version bs)) (all_enclosed (seen_info h.info) (map (as_read h.format_version) (flat_map (λ b. b) bs)) (λ k out. outside_none encode bytes h.format_version h.id.0 (seen_info h.info) (map (as_read h.format_version) (flat_map (λ b. b) bs)) with_info k out));
   sorted = subst (IsSorted key_cmp) (paired_keys (places 0 ss) (separators bs) count) (sorted_keys entries stands.rises);
   holds = holds_read h.format_version bs table.each table.order;
 }
   where
     kept : Kept
-    kept = kept_of encode h.format_version bs fs bytes
+    kept = kept_of encode h.format_version h.id.0 bs fs bytes
 
     ss : List (List ℕ)
-    ss = block_sections encode h.format_version bs
+    ss = block_sections encode h.format_version h.id.0 bs
 
     entries : List (ℕ × List ℕ)
-    entries = table_entries encode h.format_version bs
+    entries = table_entries encode h.format_version h.id.0 bs
 
     path : List ℕ
     path = []
@@ -324,65 +291,74 @@ readable same_end index_held index_found blocks_held encode decode lawful w h by
     os : Objects
     os = ([], bytes) ∷ []
 
-    holds : HoldsTable encode (Some os) path h.format_version bs fs
+    holds : HoldsTable encode (Some os) path h.format_version h.id.0 bs fs
     holds = record { told = os; bytes = bytes; tells = refl; there = refl; is = table }
 
-    same : seen_info h.info ≡ table_info encode h.format_version bs fs
-    same = same_end encode bytes h.format_version bs fs (seen_info h.info) table ends
+    info : Info
+    info = table_info encode h.format_version h.id.0 bs fs
+
+    same : seen_info h.info ≡ info
+    same = same_end encode bytes h.format_version h.id.0 bs fs (seen_info h.info) table ends
 
     end : ℕ
-    end = blocks_end encode h.format_version bs
+    end = blocks_end encode h.format_version h.id.0 bs
 
     end_is : h.info.filter_offset ≡ end
     end_is = ap (λ (i : Info). i.filters.at) same
 
-    total : 0 + length (flat_map (λ x. x) (ss ++ later_sections encode h.format_version bs fs)) ≤ length bytes
+    total : info_start encode h.format_version h.id.0 bs fs + length (info_section encode h.format_version h.id.0 bs fs) ≤ length bytes
     total =
         let b = flat_map (λ x. x) ss in
-        let f = filter_section encode fs in
-        let i = index_section encode h.format_version bs in
-        let s = stats_section encode bs in
-        let n = summed (info_of h.format_version (flat_map (λ x. x) bs) (length b) f i s) in
-        let e = be64 (length b + length f + length i + length s) in
+        let f = filters_section encode h.format_version h.id.0 bs fs in
+        let i = index_section encode h.format_version h.id.0 bs fs in
+        let s = stats_section encode h.format_version h.id.0 bs fs in
+        let n = info_section encode h.format_version h.id.0 bs fs in
+        let e = be64 (info_start encode h.format_version h.id.0 bs fs) in
         let t = be16 h.format_version in
-        let c = flat_count ss (later_sections encode h.format_version bs fs) in
-        let m1 = length-append f (i ++ (s ++ (n ++ []))) in
-        let m2 = length-append i (s ++ (n ++ [])) in
-        let m3 = length-append s (n ++ []) in
-        let m4 = length-append n [] in
-        let whole = ap length table.is in
+        let whole : length bytes ≡ length (b ++ f ++ i ++ s ++ n ++ e ++ t) = ap length table.is in
         let l1 = length-append (b ++ f ++ i ++ s ++ n ++ e) t in
         let l2 = length-append (b ++ f ++ i ++ s ++ n) e in
         let l3 = length-append (b ++ f ++ i ++ s) n in
         let l4 = length-append (b ++ f ++ i) s in
         let l5 = length-append (b ++ f) i in
         let l6 = length-append b f in
-        omega (arith, c, m1, m2, m3, m4, whole, l1, l2, l3, l4, l5, l6)
+        omega (arith, whole, l1, l2, l3, l4, l5, l6)
 
-    at : Found encode bytes h.format_version (seen_info h.info) bs
-    at = found_in encode bytes h.format_version (seen_info h.info) h.format_version bs fs table ends
+    all_inside : AllByRecursion (λ (q : Section). q.at + q.len ≤ length bytes) kept.sections
+    all_inside =
+        let blocks = upto_end h.format_version h.id.0 0 ss in
+        AllByRecursion-append (λ (q : Section). q.at + q.len ≤ length bytes) (block_places encode h.format_version h.id.0 bs) (later_places encode h.format_version h.id.0 bs fs)
+        (weaker (0 + length (flat_map (λ x. x) ss)) (length bytes) (omega (arith, total)) (block_places encode h.format_version h.id.0 bs) blocks)
+        (omega (arith, total), (omega (arith, total), (omega (arith, total), (omega (arith, total), tt))))
+
+    at : Found encode bytes h.format_version h.id.0 (seen_info h.info) bs
+    at = found_in encode bytes h.format_version h.id.0 (seen_info h.info) h.format_version bs fs table ends
 
     short : length (flat_map (λ x. x) ss) < 2 ^ 64
     short = let l = length-append (flat_map (λ x. x) at.ss) at.rest in let n = ap length at.is in let few = table.short in let are = ap (λ (x : List (List ℕ)). length (flat_map (λ y. y) x)) at.are in omega (arith, l, n, few, are)
 
     stands : IsIndex end (index_bytes (places 0 ss) (separators bs)) entries
-    stands = index_is encode h.format_version end bs table.each table.some table.few table.order refl short
+    stands = index_is encode h.format_version h.id.0 end bs table.each table.some table.few table.order refl short
 
-    read : IsIndexRead decode (seen_info h.info).filters.at (index_answer bytes (seen_info h.info)) entries
+    read : IsIndexRead decode (seen_info h.info).filters.at (index_answer h.format_version h.id.0 bytes (seen_info h.info)) entries
     read =
         let text = index_bytes (places 0 ss) (separators bs) in
-        (text, (encode text, at.index ∙ ap (λ (x : List (List ℕ)). Some (section encode (index_bytes (places 0 x) (separators bs)))) at.are, sym (lawful text)), subst (λ (n : ℕ). IsIndex n text entries) (sym end_is) stands)
+        (text, (encode text, at.index ∙ ap (λ (x : List (List ℕ)). Some (section (index_lies h).cover encode (index_bytes (places 0 x) (separators bs)))) at.are, sym (lawful text)), subst (λ (n : ℕ). IsIndex n text entries) (sym end_is) stands)
 
-    with_info : IsTableWith encode bytes h.format_version (seen_info h.info) (map (as_read h.format_version) (flat_map (λ b. b) bs))
+    with_info : IsTableWith encode bytes h.format_version h.id.0 (seen_info h.info) (map (as_read h.format_version) (flat_map (λ b. b) bs))
     with_info = record { written = h.format_version; is = (bs, fs, table, refl); info = ends }
 
     fine : (i : ℕ) (e : SlateDBError) → i < length entries → RefusesBlock w.meaning.decode (block_part h kept entries i) e → ⊥
     fine i e within refused =
+        let part = part_of (Some bytes) (start_of h entries i) (size_of h entries i) in
         let whole = whole_part bytes (start_of h entries i) (size_of h entries i) in
-        let is : block_answer h.info.filter_offset entries i (block_part h kept entries i) i ≡ block_part h kept entries i = ap (λ (a : Option (List ℕ)). block_answer h.info.filter_offset entries i a i) (sym whole) ∙ one_answer h.info.filter_offset entries i (block_part h kept entries i) ∙ whole in
+        let is : block_answer h.info.filter_offset entries i part i ≡ part = ap (λ (a : Option (List ℕ)). block_answer h.info.filter_offset entries i a i) (sym whole) ∙ one_answer h.info.filter_offset entries i part ∙ whole in
         let here = subst (λ (d : Encode). RefusesBlock d (block_part h kept entries i) e) decodes refused in
-        (not_refused encode decode lawful bytes h.format_version (seen_info h.info) (map (as_read h.format_version) (flat_map (λ b. b) bs)) each with_info).1 entries read i (i + 1) (omega arith) (omega (arith, within)) e
-        (i, omega arith, omega arith, subst (λ (a : Option (List ℕ)). RefusesBlock decode a e) (sym is) here, λ j from below. absurd (omega (arith, from, below)))
+        (not_refused encode decode lawful bytes h.format_version h.id.0 (seen_info h.info) (map (as_read h.format_version) (flat_map (λ b. b) bs)) each with_info).1 entries read i (i + 1) (omega arith) (omega (arith, within)) e
+        (i, omega arith, omega arith, subst (λ (a : Option (List ℕ)). RefusesBlock decode (of_block h entries i a) e) (sym is) here, λ j from below. absurd (omega (arith, from, below)))
+
+    sections : length ss ≡ length bs
+    sections = sections_count h.format_version h.id.0 encode 0 (map (λ b. block_bytes h.format_version b) bs) ∙ length-map bs (λ b. block_bytes h.format_version b)
 
     count : length (places 0 ss) ≡ length (separators bs)
-    count = places_count 0 ss ∙ length-map bs _ ∙ sym (separators_count bs)
+    count = places_count 0 ss ∙ sections ∙ sym (separators_count bs)

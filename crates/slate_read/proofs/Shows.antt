@@ -13,6 +13,7 @@ use Rattle.slate_types.specs.Iteration.{in_order}
 use Rattle.slate_types.specs.Refusing.{IsDamage}
 use Rattle.slate_types.proofs.Lists.{AllByRecursion-reverse}
 use Rattle.slate_table.specs.declared.info.SsTableHandle.{SsTableHandle}
+use Rattle.slate_table.specs.Reading.{SectionRead}
 use Rattle.slate_read.specs.Showing.{RefusesBlockOf, ShowsBlock, ShowsByReads, SomeShows, UnopenedRunsShow, UnopenedWalksShow}
 use Rattle.slate_read.specs.declared.progress.Progress.{Progress}
 use Rattle.slate_read.specs.declared.progress.Progress.TheVariants.{New as ProgressNew}
@@ -28,10 +29,10 @@ use Rattle.slate_read.specs.RunWalk.{RefusesOpen, can_reach, refuses_run_in, wai
 use Rattle.slate_read.specs.SstIterators.{source_refuses}
 use Rattle.slate_read.specs.TableWalk.{RefusesSome, RefusesUnread, RefusesWalk, answer_at, refuses_in}
 
-walk_shows : (m : Meaning) (version : ℕ) (order : IterationOrder) (answer : Option (List ℕ)) (e : SlateDBError) → RefusesWalk m.decode version order answer e → RefusesBlockOf m.decode version answer e
+walk_shows : (m : Meaning) (version : ℕ) (order : IterationOrder) (section : SectionRead) (e : SlateDBError) → RefusesWalk m.decode version order section e → RefusesBlockOf m.decode version section e
 unfolding RefusesWalk
-walk_shows m version order answer e (inl h) = inl h
-walk_shows m version order answer e (inr (block, bytes, read, rows)) = inr (block, read, (order, rows))
+walk_shows m version order section e (inl h) = inl h
+walk_shows m version order section e (inr (block, bytes, read, rows)) = inr (block, read, (order, rows))
 
 some_shows : (m : Meaning) (h : SsTableHandle) (entries : List (ℕ × List ℕ)) (order : IterationOrder) (reads : List Act) (e : SlateDBError) → RefusesSome m h entries order reads e → ShowsBlock m.decode h entries reads e
 some_shows m h entries order reads e r = record {

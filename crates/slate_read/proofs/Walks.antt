@@ -11,13 +11,13 @@ use Rattle.slate_types.specs.declared.iter.IterationOrder.{IterationOrder}
 use Rattle.slate_types.specs.Iteration.{IsInOrder, in_order}
 use Rattle.slate_types.specs.Outside.{Counts, IsCounted}
 use Rattle.slate_types.proofs.IterationLaws.{taken_in_order}
-use Rattle.slate_store.specs.Store.{Act}
+use Rattle.slate_store.specs.Store.{Act, part_of}
 use Rattle.slate_block.specs.declared.block.Block.{Block}
 use Rattle.slate_block.specs.declared.data_block_iterator.DataBlockIterator.{DataBlockIterator}
 use Rattle.slate_block.specs.Walks.{before}
 use Rattle.slate_table.specs.declared.info.SsTableHandle.{SsTableHandle}
 use Rattle.slate_table.specs.IndexValue.{entries_of}
-use Rattle.slate_table.specs.Reading.{whole_answer, IsIndexRead}
+use Rattle.slate_table.specs.Reading.{SectionRead, of_index, whole_answer, IsIndexRead}
 use Rattle.slate_read.specs.declared.table_state.Cursor.{Cursor}
 use Rattle.slate_read.specs.declared.table_state.TableState.{TableState}
 use Rattle.slate_read.specs.declared.table_state.TableState.TheVariants.{New, Walking, Refused}
@@ -25,7 +25,7 @@ use Rattle.slate_types.specs.World.{IsSlip, Kept, World, AnswersWorld, Made, See
 use Rattle.slate_types.specs.Outside.{Meaning, Reach}
 use Rattle.slate_types.specs.Refusing.{IsDamage, NoMoreBut}
 use Rattle.slate_types.specs.Steps.{Step}
-use Rattle.slate_read.specs.TableWalk.{AreReadAhead, BeginsIn, IsSoundRising, IsWalking, StaysIn, Sought, Begins, BeginsAt, IsIndexed, RefusesIndexed, left_in, rest_behind, rest_covered, rows_between, IsReadable, IsSoundAt, IsSoundCursor, IsWhole, Keeps, RefusesLeft, RefusesReady, RefusesSome, RefusesUnread, index_part, no_words, path_in, refuses_at, refuses_behind, refuses_in, rest_after, rest_at}
+use Rattle.slate_read.specs.TableWalk.{AreReadAhead, BeginsIn, IsSoundRising, IsWalking, StaysIn, Sought, Begins, BeginsAt, IsIndexed, RefusesIndexed, left_in, rest_behind, rest_covered, rows_between, IsReadable, IsSoundAt, IsSoundCursor, IsWhole, Keeps, RefusesLeft, RefusesReady, RefusesSome, RefusesUnread, index_lies, index_part, no_words, path_in, refuses_at, refuses_behind, refuses_in, rest_after, rest_at}
 use Rattle.slate_types.proofs.Calls.{call_none, seen}
 use Rattle.slate_read.specs.WalkLaws.{known_answer, refuses_whole, some_more, whole_part}
 use Rattle.slate_read.proofs.Cursors.{AllOrSlip, call_checked, section_checked}
@@ -156,14 +156,14 @@ indexed : (w : World) (p : Meaning) (h : SsTableHandle) (kept : Kept) (table : I
 unfolding IsIndexed
 indexed w p h kept table reads entries same (given, once, read) answered =
     let by_world = subst (AllByRecursion (AnswersWorld w)) once answered in
-    let is : given ≡ index_part h kept = known_answer w (path_in h) kept h.info.index_offset h.info.index_len given table.held by_world.0 in
-    let answer : whole_answer h.info.index_len given ≡ index_part h kept = ap (whole_answer h.info.index_len) is ∙ whole_part kept.bytes h.info.index_offset h.info.index_len in
-    table.index entries (subst (λ (a : Option (List ℕ)). IsIndexRead w.meaning.decode h.info.filter_offset a entries) answer (subst (λ (q : Meaning). IsIndexRead q.decode h.info.filter_offset (whole_answer h.info.index_len given) entries) (sym same) read))
+    let is : given ≡ part_of (Some kept.bytes) h.info.index_offset h.info.index_len = known_answer w (path_in h) kept h.info.index_offset h.info.index_len given table.held by_world.0 in
+    let answer : of_index h (whole_answer h.info.index_len given) ≡ index_part h kept = ap (λ (a : Option (List ℕ)). of_index h a) (ap (whole_answer h.info.index_len) is ∙ whole_part kept.bytes h.info.index_offset h.info.index_len) in
+    table.index entries (subst (λ (s : SectionRead). IsIndexRead w.meaning.decode h.info.filter_offset s entries) answer (subst (λ (q : Meaning). IsIndexRead q.decode h.info.filter_offset (of_index h (whole_answer h.info.index_len given)) entries) (sym same) read))
 
 index_checked : (w : World) (p : Meaning) (h : SsTableHandle) (kept : Kept) (table : IsReadable w h kept) (reads : List Act) (entries : List (ℕ × List ℕ)) → IsIndexed p h reads entries → AllOrSlip w reads
 unfolding IsIndexed
 index_checked w p h kept table reads entries (given, once, read) =
-    by (section_checked w (path_in h) kept h.info.index_offset h.info.index_len given read.1.0 table.held table.index_place (table.inside _ table.index_place) (table.sums read.1.0) read.1.1)
+    by (section_checked w (path_in h) kept h.info.index_offset h.info.index_len (index_lies h).cover given read.1.0 table.held table.index_place (table.inside _ table.index_place) (table.sums (index_lies h).cover read.1.0) read.1.1)
   where
     act : Act
     act = Act.read (path_in h) h.info.index_offset h.info.index_len given
@@ -178,6 +178,12 @@ indexed_fewer p h order reads later entries e (given, once, read) some =
     let act = Act.read (path_in h) h.info.index_offset h.info.index_len given in
     (given, Contains-append_left reads later act (subst (λ (l : List Act). Contains l act) (sym once) (0, omega arith, refl)), inr (entries, read, some_more p h entries order reads later e some))
 
+pub begins_fewer : (range : BytesRange) (h : SsTableHandle) (order : IterationOrder) (m : Meaning) (reads : List Act) (entries : List (ℕ × List ℕ)) (cursor : Cursor) → BeginsAt range entries cursor → IsIndexed m h reads entries →
+    (later : List Act) (e : SlateDBError) → RefusesLeft cursor.rows e ⊎ RefusesReady h.format_version order cursor.ready.items e ⊎ RefusesSome m h (entries_of cursor.index) order later e → RefusesUnread m h order (reads ++ later) e
+begins_fewer range h order m reads entries cursor at read later e (inl k) = absurd (subst (λ (o : Option (DataBlockIterator Block)). RefusesLeft o e) at.rows k)
+begins_fewer range h order m reads entries cursor at read later e (inr (inl k)) = let clash : None ≡ Some k.1 = ap (λ (l : List Block). slice_get l k.0) (sym at.ready) ∙ k.2 in absurd cc
+begins_fewer range h order m reads entries cursor at read later e (inr (inr k)) = indexed_fewer m h order reads later entries e read (subst (λ (es : List (ℕ × List ℕ)). RefusesSome m h es order later e) at.index k)
+
 pub begins_moves : (range : BytesRange) (h : SsTableHandle) (order : IterationOrder) (a b : Reach) (x y : TableState) (entries : List (ℕ × List ℕ)) → x ≡ New → Begins range entries y → Made a b (λ reads. IsIndexed a.meaning h reads entries) →
     Moves (rest_at range h order) (IsSoundAt range h order) (refuses_at h order) a b x y
 begins_moves range h order a b x y entries ex begins (reads, call, read) =
@@ -191,7 +197,7 @@ begins_moves range h order a b x y entries ex begins (reads, call, read) =
         rising = subst (IsInOrder order) (sym (rows w sees sound)) sound.rising;
       };
       checked = λ w sound. call_checked w a b reads call (index_checked w a.meaning h sound.state.0 sound.state.1 reads entries read);
-      made = (reads, call, λ later k e r. inr (r.0, fewer later e r.1));
+      made = (reads, call, λ later k e r. inr (r.0, begins_fewer range h order a.meaning reads entries cursor at read later e r.1));
     }
       where
         same : (w : World) (sees : Sees w a b) (sound : IsSoundAt range h order New w) → entries ≡ sound.state.1.entries
@@ -209,11 +215,6 @@ begins_moves range h order a b x y entries ex begins (reads, call, read) =
 
         none_ready : (w : World) (kept : Kept) → AreReadAhead h order kept cursor
         none_ready w kept n block rows is there bytes = let clash : None ≡ Some block = ap (λ (l : List Block). slice_get l n) (sym at.ready) ∙ is in cc
-
-        fewer : (later : List Act) (e : SlateDBError) → RefusesLeft cursor.rows e ⊎ RefusesReady h.format_version order cursor.ready.items e ⊎ RefusesSome a.meaning h (entries_of cursor.index) order later e → RefusesUnread a.meaning h order (reads ++ later) e
-        fewer later e (inl k) = absurd (subst (λ (o : Option (DataBlockIterator Block)). RefusesLeft o e) at.rows k)
-        fewer later e (inr (inl k)) = let clash : None ≡ Some k.1 = ap (λ (l : List Block). slice_get l k.0) (sym at.ready) ∙ k.2 in absurd cc
-        fewer later e (inr (inr k)) = indexed_fewer a.meaning h order reads later entries e read (subst (λ (es : List (ℕ × List ℕ)). RefusesSome a.meaning h es order later e) at.index k)
 
     by : (s : TableState) → Begins range entries s → Moves (rest_at range h order) (IsSoundAt range h order) (refuses_at h order) a b New s
     by New k = absurd k

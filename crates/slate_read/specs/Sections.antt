@@ -9,9 +9,9 @@ use Rattle.slate_types.specs.World.{Kept, World}
 use Rattle.slate_store.specs.Store.{part_of}
 use Rattle.slate_block.specs.RowReading.{refusal}
 use Rattle.slate_table.specs.declared.info.SsTableHandle.{SsTableHandle}
-use Rattle.slate_table.specs.Reading.{block_answer, stored_in}
+use Rattle.slate_table.specs.Reading.{of_block, of_blocks, stored_of}
 use Rattle.slate_table.specs.SectionReading.{part_in}
-use Rattle.slate_read.specs.TableWalk.{IsReadable, block_part, size_between, size_of, start_of}
+use Rattle.slate_read.specs.TableWalk.{IsReadable, block_lies, block_part, size_between, size_of, start_of}
 
 -- a part of a part
 pub part_twice : (bytes : List ℕ) (a m d n : ℕ) → a + m ≤ length bytes → d + n ≤ m → part_of (part_of (Some bytes) a m) d n ≡ part_of (Some bytes) (a + d) n
@@ -28,9 +28,9 @@ part_twice bytes a m d n whole inner =
     ∙ sym (ap (λ t. cond t (Some (take n (drop (a + d) bytes))) None) (le-leb (a + d + n) (length bytes) (omega (arith, whole, inner))))
 
 -- a section has a checksum at least
-long : (bytes : List ℕ) → ((e : SlateDBError) → refusal (part_in bytes) ≡ Some e → ⊥) → 4 ≤ length bytes
+long : (cover bytes : List ℕ) → ((e : SlateDBError) → refusal (part_in cover bytes) ≡ Some e → ⊥) → 4 ≤ length bytes
 unfolding part_in
-long bytes fine = by (nat_lt (length bytes) 4) refl
+long cover bytes fine = by (nat_lt (length bytes) 4) refl
   where
     by : (t : Bool) → nat_lt (length bytes) 4 ≡ t → 4 ≤ length bytes
     by true is = absurd (fine (CorruptTable 0) (rw is refl))
@@ -51,12 +51,15 @@ module _ (w : World) (h : SsTableHandle) (kept : Kept) (table : IsReadable w h k
       bytes : List ℕ
       bytes = take (size_of h table.entries i) (drop (start_of h table.entries i) kept.bytes)
 
-      fine : (answer : Option (List ℕ)) → block_part h kept table.entries i ≡ answer → (e : SlateDBError) → refusal (stored_in answer) ≡ Some e → ⊥
-      fine answer is e k = table.block_fine i e lt (inl (ap (λ (a : Option (List ℕ)). refusal (stored_in a)) is ∙ k))
+      cover : List ℕ
+      cover = (block_lies h table.entries i).cover
+
+      fine : (answer : Option (List ℕ)) → part_of (Some kept.bytes) (start_of h table.entries i) (size_of h table.entries i) ≡ answer → (e : SlateDBError) → refusal (stored_of cover answer) ≡ Some e → ⊥
+      fine answer is e k = table.block_fine i e lt (inl (ap (λ (a : Option (List ℕ)). refusal (stored_of cover a)) is ∙ k))
 
       by : (t : Bool) → leb (start_of h table.entries i + size_of h table.entries i) (length kept.bytes) ≡ t → start_of h table.entries i + 4 ≤ start_of h table.entries (i + 1)
       by true is =
-          let many = long bytes (fine (Some bytes) (ap (λ t. cond t (Some bytes) None) is)) in
+          let many = long cover bytes (fine (Some bytes) (ap (λ t. cond t (Some bytes) None) is)) in
           let few = short (size_of h table.entries i) (drop (start_of h table.entries i) kept.bytes) in
           omega (arith, many, few)
       by false is = absurd (fine None (ap (λ t. cond t (Some bytes) None) is) (CorruptTable 0) refl)
@@ -83,12 +86,13 @@ module _ (w : World) (h : SsTableHandle) (kept : Kept) (table : IsReadable w h k
 
   -- what an honest answer says of the section of a block
   pub section_there : (first stop at : ℕ) → first ≤ at → at < stop → stop ≤ length table.entries →
-      block_answer h.info.filter_offset table.entries first (part_of (Some kept.bytes) (start_of h table.entries first) (size_between h table.entries first stop)) at ≡ block_part h kept table.entries at
+      of_blocks h table.entries first (part_of (Some kept.bytes) (start_of h table.entries first) (size_between h table.entries first stop)) at ≡ block_part h kept table.entries at
   section_there first stop at from below within =
       let a = starts_upto first at from (omega (arith, below, within)) in
       let b = starts_apart at (omega (arith, below, within)) in
       let c = starts_upto (at + 1) stop (omega (arith, below)) within in
       let d = starts_within stop (omega (arith, below)) within in
       let place : start_of h table.entries first + size_between h table.entries first at ≡ start_of h table.entries at = omega (arith, a) in
-      part_twice kept.bytes (start_of h table.entries first) (size_between h table.entries first stop) (size_between h table.entries first at) (size_of h table.entries at) (omega (arith, a, b, c, d)) (omega (arith, a, b, c))
-      ∙ ap (λ n. part_of (Some kept.bytes) n (size_of h table.entries at)) place
+      ap (λ (answer : Option (List ℕ)). of_block h table.entries at answer)
+      (part_twice kept.bytes (start_of h table.entries first) (size_between h table.entries first stop) (size_between h table.entries first at) (size_of h table.entries at) (omega (arith, a, b, c, d)) (omega (arith, a, b, c))
+      ∙ ap (λ n. part_of (Some kept.bytes) n (size_of h table.entries at)) place)

@@ -15,6 +15,7 @@ use Rattle.slate_types.specs.Iteration.{in_order}
 use Rattle.slate_store.specs.Store.{Act, part_of}
 use Rattle.slate_block.specs.declared.block.Block.{Block}
 use Rattle.slate_block.specs.declared.data_block_iterator.DataBlockIterator.{DataBlockIterator}
+use Rattle.slate_block.specs.BlockSpelling.{IsKnown}
 use Rattle.slate_block.specs.BlockWalks.{left}
 use Rattle.slate_block.specs.Damage.{◌>>=◌}
 use Rattle.slate_block.specs.EitherVersion.{left_of}
@@ -22,7 +23,7 @@ use Rattle.slate_block.specs.Walks.{RowRead, all_ok, before, block_reads, block_
 use Rattle.slate_block.proofs.FieldLaws.{bind_ok}
 use Rattle.slate_table.specs.declared.info.SsTableHandle.{SsTableHandle}
 use Rattle.slate_table.specs.IndexValue.{entries_of}
-use Rattle.slate_table.specs.Reading.{whole_answer, block_answer, IsIndexRead, RefusesIndex}
+use Rattle.slate_table.specs.Reading.{SectionRead, of_blocks, of_index, whole_answer, IsIndexRead, RefusesIndex}
 use Rattle.slate_read.specs.declared.table_state.Cursor.{Cursor}
 use Rattle.slate_read.specs.declared.table_state.TableState.{TableState}
 use Rattle.slate_read.specs.declared.table_state.TableState.TheVariants.{New, Walking, Refused}
@@ -92,10 +93,9 @@ unread : (version : ℕ) (body offsets : List ℕ) (e : SlateDBError) → block_
 unfolding block_rows
 unread version body offsets e h = ap (λ (r : Result (List RowRead) SlateDBError). r >>= all_ok) h
 
-rows_whole : (version : ℕ) (order : IterationOrder) (block : Block) (rows : List RowEntry) (e : SlateDBError) → (version ≡ 1) ⊎ (version ≡ 2) → block_rows version block.body block.offsets.items ≡ Ok rows → RefusesRows version order block e → ⊥
+rows_whole : (version : ℕ) (order : IterationOrder) (block : Block) (rows : List RowEntry) (e : SlateDBError) → IsKnown version → block_rows version block.body block.offsets.items ≡ Ok rows → RefusesRows version order block e → ⊥
 rows_whole version order block rows e known is (inl k) = let clash : Ok rows ≡ Err e = sym is ∙ unread version block.body block.offsets.items e k.1 in cc
-rows_whole version order block rows e (inl one) is (inr (inl k)) = k.0 one
-rows_whole version order block rows e (inr two) is (inr (inl k)) = k.1 two
+rows_whole version order block rows e known is (inr (inl k)) = k.0 known
 rows_whole version order block rows e known is (inr (inr (it, walks, refuses))) = none_refused it.reads (in_order order rows) refuses.1.0 e (walks.rows rows is) refuses.1.1
 
 ok_some : (r : Result (List RowEntry) SlateDBError) → IsOk r → (rows : List RowEntry) × (r ≡ Ok rows)
@@ -118,7 +118,7 @@ of_read w reads act h among = All-contains (AnswersWorld w) reads act (All-from_
 pub known_section : (w : World) (h : SsTableHandle) (kept : Kept) (table : IsReadable w h kept) (first stop at : ℕ) (given : Option (List ℕ)) → first ≤ at → at < stop → stop ≤ length table.entries →
     AnswersWorld w (read_of h table.entries first stop given) → answer_at h table.entries first stop given at ≡ block_part h kept table.entries at
 known_section w h kept table first stop at given from below within answered =
-    ap (λ (a : Option (List ℕ)). block_answer h.info.filter_offset table.entries first a at) (ap (whole_answer size) is ∙ whole_part kept.bytes (start_of h table.entries first) size)
+    ap (λ (a : Option (List ℕ)). of_blocks h table.entries first a at) (ap (whole_answer size) is ∙ whole_part kept.bytes (start_of h table.entries first) size)
     ∙ section_there w h kept table first stop at from below within
   where
     size : ℕ
@@ -151,7 +151,7 @@ ready_whole w h order cursor e s (n, block, at, bytes, rows) =
 
 pub some_whole : (w : World) (h : SsTableHandle) (kept : Kept) (table : IsReadable w h kept) (order : IterationOrder) (reads : List Act) (e : SlateDBError) → AllByRecursion (AnswersWorld w) reads → RefusesSome w.meaning h table.entries order reads e → ⊥
 unfolding RefusesWalk
-some_whole w h kept table order reads e answered r = by (subst (λ (a : Option (List ℕ)). RefusesWalk w.meaning.decode h.format_version order a e) answer r.why)
+some_whole w h kept table order reads e answered r = by (subst (λ (s : SectionRead). RefusesWalk w.meaning.decode h.format_version order s e) answer r.why)
   where
     answer : answer_at h table.entries r.first r.stop r.given r.at ≡ block_part h kept table.entries r.at
     answer = known_section w h kept table r.first r.stop r.at r.given r.from r.below r.within (of_read w reads _ answered r.among)
@@ -168,16 +168,16 @@ some_whole w h kept table order reads e answered r = by (subst (λ (a : Option (
 pub unread_whole : (w : World) (h : SsTableHandle) (kept : Kept) (table : IsReadable w h kept) (order : IterationOrder) (reads : List Act) (e : SlateDBError) → AllByRecursion (AnswersWorld w) reads → RefusesUnread w.meaning h order reads e → ⊥
 unread_whole w h kept table order reads e answered (given, among, why) = by why
   where
-    is : given ≡ index_part h kept
+    is : given ≡ part_of (Some kept.bytes) h.info.index_offset h.info.index_len
     is = known_answer w (path_in h) kept h.info.index_offset h.info.index_len given table.held (of_read w reads _ answered among)
 
-    answer : whole_answer h.info.index_len given ≡ index_part h kept
-    answer = ap (whole_answer h.info.index_len) is ∙ whole_part kept.bytes h.info.index_offset h.info.index_len
+    answer : of_index h (whole_answer h.info.index_len given) ≡ index_part h kept
+    answer = ap (λ (a : Option (List ℕ)). of_index h a) (ap (whole_answer h.info.index_len) is ∙ whole_part kept.bytes h.info.index_offset h.info.index_len)
 
-    by : RefusesIndex w.meaning.decode h.info.filter_offset (whole_answer h.info.index_len given) e ⊎ ((entries : List (ℕ × List ℕ)) × IsIndexRead w.meaning.decode h.info.filter_offset (whole_answer h.info.index_len given) entries × RefusesSome w.meaning h entries order reads e) → ⊥
-    by (inl k) = table.index_fine e (subst (λ (a : Option (List ℕ)). RefusesIndex w.meaning.decode h.info.filter_offset a e) answer k)
+    by : RefusesIndex w.meaning.decode h.info.filter_offset (of_index h (whole_answer h.info.index_len given)) e ⊎ ((entries : List (ℕ × List ℕ)) × IsIndexRead w.meaning.decode h.info.filter_offset (of_index h (whole_answer h.info.index_len given)) entries × RefusesSome w.meaning h entries order reads e) → ⊥
+    by (inl k) = table.index_fine e (subst (λ (s : SectionRead). RefusesIndex w.meaning.decode h.info.filter_offset s e) answer k)
     by (inr (entries, read, some)) =
-        let same = table.index entries (subst (λ (a : Option (List ℕ)). IsIndexRead w.meaning.decode h.info.filter_offset a entries) answer read) in
+        let same = table.index entries (subst (λ (s : SectionRead). IsIndexRead w.meaning.decode h.info.filter_offset s entries) answer read) in
         some_whole w h kept table order reads e answered (subst (λ (es : List (ℕ × List ℕ)). RefusesSome w.meaning h es order reads e) same some)
 
 pub refuses_whole : (range : BytesRange) (h : SsTableHandle) (order : IterationOrder) (s : TableState) (w : World) (reads : List Act) (at : Option (List ℕ)) (e : SlateDBError) → IsSoundAt range h order s w → AllByRecursion (AnswersWorld w) reads → refuses_in s h order w.meaning reads at e → ¬ IsDamage e
