@@ -24,7 +24,6 @@ use Rattle.slate_table.specs.Paths.{path_of}
 use Rattle.slate_table.specs.Reading.{Reads, SectionRead, of_filters, section_read, whole_answer}
 use Rattle.slate_table.specs.Table.{blocks_end, filter_place, filter_section, filters_section}
 use Rattle.slate_table.specs.TableEnd.{HasInfo}
-use Rattle.slate_table.proofs.PathLaws.{one_id}
 use Rattle.slate_table.proofs.ReadCalls.{call_of, call_quiet}
 use Rattle.slate_table.proofs.TableFinds.{same_version}
 use Rattle.slate_db.specs.Answered.{AnswersAct, AnswersFrom}
@@ -33,6 +32,7 @@ use Rattle.slate_db.specs.Installs.{AreHandles, Holds, IsHandle, root, tables_of
 use Rattle.slate_db.specs.Model.{CoreModel}
 use Rattle.slate_db.specs.Shown.{Asking, LetsThrough, filters_act}
 use Rattle.slate_db.proofs.Lists.{all_map}
+use Rattle.slate_db.proofs.PathsApart.{one_id}
 use Rattle.slate_db.proofs.Places.{FiltersStand, asks_some, before_filters, filters_stand, none_denies}
 
 -- ---- lists that are split before an item
@@ -236,7 +236,7 @@ filters_first encode decode lawful asking os ts hs reads small are holds answere
         let n = named_by os ts hs h are holds known in
         let same = same_bytes os ts h table n there path in
         let below : n.table.0.0 < 2 ^ 128 = All-contains (λ (t : Ulid × List ℕ). t.0.0 < 2 ^ 128) ts n.table (All-from_recursion _ ts small) n.among in
-        let id : h.id.0 ≡ table.0.0 = one_id root root h.id.0 table.0.0 (subst (λ (u : Ulid). u.0 < 2 ^ 128) (sym n.handle.id) below) is.named path in
+        let id : h.id.0 ≡ table.0.0 = one_id h.id.0 table.0.0 (subst (λ (u : Ulid). u.0 < 2 ^ 128) (sym n.handle.id) below) is.named path in
         let has : HasInfo table.1 h.format_version table.0.0 (seen_info h.info) =
         subst (λ (b : List ℕ). HasInfo b h.format_version table.0.0 (seen_info h.info)) same (subst (λ (m : ℕ). HasInfo n.table.1 h.format_version m (seen_info h.info)) id n.handle.info) in
         record {
