@@ -16,6 +16,7 @@ use Rattle.slate_mem.proofs.MemLaws.{taken-newest}
 use Rattle.slate_table.specs.declared.info.SsTableHandle.{SsTableHandle}
 use Rattle.slate_table.specs.Parts.{Encode}
 use Rattle.slate_table.specs.Paths.{path_of}
+use Rattle.slate_table.specs.Table.{IsTable}
 use Rattle.slate_txn.specs.declared.event.Event.{Event}
 use Rattle.slate_txn.specs.Reads.{up_to, key_rows}
 use Rattle.slate_db.specs.Installs.{tables_of, installed, root, AreHandles, Holds, HoldsTables, handles_of}
@@ -52,7 +53,7 @@ all_stored m law os (t ∷ ts) (h ∷ hs) layers (version, rows, rest, is, other
         bytes = t.1;
         there = ap (λ x. object_at os (path_of root x.0)) handles.0.id ∙ holds.0;
         each = handles.0.bytes;
-        is = record { written = version; is = is; info = handles.0.info };
+        is = record { written = version; is = subst (λ (x : Ulid). IsTable m.encode t.1 version x.0 rows) (sym handles.0.id) is; info = handles.0.info };
       },
       all_stored m law os ts hs rest others handles.1 holds.1,
     )
