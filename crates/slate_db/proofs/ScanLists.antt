@@ -19,6 +19,7 @@ use Rattle.slate_table.specs.declared.info.SsTableHandle.{SsTableHandle}
 use Rattle.slate_table.specs.Finding.{encloses, is_from, is_upto}
 use Rattle.slate_table.specs.InfoReading.{seen_info}
 use Rattle.slate_table.specs.Parts.{Encode}
+use Rattle.slate_table.specs.TableEnd.{HasInfo}
 use Rattle.slate_table.proofs.TableFinds.{outside_none}
 use Rattle.slate_read.specs.declared.sorted_run.SortedRun.{SortedRun}
 use Rattle.slate_read.specs.Merge.{all_rows}
@@ -110,13 +111,14 @@ within_tables m [] (h ∷ hs) layers tables handles = absurd handles
 within_tables m (t ∷ ts) [] layers tables handles = absurd handles
 within_tables m (t ∷ ts) (h ∷ hs) layers (version, rows, rest, is, others, same) handles =
     subst (AreWithin (h ∷ hs)) (sym same) (
-      outside_none m.encode t.1 h.format_version (seen_info h.info) rows (record { written = version; is = is; info = handles.0.info }),
+      outside_none m.encode t.1 h.format_version t.0.0 (seen_info h.info) rows
+          (record { written = version; is = is; info = subst (λ (x : Ulid). HasInfo t.1 h.format_version x.0 (seen_info h.info)) handles.0.id handles.0.info }),
       within_tables m ts hs rest others handles.1,
     )
 
 pub within_stored : (encode decode : Encode) (objects : Option Objects) (hs : List SsTableHandle) (layers : List Rows) → AreStored encode decode objects hs layers → AreWithin hs layers
 within_stored encode decode objects [] [] are = tt
-within_stored encode decode objects (h ∷ hs) (rows ∷ layers) are = (outside_none encode are.0.bytes h.format_version (seen_info h.info) rows are.0.is, within_stored encode decode objects hs layers are.1)
+within_stored encode decode objects (h ∷ hs) (rows ∷ layers) are = (outside_none encode are.0.bytes h.format_version h.id.0 (seen_info h.info) rows are.0.is, within_stored encode decode objects hs layers are.1)
 within_stored encode decode objects [] (rows ∷ layers) are = absurd are
 within_stored encode decode objects (h ∷ hs) [] are = absurd are
 
