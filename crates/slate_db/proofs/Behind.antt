@@ -1,5 +1,5 @@
 -- Reads of tables, behind those of their filters.
-use Rattle.std.proofs.Common.{◌≡◌, ◌≢◌, ◌⊎◌, inl, inr, ℕ, zero, suc, ◌+◌, Bool, true, false, List, [], ◌∷◌, ◌++◌, length, map, Option, Some, refl, sym, ap, subst, ◌∙◌, arith, append-nil}
+use Rattle.std.proofs.Common.{◌≡◌, ◌≢◌, ◌⊎◌, inl, inr, ℕ, zero, suc, ◌+◌, ◌^◌, ◌<◌, Bool, true, false, List, [], ◌∷◌, ◌++◌, length, map, Option, Some, refl, sym, ap, subst, ◌∙◌, arith, append-nil}
 use Rattle.std.specs.Prelude.{Contains, Result}
 use Rattle.std.specs.List.{AllByRecursion}
 use Rattle.std.proofs.lemmas.List.{append_cancel_left}
@@ -7,28 +7,32 @@ use Rattle.std.proofs.lemmas.List.Elements.{All-contains, All-from_recursion, Co
 use Rattle.std.proofs.lemmas.Option.{same_Some}
 use Rattle.slate_types.specs.declared.error.SlateDBError.{SlateDBError}
 use Rattle.slate_types.specs.declared.filter_policy.FilterQuery.{FilterQuery}
+use Rattle.slate_types.specs.declared.types.RowEntry.{RowEntry}
 use Rattle.slate_types.specs.declared.types.Ulid.{Ulid}
 use Rattle.slate_types.specs.Lawful.{IsLawfulTransform}
 use Rattle.slate_types.specs.Outside.{Act, Meaning, Objects, Reach}
-use Rattle.slate_types.specs.World.{IsCall, AnswersObjects, Made}
+use Rattle.slate_types.specs.World.{IsCall, AnswersObjects, Made, Section}
 use Rattle.slate_types.proofs.Calls.{call_both, call_none}
 use Rattle.slate_types.proofs.Lists.{AllByRecursion-append}
 use Rattle.slate_store.specs.Store.{object_at, part_of}
 use Rattle.slate_filter.specs.Policy.{Policy, is_denied}
 use Rattle.slate_table.specs.declared.info.SsTableHandle.{SsTableHandle}
-use Rattle.slate_table.specs.Filtered.{IsAsked}
+use Rattle.slate_table.specs.Filtered.{HasFiltersOf, IsAsked}
 use Rattle.slate_table.specs.InfoReading.{seen_info}
-use Rattle.slate_table.specs.Parts.{Encode, Place}
+use Rattle.slate_table.specs.Parts.{Encode, cover_of, filters_kind}
 use Rattle.slate_table.specs.Paths.{path_of}
-use Rattle.slate_table.specs.Reading.{Reads, whole_answer}
-use Rattle.slate_table.specs.Table.{blocks_end, filter_place, filter_section}
+use Rattle.slate_table.specs.Reading.{Reads, SectionRead, of_filters, section_read, whole_answer}
+use Rattle.slate_table.specs.Table.{blocks_end, filter_place, filter_section, filters_section}
 use Rattle.slate_table.specs.TableEnd.{HasInfo}
 use Rattle.slate_table.proofs.ReadCalls.{call_of, call_quiet}
+use Rattle.slate_table.proofs.TableFinds.{same_version}
 use Rattle.slate_db.specs.Answered.{AnswersAct, AnswersFrom}
 use Rattle.slate_db.specs.Asked.{AreBehindFilters, Asks, Covers, Finds, IsBehindFilters, IsFiltersRead, IsLetThrough, IsReadOf, ReadsFiltersFirst}
 use Rattle.slate_db.specs.Installs.{AreHandles, Holds, IsHandle, root, tables_of}
 use Rattle.slate_db.specs.Model.{CoreModel}
 use Rattle.slate_db.specs.Shown.{Asking, LetsThrough, filters_act}
+use Rattle.slate_db.proofs.Lists.{all_map}
+use Rattle.slate_db.proofs.PathsApart.{one_id}
 use Rattle.slate_db.proofs.Places.{FiltersStand, asks_some, before_filters, filters_stand, none_denies}
 
 -- ---- lists that are split before an item
@@ -209,58 +213,80 @@ same_bytes os ts h t n there path =
     let at : object_at os (path_of root n.table.0.0) ≡ object_at os (path_of root t.0.0) = ap (λ (x : Ulid). object_at os (path_of root x.0)) (sym n.handle.id) ∙ ap (object_at os) path in
     same_Some n.table.1 t.1 (sym n.there ∙ at ∙ there)
 
-path_read : (h : SsTableHandle) (act : Act) (path : List ℕ) (place : Place) → IsReadOf h act → Covers act path place → path_of root h.id.0 ≡ path
+path_read : (h : SsTableHandle) (act : Act) (path : List ℕ) (place : Section) → IsReadOf h act → Covers act path place → path_of root h.id.0 ≡ path
 path_read h (Act.read at start len answer) path place is covers = sym is ∙ covers.0
 path_read h (Act.put at bytes) path place is covers = absurd is
 path_read h (Act.len at answer) path place is covers = absurd is
 
-pub filters_first : (encode decode : Encode) → IsLawfulTransform encode decode → (asking : Asking) (os : Objects) (ts : List (Ulid × List ℕ)) (hs : List SsTableHandle) (reads : List Act) → AreHandles ts hs → Holds os ts → AllByRecursion (AnswersAct os) reads →
-    asking.policies ≢ [] → AreBehindFilters decode asking hs reads → ReadsFiltersFirst encode asking ts reads
-filters_first encode decode lawful asking os ts hs reads are holds answered set behind before act after split table among version blocks filters is some place at covers = by (behind before act after split)
+-- what is kept of a table, which its path names
+record IsKeptOf (encode : Encode) (table : Ulid × List ℕ) (v : ℕ) (blocks : List (List RowEntry)) (filters : List (List ℕ × List ℕ)) (h : SsTableHandle) : Type 0 where
+  pub id : h.id.0 ≡ table.0.0
+  pub version : h.format_version ≡ v
+  pub stand : FiltersStand encode table.1 v table.0.0 blocks filters (seen_info h.info)
+
+pub filters_first : (encode decode : Encode) → IsLawfulTransform encode decode → (asking : Asking) (os : Objects) (ts : List (Ulid × List ℕ)) (hs : List SsTableHandle) (reads : List Act) → AllByRecursion (λ t. t.0.0 < 2 ^ 128) ts → AreHandles ts hs → Holds os ts →
+    AllByRecursion (AnswersAct os) reads → asking.policies ≢ [] → AreBehindFilters decode asking hs reads → ReadsFiltersFirst encode asking ts reads
+filters_first encode decode lawful asking os ts hs reads small are holds answered set behind before act after split table among version blocks filters is some place at covers = by (behind before act after split)
   where
     there : object_at os (path_of root table.0.0) ≡ Some table.1
     there = All-contains (λ t. object_at os (path_of root t.0.0) ≡ Some t.1) ts table (All-from_recursion _ ts holds) among
 
-    stands : (h : SsTableHandle) → Contains hs h → path_of root h.id.0 ≡ path_of root table.0.0 → FiltersStand encode table.1 version blocks filters (seen_info h.info)
-    stands h known path =
+    kept_of : (h : SsTableHandle) → Contains hs h → path_of root h.id.0 ≡ path_of root table.0.0 → IsKeptOf encode table version blocks filters h
+    kept_of h known path =
         let n = named_by os ts hs h are holds known in
         let same = same_bytes os ts h table n there path in
-        filters_stand encode table.1 h.format_version (seen_info h.info) version blocks filters is (subst (λ (b : List ℕ). HasInfo b h.format_version (seen_info h.info)) same n.handle.info)
+        let below : n.table.0.0 < 2 ^ 128 = All-contains (λ (t : Ulid × List ℕ). t.0.0 < 2 ^ 128) ts n.table (All-from_recursion _ ts small) n.among in
+        let id : h.id.0 ≡ table.0.0 = one_id h.id.0 table.0.0 (subst (λ (u : Ulid). u.0 < 2 ^ 128) (sym n.handle.id) below) is.named path in
+        let has : HasInfo table.1 h.format_version table.0.0 (seen_info h.info) =
+        subst (λ (b : List ℕ). HasInfo b h.format_version table.0.0 (seen_info h.info)) same (subst (λ (m : ℕ). HasInfo n.table.1 h.format_version m (seen_info h.info)) id n.handle.info) in
+        record {
+          id = id;
+          version = same_version encode table.1 h.format_version table.0.0 (seen_info h.info) version blocks filters is has;
+          stand = filters_stand encode table.1 h.format_version table.0.0 (seen_info h.info) version blocks filters is has;
+        }
 
     -- a read of filters holds no block
     apart : (h : SsTableHandle) (given : Option (List ℕ)) → Contains hs h → Covers (filters_act h given) (path_of root table.0.0) place → ⊥
     apart h given known c =
-        let stand = stands h known c.0 in
+        let stand = (kept_of h known c.0).stand in
         let low = c.1.from in
-        let ends = before_filters encode version blocks place at in
-        let start : h.info.filter_offset ≡ blocks_end encode version blocks = stand.at in
+        let ends = before_filters encode version table.0.0 blocks place at in
+        let start : h.info.filter_offset ≡ blocks_end encode version table.0.0 blocks = stand.at in
         omega (arith, low, ends.0, ends.1, start)
 
-    by : IsBehindFilters decode asking hs before act → ((asked : Act) × Contains before asked × Covers asked (path_of root table.0.0) (filter_place encode version blocks filters)) × (is_denied asking.policies filters asking.query ≡ false)
+    by : IsBehindFilters decode asking hs before act → ((asked : Act) × Contains before asked × Covers asked (path_of root table.0.0) (filter_place encode version table.0.0 blocks filters)) × (is_denied asking.policies filters asking.query ≡ false)
     by (h, known, inl (given, is_filters)) = absurd (apart h given known (subst (λ (x : Act). Covers x (path_of root table.0.0) place) is_filters covers))
     by (h, known, inr (read, lets)) =
         let path = path_read h act (path_of root table.0.0) place read covers in
-        let stand = stands h known path in
-        let through = lets (asks_some encode asking.policies filters h.info.filter_len set some stand.len) in
+        let kept = kept_of h known path in
+        let stand = kept.stand in
+        let from = h.info.filter_offset in
+        let len = h.info.filter_len in
+        let cover = cover_of version table.0.0 filters_kind from in
+        let through = lets (asks_some cover encode asking.policies filters len set some stand.len) in
         let act_there : Contains reads (filters_act h through.0) = subst (λ (l : List Act). Contains l (filters_act h through.0)) (sym split) (Contains-append_left before (act ∷ after) (filters_act h through.0) through.1) in
-        let by_objects : through.0 ≡ part_of (object_at os (path_of root h.id.0)) h.info.filter_offset h.info.filter_len = All-contains (AnswersAct os) reads (filters_act h through.0) (All-from_recursion _ reads answered) act_there in
-        let given : through.0 ≡ part_of (Some table.1) h.info.filter_offset h.info.filter_len = by_objects ∙ ap (λ (o : Option (List ℕ)). part_of o h.info.filter_offset h.info.filter_len) (ap (object_at os) path ∙ there) in
-        let start : h.info.filter_offset ≡ blocks_end encode version blocks = stand.at in
-        let size : h.info.filter_len ≡ length (filter_section encode filters) = stand.len in (
+        let by_objects : through.0 ≡ part_of (object_at os (path_of root h.id.0)) from len = All-contains (AnswersAct os) reads (filters_act h through.0) (All-from_recursion _ reads answered) act_there in
+        let given : through.0 ≡ part_of (Some table.1) from len = by_objects ∙ ap (λ (o : Option (List ℕ)). part_of o from len) (ap (object_at os) path ∙ there) in
+        let start : from ≡ blocks_end encode version table.0.0 blocks = stand.at in
+        let size : len ≡ length (filters_section encode version table.0.0 blocks filters) =
+        stand.len ∙ ap (λ (n : ℕ). length (filter_section (cover_of version table.0.0 filters_kind n) encode filters)) start in
+        let section : of_filters h (whole_answer len through.0) ≡ section_read version table.0.0 filters_kind from (whole_answer len (part_of (Some table.1) from len)) =
+        λ i. section_read (kept.version i) (kept.id i) filters_kind from (whole_answer len (given i)) in (
           (
             filters_act h through.0,
             through.1,
-            (path, record { bytes = filter_section encode filters; returned = given ∙ stand.answer; from = omega (arith, start); upto = omega (arith, start, size) }),
+            (path, record { bytes = filter_section cover encode filters; returned = given ∙ stand.answer; from = omega (arith, start); upto = omega (arith, start, size) }),
           ),
-          none_denies encode decode lawful asking.policies asking.query table.1 version blocks filters (seen_info h.info) is stand some
-              (subst (λ (o : Option (List ℕ)). IsAsked decode asking.policies asking.query (whole_answer h.info.filter_len o) true) given through.2),
+          none_denies encode decode lawful asking.policies asking.query table.1 version table.0.0 blocks filters (seen_info h.info) is stand some
+              (subst (λ (s : SectionRead). IsAsked decode asking.policies asking.query s true) section through.2),
         )
 
 -- ---- of the core
 
 pub asks_by : (asking : Asking) (a b : Reach) (c : CoreModel) (hs : List SsTableHandle) → AreHandles (tables_of c.events) hs → Made a b (AreBehindFilters a.meaning.decode asking hs) → Asks asking a b c
 asks_by asking a b c hs are (reads, call, behind) is set =
-    (reads, call, filters_first a.meaning.encode a.meaning.decode is.readable.lawful.transformer asking is.os (tables_of c.events) hs reads are is.readable.holds (acts_answered is.os a b reads call is.answers) set behind)
+    (reads, call, filters_first a.meaning.encode a.meaning.decode is.readable.lawful.transformer asking is.os (tables_of c.events) hs reads
+    (all_map (λ (t : Ulid × List ℕ). HasFiltersOf a.meaning.encode asking.policies t.0.0 t.1) (λ (t : Ulid × List ℕ). t.0.0 < 2 ^ 128) (λ t has. has.is.named) (tables_of c.events) is.readable.filtered) are is.readable.holds (acts_answered is.os a b reads call is.answers) set behind)
 
 -- where nothing is read
 pub asks_none : (asking : Asking) (a b : Reach) (c : CoreModel) → IsCall a b [] → Asks asking a b c

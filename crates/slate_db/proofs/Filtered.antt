@@ -20,12 +20,12 @@ use Rattle.slate_db.proofs.Short.{all_append}
 
 -- ---- tables
 
-pub table_filtered : (encode : Encode) (layout : Layout) (number place : ℕ) (rows : Rows) (t : Ulid × List ℕ) → IsTableAt encode layout number place rows t → HasFiltersOf encode layout.policies t.1
+pub table_filtered : (encode : Encode) (layout : Layout) (number place : ℕ) (rows : Rows) (t : Ulid × List ℕ) → IsTableAt encode layout number place rows t → HasFiltersOf encode layout.policies t.0.0 t.1
 table_filtered encode layout number place rows t made = record {
   version = layout.version;
   min = layout.min_filter_keys;
   blocks = cut layout.block_size layout.version rows;
-  is = subst (λ (rs : Rows). IsTableOf encode t.1 layout.version (cut layout.block_size layout.version rows) (filters_of layout.policies layout.min_filter_keys rs)) (sym (cut_keeps layout.block_size layout.version rows)) made.built;
+  is = subst (λ (rs : Rows). IsTableOf encode t.1 layout.version t.0.0 (cut layout.block_size layout.version rows) (filters_of layout.policies layout.min_filter_keys rs)) (sym (cut_keeps layout.block_size layout.version rows)) made.built;
 }
 
 pub tables_filtered : (encode : Encode) (layout : Layout) (number place : ℕ) (parts : List Rows) (ts : List (Ulid × List ℕ)) → AreTablesAt encode layout number place parts ts → AreFiltered encode layout.policies ts
@@ -48,7 +48,7 @@ filtered_flush layout before after old new n (idle none is kept) h = still_filte
 filtered_flush layout before after old new n (stored ts is made taken) h =
     still_filtered before.meaning.encode layout.policies (old.events ++ (events.Install n ts ∷ [])) new.events (ap (λ (c : CoreModel). tables_of c.events) is)
     (subst (AreFiltered before.meaning.encode layout.policies) (sym (tables_more old.events (events.Install n ts)))
-    (all_append (λ (t : Ulid × List ℕ). HasFiltersOf before.meaning.encode layout.policies t.1) (tables_of old.events) ts h (tables_filtered before.meaning.encode layout _ 0 made.parts ts made.built)))
+    (all_append (λ (t : Ulid × List ℕ). HasFiltersOf before.meaning.encode layout.policies t.0.0 t.1) (tables_of old.events) ts h (tables_filtered before.meaning.encode layout _ 0 made.parts ts made.built)))
 
 -- a flush with its freeze
 pub filtered_flushed : (layout : Layout) (before after : Reach) (old between new : CoreModel) (n : ℕ) → IsFrozen old between → Flushes layout before after between new n → AreFiltered before.meaning.encode layout.policies (tables_of old.events) →

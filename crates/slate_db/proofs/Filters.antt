@@ -137,7 +137,7 @@ unhurt : (asking : Asking) (m : Meaning) (os : Objects) (h : SsTableHandle) (row
     Asks asking h ≡ true → Unhurt asking m os h rows stored k
 unhurt asking m os h rows k stored target filtered asks =
     let query : asking.query ≡ point_query k asking.query.context = for_point asking.query k target in
-    let section = part_of (Some stored.bytes) h.info.filter_offset h.info.filter_len in
+    let section = of_filters h (part_of (Some stored.bytes) h.info.filter_offset h.info.filter_len) in
     let laws = denied_lack m.encode m.decode stored.lawful asking.policies filtered.0 stored.bytes h.format_version h.id.0 (seen_info h.info) rows stored.each stored.is (filtered.1.0 stored.bytes (table_there m os h rows stored)) k asking.query.context
     (asks_some asking.policies h.info.filter_len asks) in
     record {
@@ -195,10 +195,10 @@ filtered_some policies m m2 os hs ks same are among = same_filtered policies m m
 pub filtered_known : (policies : List Policy) (m : Meaning) (os : Objects) (ts : List (Ulid × List ℕ)) (hs : List SsTableHandle) → AreLawful policies → AreFiltered m.encode policies ts → AreHandles ts hs → Holds os ts → AreFilteredAs policies m os hs
 filtered_known policies m os ts hs lawful filtered handles holds = (lawful, by ts hs filtered handles holds)
   where
-    one : (u : Ulid × List ℕ) (k : SsTableHandle) → HasFiltersOf m.encode policies u.1 → k.id ≡ u.0 → object_at os (path_of root u.0.0) ≡ Some u.1 → IsFilteredAs policies m os k
+    one : (u : Ulid × List ℕ) (k : SsTableHandle) → HasFiltersOf m.encode policies u.0.0 u.1 → k.id ≡ u.0 → object_at os (path_of root u.0.0) ≡ Some u.1 → IsFilteredAs policies m os k
     one u k has same here bytes there =
         let path : object_at os (path_of root k.id.0) ≡ Some u.1 = ap (λ (x : Ulid). object_at os (path_of root x.0)) same ∙ here in
-        subst (HasFiltersOf m.encode policies) (same_Some u.1 bytes (sym path ∙ there)) has
+        subst (HasFiltersOf m.encode policies k.id.0) (same_Some u.1 bytes (sym path ∙ there)) (subst (λ (x : Ulid). HasFiltersOf m.encode policies x.0 u.1) (sym same) has)
 
     by : (us : List (Ulid × List ℕ)) (ks : List SsTableHandle) → AreFiltered m.encode policies us → AreHandles us ks → Holds os us → AllByRecursion (IsFilteredAs policies m os) ks
     by [] [] f a h = tt

@@ -1,6 +1,6 @@
 -- A get that needs the tables read a block with its key.
 use Rattle.std.proofs.Common.{◌≡◌, ℕ, zero, suc, ◌+◌, ◌<◌, ◌≤◌, ◌^◌, ◌-◌, true, List, [], ◌∷◌, ◌++◌, reverse, Option, Some, None, refl, sym, ap, subst, ◌∙◌, arith, nat_le, append-nil}
-use Rattle.std.specs.Prelude.{Contains, IfOk, Result, Ok, Err}
+use Rattle.std.specs.Prelude.{Contains, IfOk, Result, Ok, Err, slice_get}
 use Rattle.std.specs.List.{AllByRecursion}
 use Rattle.std.proofs.lemmas.Grind.{flat_map-append}
 use Rattle.std.proofs.lemmas.List.{append_cancel_left}
@@ -20,8 +20,8 @@ use Rattle.slate_table.specs.Finding.{blocks_answer, index_answer}
 use Rattle.slate_table.specs.InfoReading.{seen_info}
 use Rattle.slate_table.specs.Parts.{Encode}
 use Rattle.slate_table.specs.Paths.{path_of}
-use Rattle.slate_table.specs.Reading.{IsBlockRead, IsIndexRead, block_answer, block_start, blocks_size, whole_answer}
-use Rattle.slate_table.specs.Table.{IsTableOf}
+use Rattle.slate_table.specs.Reading.{IsBlockRead, IsIndexRead, block_start, blocks_size, of_blocks, of_index, whole_answer}
+use Rattle.slate_table.specs.Table.{IsTableOf, block_places}
 use Rattle.slate_read.specs.WalkLaws.{whole_part}
 use Rattle.slate_txn.specs.Reads.{key_rows, up_to}
 use Rattle.slate_txn.specs.State.{Commit, Rules}
@@ -56,9 +56,10 @@ stored_among encode decode objects (k ∷ hs) (rows ∷ layers) h are (zero, lt,
 stored_among encode decode objects (k ∷ hs) (rows ∷ layers) h are (suc i, lt, is) = stored_among encode decode objects hs layers h are.1 (i, omega (arith, lt), is)
 
 -- what is read of an answer was given
-some_given : (decode : Encode) (size at len : ℕ) (given : Option (List ℕ)) (block : Block) → IsBlockRead decode (part_of (whole_answer size given) at len) block → (bytes : List ℕ) × (given ≡ Some bytes)
-some_given decode size at len None block (part, (stored, is, decoded), apart) = cc
-some_given decode size at len (Some bytes) block read = (bytes, refl)
+some_given : (decode : Encode) (h : SsTableHandle) (entries : List (ℕ × List ℕ)) (first size i : ℕ) (given : Option (List ℕ)) (block : Block) → IsBlockRead decode (of_blocks h entries first (whole_answer size given) i) block →
+    (bytes : List ℕ) × (given ≡ Some bytes)
+some_given decode h entries first size i None block (part, (stored, is, decoded), apart) = cc
+some_given decode h entries first size i (Some bytes) block read = (bytes, refl)
 
 pub brought_key : (m : Meaning) (asking : Asking) (os : Objects) (ts : List (Ulid × List ℕ)) (hs : List SsTableHandle) (layers : List Rows) (reads : List Act) (k : List ℕ) (r : RowEntry) → AreHandles ts hs → Holds os ts → AreStoredAs m os hs layers → AllByRecursion (AnswersAct os) reads →
     BringsRow m.decode asking hs reads r → r.key ≡ k → ReadsKey m.encode k ts reads
@@ -68,12 +69,12 @@ brought_key m asking os ts hs layers reads k r are holds stored answered b key =
   version = h.format_version;
   blocks = held.blocks;
   filters = held.filters;
-  is = subst (λ (l : List ℕ). IsTableOf m.encode l h.format_version held.blocks held.filters) same held.is;
+  is = subst (λ (n : ℕ). IsTableOf m.encode named.table.1 h.format_version n held.blocks held.filters) id (subst (λ (l : List ℕ). IsTableOf m.encode l h.format_version h.id.0 held.blocks held.filters) same held.is);
   block = found.block;
   rows = found.rows;
   place = found.place;
   at_block = found.at_block;
-  at_place = found.at_place;
+  at_place = subst (λ (n : ℕ). slice_get (block_places m.encode h.format_version n held.blocks) found.block ≡ Some found.place) id found.at_place;
   holds = found.holds;
   act = blocks_act h o.entries o.first o.stop o.blocks;
   done = among (blocks_act h o.entries o.first o.stop o.blocks) (1, omega arith, refl);
@@ -88,6 +89,9 @@ brought_key m asking os ts hs layers reads k r are holds stored answered b key =
 
     named : Rattle.slate_db.proofs.Behind.Named os ts h
     named = named_by os ts hs h are holds b.among
+
+    id : h.id.0 ≡ named.table.0.0
+    id = ap (λ (x : Ulid). x.0) named.handle.id
 
     same : held.bytes ≡ named.table.1
     same = same_Some held.bytes named.table.1 (sym held.there ∙ ap (λ (x : Ulid). object_at os (path_of root x.0)) named.handle.id ∙ named.there)
@@ -109,21 +113,21 @@ brought_key m asking os ts hs layers reads k r are holds stored answered b key =
         let by_objects : answer ≡ part_of (object_at os (path_of root h.id.0)) start size = All-contains (AnswersAct os) reads (Act.read (path_of root h.id.0) start size answer) (All-from_recursion _ reads answered) there in
         ap (whole_answer size) (by_objects ∙ ap (λ (x : Option (List ℕ)). part_of x start size) held.there) ∙ whole_part held.bytes start size
 
-    index : IsIndexRead m.decode h.info.filter_offset (index_answer held.bytes (seen_info h.info)) o.entries
-    index = subst (λ (a : Option (List ℕ)). IsIndexRead m.decode h.info.filter_offset a o.entries) (by_table h.info.index_offset h.info.index_len o.index (among (index_act h o.index) (0, omega arith, refl))) o.read
+    index : IsIndexRead m.decode h.info.filter_offset (index_answer h.format_version h.id.0 held.bytes (seen_info h.info)) o.entries
+    index = subst (λ (a : Option (List ℕ)). IsIndexRead m.decode h.info.filter_offset (of_index h a) o.entries) (by_table h.info.index_offset h.info.index_len o.index (among (index_act h o.index) (0, omega arith, refl))) o.read
 
-    block : IsBlockRead m.decode (block_answer h.info.filter_offset o.entries o.first (blocks_answer held.bytes (seen_info h.info) o.entries o.first o.stop) has.i) b.row.meant.0
-    block = subst (λ (a : Option (List ℕ)). IsBlockRead m.decode (block_answer h.info.filter_offset o.entries o.first a has.i) b.row.meant.0)
+    block : IsBlockRead m.decode (of_blocks h o.entries o.first (blocks_answer held.bytes (seen_info h.info) o.entries o.first o.stop) has.i) b.row.meant.0
+    block = subst (λ (a : Option (List ℕ)). IsBlockRead m.decode (of_blocks h o.entries o.first a has.i) b.row.meant.0)
         (by_table (block_start h.info.filter_offset o.entries o.first) (blocks_size h.info.filter_offset o.entries o.first o.stop) o.blocks (among (blocks_act h o.entries o.first o.stop o.blocks) (1, omega arith, refl))) has.read
 
     given : (bytes : List ℕ) × (o.blocks ≡ Some bytes)
-    given = some_given m.decode (blocks_size h.info.filter_offset o.entries o.first o.stop) _ _ o.blocks b.row.meant.0 has.read
+    given = some_given m.decode h o.entries o.first (blocks_size h.info.filter_offset o.entries o.first o.stop) has.i o.blocks b.row.meant.0 has.read
 
     row : IsRowOf h.format_version b.row.meant.0 r
     row = b.row.meant.2
 
-    found : Rattle.slate_db.proofs.KeyBlocks.KeyHeld m.encode h.format_version held.blocks k (block_start h.info.filter_offset o.entries o.first) (blocks_size h.info.filter_offset o.entries o.first o.stop)
-    found = key_held_in m.encode m.decode held.lawful held.bytes h.format_version held.blocks held.filters (seen_info h.info) o.entries k o.first o.stop has.i b.row.meant.0 row.1 r
+    found : Rattle.slate_db.proofs.KeyBlocks.KeyHeld m.encode h.format_version h.id.0 held.blocks k (block_start h.info.filter_offset o.entries o.first) (blocks_size h.info.filter_offset o.entries o.first o.stop)
+    found = key_held_in m.encode m.decode held.lawful held.bytes h.format_version h.id.0 held.blocks held.filters (seen_info h.info) o.entries k o.first o.stop has.i b.row.meant.0 row.1 r
         held.is held.info index has.from has.upto o.within row.0 block row.2 row.3 ((bytes_eq-Decides r.key k).1 key)
 
 -- ---- some row was brought

@@ -47,6 +47,9 @@ hex_same (suc k) a b h =
 digits_same : (a b : ℕ) → path_of root a ≡ path_of root b → hex 32 a ≡ hex 32 b
 digits_same a b h = append_cancel_right (hex 32 a) (hex 32 b) (codes ".sst") cc
 
+pub one_id : (a b : ℕ) → a < 2 ^ 128 → b < 2 ^ 128 → path_of root a ≡ path_of root b → a ≡ b
+one_id a b k l e = let same : a % 16 ^ 32 ≡ b % 16 ^ 32 = hex_same 32 a b (digits_same a b e) in omega (arith, same, k, l)
+
 pub ids_same : (a b p q : ℕ) → a < 2 ^ 64 → b < 2 ^ 64 → p < 2 ^ 64 → q < 2 ^ 64 → path_of root (table_id a p) ≡ path_of root (table_id b q) → (a ≡ b) × (p ≡ q)
 ids_same a b p q h k l n e = let same : table_id a p % 16 ^ 32 ≡ table_id b q % 16 ^ 32 = hex_same 32 (table_id a p) (table_id b q) (digits_same (table_id a p) (table_id b q) e) in (omega (arith, same), omega (arith, same))
 

@@ -1,5 +1,5 @@
 -- By lawful policies no table is denied that has a row in a range whose keys match the query, and none has such a row whose first and last key don't reach the range.
-use Rattle.std.proofs.Common.{◌≡◌, ℕ, zero, suc, ◌<◌, Bool, true, false, cond, List, [], ◌∷◌, ◌++◌, bytes_eq, drop, length, map, flat_map, Option, Some, None, inl, inr, refl, sym, ap, ◌∙◌, arith}
+use Rattle.std.proofs.Common.{◌≡◌, ℕ, zero, suc, ◌<◌, Bool, true, false, cond, List, [], ◌∷◌, ◌++◌, bytes_eq, drop, length, map, flat_map, Option, Some, None, inl, inr, refl, sym, ap, subst, ◌∙◌, arith}
 use Rattle.std.specs.Prelude.{Contains, ◌&&◌, ◌==◌, nat_eq}
 use Rattle.std.specs.List.{starts_with}
 use Rattle.std.specs.declared.ops.Bound.{Bound}
@@ -31,13 +31,13 @@ use Rattle.slate_table.specs.Decoded.{Info, IsFilters}
 use Rattle.slate_table.specs.Filtered.{IsAsked, RefusesQuery, AreLawful, HasFiltersOf, filters_answer}
 use Rattle.slate_table.specs.Finding.{IsTableWith, encloses, is_from, is_upto}
 use Rattle.slate_table.specs.InfoReading.{seen_info}
-use Rattle.slate_table.specs.Parts.{Encode, section, filters_bytes}
+use Rattle.slate_table.specs.Parts.{Encode, cover_of, filters_kind, section, filters_bytes}
 use Rattle.slate_table.specs.Reading.{IsPart}
 use Rattle.slate_table.specs.Table.{filter_section}
 use Rattle.slate_table.proofs.FilterLaws.{same_filter_part}
 use Rattle.slate_table.proofs.FilteredLaws.{denied_lack}
 use Rattle.slate_table.proofs.PolicyReads.{all_are_answered}
-use Rattle.slate_table.proofs.TableFinds.{FiltersFound, filters_found, outside_none, part_is}
+use Rattle.slate_table.proofs.TableFinds.{FiltersFound, filters_found, outside_none, part_is, same_version}
 use Rattle.slate_table.proofs.TableLaws.{tables_one_way}
 use Rattle.slate_db.specs.Lookup.{IsStoredAs}
 use Rattle.slate_db.specs.Model.{Rows}
@@ -93,40 +93,50 @@ none_ranged range (r ∷ rows) out = by (in_range range r.key) refl (none_ranged
 -- ---- the law
 
 -- a section of filters that isn't empty is that of their part
-some_section : (encode : Encode) (fs : List (List ℕ × List ℕ)) → 0 < length (filter_section encode fs) → filter_section encode fs ≡ section encode (filters_bytes fs)
-some_section encode [] some = absurd (omega (arith, some))
-some_section encode (f ∷ fs) some = refl
+some_section : (cover : List ℕ) (encode : Encode) (fs : List (List ℕ × List ℕ)) → 0 < length (filter_section cover encode fs) → filter_section cover encode fs ≡ section cover encode (filters_bytes fs)
+some_section cover encode [] some = absurd (omega (arith, some))
+some_section cover encode (f ∷ fs) some = refl
+
+-- the cover of the filters of a table with this info
+abbrev covered : ℕ → ℕ → Info → List ℕ
+covered version id info = cover_of version id filters_kind info.filters.at
 
 pub denied_range : (encode decode : Encode) → IsLawfulTransform encode decode → (policies : List Policy) → AreLawful policies →
-    (bytes : List ℕ) (version : ℕ) (info : Info) (rows : List RowEntry) → EachIsAByte bytes → IsTableWith encode bytes version info rows → HasFiltersOf encode policies bytes →
+    (bytes : List ℕ) (version id : ℕ) (info : Info) (rows : List RowEntry) → EachIsAByte bytes → IsTableWith encode bytes version id info rows → HasFiltersOf encode policies id bytes →
     (query : FilterQuery) (range : BytesRange) → ((k : List ℕ) → in_range range k ≡ true → IsOf query.target k) → 0 < info.filters.len →
-    (IsAsked decode policies query (filters_answer bytes info) false → ranged range rows ≡ [])
-    × ((e : SlateDBError) → RefusesQuery decode policies query (filters_answer bytes info) e → ⊥)
-denied_range encode decode lawful policies ps bytes version info rows fits t h query range covers some = (lacks, refused)
+    (IsAsked decode policies query (filters_answer version id bytes info) false → ranged range rows ≡ [])
+    × ((e : SlateDBError) → RefusesQuery decode policies query (filters_answer version id bytes info) e → ⊥)
+denied_range encode decode lawful policies ps bytes version id info rows fits t h query range covers some = (
+  λ asks. lacks (subst (λ v. IsAsked decode policies query (filters_answer v id bytes info) false) written asks),
+  refused,
+)
   where
+    written : version ≡ t.written
+    written = same_version encode bytes version id info t.written t.is.0 t.is.1 t.is.2 t.info
+
     one_way : (t.written ≡ h.version) × (t.is.0 ≡ h.blocks) × (t.is.1 ≡ filters_of policies h.min (flat_map (λ b. b) h.blocks))
-    one_way = tables_one_way encode decode lawful bytes t.written h.version t.is.0 h.blocks t.is.1 (filters_of policies h.min (flat_map (λ b. b) h.blocks)) t.is.2 h.is
+    one_way = tables_one_way encode decode lawful bytes t.written h.version id t.is.0 h.blocks t.is.1 (filters_of policies h.min (flat_map (λ b. b) h.blocks)) t.is.2 h.is
 
-    found : FiltersFound encode bytes info t.is.1
-    found = filters_found encode bytes version info t.written t.is.0 t.is.1 t.is.2 t.info
+    found : FiltersFound encode bytes t.written id info t.is.1
+    found = filters_found encode bytes version id info t.written t.is.0 t.is.1 t.is.2 t.info
 
-    is_section : filter_section encode t.is.1 ≡ section encode (filters_bytes t.is.1)
-    is_section = some_section encode t.is.1 (let l = found.len in omega (arith, l, some))
+    is_section : filter_section (covered t.written id info) encode t.is.1 ≡ section (covered t.written id info) encode (filters_bytes t.is.1)
+    is_section = some_section (covered t.written id info) encode t.is.1 (let l = found.len in omega (arith, l, some))
 
-    answer : filters_answer bytes info ≡ Some (section encode (filters_bytes t.is.1))
+    answer : (filters_answer t.written id bytes info).answer ≡ Some (section (covered t.written id info) encode (filters_bytes t.is.1))
     answer = found.answer ∙ ap Some is_section
 
-    part_of_them : (part : List ℕ) → IsPart decode (filters_answer bytes info) part → part ≡ filters_bytes t.is.1
-    part_of_them part p = part_is encode decode lawful (filters_bytes t.is.1) part (filters_answer bytes info) answer p
+    part_of_them : (part : List ℕ) → IsPart decode (filters_answer t.written id bytes info) part → part ≡ filters_bytes t.is.1
+    part_of_them part p = part_is encode decode lawful (filters_bytes t.is.1) part (filters_answer t.written id bytes info) answer p
 
     -- what is read are the filters of the policies
-    same : (part : List ℕ) (filters : List (List ℕ × List ℕ)) → IsPart decode (filters_answer bytes info) part → IsFilters part filters →
+    same : (part : List ℕ) (filters : List (List ℕ × List ℕ)) → IsPart decode (filters_answer t.written id bytes info) part → IsFilters part filters →
         filters ≡ filters_of policies h.min (flat_map (λ b. b) t.is.0)
     same part filters p is =
         same_filter_part filters t.is.1 is.few t.is.2.few_filters is.each t.is.2.each_filter (sym is.is ∙ part_of_them part p)
         ∙ one_way.2 ∙ ap (λ bs. filters_of policies h.min (flat_map (λ b. b) bs)) (sym one_way.1)
 
-    lacks : IsAsked decode policies query (filters_answer bytes info) false → ranged range rows ≡ []
+    lacks : IsAsked decode policies query (filters_answer t.written id bytes info) false → ranged range rows ≡ []
     lacks (filters, (part, p, is), says) =
         let denied = sym (ap (λ fs. asked policies fs query) (same part filters p is)) ∙ says in
         let none : ranged range (flat_map (λ b. b) t.is.0) ≡ [] = none_ranged range (flat_map (λ b. b) t.is.0) (λ r has within.
@@ -134,11 +144,11 @@ denied_range encode decode lawful policies ps bytes version info rows fits t h q
         let clash : Some true ≡ Some false = sym passes ∙ denied in cc) in
         ap (ranged range) t.is.3 ∙ ranged_read t.written range (flat_map (λ b. b) t.is.0) none
 
-    refused : (e : SlateDBError) → RefusesQuery decode policies query (filters_answer bytes info) e → ⊥
-    refused e (inl r) = (denied_lack encode decode lawful policies ps bytes version info rows fits t h [] None some).1 e (inl r)
+    refused : (e : SlateDBError) → RefusesQuery decode policies query (filters_answer version id bytes info) e → ⊥
+    refused e (inl r) = (denied_lack encode decode lawful policies ps bytes version id info rows fits t h [] None some).1 e (inl r)
     refused e (inr (part, filters, p, is, says, length_is)) =
         let answered = all_are_answered policies ps.distinct ps.each h.min (flat_map (λ b. b) t.is.0) query in
-        let clash : None ≡ Some answered.0 = sym says ∙ ap (λ fs. asked policies fs query) (same part filters p is) ∙ answered.1 in cc
+        let clash : None ≡ Some answered.0 = sym says ∙ ap (λ fs. asked policies fs query) (same part filters (subst (λ v. IsPart decode (filters_answer v id bytes info) part) written p) is) ∙ answered.1 in cc
 
 -- ---- tables that can't hold a key of the range
 

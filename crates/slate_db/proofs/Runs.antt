@@ -11,6 +11,7 @@ use Rattle.slate_table.specs.Finding.{encloses, is_from, is_upto}
 use Rattle.slate_table.specs.InfoReading.{seen_info}
 use Rattle.slate_table.specs.Parts.{Encode, last_key}
 use Rattle.slate_table.specs.Table.{AreInOrder, some_first, some_last}
+use Rattle.slate_table.specs.TableEnd.{HasInfo}
 use Rattle.slate_table.proofs.CutLaws.{cut_keeps}
 use Rattle.slate_table.proofs.TableFinds.{info_keys}
 use Rattle.slate_mem.specs.KeyTests.{Segments}
@@ -73,7 +74,8 @@ made_more encode layout number place (x ∷ parts) [] rows t h is = absurd h
 kept_keys : (encode : Encode) (layout : Layout) (number place : ℕ) (rows : Rows) (t : Ulid × List ℕ) (h : SsTableHandle) → IsTableAt encode layout number place rows t → IsHandle t h →
     (h.info.first_entry ≡ some_first rows) × (h.info.last_entry ≡ some_last rows)
 kept_keys encode layout number place rows t h made kept =
-    let keys = info_keys encode t.1 h.format_version (seen_info h.info) layout.version _ _ made.built kept.info in
+    let info = subst (λ (x : Ulid). HasInfo t.1 h.format_version x.0 (seen_info h.info)) kept.id kept.info in
+    let keys = info_keys encode t.1 h.format_version t.0.0 (seen_info h.info) layout.version _ _ made.built info in
     (keys.0 ∙ ap some_first (cut_keeps layout.block_size layout.version rows), keys.1 ∙ ap some_last (cut_keeps layout.block_size layout.version rows))
 
 ends_below : (encode : Encode) (layout : Layout) (number place : ℕ) (parts : List Rows) (ts : List (Ulid × List ℕ)) (hs : List SsTableHandle) (h : SsTableHandle) (last : List ℕ) → h.info.last_entry ≡ Some last →

@@ -10,18 +10,15 @@ use Rattle.slate_types.specs.declared.types.Ulid.{Ulid}
 use Rattle.slate_types.specs.Lawful.{IsLawfulTransform}
 use Rattle.slate_types.specs.Outside.{Act, Objects, Reach, object_at, part_of}
 use Rattle.slate_types.specs.World.{AnswersWorld, HoldsWorld, Kept, Sees, World}
-use Rattle.slate_block.specs.BlockSpelling.{as_read, IsKnown}
+use Rattle.slate_block.specs.BlockSpelling.{as_read}
 use Rattle.slate_block.specs.ReadingLaws.{EachIsAByte}
-use Rattle.slate_block.specs.RowSpelling.{be16, be64}
-use Rattle.slate_block.proofs.Pieces.{same_be16, same_ends, same_whole}
 use Rattle.slate_table.specs.declared.info.SsTableHandle.{SsTableHandle}
-use Rattle.slate_table.specs.Decoded.{Info}
 use Rattle.slate_table.specs.InfoReading.{seen_info}
-use Rattle.slate_table.specs.Parts.{Encode, sum_fits, summed}
+use Rattle.slate_table.specs.Parts.{sum_fits}
 use Rattle.slate_table.specs.Paths.{path_of, table_id}
-use Rattle.slate_table.specs.SectionReading.{footer_bytes}
-use Rattle.slate_table.specs.Table.{IsTableOf, table_bytes}
+use Rattle.slate_table.specs.Table.{IsTableOf}
 use Rattle.slate_table.specs.TableEnd.{HasInfo}
+use Rattle.slate_table.proofs.TableFinds.{same_version}
 use Rattle.slate_read.specs.declared.sorted_run.SortedRun.{SortedRun}
 use Rattle.slate_read.specs.Readable.{kept_of, TablesAreReadable}
 use Rattle.slate_read.specs.TableWalk.{IsReadable, path_in}
@@ -39,18 +36,6 @@ use Rattle.slate_db.proofs.Short.{all_append}
 
 -- ---- one table
 
--- the version that the last bytes say is that in which the table was written
-version_same : (encode : Encode) (bytes : List ℕ) (v : ℕ) (info : Info) (version : ℕ) (bs : List Rows) (fs : List (List ℕ × List ℕ)) → IsTableOf encode bytes version bs fs → HasInfo bytes v info → v ≡ version
-version_same encode bytes v info version bs fs t h =
-    let e0 : ((h.before ++ summed h.part) ++ be64 (length h.before)) ++ be16 v ≡ table_bytes encode version bs fs =
-    append_assoc (h.before ++ summed h.part) (be64 (length h.before)) (be16 v) ∙ append_assoc h.before (summed h.part) (footer_bytes (length h.before) v) ∙ sym h.is ∙ t.is in
-    let e1 = same_ends ((h.before ++ summed h.part) ++ be64 (length h.before)) _ (be16 v) (be16 version) refl e0 in
-    (same_be16 v version [] [] h.spelled.known (below t.known) (same_whole (be16 v) (be16 version) e1.1)).0
-  where
-    below : IsKnown version → version < 2 ^ 16
-    below (inl e) = omega (arith, e)
-    below (inr e) = omega (arith, e)
-
 pub record IsTableHeld (m : Meaning) (os : Objects) (h : SsTableHandle) (rows : Rows) : Type 0 where
   pub bytes : List ℕ
   pub blocks : List Rows
@@ -58,14 +43,14 @@ pub record IsTableHeld (m : Meaning) (os : Objects) (h : SsTableHandle) (rows : 
   pub lawful : IsLawfulTransform m.encode m.decode
   pub there : object_at os (path_of root h.id.0) ≡ Some bytes
   pub each : EachIsAByte bytes
-  pub is : IsTableOf m.encode bytes h.format_version blocks filters
-  pub info : HasInfo bytes h.format_version (seen_info h.info)
+  pub is : IsTableOf m.encode bytes h.format_version h.id.0 blocks filters
+  pub info : HasInfo bytes h.format_version h.id.0 (seen_info h.info)
   pub rows_are : rows ≡ map (as_read h.format_version) (flat_map (λ b. b) blocks)
 
 pub table_held : (m : Meaning) (os : Objects) (h : SsTableHandle) (rows : Rows) → IsStoredAs m os h rows → IsTableHeld m os h rows
 table_held m os h rows s =
     let t = s.is.is in
-    let same : h.format_version ≡ s.is.written = version_same m.encode s.bytes h.format_version (seen_info h.info) s.is.written t.0 t.1 t.2 s.is.info in
+    let same : h.format_version ≡ s.is.written = same_version m.encode s.bytes h.format_version h.id.0 (seen_info h.info) s.is.written t.0 t.1 t.2 s.is.info in
     record {
       bytes = s.bytes;
       blocks = t.0;
@@ -73,13 +58,13 @@ table_held m os h rows s =
       lawful = s.lawful;
       there = ap (λ (l : Objects). object_at l (path_of root h.id.0)) (same_Some _ _ s.told) ∙ s.there;
       each = s.each;
-      is = subst (λ v. IsTableOf m.encode s.bytes v t.0 t.1) (sym same) t.2;
+      is = subst (λ v. IsTableOf m.encode s.bytes v h.id.0 t.0 t.1) (sym same) t.2;
       info = s.is.info;
       rows_are = t.3 ∙ ap (λ v. map (as_read v) (flat_map (λ b. b) t.0)) (sym same);
     }
 
 abbrev pub kept_in : (m : Meaning) (os : Objects) (h : SsTableHandle) (rows : Rows) → IsStoredAs m os h rows → Kept
-kept_in m os h rows s = let t = table_held m os h rows s in kept_of m.encode h.format_version t.blocks t.filters t.bytes
+kept_in m os h rows s = let t = table_held m os h rows s in kept_of m.encode h.format_version h.id.0 t.blocks t.filters t.bytes
 
 -- ---- what the objects hold of tables, by their paths
 

@@ -37,7 +37,7 @@ found_all P k (p ∷ ps) x h e = by (bytes_eq p.0 k) e (found_all P k ps x h.1)
 pub same_tables : (m : Meaning) → IsLawfulMeaning m → (ts : List (Ulid × List ℕ)) (a b : List Rows) → AreTables m ts a → AreTables m ts b → a ≡ b
 same_tables m law [] a b h k = h ∙ sym k
 same_tables m law (t ∷ ts) a b (v, first, rest, is, others, same) (w, first2, rest2, is2, others2, same2) =
-    same ∙ (λ i. same_rows m.encode m.decode law.transformer t.1 v w first first2 is is2 i ∷ same_tables m law ts rest rest2 others others2 i) ∙ sym same2
+    same ∙ (λ i. same_rows m.encode m.decode law.transformer t.1 v w t.0.0 first first2 is is2 i ∷ same_tables m law ts rest rest2 others others2 i) ∙ sym same2
 
 pub seen_fold : (m : Meaning) (c : CoreModel) (u : Unseen) (layers : List Rows) (k : List ℕ) (at : ℕ) (own : Rows) →
     IsWhole c u → IsLawfulMeaning m → IsKept m c → AreTables m (tables_of c.events) layers → c.floor ≤ at → AreShort own →

@@ -10,7 +10,7 @@ abbrev pub invariant-loop-row : goal.invariant-loop-row
 invariant-loop-row g l = record {
   rows : l.builder.rows ++ into_iter_items l.row-iterator ≡ l.fn.rows.items;
   version : l.builder.version ≡ version_of l.laws.options.block_format;
-  id : l.builder.id ≡ l.id.0;
+  id : l.builder.id ≡ l.fn.id.0;
   size : l.builder.size ≡ l.laws.options.block_size;
   min : l.builder.min ≡ l.laws.options.min_filter_keys;
   encoded : AreEncoded (changed_by g.T.BlockTransformer.encoded l.initial.transformer) l.builder;
