@@ -110,7 +110,7 @@ build() {
     local log="$out/build.log"
     mkdir -p "$out" || give_up "cannot make crates/$program_name/out"
     exec 4>"$log" || give_up "cannot write crates/$program_name/out/build.log"
-    say "the proved program isn't built for this source yet; proving and building it takes about half an hour on four processors, once"
+    say "the proved program isn't built for this source yet; proving and building it takes some tens of minutes on four processors, once"
     prove_crates
     # The last word is here: rt builds the program only over proved crates, and --version alone ends with status 0.
     if ! (cd "$top/crates/$program_name" && rt run -- --version) </dev/null >&4 2>&1; then

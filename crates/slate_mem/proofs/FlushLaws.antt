@@ -15,10 +15,14 @@ use Rattle.slate_types.specs.Fold.{Combine, from_last, fold_taken, fold_rows}
 use Rattle.slate_types.proofs.KeyOrder.{same-key, turned-key, lt-irreflexive}
 use Rattle.slate_mem.specs.Table.{to_base}
 use Rattle.slate_mem.specs.Lookup.{is_decided}
-use Rattle.slate_mem.specs.FlushRows.{high_rows, low_rows, kept_and_folded, fold_of, is_ended, ended, left, above, waits, flush_rows, IsGroup}
+use Rattle.slate_mem.specs.FlushRows.{high_rows, low_rows, kept_and_folded, fold_of, is_ended, ended, left, above, waits, IsGroup}
 use Rattle.slate_mem.proofs.LayerLaws.{base_rest}
 use Rattle.slate_mem.proofs.MemLaws.{taken-newest}
 use Rattle.slate_mem.proofs.RowOfLaws.{from_last-all}
+
+abbrev pub flush_rows : (List ℕ → Combine) → ℕ → List RowEntry → List RowEntry → List RowEntry
+flush_rows c b low [] = fold_of c low
+flush_rows c b low (r ∷ rs) = ended c low r ++ (above b r ++ flush_rows c b (waits b (left low r) r) rs)
 
 pub no_group : IsGroup []
 no_group = record { key = []; keys = tt; based = refl }

@@ -22,13 +22,20 @@ use Rattle.slate_mem.specs.BatchModel.{BatchModel, is_merge_op, holds_merge, wit
 use Rattle.slate_mem.specs.Refusals.{op_refusal}
 use Rattle.slate_mem.specs.RowOf.{op_row}
 use Rattle.slate_mem.specs.CommitRows.{commit_rows}
-use Rattle.slate_mem.specs.Kept.{Entries, items_at, listed, tagged, IsKept, AreKept, IsSingle, AreFineAt, AreFine, IsWhole, single_row, single_rows}
+use Rattle.slate_mem.specs.Kept.{Entries, items_at, listed, tagged, IsKept, AreKept, IsSingle, AreFineAt, AreFine, IsWhole}
 use Rattle.slate_mem.specs.declared.batch_iterator.Stamps.{Stamps}
 use Rattle.slate_mem.specs.BatchRows.{stamped, newest_rows}
 use Rattle.std.proofs.lemmas.List.{append-nil}
 use Rattle.slate_mem.proofs.BatchLaws.{ops_of-append, ops_of-one, some_of, none-left, among-keys, some-kept, ops_of-kept}
 use Rattle.std.proofs.Math.Bool.{or-false}
 use Rattle.slate_types.proofs.Lists.{AllByRecursion-append}
+
+abbrev pub single_row : Option ℕ → ℕ → ℤ → List ℕ → List WriteOp → Option RowEntry
+single_row default_millis n now k [] = None
+single_row default_millis n now k (op ∷ ops) = Some (op_row k n default_millis now op)
+
+abbrev pub single_rows : Option ℕ → ℕ → ℤ → Entries → List RowEntry
+single_rows default_millis n now es = filter_map (λ e. single_row default_millis n now e.0 e.1.items) es
 
 -- ---- keys
 

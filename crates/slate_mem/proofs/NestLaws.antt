@@ -19,8 +19,12 @@ use Rattle.slate_types.proofs.KeyOrder.{same-key, turned-key, bytes_eq-same, byt
 use Rattle.slate_types.proofs.KeySetLaws.{set-rises, set-keeps, same-set, AllAbove, among-above}
 use Rattle.slate_mem.specs.KeyTests.{nest, nest_refusal, nest_refusals}
 use Rattle.slate_mem.specs.Refusals.{first_refusal}
-use Rattle.slate_mem.specs.Segments.{NeverNest, IsLeast, HasNoFront, IsFirstFront, lesser}
+use Rattle.slate_mem.specs.Segments.{NeverNest, HasNoFront, IsFirstFront, lesser}
 use Rattle.slate_mem.proofs.TableLaws.{among-is, any-append, set-of-set}
+
+abbrev pub IsLeast : (List ℕ → Bool) → (List ℕ → Bool) → Option (List ℕ) → Type 0
+IsLeast passes is_there None = (x : List ℕ) → is_there x ≡ true → passes x ≡ false
+IsLeast passes is_there (Some q) = (is_there q ≡ true) × ((passes q ≡ true) × ((x : List ℕ) → is_there x ≡ true → key_lt x q ≡ true → passes x ≡ false))
 
 -- ---- fronts
 

@@ -21,7 +21,13 @@ use Rattle.slate_types.proofs.RowLaws.{sequenced-total, sequenced-same}
 use Rattle.slate_types.proofs.KeySetLaws.{set-rises, set-keeps, same-set}
 use Rattle.slate_mem.specs.declared.mem_table.Step.{Step}
 use Rattle.slate_mem.specs.Table.{put_row, put_rows, to_base, newest}
-use Rattle.slate_mem.specs.Tied.{TableEntries, AreTied, insert_row, insert_rows, undo_at, undone, all_undone, newest_entries}
+use Rattle.slate_mem.specs.Tied.{TableEntries, AreTied, insert_row, insert_rows, undo_at, undone, all_undone}
+use Rattle.std.specs.BTreeMap.Range.{entries_between}
+use Rattle.std.specs.declared.ops.Bound.TheVariants.{Included}
+
+abbrev pub newest_entries : List ℕ → ℕ → TableEntries → List RowEntry
+newest_entries k n es =
+    to_base (values_of (entries_between sequenced_cmp (Included (record { user_key = k; seq = n })) (Included (record { user_key = k; seq = 0 })) es))
 
 -- ---- the rows of entries
 

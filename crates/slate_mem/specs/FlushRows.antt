@@ -7,7 +7,6 @@
 --     ended c low r, left low r      what goes before the row, and what waits then
 --     above b r      the row, where it is above the barrier
 --     waits b low r      what waits behind it: the others, to the first that is no operand
---     flush_rows c b low rows      all rows
 --     IsGroup low      what holds of the rows that wait: they are of one key, and none stands behind one that is no operand
 use Rattle.std.specs.Prelude.{◌≡◌, ℕ, nat_le, nat_lt, Bool, false, not, if◌then◌else◌, List, [], ◌∷◌, ◌++◌, filter, reverse, option_to_list, bytes_eq}
 use Rattle.std.specs.List.{AllByRecursion}
@@ -44,10 +43,6 @@ above b r = if nat_lt b r.seq then r ∷ [] else []
 
 abbrev pub waits : ℕ → List RowEntry → RowEntry → List RowEntry
 waits b low r = if nat_lt b r.seq then low else if is_decided low then low else low ++ (r ∷ [])
-
-abbrev pub flush_rows : (List ℕ → Combine) → ℕ → List RowEntry → List RowEntry → List RowEntry
-flush_rows c b low [] = fold_of c low
-flush_rows c b low (r ∷ rs) = ended c low r ++ (above b r ++ flush_rows c b (waits b (left low r) r) rs)
 
 pub record IsGroup (low : List RowEntry) : Type 0 where
   pub key : List ℕ

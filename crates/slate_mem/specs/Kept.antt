@@ -2,10 +2,9 @@
 --     tagged k ops, listed es      the operations of a key, and of all entries, each with its key
 --     items_at es k      what the entries have at a key
 --     HasMore es fs k op      entries with one operation more, which stands behind those of its key
---     single_rows default n now es      the rows of keys that have one operation each
 --     AreFine es      no operation of the entries is refused by itself
 --     IsWhole es held      what stands at all times of the entries and of whether a merge was taken
-use Rattle.std.specs.Prelude.{◌≡◌, ℕ, ◌<◌, Bool, true, false, List, [], ◌∷◌, ◌++◌, map, filter_map, flat_map, length, if◌then◌else◌, bytes_eq, Option, Some, None, ℤ}
+use Rattle.std.specs.Prelude.{◌≡◌, ℕ, ◌<◌, Bool, true, false, List, [], ◌∷◌, ◌++◌, map, flat_map, length, if◌then◌else◌, bytes_eq, None}
 use Rattle.std.specs.List.{AllByRecursion}
 use Rattle.std.specs.List.Sorted.{IsStrictlySortedBy}
 use Rattle.std.specs.Map.{keys_of}
@@ -13,11 +12,9 @@ use Rattle.std.specs.BTreeMap.{insert_entry}
 use Rattle.smallvec.specs.SmallVec.{SmallVec}
 use Rattle.slate_types.specs.Keys.{key_cmp}
 use Rattle.slate_types.specs.Fold.{from_last}
-use Rattle.slate_types.specs.declared.types.RowEntry.{RowEntry}
 use Rattle.slate_mem.specs.declared.WriteOp.{WriteOp}
 use Rattle.slate_mem.specs.Batch.{Ops, replaces}
 use Rattle.slate_mem.specs.Refusals.{op_refusal}
-use Rattle.slate_mem.specs.RowOf.{op_row}
 
 abbrev pub Entries : Type 0
 Entries = List (List ℕ × SmallVec WriteOp)
@@ -61,10 +58,3 @@ pub record IsWhole (es : Entries) (held : Bool) : Type 0 where
   pub kept : AreKept es
   pub fine : AreFine es
   pub told : held ≡ false → AllByRecursion (λ e. IsSingle e.1.items) es
-
-abbrev pub single_row : Option ℕ → ℕ → ℤ → List ℕ → List WriteOp → Option RowEntry
-single_row default_millis n now k [] = None
-single_row default_millis n now k (op ∷ ops) = Some (op_row k n default_millis now op)
-
-abbrev pub single_rows : Option ℕ → ℕ → ℤ → Entries → List RowEntry
-single_rows default_millis n now es = filter_map (λ e. single_row default_millis n now e.0 e.1.items) es

@@ -1,10 +1,9 @@
 -- Segment prefixes of rows, and prefixes that nest.
 --     row_prefixes segments rows, row_refusals segments rows      the segment prefixes of their keys, rising; where one of them has none
 --     NeverNest ps      no two of them nest
---     IsLeast passes is_there o      the least key that is there and passes, where there is one
 --     IsFirstFront p ps o      the shortest proper front of p that is among them, where there is one
 --     lesser a b      the lesser of two keys, each where there is one
-use Rattle.std.specs.Prelude.{◌≡◌, ℕ, ◌<◌, Bool, true, false, if◌then◌else◌, List, length, map, filter_map, take, Option, Some, None}
+use Rattle.std.specs.Prelude.{◌≡◌, ℕ, ◌<◌, true, false, if◌then◌else◌, List, length, map, filter_map, take, Option, Some, None}
 use Rattle.slate_types.specs.declared.error.SlateDBError.{SlateDBError}
 use Rattle.slate_types.specs.declared.types.RowEntry.{RowEntry}
 use Rattle.slate_types.specs.Keys.{key_lt, keys_set, among}
@@ -18,10 +17,6 @@ row_refusals segments rows = map (λ r. segment_refusal segments r.key) rows
 
 abbrev pub NeverNest : List (List ℕ) → Type 0
 NeverNest ps = (p q : List ℕ) → among p ps ≡ true → among q ps ≡ true → nest p q ≡ false
-
-abbrev pub IsLeast : (List ℕ → Bool) → (List ℕ → Bool) → Option (List ℕ) → Type 0
-IsLeast passes is_there None = (x : List ℕ) → is_there x ≡ true → passes x ≡ false
-IsLeast passes is_there (Some q) = (is_there q ≡ true) × ((passes q ≡ true) × ((x : List ℕ) → is_there x ≡ true → key_lt x q ≡ true → passes x ≡ false))
 
 abbrev pub HasNoFront : List ℕ → List (List ℕ) → ℕ → Type 0
 HasNoFront p ps n = (m : ℕ) → m < n → among (take m p) ps ≡ false

@@ -1,15 +1,12 @@
 -- How a table keeps its rows: a map from keys with sequences to rows.
 --     IsRows es, IsTable es segments      what stands at all times of the entries, and of the prefixes too
 --     taken b rows      the rows, or where `b` holds those to the first that is no operand
---     newest_entries k n es      the rows of a key up to a sequence, to the first that is no operand
 --     undone es step      the entries without what a step did
 use Rattle.std.specs.Prelude.{◌≡◌, ℕ, ◌<◌, ◌^◌, Bool, true, false, List, [], ◌∷◌, Option, Some, None}
 use Rattle.std.specs.List.{AllByRecursion}
 use Rattle.std.specs.List.Sorted.{IsStrictlySortedBy}
-use Rattle.std.specs.Map.{keys_of, values_of, set_value, remove_entry}
+use Rattle.std.specs.Map.{keys_of, set_value, remove_entry}
 use Rattle.std.specs.BTreeMap.{insert_entry, is_at}
-use Rattle.std.specs.BTreeMap.Range.{entries_between}
-use Rattle.std.specs.declared.ops.Bound.TheVariants.{Included}
 use Rattle.slate_types.specs.declared.types.RowEntry.{RowEntry}
 use Rattle.slate_types.specs.declared.sequenced_key.SequencedKey.{SequencedKey}
 use Rattle.slate_types.specs.Keys.{key_cmp}
@@ -54,7 +51,3 @@ all_undone es (step ∷ steps) = undone (all_undone es steps) step
 abbrev pub taken : Bool → List RowEntry → List RowEntry
 taken false rows = rows
 taken true rows = to_base rows
-
-abbrev pub newest_entries : List ℕ → ℕ → TableEntries → List RowEntry
-newest_entries k n es =
-    to_base (values_of (entries_between sequenced_cmp (Included (record { user_key = k; seq = n })) (Included (record { user_key = k; seq = 0 })) es))

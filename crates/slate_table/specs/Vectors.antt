@@ -94,20 +94,22 @@ DamagedEnds = (footer_version table_e ≡ 1) × (info_at table_e ≡ 108)
 abbrev pub table_v3 : List ℕ
 table_v3 = table_bytes (λ bytes. bytes) 3 id_e ((row_a ∷ []) ∷ []) []
 
--- with their checksums
-abbrev pub BlockAndIndexV3 : Type 0
-BlockAndIndexV3 = (length table_v3 ≡ 177)
-    × (take 30 table_v3 ≡ 0 ∷ 1 ∷ 1 ∷ 0x61 ∷ 0x31 ∷ be64 1 ++ (4 ∷ be64 0) ++ (0 ∷ 0 ∷ 0 ∷ 1 ∷ 105 ∷ 167 ∷ 119 ∷ 89 ∷ []))
-    × (take 19 (drop 30 table_v3) ≡ (0 ∷ 0 ∷ 0 ∷ 1 ∷ be64 0) ++ (0 ∷ 1 ∷ 0x61 ∷ 249 ∷ 174 ∷ 224 ∷ 191 ∷ []))
+-- its sections with their checksums
+abbrev pub BlockV3 : Type 0
+BlockV3 = take 30 table_v3 ≡ 0 ∷ 1 ∷ 1 ∷ 0x61 ∷ 0x31 ∷ be64 1 ++ (4 ∷ be64 0) ++ (0 ∷ 0 ∷ 0 ∷ 1 ∷ 105 ∷ 167 ∷ 119 ∷ 89 ∷ [])
 
-abbrev pub StatsAndEndV3 : Type 0
-StatsAndEndV3 =
-    (take 54 (drop 49 table_v3) ≡ be64 1 ++ be64 0 ++ be64 0 ++ be64 1 ++ be64 1 ++ (0 ∷ 0 ∷ 0 ∷ 1 ∷ 0 ∷ 1 ∷ 0 ∷ 0 ∷ 0 ∷ 0 ∷ 199 ∷ 20 ∷ 4 ∷ 114 ∷ []))
-    × (take 64 (drop 103 table_v3) ≡ (0 ∷ 3 ∷ 1 ∷ 0 ∷ 1 ∷ 0x61 ∷ 1 ∷ 0 ∷ 1 ∷ 0x61 ∷ []) ++ be64 30 ++ be64 19 ++ be64 30 ++ be64 0 ++ be64 49 ++ be64 54 ++ (0 ∷ 1 ∷ 145 ∷ 54 ∷ 58 ∷ 233 ∷ []))
-    × (drop 167 table_v3 ≡ be64 0x67 ++ be16 3)
+abbrev pub IndexV3 : Type 0
+IndexV3 = take 19 (drop 30 table_v3) ≡ (0 ∷ 0 ∷ 0 ∷ 1 ∷ be64 0) ++ (0 ∷ 1 ∷ 0x61 ∷ 249 ∷ 174 ∷ 224 ∷ 191 ∷ [])
+
+abbrev pub StatsV3 : Type 0
+StatsV3 = take 54 (drop 49 table_v3) ≡ be64 1 ++ be64 0 ++ be64 0 ++ be64 1 ++ be64 1 ++ (0 ∷ 0 ∷ 0 ∷ 1 ∷ 0 ∷ 1 ∷ 0 ∷ 0 ∷ 0 ∷ 0 ∷ 199 ∷ 20 ∷ 4 ∷ 114 ∷ [])
+
+abbrev pub InfoV3 : Type 0
+InfoV3 = take 64 (drop 103 table_v3)
+    ≡ (0 ∷ 3 ∷ 1 ∷ 0 ∷ 1 ∷ 0x61 ∷ 1 ∷ 0 ∷ 1 ∷ 0x61 ∷ []) ++ be64 30 ++ be64 19 ++ be64 30 ++ be64 0 ++ be64 49 ++ be64 54 ++ (0 ∷ 1 ∷ 145 ∷ 54 ∷ 58 ∷ 233 ∷ [])
 
 abbrev pub OneRowV3 : Type 0
-OneRowV3 = BlockAndIndexV3 × StatsAndEndV3
+OneRowV3 = (length table_v3 ≡ 177) × BlockV3 × IndexV3 × StatsV3 × InfoV3 × (drop 167 table_v3 ≡ be64 0x67 ++ be16 3)
 
 -- the block, as it lies, under the id of the second flush, as another kind, and elsewhere
 abbrev pub CoversDiffer : Type 0

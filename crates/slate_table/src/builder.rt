@@ -156,6 +156,8 @@ impl EncodedSsTableBuilder {
             mut parts,
             min_filter_keys,
         } = self;
+        // What its type says of the id is known once it is read.
+        let _id = parts.id.0;
         let table = parts.finish(alloc, transformer, policies, min_filter_keys);
         drop(parts);
         table

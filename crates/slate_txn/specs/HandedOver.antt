@@ -28,10 +28,6 @@ SameKeys None o = o ≡ None
 SameKeys (Some t) None = ⊥
 SameKeys (Some t) (Some u) = (u.start ≡ t.start) × (u.writes ≡ t.writes) × (u.reads ≡ t.reads)
 
-abbrev pub ranges_at : Option Active → List ℕ → Bool
-ranges_at None k = false
-ranges_at (Some t) k = list_any (λ r. in_range r k) t.ranges
-
 -- its ranges take in what they took in, and what passes the test
 abbrev pub TakesIn : (List ℕ → Bool) → Option Active → Option Active → Type 0
 TakesIn f None o = o ≡ None

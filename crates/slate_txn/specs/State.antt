@@ -3,11 +3,10 @@
 --     is_open s name      a transaction or a snapshot has the name
 --     combine_at r k      what the operator does at the key
 --     NamesStandOnce s      no name stands twice, and none is both a transaction's and a snapshot's
---     with_parts ops marked unmarked ts t, IsBegun s name t      a transaction with the parts that a state of begins alone leaves out
 -- The read keys and scanned ranges of an open transaction are `reads` of its transcript, in `Conflict`: there is no second record of them.
 -- `flushed` is the last sequence at the last flush, and 0 before the first. A flush that finds no rows sets it too, but adds no event to a journal,
 -- so that it may be above the `flushed` of the journal's replay; no commit lies between the two.
-use Rattle.std.specs.Prelude.{◌≡◌, ℕ, Bool, ◌||◌, ◌⊎◌, List, [], ◌∷◌, Option, Some, None, is_some, ℤ, pos}
+use Rattle.std.specs.Prelude.{◌≡◌, ℕ, Bool, ◌||◌, ◌⊎◌, List, [], ◌∷◌, Option, None, is_some, ℤ, pos}
 use Rattle.slate_types.specs.declared.config.IsolationLevel.{IsolationLevel}
 use Rattle.slate_types.specs.Fold.{Combine, operator_at}
 use Rattle.slate_mem.specs.Batch.{Ops}
@@ -50,14 +49,6 @@ opening = record { commits = []; txns = []; snapshots = []; now = pos 0; flushed
 
 abbrev pub begun : IsolationLevel → ℕ → Tx
 begun level n = record { level = level; begin = n; ops = []; marked = []; unmarked = []; transcript = [] }
-
--- The same transaction with operations, marks and transcript of its own, where the state that it stands in holds its level and its begin alone.
-abbrev pub with_parts : Ops → List (List ℕ) → List (List ℕ) → List TranscriptStep → Tx → Tx
-with_parts ops marked unmarked ts t = record t { ops = ops; marked = marked; unmarked = unmarked; transcript = ts }
-
--- the name is open in the state, at the transaction's level and begin; the transaction's other parts are not the state's
-abbrev pub IsBegun : State → List ℕ → Tx → Type 0
-IsBegun s name t = find_named name s.txns ≡ Some (begun t.level t.begin)
 
 abbrev pub last_of : ℕ → List Commit → ℕ
 last_of n [] = n

@@ -5,8 +5,8 @@ use Rattle.slate_types.specs.declared.iter.IterationOrder.TheVariants.{Ascending
 use Rattle.slate_types.specs.Fold.{fold_rows}
 use Rattle.slate_types.specs.Iteration.{IsInOrder}
 use Rattle.slate_types.specs.Rows.{of_key}
-use Rattle.slate_mem.specs.FlushRows.{flush_rows, ended, waits, IsGroup}
-use Rattle.slate_mem.proofs.FlushLaws.{flush_step, flush_key_by_key, flush_in_order, fold_of_is, group_waits}
+use Rattle.slate_mem.specs.FlushRows.{ended, waits, IsGroup}
+use Rattle.slate_mem.proofs.FlushLaws.{flush_step, flush_key_by_key, flush_in_order, fold_of_is, group_waits, flush_rows}
 use Rattle.slate_mem.proofs.flush_fold.fold_keys.Goals as goal
 
 pub loop-row-preserved : goal.loop-row-preserved

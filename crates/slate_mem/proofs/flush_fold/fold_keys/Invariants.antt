@@ -1,7 +1,8 @@
 use Rattle.std.proofs.Common.{◌≡◌, ◌≤◌, ◌++◌, [], length}
 use Rattle.std.specs.Vec.Iter.{into_iter_items, into_iter_len}
-use Rattle.slate_mem.specs.FlushRows.{flush_rows, IsGroup}
+use Rattle.slate_mem.specs.FlushRows.{IsGroup}
 use Rattle.slate_mem.proofs.flush_fold.fold_keys.Given as goal
+use Rattle.slate_mem.proofs.FlushLaws.{flush_rows}
 
 abbrev pub invariant-loop-row : goal.invariant-loop-row
 invariant-loop-row g l = record {

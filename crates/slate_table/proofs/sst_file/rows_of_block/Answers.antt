@@ -12,5 +12,5 @@ returns-in_err-walk c =
       rows = IfOk-from_err c.from_residual.result _ c.from_residual.ensures.0;
       bytes = subst (λ (l : List ℕ). EachIsAByte l) c.as_slice.ensures c.are_bytes.ensures;
       cause = (rw (p.1, p.2)
-          (refused_in c.args.version c.args.block.now c.in_err-walk.field-0.0 OutOfMemory c.in_err-walk.ensures.cause (λ one two. same_refusal _ _ _ _ (c.in_err-walk.ensures.version one two) refl refl)));
+          (refused_in c.args.version c.args.block.now c.in_err-walk.field-0.0 OutOfMemory c.in_err-walk.ensures.cause (λ none. same_refusal _ _ _ _ (c.in_err-walk.ensures.version none) refl refl)));
     }
