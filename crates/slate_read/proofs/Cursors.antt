@@ -175,12 +175,20 @@ next_then : (order : IterationOrder) (x : Cursor) (n : ℕ) → nth_block order 
 next_then Ascending x n = omega arith
 next_then Descending x n = omega arith
 
+pub opens_fewer : (h : SsTableHandle) (order : IterationOrder) (m : Meaning) (x y : Cursor) → Opens h order x y → NoMore (refuses_behind h order x m) [] (refuses_behind h order y m)
+opens_fewer h order m x y o later at e (damage, why) = (damage, inr (by why))
+  where
+    by : RefusesLeft y.rows e ⊎ RefusesReady h.format_version order y.ready.items e ⊎ RefusesSome m h (entries_of y.index) order later e → RefusesReady h.format_version order x.ready.items e ⊎ RefusesSome m h (entries_of x.index) order later e
+    by (inl k) = inl (0, o.block, ap (λ (l : List Block). slice_get l 0) o.ready, o.bytes, refused_opened h.format_version order o.block y.rows e o.rows k)
+    by (inr (inl (n, block, is, bytes, k))) = inl (suc n, block, ap (λ (l : List Block). slice_get l (suc n)) o.ready ∙ is, bytes, k)
+    by (inr (inr k)) = inr (subst (λ (es : List (ℕ × List ℕ)). RefusesSome m h es order later e) (ap entries_of o.index) k)
+
 pub opens_moves : (h : SsTableHandle) (order : IterationOrder) (t : Reach) (x y : Cursor) → Opens h order x y → reads_in x.rows ≡ 0 → Moves (rest_after h order) (IsSoundCursor h order) (refuses_behind h order) t t x y
 opens_moves h order t x y o spent = record {
   rows = λ w sees sound. rows w sound;
   still = λ w sees sound. record { kept = sound.kept; table = sound.table; index = ap entries_of o.index ∙ sound.index; ready = behind w sound; whole = (now w sound).1 };
   checked = λ w sound. checks_none w t;
-  made = ([], call_none t, fewer);
+  made = ([], call_none t, opens_fewer h order t.meaning x y o);
 }
   where
     lt : x.first < x.stop
@@ -205,14 +213,6 @@ opens_moves h order t x y o spent = record {
         (λ i. (now w sound).0 i ++ in_order order (rows_between sound.kept (o.first i) (o.stop i))) ∙ sym (next w sound).is in
         let right_x : rest_behind x order (Some sound.kept) ≡ in_order order (rows_between sound.kept x.first x.stop) = ap (λ (l : List RowEntry). l ++ in_order order (rows_between sound.kept x.first x.stop)) front in
         ap (rest_behind y order) held ∙ left_y ∙ sym right_x ∙ sym (ap (rest_behind x order) held)
-
-    fewer : NoMore (refuses_behind h order x t.meaning) [] (refuses_behind h order y t.meaning)
-    fewer later at e (damage, why) = (damage, inr (by why))
-      where
-        by : RefusesLeft y.rows e ⊎ RefusesReady h.format_version order y.ready.items e ⊎ RefusesSome t.meaning h (entries_of y.index) order later e → RefusesReady h.format_version order x.ready.items e ⊎ RefusesSome t.meaning h (entries_of x.index) order later e
-        by (inl k) = inl (0, o.block, ap (λ (l : List Block). slice_get l 0) o.ready, o.bytes, refused_opened h.format_version order o.block y.rows e o.rows k)
-        by (inr (inl (n, block, is, bytes, k))) = inl (suc n, block, ap (λ (l : List Block). slice_get l (suc n)) o.ready ∙ is, bytes, k)
-        by (inr (inr k)) = inr (subst (λ (es : List (ℕ × List ℕ)). RefusesSome t.meaning h es order later e) (ap entries_of o.index) k)
 
 -- ---- rows of the block that is open
 

@@ -114,7 +114,7 @@ jumped w h Descending key x y s jumps =
       ap reverse (rows_split s.kept.blocks x.first y.stop x.stop (omega (arith, within, same)) jumps.stop) ∙ reverse-append front back ∙ ap (λ (n : ℕ). reverse back ++ reverse (rows_between s.kept n y.stop)) (sym same),
     )
 
-get_behind : {X : Type 0} (xs : List X) (k n : ℕ) (x : X) → slice_get (drop k xs) n ≡ Some x → slice_get xs (k + n) ≡ Some x
+pub get_behind : {X : Type 0} (xs : List X) (k n : ℕ) (x : X) → slice_get (drop k xs) n ≡ Some x → slice_get xs (k + n) ≡ Some x
 get_behind xs zero n x at = let same : 0 + n ≡ n = omega arith in ap (slice_get xs) same ∙ at
 get_behind [] (suc k) n x at = cc
 get_behind (y ∷ xs) (suc k) n x at = let same : suc k + n ≡ suc (k + n) = omega arith in ap (slice_get (y ∷ xs)) same ∙ get_behind xs k n x at
@@ -128,7 +128,7 @@ passed_ready : (h : SsTableHandle) (order : IterationOrder) (key : List ℕ) (ke
 passed_ready h order key kept x y jumps ahead n block rows at there bytes =
     ahead (passed_over order x y + n) block rows (get_behind x.ready.items (passed_over order x y) n block (ap (λ l. slice_get l n) (sym jumps.ready) ∙ at)) (ap (slice_get kept.blocks) (sym (passed_place order key x y n jumps)) ∙ there) bytes
 
-passed_refused : (h : SsTableHandle) (order : IterationOrder) (key : List ℕ) (x y : Cursor) (e : SlateDBError) → Jumps order key x y → RefusesReady h.format_version order y.ready.items e → RefusesReady h.format_version order x.ready.items e
+pub passed_refused : (h : SsTableHandle) (order : IterationOrder) (key : List ℕ) (x y : Cursor) (e : SlateDBError) → Jumps order key x y → RefusesReady h.format_version order y.ready.items e → RefusesReady h.format_version order x.ready.items e
 passed_refused h order key x y e jumps (n, block, at, bytes, rows) = (passed_over order x y + n, block, get_behind x.ready.items (passed_over order x y) n block (ap (λ l. slice_get l n) (sym jumps.ready) ∙ at), bytes, rows)
 
 pub jump_moves : (h : SsTableHandle) (order : IterationOrder) (key : List ℕ) (t : Reach) (x y : Cursor) → Jumps order key x y → reads_in x.rows ≡ 0 → Moves (rest_sought h order key) (IsSoundRising h order) (refuses_behind h order) t t x y

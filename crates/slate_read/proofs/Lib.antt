@@ -24,6 +24,10 @@ pub mod BeginLaws
 pub mod RenewLaws
 pub mod DecidedLaws
 pub mod Blames
+pub mod Bringings
+pub mod Handings
+pub mod Tellings
+pub mod SstBringings
 pub mod Goings
 pub mod MergeLoops
 pub mod MergeStateSteps

@@ -95,7 +95,7 @@ module _ {I : Type 0} (refuses : I → Meaning → List Act → Option (List ℕ
   below_refuses range it t s groups key e is below (inl k) = inr (subst (λ (q : Progress). refuses_newest refuses range it q t.meaning [] (Some key) e) (sym is) (inr (below, k)))
   below_refuses range it t s groups key e is below (inr m) = inl (subst (IsCounted t.faults t.faults) (sym m) tt)
 
-  going_fewer : (range : BytesRange) (m : Meaning) (reads : List Act) (y z : I) (groups more : Groups) → NoMore (refuses y m) reads (refuses z m) → NoMore (refuses_newest refuses range y (Going groups) m) reads (refuses_newest refuses range z (Going more) m)
+  pub going_fewer : (range : BytesRange) (m : Meaning) (reads : List Act) (y z : I) (groups more : Groups) → NoMore (refuses y m) reads (refuses z m) → NoMore (refuses_newest refuses range y (Going groups) m) reads (refuses_newest refuses range z (Going more) m)
   going_fewer range m reads y z groups more fewer later at e (inl r) = inl (fewer later at e r)
   going_fewer range m reads y z groups more fewer later at e (inr r) = inr r
 
@@ -230,22 +230,22 @@ module _ {I : Type 0} (rest : I → World → List RowEntry) (sound : I → Worl
   begun_ready range m y z (Going groups) p unrefused h ready = going_ready refuses range z p groups m h ready
   begun_ready range m y z (Refused e) p unrefused h ready = absurd (unrefused e refl)
 
-  pub record Begun (range : BytesRange) (a b : Reach) (y z : I) (s p : Progress) : Type 0 where
+  pub record Begun (begins : I → Meaning → List Act → I → Type 0) (range : BytesRange) (a b : Reach) (y z : I) (s p : Progress) : Type 0 where
     pub rows : (w : World) → Sees w a b → sound_newest rest sound order y s w → rest_newest rest order z p w ≡ rest_newest rest order y s w
     pub still : (w : World) → Sees w a b → sound_newest rest sound order y s w → sound_newest rest sound order z p w
     pub checked : (w : World) → sound_newest rest sound order y s w → Checks w a b
     pub ready : IsReady (refuses_newest refuses range z p a.meaning)
-    pub begun : Made a b (λ reads. (IsUnrefused s × Begins s p) × NoMore (refuses_newest refuses range y s a.meaning) reads (refuses_newest refuses range z p a.meaning))
+    pub begun : Made a b (λ reads. (IsUnrefused s × Begins s p × begins y a.meaning reads z) × NoMore (refuses_newest refuses range y s a.meaning) reads (refuses_newest refuses range z p a.meaning))
 
   pub begun_of : (begins : I → Meaning → List Act → I → Type 0) (range : BytesRange) (a b : Reach) (y z : I) (s p : Progress) → ((e : SlateDBError) → s ≡ Refused e → ⊥) → Begins s p → order z ≡ order y →
       ((w : World) → Sees w a b → sound y w → rest z w ≡ rest y w) → ((w : World) → Sees w a b → sound y w → sound z w) → ((w : World) → sound y w → Checks w a b) → IsReady (refuses z a.meaning) →
-      Made a b (λ reads. begins y a.meaning reads z × NoMore (refuses y a.meaning) reads (refuses z a.meaning)) → Begun range a b y z s p
+      Made a b (λ reads. begins y a.meaning reads z × NoMore (refuses y a.meaning) reads (refuses z a.meaning)) → Begun begins range a b y z s p
   begun_of begins range a b y z s p unrefused h same rows still checked ready made = record {
     rows = λ w sees k. begun_rows a b y z s p same h w (rows w sees (begun_sound s y w unrefused k));
     still = λ w sees k. begun_still y z s p same h w (rows w sees (begun_sound s y w unrefused k)) (still w sees (begun_sound s y w unrefused k)) k;
     checked = λ w k. checked w (begun_sound s y w unrefused k);
     ready = begun_ready range a.meaning y z s p unrefused h ready;
-    begun = (made.0, made.1, ((unrefused_of s unrefused, h), begun_fewer range a.meaning made.0 y z s p h made.2.1));
+    begun = (made.0, made.1, ((unrefused_of s unrefused, h, made.2.0), begun_fewer range a.meaning made.0 y z s p h made.2.1));
   }
 
   -- what a source refuses

@@ -69,7 +69,7 @@ pub record Stands (order : IterationOrder) (x : Cursor) (from : ℕ) (blocks : L
   pub at : slice_get blocks i ≡ Some block
   pub place : nth_block order x.first x.stop n ≡ from + i
 
-stands : (order : IterationOrder) (x : Cursor) (from upto : ℕ) (blocks : List Block) (n : ℕ) (block : Block) → StandsNext order (unread_first order x) (unread_stop order x) from upto → length blocks ≡ upto - from → from < upto →
+pub stands : (order : IterationOrder) (x : Cursor) (from upto : ℕ) (blocks : List Block) (n : ℕ) (block : Block) → StandsNext order (unread_first order x) (unread_stop order x) from upto → length blocks ≡ upto - from → from < upto →
     length x.ready.items ≤ n → slice_get (in_order order blocks) (n - length x.ready.items) ≡ Some block → Stands order x from blocks n block
 stands Ascending x from upto blocks n block next count some behind at =
     let lt = slice_get_within blocks (n - length x.ready.items) block at in
@@ -85,7 +85,7 @@ pub next_within : (order : IterationOrder) (x : Cursor) (from upto : ℕ) → St
 next_within Ascending x from upto next = let a = next.1 in let b = x.within in omega (arith, a, b)
 next_within Descending x from upto next = let a = next.0 in let b = x.within in omega (arith, a, b)
 
-block_read : (p : Meaning) (h : SsTableHandle) (entries : List (ℕ × List ℕ)) (first stop : ℕ) (reads : List Act) (blocks : List Block) → IsFetched p h entries first stop reads blocks → (length blocks ≡ stop - first) ×
+pub block_read : (p : Meaning) (h : SsTableHandle) (entries : List (ℕ × List ℕ)) (first stop : ℕ) (reads : List Act) (blocks : List Block) → IsFetched p h entries first stop reads blocks → (length blocks ≡ stop - first) ×
     ((given : Option (List ℕ)) × (reads ≡ read_of h entries first stop given ∷ []) × ((i : ℕ) (block : Block) → slice_get blocks i ≡ Some block → IsBlockRead p.decode (answer_at h entries first stop given (first + i)) block))
 unfolding IsFetched
 block_read p h entries first stop reads blocks (given, once, are, count) = (count, (given, once, are))
@@ -247,13 +247,46 @@ rows_refused p h entries order first stop at given block e bytes read k = inr (b
 
 -- ---- a read ahead
 
+pub fetches_fewer : (h : SsTableHandle) (order : IterationOrder) (bytes : ℕ) (m : Meaning) (reads : List Act) (x y : Cursor) → Fetches m h order bytes reads x y → NoMore (refuses_behind h order x m) reads (refuses_behind h order y m)
+fetches_fewer h order bytes m reads x y f = fewer
+  where
+    r : (length f.blocks ≡ f.upto - f.from) × ((given : Option (List ℕ)) × (reads ≡ read_of h (entries_of x.index) f.from f.upto given ∷ []) × ((i : ℕ) (block : Block) → slice_get f.blocks i ≡ Some block → IsBlockRead m.decode (answer_at h (entries_of x.index) f.from f.upto given (f.from + i)) block))
+    r = block_read m h (entries_of x.index) f.from f.upto reads f.blocks f.fetched
+
+    placed : (n : ℕ) (block : Block) → length x.ready.items ≤ n → slice_get (in_order order f.blocks) (n - length x.ready.items) ≡ Some block → Stands order x f.from f.blocks n block
+    placed n block behind at = stands order x f.from f.upto f.blocks n block f.next.next r.0 f.next.some behind at
+
+    fewer : NoMore (refuses_behind h order x m) reads (refuses_behind h order y m)
+    fewer later at e (damage, inl k) = (damage, inl (subst (λ (o : Option (DataBlockIterator Block)). RefusesLeft o e) f.rows k))
+    fewer later at e (damage, inr (inr k)) = (damage, inr (inr (some_more m h (entries_of x.index) order reads later e (subst (λ (es : List (ℕ × List ℕ)). RefusesSome m h es order later e) (ap entries_of f.index) k))))
+    fewer later at e (damage, inr (inl (n, block, is, bytes, k))) = (damage, inr (by (get_both x.ready.items (in_order order f.blocks) n block (ap (λ l. slice_get l n) (sym f.ready) ∙ is))))
+      where
+        by : (slice_get x.ready.items n ≡ Some block) ⊎ ((length x.ready.items ≤ n) × (slice_get (in_order order f.blocks) (n - length x.ready.items) ≡ Some block)) → RefusesReady h.format_version order x.ready.items e ⊎ RefusesSome m h (entries_of x.index) order (reads ++ later) e
+        by (inl l) = inl (n, block, l, bytes, k)
+        by (inr l) =
+            let p = placed n block l.0 l.1 in
+            let i = p.i in
+            let lt = p.within in
+            let count = r.0 in
+            inr (record {
+              first = f.from;
+              stop = f.upto;
+              at = f.from + i;
+              given = r.1.0;
+              from = omega arith;
+              below = omega (arith, lt, count);
+              within = next_within order x f.from f.upto f.next.next;
+              among = Contains-append_left reads later _ (subst (λ (l : List Act). Contains l (read_of h (entries_of x.index) f.from f.upto r.1.0)) (sym r.1.1) (0, omega arith, refl));
+              why = rows_refused m h (entries_of x.index) order f.from f.upto (f.from + i) r.1.0 block e bytes (r.1.2 i block p.at) k;
+            })
+
 pub fetches_moves : (h : SsTableHandle) (order : IterationOrder) (bytes : ℕ) (a b : Reach) (reads : List Act) (x y : Cursor) → IsCall a b reads → Fetches a.meaning h order bytes reads x y →
     Moves (rest_after h order) (IsSoundCursor h order) (refuses_behind h order) a b x y
 fetches_moves h order bytes a b reads x y call f = record {
   rows = λ w s sound. ap (rest_behind y order) sound.table.held ∙ here w sound ∙ sym (ap (rest_behind x order) sound.table.held);
   still = λ w s sound. record { kept = sound.kept; table = sound.table; index = ap entries_of f.index ∙ sound.index; ready = ahead w s sound; whole = subst (IsWhole order) (sym f.rows) sound.whole };
   checked = λ w sound. call_checked w a b reads call (fetched_checked w a.meaning h sound.kept sound.table f.from f.upto reads f.blocks f.next.some (inside w sound) (of_table w sound));
-  made = (reads, call, fewer);
+  made = (reads, call, fetches_fewer h order bytes a.meaning reads x y f);
 }
   where
     r : (length f.blocks ≡ f.upto - f.from) × ((given : Option (List ℕ)) × (reads ≡ read_of h (entries_of x.index) f.from f.upto given ∷ []) × ((i : ℕ) (block : Block) → slice_get f.blocks i ≡ Some block → IsBlockRead a.meaning.decode (answer_at h (entries_of x.index) f.from f.upto given (f.from + i)) block))
@@ -291,30 +324,6 @@ fetches_moves h order bytes a b reads x y call f = record {
             let answer = known_section w h sound.kept sound.table f.from f.upto (f.from + i) read.1.0 (omega arith) (omega (arith, lt, count)) (inside w sound) answered in
             let found = subst (λ (m : Meaning). IsBlockRead m.decode (answer_at h sound.table.entries f.from f.upto read.1.0 (f.from + i)) block) (sym s.meaning) (read.1.2 i block p.at) in
             sound.table.block (f.from + i) rows block (ap (slice_get sound.kept.blocks) (sym p.place) ∙ among) each (subst (λ (s : SectionRead). IsBlockRead w.meaning.decode s block) answer found)
-
-    fewer : NoMore (refuses_behind h order x a.meaning) reads (refuses_behind h order y a.meaning)
-    fewer later at e (damage, inl k) = (damage, inl (subst (λ (o : Option (DataBlockIterator Block)). RefusesLeft o e) f.rows k))
-    fewer later at e (damage, inr (inr k)) = (damage, inr (inr (some_more a.meaning h (entries_of x.index) order reads later e (subst (λ (es : List (ℕ × List ℕ)). RefusesSome a.meaning h es order later e) (ap entries_of f.index) k))))
-    fewer later at e (damage, inr (inl (n, block, is, bytes, k))) = (damage, inr (by (get_both x.ready.items (in_order order f.blocks) n block (ap (λ l. slice_get l n) (sym f.ready) ∙ is))))
-      where
-        by : (slice_get x.ready.items n ≡ Some block) ⊎ ((length x.ready.items ≤ n) × (slice_get (in_order order f.blocks) (n - length x.ready.items) ≡ Some block)) → RefusesReady h.format_version order x.ready.items e ⊎ RefusesSome a.meaning h (entries_of x.index) order (reads ++ later) e
-        by (inl l) = inl (n, block, l, bytes, k)
-        by (inr l) =
-            let p = placed n block l.0 l.1 in
-            let i = p.i in
-            let lt = p.within in
-            let count = r.0 in
-            inr (record {
-              first = f.from;
-              stop = f.upto;
-              at = f.from + i;
-              given = r.1.0;
-              from = omega arith;
-              below = omega (arith, lt, count);
-              within = next_within order x f.from f.upto f.next.next;
-              among = Contains-append_left reads later _ (subst (λ (l : List Act). Contains l (read_of h (entries_of x.index) f.from f.upto r.1.0)) (sym r.1.1) (0, omega arith, refl));
-              why = rows_refused a.meaning h (entries_of x.index) order f.from f.upto (f.from + i) r.1.0 block e bytes (r.1.2 i block p.at) k;
-            })
 
 pub fetched_some : (p : Meaning) (h : SsTableHandle) (order : IterationOrder) (bytes : ℕ) (reads : List Act) (x y : Cursor) → Fetches p h order bytes reads x y → 0 < length y.ready.items
 fetched_some p h order bytes reads x y f =

@@ -178,6 +178,12 @@ indexed_fewer p h order reads later entries e (given, once, read) some =
     let act = Act.read (path_in h) h.info.index_offset h.info.index_len given in
     (given, Contains-append_left reads later act (subst (λ (l : List Act). Contains l act) (sym once) (0, omega arith, refl)), inr (entries, read, some_more p h entries order reads later e some))
 
+pub begins_fewer : (range : BytesRange) (h : SsTableHandle) (order : IterationOrder) (m : Meaning) (reads : List Act) (entries : List (ℕ × List ℕ)) (cursor : Cursor) → BeginsAt range entries cursor → IsIndexed m h reads entries →
+    (later : List Act) (e : SlateDBError) → RefusesLeft cursor.rows e ⊎ RefusesReady h.format_version order cursor.ready.items e ⊎ RefusesSome m h (entries_of cursor.index) order later e → RefusesUnread m h order (reads ++ later) e
+begins_fewer range h order m reads entries cursor at read later e (inl k) = absurd (subst (λ (o : Option (DataBlockIterator Block)). RefusesLeft o e) at.rows k)
+begins_fewer range h order m reads entries cursor at read later e (inr (inl k)) = let clash : None ≡ Some k.1 = ap (λ (l : List Block). slice_get l k.0) (sym at.ready) ∙ k.2 in absurd cc
+begins_fewer range h order m reads entries cursor at read later e (inr (inr k)) = indexed_fewer m h order reads later entries e read (subst (λ (es : List (ℕ × List ℕ)). RefusesSome m h es order later e) at.index k)
+
 pub begins_moves : (range : BytesRange) (h : SsTableHandle) (order : IterationOrder) (a b : Reach) (x y : TableState) (entries : List (ℕ × List ℕ)) → x ≡ New → Begins range entries y → Made a b (λ reads. IsIndexed a.meaning h reads entries) →
     Moves (rest_at range h order) (IsSoundAt range h order) (refuses_at h order) a b x y
 begins_moves range h order a b x y entries ex begins (reads, call, read) =
@@ -191,7 +197,7 @@ begins_moves range h order a b x y entries ex begins (reads, call, read) =
         rising = subst (IsInOrder order) (sym (rows w sees sound)) sound.rising;
       };
       checked = λ w sound. call_checked w a b reads call (index_checked w a.meaning h sound.state.0 sound.state.1 reads entries read);
-      made = (reads, call, λ later k e r. inr (r.0, fewer later e r.1));
+      made = (reads, call, λ later k e r. inr (r.0, begins_fewer range h order a.meaning reads entries cursor at read later e r.1));
     }
       where
         same : (w : World) (sees : Sees w a b) (sound : IsSoundAt range h order New w) → entries ≡ sound.state.1.entries
@@ -209,11 +215,6 @@ begins_moves range h order a b x y entries ex begins (reads, call, read) =
 
         none_ready : (w : World) (kept : Kept) → AreReadAhead h order kept cursor
         none_ready w kept n block rows is there bytes = let clash : None ≡ Some block = ap (λ (l : List Block). slice_get l n) (sym at.ready) ∙ is in cc
-
-        fewer : (later : List Act) (e : SlateDBError) → RefusesLeft cursor.rows e ⊎ RefusesReady h.format_version order cursor.ready.items e ⊎ RefusesSome a.meaning h (entries_of cursor.index) order later e → RefusesUnread a.meaning h order (reads ++ later) e
-        fewer later e (inl k) = absurd (subst (λ (o : Option (DataBlockIterator Block)). RefusesLeft o e) at.rows k)
-        fewer later e (inr (inl k)) = let clash : None ≡ Some k.1 = ap (λ (l : List Block). slice_get l k.0) (sym at.ready) ∙ k.2 in absurd cc
-        fewer later e (inr (inr k)) = indexed_fewer a.meaning h order reads later entries e read (subst (λ (es : List (ℕ × List ℕ)). RefusesSome a.meaning h es order later e) at.index k)
 
     by : (s : TableState) → Begins range entries s → Moves (rest_at range h order) (IsSoundAt range h order) (refuses_at h order) a b New s
     by New k = absurd k

@@ -1,3 +1,5 @@
+pub mod Bringing
+pub mod Handing
 pub mod Filtering
 pub mod TableWalk
 pub mod Sections
@@ -9,6 +11,7 @@ pub mod NewestFirst
 pub mod NewestLaws
 pub mod SstOptions
 pub mod SstIterators
+pub mod SstBringing
 pub mod SstLaws
 pub mod Orders
 pub mod Heads

@@ -7,6 +7,7 @@ ghost use Rattle.slate_types.specs.Refusing.{IsDamage};
 ghost use Rattle.slate_types.specs.World.{Made};
 ghost use Rattle.slate_types.proofs.Moves.{Moves};
 ghost use Rattle.slate_table.specs.IndexValue.{entries_of};
+ghost use Rattle.slate_read.specs.Bringing.{AddsNothing};
 ghost use Rattle.slate_read.specs.TableWalk.{Fetches, IsEnough, IsNextFetch, IsSoundCursor, RefusesSome, nth_block, refuses_behind, rest_after, size_of, start_of, unread_first, unread_size, unread_stop};
 
 use crate::fetch_limits::FetchLimits;
@@ -154,6 +155,7 @@ impl Cursor {
     }
 
     /// Reads blocks ahead, where none is ready, by as many reads as are made at a time.
+    #[tactic(auto, using(crate::proofs::Bringings::adds_none, slate_types::proofs::Moves::moves_none, slate_types::proofs::Reaching::reads_none))]
     pub(crate) fn fill<S: Store, M: MergeOperator, T: BlockTransformer>(
         &mut self,
         alloc: Global,
@@ -169,6 +171,7 @@ impl Cursor {
         ensures stop { OnOk result (self.new.stop ≡ self.old.stop) }
         ensures rows { OnOk result (self.new.rows ≡ self.old.rows) }
         ensures some { OnOk result (0 < length self.new.ready.items) }
+        ensures adds { let reach = ⟦<EnvOf<S, M, T> as Outside>⟧.reach in OnOk result (Made (reach env.old) (reach env.new) (λ reads. AddsNothing table.now order (reach env.old).meaning self.old reads self.new)) }
         ensures reads { let reach = ⟦<EnvOf<S, M, T> as Outside>⟧.reach in OnlyReads (reach env.old) (reach env.new) }
     {
         if !self.ready.is_empty() {

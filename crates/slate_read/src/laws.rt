@@ -11,6 +11,7 @@ ghost use Rattle.slate_read.specs.MergeStates.{IsMergeOf, IsSoundMerge, rest_of_
 ghost use Rattle.slate_read.specs.Merging.{CanMerge};
 ghost use Rattle.slate_read.specs.OperatorIterators.{IsFolding, KeepsRefusals, rest_folding, sound_folding};
 ghost use Rattle.slate_read.specs.Showing.{UnopenedRunsShow, UnopenedWalksShow};
+ghost use Rattle.slate_read.specs.SstBringing.{UnopenedWalksBring};
 
 use crate::folding::Folding;
 use crate::merge_iterator::MergeIterator;
@@ -56,6 +57,12 @@ pub fn new_merges<E: Outside, I: RowEntryIterator<E>>(
 pub fn unopened_refusals()
     ensures walks { UnopenedWalksShow }
     ensures runs { UnopenedRunsShow }
+{}
+
+/// Of the rows that an iterator over one stored table hands out, which wasn't opened. Its reads show each: the index of the table was
+/// read, and a block that the index names, in which the row stands.
+pub fn unopened_rows()
+    ensures walks { UnopenedWalksBring }
 {}
 
 /// Of folded rows. They come in the order, folding and seeks change places, and of each key they fold to what all its rows fold

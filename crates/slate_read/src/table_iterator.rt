@@ -1,5 +1,6 @@
 //! The rows of a stored table, as an iterator.
-ghost use Rattle.slate_read.specs.TableWalk.{BeginsIn, bound_in, IsSameWalk, IsSoundWalk, IsWalking, refuses_in, rest_of, Stays};
+ghost use Rattle.slate_read.specs.SstBringing.{walk_begins, walk_seeks, walk_takes};
+ghost use Rattle.slate_read.specs.TableWalk.{bound_in, IsSoundWalk, refuses_in, rest_of, Stays};
 ghost use Rattle.slate_read.specs.WalkLaws.{refuses_more, refuses_whole};
 
 use crate::kept::copy_of;
@@ -23,11 +24,11 @@ impl<S: Store, M: MergeOperator, T: BlockTransformer> RowEntryIterator<Env<'_, S
 
     ghost refuses = { λ it p reads at e. refuses_in it.state it.table it.order p reads at e };
 
-    ghost begins = { λ before _ _ after. BeginsIn before.range before.state after.state × IsSameWalk before after };
+    ghost begins = { walk_begins };
 
-    ghost takes = { λ before _ _ _ after. IsWalking before.state × IsWalking after.state × IsSameWalk before after };
+    ghost takes = { walk_takes };
 
-    ghost seeks = { λ before _ _ _ after. IsWalking before.state × IsWalking after.state × IsSameWalk before after };
+    ghost seeks = { walk_seeks };
 
     ghost stays = { λ before _ _ at e after. Stays before at e after };
 

@@ -9,10 +9,11 @@ ghost use Rattle.slate_block.specs.ReadingLaws.{EachIsAByte};
 ghost use Rattle.slate_table.specs.IndexReading.{index_keys};
 ghost use Rattle.slate_table.specs.IndexValue.{entries_of};
 ghost use Rattle.slate_types.specs.Outside.{IsFault, OnlyReads};
-ghost use Rattle.slate_types.specs.Refusing.{IsDamage};
+ghost use Rattle.slate_types.specs.Refusing.{IsDamage, NoMore};
 ghost use Rattle.slate_types.specs.World.{Made};
 ghost use Rattle.slate_types.specs.Steps.{Step};
 ghost use Rattle.slate_types.proofs.Moves.{Moves};
+ghost use Rattle.slate_read.specs.Bringing.{AddsNothing, HandsOut, brings_behind};
 ghost use Rattle.slate_read.specs.TableWalk.{IsSoundRising, SkipsOpen, Sought, Begins, IsIndexed, Keeps, RefusesIndexed, bound_behind, max_blocks, IsSoundCursor, Jumps, no_words, Opens, refuses_behind, rest_after, next_first, next_stop, reads_in, RefusesLeft, RefusesReady, TakesOpen, RefusesRows, Walks, max_reads, path_in};
 
 use crate::fetch_limits::FetchLimits;
@@ -140,6 +141,7 @@ impl Cursor {
         ensures cause { let reach = ⟦<EnvOf<S, M, T> as Outside>⟧.reach in IfErr result (λ e. Made (reach env.old) (reach env.new) (λ reads. IsFault (reach env.old) (reach env.new) e ⊎ refuses_behind table.now order self.old (reach env.old).meaning reads None e)) }
         ensures fewer { OnOk result (self.new.stop - self.new.first + 1 ≡ self.old.stop - self.old.first) }
         ensures small { OnOk result (reads_in self.new.rows ≤ max_reads) }
+        ensures adds { let reach = ⟦<EnvOf<S, M, T> as Outside>⟧.reach in OnOk result (Made (reach env.old) (reach env.new) (λ reads. AddsNothing table.now order (reach env.old).meaning self.old reads self.new)) }
         ensures reads { let reach = ⟦<EnvOf<S, M, T> as Outside>⟧.reach in OnlyReads (reach env.old) (reach env.new) }
     {
         self.fill(alloc, env, table, order, limits)?;
@@ -159,6 +161,9 @@ impl Cursor {
         ensures cause { let reach = ⟦<EnvOf<S, M, T> as Outside>⟧.reach in IfErr result (λ e. Made (reach env.old) (reach env.new) (λ reads. IsFault (reach env.old) (reach env.new) e ⊎ refuses_behind table.now order self.old (reach env.old).meaning reads None e)) }
         ensures smaller { IfOk result (λ answer. IsSome answer → bound_behind self.new < bound_behind self.old) }
         ensures no_larger { OnOk result (bound_behind self.new ≤ bound_behind self.old) }
+        ensures hands { let reach = ⟦<EnvOf<S, M, T> as Outside>⟧.reach in
+            let m = (reach env.old).meaning in
+            IfOk result (λ answer. Made (reach env.old) (reach env.new) (λ reads. HandsOut (brings_behind table.now order self.old m) reads answer (brings_behind table.now order self.new m) × NoMore (refuses_behind table.now order self.old m) reads (refuses_behind table.now order self.new m))) }
         ensures reads { let reach = ⟦<EnvOf<S, M, T> as Outside>⟧.reach in OnlyReads (reach env.old) (reach env.new) }
     {
         loop {
@@ -236,6 +241,7 @@ impl Cursor {
         ensures sought { let reach = ⟦<EnvOf<S, M, T> as Outside>⟧.reach in OnOk result (Sought (rest_after table.now order) (IsSoundRising table.now order) (refuses_behind table.now order) order key.now (reach env.old) (reach env.new) self.old self.new) }
         ensures cause { let reach = ⟦<EnvOf<S, M, T> as Outside>⟧.reach in IfErr result (λ e. Made (reach env.old) (reach env.new) (λ reads. IsFault (reach env.old) (reach env.new) e ⊎ refuses_behind table.now order self.old (reach env.old).meaning reads (Some key.now) e)) }
         ensures no_larger { OnOk result (bound_behind self.new ≤ bound_behind self.old) }
+        ensures adds { let reach = ⟦<EnvOf<S, M, T> as Outside>⟧.reach in OnOk result (Made (reach env.old) (reach env.new) (λ reads. AddsNothing table.now order (reach env.old).meaning self.old reads self.new)) }
         ensures reads { let reach = ⟦<EnvOf<S, M, T> as Outside>⟧.reach in OnlyReads (reach env.old) (reach env.new) }
     {
         loop {
@@ -262,6 +268,7 @@ impl Cursor {
         ensures sought { let reach = ⟦<EnvOf<S, M, T> as Outside>⟧.reach in OnOk result (Sought (rest_after table.now order) (IsSoundRising table.now order) (refuses_behind table.now order) order key.now (reach env.old) (reach env.new) self.old self.new) }
         ensures cause { let reach = ⟦<EnvOf<S, M, T> as Outside>⟧.reach in IfErr result (λ e. Made (reach env.old) (reach env.new) (λ reads. IsFault (reach env.old) (reach env.new) e ⊎ refuses_behind table.now order self.old (reach env.old).meaning reads (Some key.now) e)) }
         ensures no_larger { OnOk result (bound_behind self.new ≤ bound_behind self.old) }
+        ensures adds { let reach = ⟦<EnvOf<S, M, T> as Outside>⟧.reach in OnOk result (Made (reach env.old) (reach env.new) (λ reads. AddsNothing table.now order (reach env.old).meaning self.old reads self.new)) }
         ensures reads { let reach = ⟦<EnvOf<S, M, T> as Outside>⟧.reach in OnlyReads (reach env.old) (reach env.new) }
     {
         if self.skip(alloc, key)? {

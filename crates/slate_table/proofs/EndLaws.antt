@@ -17,7 +17,7 @@ use Rattle.slate_table.specs.Decoded.{FitsShort}
 use Rattle.slate_table.specs.Table.{some_first, some_last, info_of, sections_then_info}
 use Rattle.slate_table.specs.SectionReading.{footer_bytes}
 use Rattle.slate_table.specs.InfoReading.{seen_info}
-use Rattle.slate_table.specs.TableEnd.{counted_bytes, placed_info, part_of_info, HasInfo, EndsAt, parts_index, parts_stats, filters_behind, index_behind, stats_behind, IsFiltered, IsSealed, IsReady, IsFinished}
+use Rattle.slate_table.specs.TableEnd.{counted_bytes, placed_info, part_of_info, HasInfo, EndsAt, parts_stats, filters_behind, index_behind, stats_behind, IsFiltered, IsSealed, IsReady, IsFinished}
 use Rattle.slate_table.specs.TableParts.{version_of, IsEnded}
 
 -- ---- the first and the last key

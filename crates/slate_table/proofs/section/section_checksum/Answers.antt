@@ -1,4 +1,4 @@
-use Rattle.std.proofs.Common.{◌≡◌, ◌∙◌, ℕ, List, [], ◌∷◌, ap, sym}
+use Rattle.std.proofs.Common.{◌≡◌, ◌∙◌, ℕ, [], ◌∷◌, ap, sym}
 use Rattle.std.specs.Prelude.{bit_xor}
 use Rattle.std.specs.Int.{w128, to_be_bytes}
 use Rattle.slate_block.specs.RowSpelling.{be64}

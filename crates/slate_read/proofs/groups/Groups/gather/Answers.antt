@@ -5,7 +5,22 @@ use Rattle.slate_types.proofs.Reaching.{reads_then}
 use Rattle.slate_types.proofs.Moves.{moves_both, moves_fails}
 use Rattle.slate_read.specs.Groups.{IsOneKey, StandsApart}
 use Rattle.slate_read.proofs.Grouping.{gathered_moves, same_moves, source_spent, spent_moves, spent_rest, stands_of, turned_moves}
+use Rattle.slate_read.proofs.Handings.{gathers_end, gathers_more, gathers_turn}
 use Rattle.slate_read.proofs.groups.Groups.gather.Goals as goal
+
+pub returns-then-is_apart-clause-came : goal.returns-then-is_apart-clause-came
+returns-then-is_apart-clause-came g c =
+    let i = c.loop-iterator.invariant in
+    let n = rw c.in-Some.is at c.in_ok-row.ensures in
+    gathers_turn g.I.RowEntryIterator.refuses g.I.RowEntryIterator.takes _ _ _ _ _ c.next.new.self c.args.self.now c.turn.new.self c.loop-iterator.self.gathered.items c.in-Some.row i.came n.taken c.requires.none
+    (c.turn.ensures.ready ∙ c.reserve-in-loop-iterator.ensures.items) c.turn.ensures.gathered
+
+pub returns-in-None-clause-came : goal.returns-in-None-clause-came
+returns-in-None-clause-came g c =
+    let i = c.loop-iterator.invariant in
+    let n = rw c.in-None.is at c.in_ok-row.ensures in
+    gathers_end g.I.RowEntryIterator.refuses g.I.RowEntryIterator.takes _ _ _ _ _ c.next.new.self c.args.self.now (record { ready = c.swap.new.x; gathered = c.swap.new.y }) c.loop-iterator.self.gathered.items i.came n.taken c.requires.none
+    (ap (λ v. v.items) c.swap.ensures.x_after ∙ c.reserve-in-loop-iterator.ensures.items) (ap (λ v. v.items) c.swap.ensures.y_after ∙ i.none)
 
 pub returns-in_err-row-clause-cause : goal.returns-in_err-row-clause-cause
 returns-in_err-row-clause-cause g c =
@@ -38,6 +53,7 @@ loop-iterator-preserved g c =
       moves = moves_both _ _ _ _ _ _ _ _ _ i.moves
           (gathered_moves g.I.RowEntryIterator.rest g.I.RowEntryIterator.sound g.I.RowEntryIterator.order g.I.RowEntryIterator.refuses g.I.RowEntryIterator.takes _ _ c.loop-iterator.iterator' c.next.new.self c.loop-iterator.self (record { ready = c.loop-iterator.self.ready; gathered = c.push_reserved.new.self }) c.in-Some.row
           (i.order ∙ c.requires.downwards) n.order (record { rows = n.rows; still = n.still; checked = n.checked; taken = n.taken }) refl has one);
+      came = gathers_more g.I.RowEntryIterator.refuses g.I.RowEntryIterator.takes _ _ _ _ _ c.next.new.self _ c.loop-iterator.self.gathered.items _ c.in-Some.row i.came n.taken has;
       none = i.none;
       room = i.room;
       bound = omega (arith, i.bound, less, size);

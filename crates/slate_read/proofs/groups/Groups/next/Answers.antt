@@ -1,8 +1,25 @@
-use Rattle.std.proofs.Common.{rules, ◌≡◌, ◌∙◌, sym, refl, append-nil}
+use Rattle.std.proofs.Common.{rules, ◌≡◌, ◌++◌, ◌∙◌, ap, sym, refl, append-nil}
 use Rattle.std.proofs.lemmas.Result.{IfOk-weaker}
 use Rattle.slate_types.proofs.Moves.{moves_step}
 use Rattle.slate_read.proofs.Grouping.{newest_step, popped_step, same_moves, step_of, upwards_step}
+use Rattle.slate_read.specs.Handing.{held_of}
+use Rattle.slate_read.proofs.Handings.{newest_hands, popped_hands, upwards_hands}
 use Rattle.slate_read.proofs.groups.Groups.next.Goals as goal
+
+pub returns-in-Ascending-clause-hands : goal.returns-in-Ascending-clause-hands
+returns-in-Ascending-clause-hands g c =
+    IfOk-weaker c.next.result _ _ (λ answer k. upwards_hands g.I.RowEntryIterator.refuses g.I.RowEntryIterator.takes _ _ c.args.iterator.now c.next.new.self (held_of c.args.self.now) answer k) c.next.ensures.taken
+
+pub returns-in-Some-clause-hands : goal.returns-in-Some-clause-hands
+returns-in-Some-clause-hands g c =
+    popped_hands g.I.RowEntryIterator.refuses g.I.RowEntryIterator.takes _ c.args.iterator.now c.args.self.now (record { ready = c.pop.new.self; gathered = c.args.self.now.gathered }) c.in-Some.row c.in-Some.ensures.items refl
+
+pub returns-clause-hands : goal.returns-clause-hands
+returns-clause-hands g c =
+    let e = c.in_ok-gather.ensures in
+    let same = sym (c.in_default.ensures.items ∙ append-nil c.pop.new.self.items) in
+    newest_hands g.I.RowEntryIterator.refuses g.I.RowEntryIterator.takes _ _ c.args.iterator.now _ (held_of c.args.self.now) c.gather.new.iterator c.gather.new.self (record { ready = c.pop-2.new.self; gathered = c.gather.new.self.gathered }) c.pop-2.result
+    (ap (λ l. l ++ c.args.self.now.gathered.items) same) e.came c.pop-2.ensures.items refl
 
 pub returns-in-Ascending-clause-step : goal.returns-in-Ascending-clause-step
 returns-in-Ascending-clause-step g c =

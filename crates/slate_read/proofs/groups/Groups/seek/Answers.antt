@@ -2,7 +2,27 @@ use Rattle.std.proofs.Common.{◌≡◌, ◌∙◌, sym, ap, refl}
 use Rattle.std.proofs.lemmas.Result.{on_ok_weaker}
 use Rattle.slate_read.specs.Groups.{stays_at}
 use Rattle.slate_read.proofs.Grouping.{gathered_seeks, ready_seeks, seeks_of, source_seeks, upwards_seeks}
+use Rattle.slate_read.specs.Handing.{held_of}
+use Rattle.slate_read.proofs.Handings.{gathered_held, none_held, same_held, sought_held, still_held}
 use Rattle.slate_read.proofs.groups.Groups.seek.Goals as goal
+
+pub returns-in-Ascending-clause-held : goal.returns-in-Ascending-clause-held
+returns-in-Ascending-clause-held g c =
+    on_ok_weaker c.seek.result (λ k. sought_held g.I.RowEntryIterator.refuses g.I.RowEntryIterator.seeks c.args.key.now _ _ c.args.iterator.now c.seek.new.self (held_of c.args.self.now) (held_of c.args.self.now) (same_held g.I.RowEntryIterator.refuses g.I.RowEntryIterator.seeks (held_of c.args.self.now)) k) c.seek.ensures.sought
+
+pub returns-then-stays-clause-held : goal.returns-then-stays-clause-held
+returns-then-stays-clause-held g c =
+    still_held g.I.RowEntryIterator.refuses g.I.RowEntryIterator.seeks c.args.key.now _ c.args.iterator.now (held_of c.args.self.now) (held_of c.args.self.now) (same_held g.I.RowEntryIterator.refuses g.I.RowEntryIterator.seeks (held_of c.args.self.now))
+
+pub returns-then-stays-2-clause-held : goal.returns-then-stays-2-clause-held
+returns-then-stays-2-clause-held g c =
+    still_held g.I.RowEntryIterator.refuses g.I.RowEntryIterator.seeks c.args.key.now _ c.args.iterator.now (held_of c.args.self.now) _
+    (gathered_held g.I.RowEntryIterator.refuses g.I.RowEntryIterator.seeks c.args.self.now (record { ready = c.clear.new.self; gathered = c.args.self.now.gathered }) c.clear.ensures.items refl)
+
+pub returns-clause-held : goal.returns-clause-held
+returns-clause-held g c =
+    on_ok_weaker c.seek-2.result (λ k. sought_held g.I.RowEntryIterator.refuses g.I.RowEntryIterator.seeks c.args.key.now _ _ c.args.iterator.now c.seek-2.new.self (held_of c.args.self.now) _
+    (none_held g.I.RowEntryIterator.refuses g.I.RowEntryIterator.seeks c.args.self.now (record { ready = c.clear.new.self; gathered = c.clear-2.new.self }) c.clear.ensures.items c.clear-2.ensures.items) k) c.seek-2.ensures.sought
 
 pub returns-in-Ascending-clause-sought : goal.returns-in-Ascending-clause-sought
 returns-in-Ascending-clause-sought g c =

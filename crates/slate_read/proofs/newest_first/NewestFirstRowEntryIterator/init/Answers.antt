@@ -38,7 +38,7 @@ returns-in-Ok-clause-begun g c =
     let n = c.in-Ok.ensures in
     let b = c.begin.ensures in
     let m = begun_of g.I.RowEntryIterator.rest g.I.RowEntryIterator.sound g.I.RowEntryIterator.order g.I.RowEntryIterator.refuses g.I.RowEntryIterator.begins c.args.self.now.range _ _ c.args.self.now.iterator c.init.new.self c.args.self.now.progress c.begin.new.self.progress c.in_default.not-Refused b.progress n.order n.rows n.still n.checked n.ready n.begun in
-    rw (b.range, b.iterator) (m.begun.0, m.begun.1, ((m.begun.2.0.0, m.begun.2.0.1, refl), m.begun.2.1))
+    rw (b.range, b.iterator) (m.begun.0, m.begun.1, ((m.begun.2.0.0, m.begun.2.0.1, refl, m.begun.2.0.2), m.begun.2.1))
 
 pub returns-in-Ok-clause-no_larger : goal.returns-in-Ok-clause-no_larger
 returns-in-Ok-clause-no_larger g c = rw c.begin.ensures.iterator (begun_no_larger _ _ c.args.self.now.progress c.begin.new.self.progress c.begin.ensures.progress c.in-Ok.ensures.no_larger)

@@ -1,5 +1,6 @@
 use Rattle.std.proofs.Common.{refl, None}
-use Rattle.slate_read.proofs.Newests.{again_refused, going_checked, going_made, going_of, going_refused, kept_still, new_refuses, refused_made, stands_refused, stays_again, stays_going, stays_new}
+use Rattle.slate_read.proofs.Handings.{going_hands}
+use Rattle.slate_read.proofs.Newests.{again_refused, going_checked, going_of, going_refused, kept_still, new_refuses, refused_made, stands_refused, stays_again, stays_going, stays_new}
 use Rattle.slate_read.proofs.newest_first.NewestFirstRowEntryIterator.next.Goals as goal
 
 pub returns-in-Refused-clause-cause : goal.returns-in-Refused-clause-cause
@@ -25,5 +26,4 @@ returns-in-Err-clause-cause g c =
 
 pub returns-in-Ok-clause-taken : goal.returns-in-Ok-clause-taken
 returns-in-Ok-clause-taken g c =
-    let t = c.in-Ok.ensures.step.taken in
-    going_made g.I.RowEntryIterator.refuses (going_of _ _ c.in-Going.is, tt, refl) c.args.self.now.range _ _ c.args.self.now.iterator c.next-answer.new.iterator c.args.self.now.progress c.in-Going.groups c.next-answer.new.self c.in-Going.is (t.0, t.1, t.2.1)
+    going_hands g.I.RowEntryIterator.refuses g.I.RowEntryIterator.takes (going_of _ _ c.in-Going.is) tt refl c.args.self.now.range _ _ c.args.self.now.iterator c.next-answer.new.iterator c.args.self.now.progress c.in-Going.groups c.next-answer.new.self _ c.in-Going.is c.in-Ok.ensures.hands

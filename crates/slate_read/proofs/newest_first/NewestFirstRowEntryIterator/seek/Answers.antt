@@ -1,5 +1,6 @@
 use Rattle.std.proofs.Common.{◌∙◌, sym, refl, Some}
-use Rattle.slate_read.proofs.Newests.{again_refused, going_checked, going_made, going_of, going_refused, kept_still, new_refuses, refused_made, stands_refused, stays_again, stays_going, stays_new, below_refuses, stays_below}
+use Rattle.slate_read.proofs.Handings.{going_seeks}
+use Rattle.slate_read.proofs.Newests.{again_refused, going_checked, going_of, going_refused, kept_still, new_refuses, refused_made, stands_refused, stays_again, stays_going, stays_new, below_refuses, stays_below}
 use Rattle.slate_read.proofs.newest_first.NewestFirstRowEntryIterator.seek.Goals as goal
 
 pub returns-in-Refused-clause-cause : goal.returns-in-Refused-clause-cause
@@ -25,7 +26,7 @@ returns-in-Err-clause-cause g c =
 
 pub returns-in-Ok-clause-sought : goal.returns-in-Ok-clause-sought
 returns-in-Ok-clause-sought g c =
-    going_made g.I.RowEntryIterator.refuses (sym c.is_below.ensures ∙ c.if-is_below.false, going_of _ _ c.in-Going.is, tt, refl) c.args.self.now.range _ _ c.args.self.now.iterator c.seek-answer.new.iterator c.args.self.now.progress c.in-Going.groups c.seek-answer.new.self c.in-Going.is c.in-Ok.ensures.sought.made
+    going_seeks g.I.RowEntryIterator.refuses g.I.RowEntryIterator.seeks (sym c.is_below.ensures ∙ c.if-is_below.false) (going_of _ _ c.in-Going.is) tt refl c.args.self.now.range c.args.key.now _ _ c.args.self.now.iterator c.seek-answer.new.iterator c.args.self.now.progress c.in-Going.groups c.seek-answer.new.self c.in-Going.is c.in-Ok.ensures.held
 
 pub returns-then-is_below-clause-cause : goal.returns-then-is_below-clause-cause
 returns-then-is_below-clause-cause g c =

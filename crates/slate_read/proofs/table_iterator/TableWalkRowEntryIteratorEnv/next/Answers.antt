@@ -1,4 +1,5 @@
 use Rattle.std.proofs.Common.{refl, None}
+use Rattle.slate_read.proofs.Bringings.{walk_hands}
 use Rattle.slate_read.proofs.Walks.{again_fails, behind_fails, fails_still, stays_again, stays_new, stays_walking, unbegun_fails, walk_fails, walk_step, walking_of}
 use Rattle.slate_read.proofs.table_iterator.TableWalkRowEntryIteratorEnv.next.Goals as goal
 
@@ -16,8 +17,8 @@ returns-in-Ok-clause-checked g c = (walk_step c.args.self.now.range c.args.self.
 
 pub returns-in-Ok-clause-taken : goal.returns-in-Ok-clause-taken
 returns-in-Ok-clause-taken g c =
-    let t = (walk_step c.args.self.now.range c.args.self.now.table c.args.self.now.order _ _ _ _ _ _ _ c.in-Walking.is refl c.in-Ok.ensures.step).taken in
-    (t.0, t.1, ((walking_of _ _ c.in-Walking.is, tt, (refl, refl, refl)), t.2.1))
+    let t = walk_hands c.args.self.now.table c.args.self.now.order _ _ _ _ _ _ _ c.in-Walking.is refl c.in-Ok.ensures.hands in
+    (t.0, t.1, ((walking_of _ _ c.in-Walking.is, tt, (refl, refl, refl), t.2.0), t.2.1))
 
 pub returns-in-Err-clause-still : goal.returns-in-Err-clause-still
 returns-in-Err-clause-still g c = λ w sees sound.

@@ -1,6 +1,7 @@
 use Rattle.std.proofs.Common.{◌≡◌, ◌-◌, None, arith}
 use Rattle.std.proofs.lemmas.Result.{err_from_is_err_and, IfOk-from_err}
 use Rattle.slate_types.proofs.Reaching.{reads_none, reads_then}
+use Rattle.slate_read.proofs.Bringings.{adds_both, adds_hands, adds_none, end_hands, row_hands, spent_adds}
 use Rattle.slate_read.proofs.Cursors.{end_step, row_fails, row_moves, row_step, took_fewer, took_none}
 use Rattle.slate_types.proofs.Moves.{moves_both, moves_fails, moves_none, moves_step}
 use Rattle.slate_read.proofs.table_state.Cursor.advance.Goals as goal
@@ -8,6 +9,7 @@ use Rattle.slate_read.proofs.table_state.Cursor.advance.Goals as goal
 pub loop-row-init : goal.loop-row-init
 loop-row-init g c = record {
   moves = moves_none _ _ _ _ _;
+  adds = adds_none _ _ _ _;
   bound = omega arith;
   reads = reads_none _;
 }
@@ -22,6 +24,7 @@ loop-row-preserved g c =
     let d : c.row.new.self.stop - c.row.new.self.first ≡ c.loop-row.self.stop - c.loop-row.self.first = (λ k. r.stop k - r.first k) in
     record {
       moves = moves_both _ _ _ _ _ _ _ _ _ i.moves (moves_both _ _ _ _ _ _ _ _ _ moved o.moved);
+      adds = adds_both _ _ _ _ _ _ _ _ i.adds (adds_both _ _ _ _ _ _ _ _ (spent_adds c.args.table.now c.args.order _ c.loop-row.self c.row.new.self took r.index r.ready) o.adds);
       bound = omega (arith, i.bound, o.small, o.fewer, d);
       reads = reads_then _ _ _ i.reads o.reads;
     }
@@ -41,6 +44,7 @@ returns-in_err-row g c =
       step = IfOk-from_err c.from_residual.result _ c.from_residual.ensures.0;
       cause = rw (p.1, p.2) (moves_fails _ _ _ _ _ _ _ _ None _ i.moves i.reads.later (row_fails c.args.table.now c.args.order _ _ c.loop-row.self _ c.in_err-row.ensures.cause));
       smaller = IfOk-from_err c.from_residual.result _ c.from_residual.ensures.0;
+      hands = IfOk-from_err c.from_residual.result _ c.from_residual.ensures.0;
       no_larger = rw p.1 tt;
       reads = i.reads;
     }
@@ -56,6 +60,7 @@ returns-in-Some g c =
       step = moves_step _ _ _ _ _ _ _ _ _ _ i.moves (row_step c.args.table.now c.args.order _ c.loop-row.self c.row.new.self c.in-Some.row took r.index r.first r.stop r.ready);
       cause = tt;
       smaller = λ some. omega (arith, i.bound, less, d);
+      hands = adds_hands _ _ _ _ _ _ _ _ _ i.adds (row_hands c.args.table.now c.args.order _ c.loop-row.self c.row.new.self c.in-Some.row took r.index r.ready);
       no_larger = omega (arith, i.bound, less, d);
       reads = i.reads;
     }
@@ -72,6 +77,7 @@ returns-then-self g c =
       step = moves_step _ _ _ _ _ _ _ _ _ _ i.moves (moves_step _ _ _ _ _ _ _ _ _ _ moved (end_step c.args.table.now c.args.order _ c.row.new.self none (omega (arith, c.if-self.true))));
       cause = tt;
       smaller = λ some. cc;
+      hands = adds_hands _ _ _ _ _ _ _ _ _ i.adds (adds_hands _ _ _ _ _ _ _ _ _ (spent_adds c.args.table.now c.args.order _ c.loop-row.self c.row.new.self took r.index r.ready) (end_hands c.args.table.now c.args.order _ c.row.new.self));
       no_larger = omega (arith, i.bound, none, d);
       reads = i.reads;
     }
@@ -88,6 +94,7 @@ returns-in_err-open g c =
       step = IfOk-from_err c.from_residual-in_err-open.result _ c.from_residual-in_err-open.ensures.0;
       cause = rw (p.1, p.2) (moves_fails _ _ _ _ _ _ _ _ None _ (moves_both _ _ _ _ _ _ _ _ _ i.moves moved) i.reads.later o.cause);
       smaller = IfOk-from_err c.from_residual-in_err-open.result _ c.from_residual-in_err-open.ensures.0;
+      hands = IfOk-from_err c.from_residual-in_err-open.result _ c.from_residual-in_err-open.ensures.0;
       no_larger = rw p.1 tt;
       reads = reads_then _ _ _ i.reads o.reads;
     }

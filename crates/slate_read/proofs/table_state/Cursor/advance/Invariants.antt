@@ -3,11 +3,15 @@ use Rattle.slate_types.specs.Outside.{OnlyReads}
 use Rattle.slate_store.specs.Reach.{reach_of}
 use Rattle.slate_read.specs.TableWalk.{IsSoundCursor, bound_behind, refuses_behind, rest_after}
 use Rattle.slate_types.proofs.Moves.{Moves}
+use Rattle.slate_read.proofs.Bringings.{Adds}
 use Rattle.slate_read.proofs.table_state.Cursor.advance.Given as goal
 
 abbrev pub invariant-loop-row : goal.invariant-loop-row
 invariant-loop-row g l = record {
   moves : Moves (rest_after l.table l.order) (IsSoundCursor l.table l.order) (refuses_behind l.table l.order)
+      (reach_of g.S.Store g.M.MergeOperator g.T.BlockTransformer l.initial.env)
+      (reach_of g.S.Store g.M.MergeOperator g.T.BlockTransformer l.env) l.initial.self l.self;
+  adds : Adds l.table l.order
       (reach_of g.S.Store g.M.MergeOperator g.T.BlockTransformer l.initial.env)
       (reach_of g.S.Store g.M.MergeOperator g.T.BlockTransformer l.env) l.initial.self l.self;
   bound : bound_behind l.self ≤ bound_behind l.initial.self;

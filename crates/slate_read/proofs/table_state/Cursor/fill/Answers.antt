@@ -2,6 +2,7 @@ use Rattle.std.proofs.Common.{◌∙◌, None}
 use Rattle.std.proofs.lemmas.Result.{err_from_is_err_and}
 use Rattle.slate_types.proofs.Moves.{moves_both, moves_fails}
 use Rattle.slate_types.proofs.Reaching.{reads_then}
+use Rattle.slate_read.proofs.Bringings.{adds_both, fetches_adds}
 use Rattle.slate_read.proofs.Cursors.{some_fails}
 use Rattle.slate_read.proofs.ReadAhead.{fetched_some, fetches_moves}
 use Rattle.slate_read.proofs.table_state.Cursor.fill.Goals as goal
@@ -17,6 +18,7 @@ returns-in_err-read_ahead g c =
       stop = rw p.1 tt;
       rows = rw p.1 tt;
       some = rw p.1 tt;
+      adds = rw p.1 tt;
       reads = e.reads;
     }
 
@@ -26,6 +28,7 @@ loop-init g c =
     let f = e.fetched.2 in
     record {
       moves = fetches_moves c.args.table.now c.args.order c.args.limits.bytes _ _ e.fetched.0 c.args.self.now c.read_ahead.new.self e.fetched.1 f;
+      adds = fetches_adds c.args.table.now c.args.order c.args.limits.bytes _ _ e.fetched.0 c.args.self.now c.read_ahead.new.self e.fetched.1 f;
       first = f.first;
       stop = f.stop;
       rows = f.rows;
@@ -40,6 +43,7 @@ loop-preserved g c =
     let f = e.fetched.2 in
     record {
       moves = moves_both _ _ _ _ _ _ _ _ _ i.moves (fetches_moves c.args.table.now c.args.order c.args.limits.bytes _ _ e.fetched.0 c.loop.self c.read_ahead-in-loop.new.self e.fetched.1 f);
+      adds = adds_both _ _ _ _ _ _ _ _ i.adds (fetches_adds c.args.table.now c.args.order c.args.limits.bytes _ _ e.fetched.0 c.loop.self c.read_ahead-in-loop.new.self e.fetched.1 f);
       first = f.first ∙ i.first;
       stop = f.stop ∙ i.stop;
       rows = f.rows ∙ i.rows;
@@ -59,5 +63,6 @@ returns-in_err-read_ahead-2 g c =
       stop = rw p.1 tt;
       rows = rw p.1 tt;
       some = rw p.1 tt;
+      adds = rw p.1 tt;
       reads = reads_then _ _ _ i.reads e.reads;
     }

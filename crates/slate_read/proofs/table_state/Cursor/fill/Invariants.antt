@@ -3,11 +3,15 @@ use Rattle.slate_types.specs.Outside.{OnlyReads}
 use Rattle.slate_store.specs.Reach.{reach_of}
 use Rattle.slate_types.proofs.Moves.{Moves}
 use Rattle.slate_read.specs.TableWalk.{IsSoundCursor, refuses_behind, rest_after}
+use Rattle.slate_read.proofs.Bringings.{Adds}
 use Rattle.slate_read.proofs.table_state.Cursor.fill.Given as goal
 
 abbrev pub invariant-loop : goal.invariant-loop
 invariant-loop g l = record {
   moves : Moves (rest_after l.table l.order) (IsSoundCursor l.table l.order) (refuses_behind l.table l.order)
+      (reach_of g.S.Store g.M.MergeOperator g.T.BlockTransformer l.fn.env)
+      (reach_of g.S.Store g.M.MergeOperator g.T.BlockTransformer l.env) l.fn.self l.self;
+  adds : Adds l.table l.order
       (reach_of g.S.Store g.M.MergeOperator g.T.BlockTransformer l.fn.env)
       (reach_of g.S.Store g.M.MergeOperator g.T.BlockTransformer l.env) l.fn.self l.self;
   first : l.self.first ≡ l.fn.self.first;

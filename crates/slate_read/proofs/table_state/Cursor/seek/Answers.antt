@@ -3,6 +3,7 @@ use Rattle.std.proofs.lemmas.Result.{err_from_is_err_and, on_ok_weaker, IfErr-we
 use Rattle.slate_types.proofs.Reaching.{later_none, reads_none}
 use Rattle.slate_types.proofs.Moves.{moves_both, moves_fails, moves_none}
 use Rattle.slate_read.specs.TableWalk.{bound_behind, reads_in}
+use Rattle.slate_read.proofs.Bringings.{adds_both, jump_adds, skip_adds}
 use Rattle.slate_read.proofs.Cursors.{row_fails}
 use Rattle.slate_read.proofs.Jumps.{jump_moves, sought_behind}
 use Rattle.slate_read.proofs.Seeks.{done_some, skip_moves, skipped_no_larger, skipped_none}
@@ -15,6 +16,7 @@ returns-in_err-skip g c =
       sought = rw p.1 tt;
       cause = rw (p.1, p.2) (row_fails c.args.table.now c.args.order _ _ c.args.self.now _ c.in_err-skip.ensures.cause);
       no_larger = rw p.1 tt;
+      adds = rw p.1 tt;
       reads = reads_none _;
     }
 
@@ -28,6 +30,7 @@ returns-then-branch g c =
       sought = done_some c.args.table.now c.args.order c.args.key.now _ _ c.args.self.now c.args.self.now c.skip.new.self (moves_none _ _ _ _ _) skips r.index r.first r.stop r.ready;
       cause = tt;
       no_larger = omega (arith, less, d);
+      adds = skip_adds c.args.table.now c.args.order c.args.key.now _ c.args.self.now c.skip.new.self _ skips r.index r.ready;
       reads = reads_none _;
     }
 
@@ -50,5 +53,6 @@ returns g c =
       sought = on_ok_weaker c.walk_to.result (λ k. sought_behind c.args.table.now c.args.order c.args.key.now _ _ _ c.args.self.now c.jump.new.self c.walk_to.new.self moved k) o.sought;
       cause = IfErr-weaker c.walk_to.result _ _ (λ e made. moves_fails _ _ _ _ _ _ _ _ (Some c.args.key.now) e moved (later_none _) made) o.cause;
       no_larger = on_ok_weaker c.walk_to.result (λ k. omega (arith, k, smaller)) o.no_larger;
+      adds = on_ok_weaker c.walk_to.result (λ k. adds_both _ _ _ _ _ _ _ _ (adds_both _ _ _ _ _ _ _ _ (skip_adds c.args.table.now c.args.order c.args.key.now _ c.args.self.now c.skip.new.self _ skips r.index r.ready) (jump_adds c.args.table.now c.args.order c.args.key.now _ c.skip.new.self c.jump.new.self j)) k) o.adds;
       reads = o.reads;
     }

@@ -1,10 +1,19 @@
 use Rattle.std.proofs.Common.{◌≡◌, ◌-◌, Some, arith}
 use Rattle.std.proofs.lemmas.Result.{err_from_is_err_and}
-use Rattle.slate_types.proofs.Reaching.{reads_then}
+use Rattle.slate_types.proofs.Reaching.{reads_none, reads_then}
+use Rattle.slate_read.proofs.Bringings.{adds_both, adds_none, skip_adds}
 use Rattle.slate_read.proofs.Cursors.{row_fails}
-use Rattle.slate_types.proofs.Moves.{moves_both, moves_fails}
+use Rattle.slate_types.proofs.Moves.{moves_both, moves_fails, moves_none}
 use Rattle.slate_read.proofs.Seeks.{done_none, done_some, lifted, skip_moves, skipped_no_larger}
 use Rattle.slate_read.proofs.table_state.Cursor.walk_to.Goals as goal
+
+pub loop-self-init : goal.loop-self-init
+loop-self-init g c = record {
+  moves = moves_none _ _ _ _ _;
+  adds = adds_none _ _ _ _;
+  bound = omega arith;
+  reads = reads_none _;
+}
 
 pub loop-self-preserved : goal.loop-self-preserved
 loop-self-preserved g c =
@@ -18,6 +27,7 @@ loop-self-preserved g c =
     let d : c.skip.new.self.stop - c.skip.new.self.first ≡ c.loop-self.self.stop - c.loop-self.self.first = (λ k. r.stop k - r.first k) in
     record {
       moves = moves_both _ _ _ _ _ _ _ _ _ i.moves (moves_both _ _ _ _ _ _ _ _ _ moved opened);
+      adds = adds_both _ _ _ _ _ _ _ _ i.adds (adds_both _ _ _ _ _ _ _ _ (skip_adds c.args.table.now c.args.order c.args.key.now _ c.loop-self.self c.skip.new.self _ skips r.index r.ready) o.adds);
       bound = omega (arith, i.bound, o.small, o.fewer, d);
       reads = reads_then _ _ _ i.reads o.reads;
     }
@@ -37,6 +47,7 @@ returns-in_err-skip g c =
       sought = rw p.1 tt;
       cause = rw (p.1, p.2) (moves_fails _ _ _ _ _ _ _ _ (Some c.args.key.now) _ i.moves i.reads.later (row_fails c.args.table.now c.args.order _ _ c.loop-self.self _ c.in_err-skip.ensures.cause));
       no_larger = rw p.1 tt;
+      adds = rw p.1 tt;
       reads = i.reads;
     }
 
@@ -51,6 +62,7 @@ returns-then-branch g c =
       sought = done_some c.args.table.now c.args.order c.args.key.now _ _ c.args.self.now c.loop-self.self c.skip.new.self i.moves skips r.index r.first r.stop r.ready;
       cause = tt;
       no_larger = omega (arith, i.bound, less, d);
+      adds = adds_both _ _ _ _ _ _ _ _ i.adds (skip_adds c.args.table.now c.args.order c.args.key.now _ c.loop-self.self c.skip.new.self _ skips r.index r.ready);
       reads = i.reads;
     }
 
@@ -65,6 +77,7 @@ returns-then-self g c =
       sought = done_none c.args.table.now c.args.order c.args.key.now _ _ c.args.self.now c.loop-self.self c.skip.new.self i.moves skips r.index r.first r.stop r.ready (omega (arith, c.if-self.true));
       cause = tt;
       no_larger = omega (arith, i.bound, less, d);
+      adds = adds_both _ _ _ _ _ _ _ _ i.adds (skip_adds c.args.table.now c.args.order c.args.key.now _ c.loop-self.self c.skip.new.self _ skips r.index r.ready);
       reads = i.reads;
     }
 
@@ -80,5 +93,6 @@ returns-in_err-open g c =
       sought = rw p.1 tt;
       cause = rw (p.1, p.2) (moves_fails _ _ _ _ _ _ _ _ (Some c.args.key.now) _ (moves_both _ _ _ _ _ _ _ _ _ i.moves moved) i.reads.later o.cause);
       no_larger = rw p.1 tt;
+      adds = rw p.1 tt;
       reads = reads_then _ _ _ i.reads o.reads;
     }

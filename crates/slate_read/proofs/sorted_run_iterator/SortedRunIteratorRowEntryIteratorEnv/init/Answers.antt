@@ -1,0 +1,5 @@
+use Rattle.std.proofs.lemmas.Result.{on_ok_weaker}
+use Rattle.slate_read.proofs.sorted_run_iterator.SortedRunIteratorRowEntryIteratorEnv.init.Goals as goal
+
+pub returns-clause-begun : goal.returns-clause-begun
+returns-clause-begun g c = on_ok_weaker c.init.result (λ k. (k.0, k.1, ((k.2.0.0, k.2.0.1, k.2.0.2), k.2.1))) c.init.ensures.begun

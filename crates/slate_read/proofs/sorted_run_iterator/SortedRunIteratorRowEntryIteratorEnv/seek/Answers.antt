@@ -1,0 +1,5 @@
+use Rattle.std.proofs.lemmas.Result.{on_ok_weaker}
+use Rattle.slate_read.proofs.sorted_run_iterator.SortedRunIteratorRowEntryIteratorEnv.seek.Goals as goal
+
+pub returns-clause-sought : goal.returns-clause-sought
+returns-clause-sought g c = on_ok_weaker c.seek.result (λ k. (k.0, k.1, ((k.2.0.0, k.2.0.1, k.2.0.2, k.2.0.3), k.2.1))) c.seek.ensures.sought
