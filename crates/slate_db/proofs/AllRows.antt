@@ -8,10 +8,10 @@ use Rattle.slate_types.proofs.FoldLaws.{fold-middle}
 use Rattle.slate_txn.specs.State.{Rules, Commit, combine_at}
 use Rattle.slate_txn.specs.Reads.{up_to, key_rows}
 use Rattle.slate_db.specs.Sound.{at_most, later, above}
-use Rattle.slate_db.specs.Log.{Rising, AreShortOps}
+use Rattle.slate_db.specs.Log.{Rising}
 use Rattle.slate_db.proofs.Folds.{fold_within, rows_of_commits, at_most_all, at_most_within, wider}
 use Rattle.slate_db.proofs.Split.{split_at, rising_above}
-use Rattle.slate_db.proofs.Short.{all_filter, all_append, commits_short}
+use Rattle.slate_db.proofs.Short.{all_filter, all_append, commits_short, AreShortOps}
 
 -- Rows of a key before a sequence of which the installed ones fold as their commits do, and then the rows of the commits above.
 -- `older` are those of the tables, `rows` those in memory, and `own` a reader's own.

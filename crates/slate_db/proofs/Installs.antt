@@ -19,7 +19,6 @@ use Rattle.slate_db.specs.Model.{CoreModel, Rows, versions, versions_in}
 use Rattle.slate_db.specs.Installs.{tables_of, installed}
 use Rattle.slate_db.specs.Sound.{HasNoMerge, at_most, above, IsKept, IsSound, AreTables, AreBases}
 use Rattle.slate_db.specs.Layers.{AreRising}
-use Rattle.slate_db.specs.Log.{AreShortOps}
 use Rattle.slate_db.specs.Whole.{IsWhole, Unseen, layers_of}
 use Rattle.slate_txn.specs.Open.{least_start}
 use Rattle.slate_db.specs.Flushed.{AreTablesAt, IsFolded, IsTableAt, Layout, CanFlush, after_install}
@@ -31,7 +30,7 @@ use Rattle.slate_db.proofs.Split.{none_above, all_up_to}
 use Rattle.slate_db.proofs.Bases.{folded_bases}
 use Rattle.slate_db.proofs.NoMerges.{memory_bases}
 use Rattle.slate_db.proofs.Rises.{folded_within, rows_above, tables_rise}
-use Rattle.slate_db.proofs.Short.{all_append, all_filter, commits_short, fold_short, fine_short}
+use Rattle.slate_db.proofs.Short.{all_append, all_filter, commits_short, fold_short, fine_short, AreShortOps}
 use Rattle.slate_db.proofs.AllRows.{flush_fold}
 use Rattle.slate_db.proofs.Lists.{all_map, all_front}
 use Rattle.slate_db.proofs.Logs.{tables_more}

@@ -29,6 +29,7 @@ mod StandingRuns
 mod TouchedSegments
 mod FlushedKeys
 pub mod OneSegment
+mod SegmentRuns
 mod Built
 mod Flushes
 mod Installs

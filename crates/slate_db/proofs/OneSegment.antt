@@ -44,7 +44,7 @@ all_inserted P k (x ∷ ks) h = by (key_cmp k x) refl (all_inserted P k ks) h
     by Equal e later h = (subst P (sym (same-key k x e)) h.0, h)
     by Greater e later h = let rest = later h.1 in (rest.0, (h.0, rest.1))
 
-all_of_set : (P : List ℕ → Type 0) (ks : List (List ℕ)) → AllByRecursion P (keys_set ks) → AllByRecursion P ks
+pub all_of_set : (P : List ℕ → Type 0) (ks : List (List ℕ)) → AllByRecursion P (keys_set ks) → AllByRecursion P ks
 all_of_set P [] h = tt
 all_of_set P (k ∷ ks) h = let both = all_inserted P k (keys_set ks) h in (both.0, all_of_set P ks both.1)
 
@@ -65,7 +65,7 @@ of_commit P c d x k r h is = by (ops_of x.ops k) refl is
     by [] e is = cc
     by (op ∷ rest) e is = of_op P k x.ops op rest (all_of_set P (map (λ o. o.0) x.ops) h) e
 
-of_commits : (P : List ℕ → Type 0) (rules : Rules) (k : List ℕ) (cs : List Commit) (r : RowEntry) (rows : Rows) → AllByRecursion (λ c. AllByRecursion P (batch_keys c.ops)) cs → key_rows rules k cs ≡ r ∷ rows → P k
+pub of_commits : (P : List ℕ → Type 0) (rules : Rules) (k : List ℕ) (cs : List Commit) (r : RowEntry) (rows : Rows) → AllByRecursion (λ c. AllByRecursion P (batch_keys c.ops)) cs → key_rows rules k cs ≡ r ∷ rows → P k
 of_commits P rules k [] r rows h is = cc
 of_commits P rules k (c ∷ cs) r rows h is = by (row_of (combine_at rules k) rules.default_millis c.seq c.now c.ops k) refl (of_commits P rules k cs r rows h.1) is
   where
@@ -76,7 +76,7 @@ of_commits P rules k (c ∷ cs) r rows h is = by (row_of (combine_at rules k) ru
 -- ---- a flush behind its freeze
 
 -- the rows of a key that are frozen are first of those in memory
-frozen_first : (k : List ℕ) (old mid : CoreModel) → IsFrozen old mid → (more : Rows) × (versions_in k (memory old) ≡ versions_in k mid.frozen ++ more)
+pub frozen_first : (k : List ℕ) (old mid : CoreModel) → IsFrozen old mid → (more : Rows) × (versions_in k (memory old) ≡ versions_in k mid.frozen ++ more)
 frozen_first k old mid (inl frozen) =
     (versions_in k (old.active ∷ []), flat_map-append (versions k) old.frozen (old.active ∷ []) ∙ ap (λ (c : CoreModel). versions_in k c.frozen ++ versions_in k (old.active ∷ [])) (sym frozen.1))
 frozen_first k old mid (inr frozen) = ([], sym (append-nil (versions_in k (memory old))) ∙ ap (λ (c : CoreModel). versions_in k c.frozen ++ []) (sym frozen.1))

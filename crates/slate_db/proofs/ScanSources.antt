@@ -13,7 +13,7 @@ use Rattle.slate_txn.specs.Reads.{up_to, key_rows}
 use Rattle.slate_txn.specs.State.{Commit}
 use Rattle.slate_db.specs.Installs.{tables_of, installed}
 use Rattle.slate_db.specs.Layers.{AreRising, FitsMemory}
-use Rattle.slate_db.specs.Log.{AreFine, AreShortOps}
+use Rattle.slate_db.specs.Log.{AreFine}
 use Rattle.slate_db.specs.Meaning.{Meaning, IsLawfulMeaning, rules_of, combine_of}
 use Rattle.slate_db.specs.Model.{CoreModel, Rows, memory, versions, versions_in}
 use Rattle.slate_db.specs.ScanLaws.{ScansOfCoreShowWhatIsSeen}
@@ -24,7 +24,7 @@ use Rattle.slate_db.proofs.Lists.{all_map}
 use Rattle.slate_db.proofs.Rises.{rising_both, rows_above}
 use Rattle.slate_db.proofs.Scans.{scan_shows}
 use Rattle.slate_db.proofs.Seen.{same_tables, seen_fold}
-use Rattle.slate_db.proofs.Short.{all_append, all_filter, all_from_last, commits_short, fine_short}
+use Rattle.slate_db.proofs.Short.{all_append, all_filter, all_from_last, commits_short, fine_short, AreShortOps}
 use Rattle.slate_db.proofs.Versions.{all_reverse, all_versions_in, short_versions}
 
 -- own rows are short

@@ -11,7 +11,7 @@ use Rattle.slate_mem.specs.Batch.{Ops, kept, replaces, op_value, ops_of}
 use Rattle.slate_mem.specs.RowOf.{op_row, own_row}
 use Rattle.slate_txn.specs.State.{Rules, Commit, combine_at}
 use Rattle.slate_txn.specs.Reads.{key_rows}
-use Rattle.slate_db.specs.Log.{AreShortOps, AreFine}
+use Rattle.slate_db.specs.Log.{AreFine}
 use Rattle.slate_mem.specs.declared.WriteOp.TheVariants.{Put, Delete, Merge as MergeOp}
 use Rattle.slate_mem.specs.Refusals.{op_refusal, first_refusal, when}
 use Rattle.slate_types.specs.declared.error.SlateDBError.{SlateDBError}
@@ -19,6 +19,9 @@ use Rattle.slate_types.specs.declared.error.SlateDBError.TheVariants.{EmptyKey, 
 use Rattle.std.specs.Prelude.{◌==◌}
 use Rattle.std.proofs.lemmas.Bool.Decides.{nat_tests}
 use Rattle.std.proofs.Common.{◌≤◌, ◌-◌, ◌^◌, length, refl, arith, nat_lt}
+
+abbrev pub AreShortOps : Ops → Type 0
+AreShortOps ops = AllByRecursion (λ o. IsShort (bytes_of (op_value o.1))) ops
 
 pub all_filter : {X : Type 0} (P : X → Type 0) (t : X → Bool) (xs : List X) → AllByRecursion P xs → AllByRecursion P (filter t xs)
 all_filter P t [] h = tt

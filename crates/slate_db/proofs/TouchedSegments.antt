@@ -51,7 +51,7 @@ inserted_twice k (x ∷ ks) = by (key_cmp k x) refl (inserted_twice k ks)
     by Equal e later = ap (λ o. match_ordering o (k ∷ x ∷ ks) (x ∷ ks) (x ∷ insert_key key_cmp ks k)) e
     by Greater e later = ap (λ o. match_ordering o (k ∷ x ∷ insert_key key_cmp ks k) (x ∷ insert_key key_cmp ks k) (x ∷ insert_key key_cmp (insert_key key_cmp ks k) k)) e ∙ ap (λ ys. x ∷ ys) later
 
-set_of_same : (prefix : List ℕ) (front rest : List (List ℕ)) → 0 < length front → AllByRecursion (λ p. p ≡ prefix) front → keys_set (front ++ rest) ≡ insert_key key_cmp (keys_set rest) prefix
+pub set_of_same : (prefix : List ℕ) (front rest : List (List ℕ)) → 0 < length front → AllByRecursion (λ p. p ≡ prefix) front → keys_set (front ++ rest) ≡ insert_key key_cmp (keys_set rest) prefix
 set_of_same prefix [] rest some same = absurd (omega arith)
 set_of_same prefix (p ∷ []) rest some same = ap (insert_key key_cmp (keys_set rest)) same.0
 set_of_same prefix (p ∷ (q ∷ front)) rest some same =
@@ -64,14 +64,14 @@ set_of_repeated all (prefix ∷ prefixes) are =
 
 -- ---- none falls
 
-abbrev IsUpTo : List ℕ → List ℕ → Type 0
+abbrev pub IsUpTo : List ℕ → List ℕ → Type 0
 IsUpTo p q = (p ≡ q) ⊎ (key_lt p q ≡ true)
 
-abbrev NoneFalls : List (List ℕ) → Type 0
+abbrev pub NoneFalls : List (List ℕ) → Type 0
 NoneFalls [] = Unit {0}
 NoneFalls (p ∷ ps) = AllByRecursion (IsUpTo p) ps × NoneFalls ps
 
-falls_behind : (front rest : List (List ℕ)) → NoneFalls (front ++ rest) → NoneFalls rest
+pub falls_behind : (front rest : List (List ℕ)) → NoneFalls (front ++ rest) → NoneFalls rest
 falls_behind [] rest none = none
 falls_behind (p ∷ front) rest none = falls_behind front rest none.1
 
@@ -124,7 +124,7 @@ up_to g r s le none = by (apart (segment_of g r.key) (segment_of g s.key) none)
     by (inl same) = inl same
     by (inr other) = inr (rises (segment_of g r.key) (segment_of g s.key) r.key s.key le (begins_itself g r.key) (begins_itself g s.key) other.0 other.1)
 
-all_mapped : {X Y : Type 0} (f : X → Y) (P : Y → Type 0) (xs : List X) → AllByRecursion (λ x. P (f x)) xs → AllByRecursion P (map f xs)
+pub all_mapped : {X Y : Type 0} (f : X → Y) (P : Y → Type 0) (xs : List X) → AllByRecursion (λ x. P (f x)) xs → AllByRecursion P (map f xs)
 all_mapped f P [] h = tt
 all_mapped f P (x ∷ xs) h = (h.0, all_mapped f P xs h.1)
 
@@ -132,7 +132,7 @@ some_mapped : {X Y : Type 0} (f : X → Y) (xs : List X) → 0 < length xs → 0
 some_mapped f [] some = some
 some_mapped f (x ∷ xs) some = omega arith
 
-rows_rise : (g : Segments) (rows : Rows) → AreInOrder rows → NoneNest g rows → NoneFalls (map (λ r. segment_of g r.key) rows)
+pub rows_rise : (g : Segments) (rows : Rows) → AreInOrder rows → NoneNest g rows → NoneFalls (map (λ r. segment_of g r.key) rows)
 rows_rise g [] order none = tt
 rows_rise g (r ∷ rows) order none = (
   all_mapped (λ s. segment_of g s.key) (IsUpTo (segment_of g r.key)) rows (all_both _ _ _ (λ s h k. up_to g r s (keys_up r s h) k) rows order.0 none.0),
@@ -189,7 +189,7 @@ runs_of_segments g limit rows tables prefixes runs order none cut are stand =
 
 -- ---- the rows of a table
 
-has_prefix : (o : Option (List ℕ)) (p : List ℕ) (e : SlateDBError) → when (is_none o) e ≡ None → unwrap_or o [] ≡ p → o ≡ Some p
+pub has_prefix : (o : Option (List ℕ)) (p : List ℕ) (e : SlateDBError) → when (is_none o) e ≡ None → unwrap_or o [] ≡ p → o ≡ Some p
 has_prefix None p e none is = let clash : Some e ≡ None = none in cc
 has_prefix (Some q) p e none is = ap Some is
 

@@ -16,6 +16,7 @@ pub mod Frozen
 pub mod Load
 pub mod Flushed
 pub mod FlushLaws
+pub mod SegmentRuns
 pub mod StoredParts
 pub mod Written
 pub mod Committed

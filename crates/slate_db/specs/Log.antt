@@ -1,7 +1,7 @@
 -- The log of a core: its journal, and what is counted of it.
 --     LIMIT      the journal's events, with one more for whatever is open, are no more than these
 --     Rising n cs      each sequence is above those before
---     AreFine ops, AreShortOps ops      no operation is refused by itself; the values are short
+--     AreFine ops      no operation is refused by itself
 --     IsWhollyKept ops      what a batch is that becomes a commit
 --     LogModel      what contracts see of a log
 --     ends_of s      what is open in a state, of which each will end
@@ -15,9 +15,7 @@ use Rattle.std.specs.Prelude.{◌≡◌, ◌⊎◌, ℕ, ◌+◌, ◌-◌, ◌^�
 use Rattle.std.specs.List.{AllByRecursion}
 use Rattle.slate_types.specs.declared.config.IsolationLevel.{IsolationLevel}
 use Rattle.slate_types.specs.declared.types.Ulid.{Ulid}
-use Rattle.slate_types.specs.Fold.{IsShort}
-use Rattle.slate_types.specs.Rows.{bytes_of}
-use Rattle.slate_mem.specs.Batch.{Ops, batch_keys, kept_ops, op_value}
+use Rattle.slate_mem.specs.Batch.{Ops, batch_keys, kept_ops}
 use Rattle.slate_mem.specs.Refusals.{op_refusal}
 use Rattle.slate_txn.specs.declared.event.Event.{Event}
 use Rattle.slate_txn.specs.declared.event.Event.TheVariants as events
@@ -39,9 +37,6 @@ Rising n (c ∷ cs) = (n < c.seq) × Rising c.seq cs
 -- no operation is refused by itself: keys are keys, and values are short
 abbrev pub AreFine : Ops → Type 0
 AreFine ops = AllByRecursion (λ o. op_refusal o.0 o.1 ≡ None) ops
-
-abbrev pub AreShortOps : Ops → Type 0
-AreShortOps ops = AllByRecursion (λ o. IsShort (bytes_of (op_value o.1))) ops
 
 pub record IsWhollyKept (ops : Ops) : Type 0 where
   pub some : 0 < length ops

@@ -50,6 +50,7 @@ ghost use Rattle.slate_db.specs.Readable.{IsAnswered, IsOwnOperand, IsOwnRead, I
 ghost use Rattle.slate_db.specs.Model.{CoreModel, IsSame, Rows, at, memory};
 ghost use Rattle.slate_db.specs.Sound.{AreTables, IsKept, IsOperable, FoldsToState};
 ghost use Rattle.slate_db.specs.Segmented.{IsSegmented};
+ghost use Rattle.slate_db.specs.SegmentRuns.{AddsSegmentRuns};
 ghost use Rattle.slate_db.specs.StoredState.{StoresState};
 ghost use Rattle.slate_db.specs.Log.{LIMIT, AreFine, ends_of};
 ghost use Rattle.slate_txn.specs.Conflict.{conflict};
@@ -365,8 +366,8 @@ impl Core {
         Ok(Some(seq))
     }
 
-    /// Freezes, stores the rows that wait as tables, each of rows of one segment and with the filters of the policies, and gives the
-    /// newest sequence. Of each key the rows at or below the
+    /// Freezes, stores the rows that wait as tables with the filters of the policies, and gives the newest sequence. Each segment that
+    /// the rows touch gets a run of tables of just its rows, in the order of the prefixes. Of each key the rows at or below the
     /// barrier, which is the least begin of an open transaction or sequence of an open snapshot, or else the newest sequence,
     /// become their fold. Where no rows are in memory nothing is stored. Refuses by `LimitReached` where the journal has no place
     /// for the events, and then nothing is changed, or where a table would pass a limit; by `StoreFault`, `BlockTransformError` and
@@ -390,6 +391,10 @@ impl Core {
         ensures full { NoPlaceToFlush self.old → self.new ≡ self.old }
         ensures full_objects { let reach = ⟦<EnvOf<S, M, T> as Outside>⟧.reach in NoPlaceToFlush self.old → (reach env.new).objects ≡ (reach env.old).objects }
         ensures vouched { OnOk result ((m : Meaning) (other : List ℕ) → IsVouchedFor m self.old other → IsVouchedFor m self.new other) }
+        ensures runs { let reach = ⟦<EnvOf<S, M, T> as Outside>⟧.reach in
+            let m = (reach env.old).meaning in
+            let g = segments_by X.lengths laws.now.segments in
+            IsKept m self.old → IsSegmented g self.old → OnOk result (AddsSegmentRuns m g self.old (tables_of self.old.events) (tables_of self.new.events)) }
         ensures segmented { (g : Segments) → IsSegmented g self.old → IsSegmented g self.new }
         ensures kept { let reach = ⟦<EnvOf<S, M, T> as Outside>⟧.reach in
             let m = (reach env.old).meaning in

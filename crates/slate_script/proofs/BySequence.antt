@@ -8,18 +8,11 @@ use Rattle.std.proofs.lemmas.List.Elements.{filter-append}
 use Rattle.slate_types.specs.declared.types.RowEntry.{RowEntry}
 use Rattle.slate_table.specs.Stored.{insert_row, by_seq}
 use Rattle.slate_types.specs.Rows.{of_key}
+use Rattle.slate_types.proofs.Lists.{AllByRecursion-append, AllByRecursion-behind, AllByRecursion-front}
 use Rattle.slate_db.specs.Model.{Rows, versions, versions_in}
 use Rattle.slate_db.specs.Layers.{AreRising}
 
 -- ---- each row
-
-pub all-front : {X : Type 0} (P : X → Type 0) (xs ys : List X) → AllByRecursion P (xs ++ ys) → AllByRecursion P xs
-all-front P [] ys h = tt
-all-front P (x ∷ xs) ys h = (h.0, all-front P xs ys h.1)
-
-pub all-behind : {X : Type 0} (P : X → Type 0) (xs ys : List X) → AllByRecursion P (xs ++ ys) → AllByRecursion P ys
-all-behind P [] ys h = h
-all-behind P (x ∷ xs) ys h = all-behind P xs ys h.1
 
 all-inserted : (P : RowEntry → Type 0) (r : RowEntry) (rows : Rows) → P r → AllByRecursion P rows → AllByRecursion P (insert_row r rows)
 all-inserted P r [] p h = (p, tt)
@@ -52,7 +45,7 @@ IsBelow rows r = AllByRecursion (λ s. r.seq < s.seq) rows
 
 pub rising-first : (xs ys : Rows) → AreRising (xs ++ ys) → AreRising xs
 rising-first [] ys h = tt
-rising-first (x ∷ xs) ys h = (all-front _ xs ys h.0, rising-first xs ys h.1)
+rising-first (x ∷ xs) ys h = (AllByRecursion-front _ xs ys h.0, rising-first xs ys h.1)
 
 rising-last : (xs ys : Rows) → AreRising (xs ++ ys) → AreRising ys
 rising-last [] ys h = h
@@ -60,7 +53,7 @@ rising-last (x ∷ xs) ys h = rising-last xs ys h.1
 
 rising-apart : (xs ys : Rows) → AreRising (xs ++ ys) → AllByRecursion (IsBelow ys) xs
 rising-apart [] ys h = tt
-rising-apart (x ∷ xs) ys h = (all-behind _ xs ys h.0, rising-apart xs ys h.1)
+rising-apart (x ∷ xs) ys h = (AllByRecursion-behind _ xs ys h.0, rising-apart xs ys h.1)
 
 -- ---- where a row is put
 
@@ -85,15 +78,11 @@ put-before r (s ∷ rows) later h = by (nat_lt s.seq r.seq) (put-before r rows l
 
 below-last : (xs : Rows) (r : RowEntry) (rows : Rows) → AllByRecursion (IsBelow (xs ++ (r ∷ []))) rows → AllByRecursion (λ s. s.seq < r.seq) rows
 below-last xs r [] h = tt
-below-last xs r (s ∷ rows) h = ((all-behind (λ (x : RowEntry). s.seq < x.seq) xs (r ∷ []) h.0).0, below-last xs r rows h.1)
+below-last xs r (s ∷ rows) h = ((AllByRecursion-behind (λ (x : RowEntry). s.seq < x.seq) xs (r ∷ []) h.0).0, below-last xs r rows h.1)
 
 below-first : (xs ys : Rows) (rows : Rows) → AllByRecursion (IsBelow (xs ++ ys)) rows → AllByRecursion (IsBelow xs) rows
 below-first xs ys [] h = tt
-below-first xs ys (s ∷ rows) h = (all-front (λ (x : RowEntry). s.seq < x.seq) xs ys h.0, below-first xs ys rows h.1)
-
-pub all-both : {X : Type 0} (P : X → Type 0) (xs ys : List X) → AllByRecursion P xs → AllByRecursion P ys → AllByRecursion P (xs ++ ys)
-all-both P [] ys h k = k
-all-both P (x ∷ xs) ys h k = (h.0, all-both P xs ys h.1 k)
+below-first xs ys (s ∷ rows) h = (AllByRecursion-front (λ (x : RowEntry). s.seq < x.seq) xs ys h.0, below-first xs ys rows h.1)
 
 -- newest first, before older ones
 put-all : (here older : Rows) → AreRising (reverse here) → AllByRecursion (IsBelow (reverse here)) (by_seq older) → by_seq (here ++ older) ≡ by_seq older ++ reverse here
@@ -103,7 +92,7 @@ put-all (r ∷ here) older rise below =
     let up : AreRising (reverse here ++ (r ∷ [])) = subst AreRising turned rise in
     let under : AllByRecursion (IsBelow (reverse here ++ (r ∷ []))) (by_seq older) = subst (λ (xs : Rows). AllByRecursion (IsBelow xs) (by_seq older)) turned below in
     ap (insert_row r) (put-all here older (rising-first (reverse here) (r ∷ []) up) (below-first (reverse here) (r ∷ []) (by_seq older) under))
-    ∙ put-last r (by_seq older ++ reverse here) (all-both _ (by_seq older) (reverse here) (below-last (reverse here) r (by_seq older) under) (below-last [] r (reverse here) (rising-apart (reverse here) (r ∷ []) up)))
+    ∙ put-last r (by_seq older ++ reverse here) (AllByRecursion-append _ (by_seq older) (reverse here) (below-last (reverse here) r (by_seq older) under) (below-last [] r (reverse here) (rising-apart (reverse here) (r ∷ []) up)))
     ∙ append_assoc (by_seq older) (reverse here) (r ∷ [])
     ∙ ap (λ xs. by_seq older ++ xs) (sym turned)
 
@@ -115,7 +104,7 @@ put-behind (r ∷ rows) after older newer below is = ap (insert_row r) (put-behi
 put-among : (a here b older : Rows) → by_seq (a ++ b) ≡ older → AreRising (older ++ reverse here) → by_seq (a ++ (here ++ b)) ≡ older ++ reverse here
 put-among a here b older is rise =
     let below : AllByRecursion (IsBelow (reverse here)) (a ++ b) = by-seq-all (IsBelow (reverse here)) (a ++ b) (subst (AllByRecursion (IsBelow (reverse here))) (sym is) (rising-apart older (reverse here) rise)) in
-    put-behind a (here ++ b) b (reverse here) (all-front _ a b below) (put-all here b (rising-last older (reverse here) rise) (all-by-seq _ b (all-behind _ a b below)))
+    put-behind a (here ++ b) b (reverse here) (AllByRecursion-front _ a b below) (put-all here b (rising-last older (reverse here) rise) (all-by-seq _ b (AllByRecursion-behind _ a b below)))
     ∙ ap (λ xs. xs ++ reverse here) is
 
 -- the rows of a key, where one table more was put among others

@@ -26,6 +26,7 @@ use Rattle.slate_db.specs.Log.{LIMIT, ends_of}
 use Rattle.slate_db.specs.Written.{IsWritten}
 use Rattle.slate_language.specs.declared.reply.Answer.{Answer}
 use Rattle.slate_script.specs.Session.{SessionModel, Grows, IsLimit, line_load, own_load}
+use Rattle.slate_txn.proofs.NamedLaws.{update_length}
 use Rattle.slate_script.proofs.SessionLeaves.{Closes}
 use Rattle.slate_script.proofs.SessionNames.{Fresh, FreshSnapshot}
 
@@ -162,14 +163,6 @@ released-fewer c t id is = subst (λ (s : State). ends_of s ≤ ends_of c + 1) (
 pub released-own : (c t : State) (id : List ℕ) → t ≡ record c { snapshots = without id c.snapshots } → own_load t.txns ≤ own_load c.txns
 released-own c t id is = subst (λ (s : State). own_load s.txns ≤ own_load c.txns) (sym is) (omega arith)
 
-pub as-many : {X : Type 0} (k : List ℕ) (f : X → X) (ps : List (List ℕ × X)) → length (update_named k f ps) ≡ length ps
-as-many k f [] = refl
-as-many k f (p ∷ ps) = by (bytes_eq p.0 k) (as-many k f ps)
-  where
-    by : (b : Bool) → length (update_named k f ps) ≡ length ps → length (cond b ((p.0, f p.1) ∷ ps) (p ∷ update_named k f ps)) ≡ length (p ∷ ps)
-    by true rest = refl
-    by false rest = omega (arith, rest)
-
 -- ---- own operations
 
 own-cons : (p : List ℕ × Tx) (ps : List (List ℕ × Tx)) → own_load (p ∷ ps) ≡ length p.1.ops + own_load ps
@@ -246,7 +239,7 @@ own-kept k f (p ∷ ps) keeps = by (bytes_eq p.0 k) (own-kept k f ps keeps)
 pub takes-noted : (old new : CoreModel) (id : List ℕ) (ts : List TranscriptStep) → new ≡ record old { state = noted old.state id ts } → Takes old new 0
 takes-noted old new id ts is =
     let n : length new.events ≡ length old.events = ap (λ (c : CoreModel). length c.events) is in
-    let k : length new.state.txns ≡ length old.state.txns = ap (λ (c : CoreModel). length c.state.txns) is ∙ as-many id f old.state.txns in
+    let k : length new.state.txns ≡ length old.state.txns = ap (λ (c : CoreModel). length c.state.txns) is ∙ update_length id f old.state.txns in
     let l : length new.state.snapshots ≡ length old.state.snapshots = ap (λ (c : CoreModel). length c.state.snapshots) is in
     let o : own_load new.state.txns ≡ own_load old.state.txns = ap (λ (c : CoreModel). own_load c.state.txns) is ∙ own-kept id f old.state.txns (λ t. refl) in
     let same : load new ≡ load old = ap load is in
@@ -260,7 +253,7 @@ pub takes-ran : {T : Type 0} (ran : Result T SlateDBError) (old new : CoreModel)
     ((t : Tx) → length (f t).ops ≡ length t.ops + n) → Takes old new n
 takes-ran (Ok t) old new id f n is same adds =
     let e : length new.events ≡ length old.events = ap (λ (c : CoreModel). length c.events) is in
-    let k : length new.state.txns ≡ length old.state.txns = ap (λ (c : CoreModel). length c.state.txns) is ∙ as-many id f old.state.txns in
+    let k : length new.state.txns ≡ length old.state.txns = ap (λ (c : CoreModel). length c.state.txns) is ∙ update_length id f old.state.txns in
     let u : length new.state.snapshots ≡ length old.state.snapshots = ap (λ (c : CoreModel). length c.state.snapshots) is in
     let o : own_load new.state.txns ≡ own_load (update_named id f old.state.txns) = ap (λ (c : CoreModel). own_load c.state.txns) is in
     let few : own_load (update_named id f old.state.txns) ≤ own_load old.state.txns + n = own-updated id f n old.state.txns adds in

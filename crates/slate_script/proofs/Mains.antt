@@ -8,7 +8,6 @@ use Rattle.slate_store.specs.Store.{IsEmpty}
 use Rattle.slate_filter.specs.Policy.{Policy}
 use Rattle.slate_table.specs.Filtered.{AreLawful}
 use Rattle.slate_db.specs.Meaning.{Meaning, IsLawfulMeaning, combine_of}
-use Rattle.slate_db.specs.Parts.{meaning_of}
 use Rattle.slate_language.specs.declared.operators.NamedOperator.{NamedOperator}
 use Rattle.slate_language.specs.declared.parts.Xor.{Xor}
 use Rattle.slate_language.specs.declared.words.Generated.{Generated}
@@ -19,6 +18,7 @@ use Rattle.slate_language.specs.Parts.{named, xored}
 use Rattle.slate_script.specs.Program.{segments_of, changed, main_rules, parts_of}
 use Rattle.slate_script.specs.Run.{Premises, run_rules}
 use Rattle.slate_language.proofs.PartsLaws.{named-lawful, xor-back}
+use Rattle.slate_script.proofs.MeaningOf.{meaning_of}
 
 -- operator, transformer: those of the words, where they name some
 abbrev pub words-mean : Option NamedOperator → Option Xor → Meaning

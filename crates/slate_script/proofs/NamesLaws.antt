@@ -15,9 +15,6 @@ use Rattle.slate_txn.specs.Named.{find_named, without, set_named, update_named, 
 pub bytes_eq-is : (a b : List ℕ) → bytes_eq a b ≡ true → a ≡ b
 bytes_eq-is a b e = (bytes_eq-Decides a b).0 e
 
-pub bytes_eq-refl : (a : List ℕ) → bytes_eq a a ≡ true
-bytes_eq-refl a = (bytes_eq-Decides a a).1 refl
-
 pub bytes_eq-sym : (a b : List ℕ) → bytes_eq a b ≡ bytes_eq b a
 bytes_eq-sym a b = by (bytes_eq a b) refl (bytes_eq b a) refl
   where
@@ -196,9 +193,3 @@ without-none k [] none = refl
 without-none k (p ∷ ps) none =
     let parts : (bytes_eq p.0 k ≡ false) × (find_named k ps ≡ None) = none-parts k p ps none in
     ap (λ b. cond b ps (p ∷ without k ps)) parts.0 ∙ ap (λ qs. p ∷ qs) (without-none k ps parts.1)
-
-pub update-none : {X : Type 0} (k : List ℕ) (f : X → X) (ps : List (List ℕ × X)) → find_named k ps ≡ None → update_named k f ps ≡ ps
-update-none k f [] none = refl
-update-none k f (p ∷ ps) none =
-    let parts : (bytes_eq p.0 k ≡ false) × (find_named k ps ≡ None) = none-parts k p ps none in
-    ap (λ b. cond b ((p.0, f p.1) ∷ ps) (p ∷ update_named k f ps)) parts.0 ∙ ap (λ qs. p ∷ qs) (update-none k f ps parts.1)

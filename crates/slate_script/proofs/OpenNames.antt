@@ -5,7 +5,8 @@ use Rattle.std.specs.Str.{bytes_eq}
 use Rattle.std.proofs.lemmas.Bool.{false_from_ne_true}
 use Rattle.slate_txn.specs.Named.{find_named, without, set_named, update_named, StandOnce}
 use Rattle.slate_script.specs.Session.{AreApart, AreNames, AreUnder, under}
-use Rattle.slate_script.proofs.NamesLaws.{bytes_eq-is, bytes_eq-refl, find_named-set, find_named-updated, find_named-without, once-set, once-update, once-without}
+use Rattle.slate_types.proofs.KeyOrder.{bytes_eq-same}
+use Rattle.slate_script.proofs.NamesLaws.{bytes_eq-is, find_named-set, find_named-updated, find_named-without, once-set, once-update, once-without}
 
 -- each name with its id
 abbrev pub Names : Type 0
@@ -31,7 +32,7 @@ some_set {X} id i x ps none some = subst IsSome (sym (find_named-set id i x ps n
     by false = some
 
 found_set : {X : Type 0} (id : List ℕ) (x : X) (ps : List (List ℕ × X)) → find_named id ps ≡ None → find_named id (set_named id x ps) ≡ Some x
-found_set id x ps none = find_named-set id id x ps none ∙ ap (λ b. cond b (Some x) (find_named id ps)) (bytes_eq-refl id)
+found_set id x ps none = find_named-set id id x ps none ∙ ap (λ b. cond b (Some x) (find_named id ps)) (bytes_eq-same id)
 
 -- the names stand as they did
 pub names_kept : {X : Type 0} (id : List ℕ) (x : X) (names : Names) (ps : List (List ℕ × X)) → find_named id ps ≡ None → AreNames names ps → AreNames names (set_named id x ps)
@@ -70,7 +71,7 @@ pub other_id : {X : Type 0} (name q id i : List ℕ) (names : Names) (ps : List 
 other_id name q id i names ps h is was differs = not_same id i (λ same. differ (h.apart name q id is (was ∙ ap Some (sym same))))
   where
     differ : name ≡ q → ⊥
-    differ e = let t : true ≡ false = sym (bytes_eq-refl name) ∙ ap (bytes_eq name) e ∙ differs in cc
+    differ e = let t : true ≡ false = sym (bytes_eq-same name) ∙ ap (bytes_eq name) e ∙ differs in cc
 
 pub names_taken : {X : Type 0} (name id : List ℕ) (names fewer : Names) (ps : List (List ℕ × X)) → AreNames names ps → find_named name names ≡ Some id →
     ((q : List ℕ) → find_named q fewer ≡ cond (bytes_eq name q) None (find_named q names)) → AreNames fewer (without id ps)
@@ -209,7 +210,7 @@ under_changed name id f named names ps are known h q = find_named-updated name q
     found true same =
         ap (option_map f) (h q ∙ ap (under ps) (here same))
         ∙ sym (ap (under (update_named id f ps)) (here same) ∙ find_named-updated id id f ps
-        ∙ ap (λ b. cond b (option_map f (find_named id ps)) (find_named id ps)) (bytes_eq-refl id))
+        ∙ ap (λ b. cond b (option_map f (find_named id ps)) (find_named id ps)) (bytes_eq-same id))
     found false differs = h q ∙ under_others (update_named id f) name id names ps are known keeps q differs
 
 -- no id, and so nothing

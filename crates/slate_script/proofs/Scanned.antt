@@ -35,11 +35,11 @@ use Rattle.slate_db.specs.Readable.{IsAnswered}
 use Rattle.slate_db.specs.Scans.{IsOpenScan, IsRefusedByScan, IsScanError, IsScanOf, Leaves, LeavesIn, ScanRefuses, id_of, number_of, scan_of}
 use Rattle.slate_db.specs.Sound.{IsKept}
 use Rattle.slate_script.specs.Scanning.{Took, Fails, HasScanned, IsNoted}
-use Rattle.slate_script.specs.Walking.{Means, TakesFirst, TakesNext, TakesRest, TakesStep, TakesSteps, Walks}
+use Rattle.slate_script.specs.Walking.{Means, TakesStep, TakesSteps, Walks}
 use Rattle.slate_script.proofs.Answers.{answers_first, answers_sees}
 use Rattle.slate_script.proofs.Noting.{noted_none, noted_both, noted_reads, noted_scan, noted_scans}
 use Rattle.slate_script.proofs.SessionSteps.{named-of}
-use Rattle.slate_script.proofs.WalkLaws.{first_ended, first_filled, first_one, handed_both, rest_all, rest_one, walks_all, walks_some}
+use Rattle.slate_script.proofs.WalkLaws.{first_ended, first_filled, first_one, handed_both, rest_all, rest_one, walks_all, walks_some, TakesFirst, TakesNext, TakesRest}
 
 abbrev given : Option KeyValue → List KeyValue
 given None = []

@@ -39,7 +39,8 @@ use Rattle.slate_language.specs.Answers.{reply_of}
 use Rattle.slate_language.proofs.ShownLaws.{shown-of}
 use Rattle.slate_language.specs.Grammar.{is_moment}
 use Rattle.slate_script.specs.Session.{SessionModel, AreNames, AreUnder, NamesStand, StandsFor, IsStep, AnswersAs, IsRefusal, reader_id, reader_under, under}
-use Rattle.slate_script.proofs.NamesLaws.{none-found, once-set, once-update, once-without, update-none, without-none}
+use Rattle.slate_txn.proofs.NamedLaws.{update_none}
+use Rattle.slate_script.proofs.NamesLaws.{none-found, once-set, once-update, once-without, without-none}
 use Rattle.slate_script.proofs.OpenNames.{Names, apart_first, apart_last, under_changed, under_given, under_none, under_same, under_taken}
 use Rattle.slate_script.proofs.SessionNames.{Fresh, FreshSnapshot}
 
@@ -307,8 +308,8 @@ reads-snapshot e s name id h stand known = record {
   here = (λ i. reader_or_snapshot (unbegun i) (seq-is i));
   there = (λ i. reader_or_snapshot (unbegun-id i) (seq.is i));
   notes = λ ts core is.
-      subst (λ us. StandsFor (record e { core = core }) (record s { txns = us })) (sym (update-none name (with_steps ts) s.txns unbegun))
-      (stands-same e s core h (is ∙ ap (λ us. record e.core.state { txns = us }) (update-none id (with_steps ts) e.core.state.txns unbegun-id)));
+      subst (λ us. StandsFor (record e { core = core }) (record s { txns = us })) (sym (update_none name (with_steps ts) s.txns unbegun))
+      (stands-same e s core h (is ∙ ap (λ us. record e.core.state { txns = us }) (update_none id (with_steps ts) e.core.state.txns unbegun-id)));
 }
   where
     seq : IsNamed (find_named id e.core.state.snapshots)

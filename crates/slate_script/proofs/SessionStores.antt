@@ -1,8 +1,7 @@
 -- What a flush and other lines leave of the store's tables.
 use Rattle.std.proofs.Common.{◌≡◌, ℕ, ◌+◌, ◌≤◌, inl, inr, List, [], ◌∷◌, ◌++◌, flat_map, length, Option, Some, None, IfSome, refl, sym, ap, ◌∙◌, subst, arith}
 use Rattle.std.specs.List.{AllByRecursion}
-use Rattle.std.proofs.lemmas.List.{append-nil, length-append}
-use Rattle.std.proofs.lemmas.List.Concat.{flat_map-append}
+use Rattle.std.proofs.lemmas.List.{length-append}
 use Rattle.slate_types.specs.declared.types.Ulid.{Ulid}
 use Rattle.slate_types.specs.Outside.{Objects}
 use Rattle.slate_filter.specs.Policy.{Policy, filters_of}
@@ -14,7 +13,7 @@ use Rattle.slate_txn.specs.declared.event.Event.{Event}
 use Rattle.slate_txn.specs.declared.event.Event.TheVariants as events
 use Rattle.slate_db.specs.Flushed.{AreTablesAt, IsFlushed, idle, stored, Layout, with_tables}
 use Rattle.slate_db.specs.Frozen.{IsFrozen}
-use Rattle.slate_db.specs.Installs.{runs_of, tables_in, tables_of, ArePlaced, Holds, HoldsTables, NumberedFrom}
+use Rattle.slate_db.specs.Installs.{runs_of, tables_of, ArePlaced, Holds, HoldsTables, NumberedFrom}
 use Rattle.slate_db.specs.Meaning.{Meaning}
 use Rattle.slate_db.specs.Model.{CoreModel, Rows}
 use Rattle.slate_db.specs.Readable.{AreFiltered}
@@ -24,19 +23,12 @@ use Rattle.slate_db.specs.Sound.{IsKept}
 use Rattle.slate_script.specs.Session.{SessionModel, HasTables, IsSettled, StoresNothing}
 use Rattle.slate_db.proofs.Runs.{are_placed}
 use Rattle.slate_db.proofs.RunsOf.{runs_more, runs_same, tables_are}
-use Rattle.slate_db.proofs.Logs.{numbered_more}
+use Rattle.slate_db.proofs.Logs.{numbered_more, tables_more, tables_same}
 use Rattle.slate_db.proofs.PathsApart.{IsEarlier, earlier_all, holds_puts}
 use Rattle.slate_script.proofs.SessionLeaves.{leaves-frozen}
 
-pub tables-more : (es : List Event) (e : Event) → tables_of (es ++ (e ∷ [])) ≡ tables_of es ++ tables_in e
-tables-more es e = flat_map-append tables_in es (e ∷ []) ∙ ap (λ ts. tables_of es ++ ts) (append-nil (tables_in e))
-
 pub same-tables : (es fs : List Event) → runs_of es ≡ runs_of fs → tables_of es ≡ tables_of fs
 same-tables es fs same = tables_are es ∙ ap (flat_map (λ (ts : List (Ulid × List ℕ)). ts)) same ∙ sym (tables_are fs)
-
--- an event that installs nothing
-pub none-more : (es : List Event) (e : Event) → tables_in e ≡ [] → tables_of (es ++ (e ∷ [])) ≡ tables_of es
-none-more es e none = tables-more es e ∙ ap (λ ts. tables_of es ++ ts) none ∙ append-nil (tables_of es)
 
 -- a freeze installs nothing
 frozen-tables : (old mid : CoreModel) (objects : Option Objects) → IsFrozen old mid → HasTables objects old.events → HasTables objects mid.events
@@ -51,7 +43,7 @@ frozen-tables old mid objects (inr frozen) h = subst (λ (c : CoreModel). HasTab
     runs = runs_same old.events events.Freeze refl
 
     same : tables_of (old.events ++ (events.Freeze ∷ [])) ≡ tables_of old.events
-    same = none-more old.events events.Freeze refl
+    same = tables_same old.events events.Freeze refl
 
     by : (o : Option Objects) → HoldsTables o old.events → HoldsTables o (old.events ++ (events.Freeze ∷ []))
     by None holds = holds
@@ -71,7 +63,7 @@ flushed-tables m layout old mid new n before after frozen flushed room h = by fl
     put : (o : Option Objects) (ts : List (Ulid × List ℕ)) → HasTables o mid.events → ArePlaced (length (runs_of mid.events) + 1) 0 ts → IfSome o (λ os. after ≡ Some (with_tables os ts)) → HasTables after (mid.events ++ (events.Install n ts ∷ []))
     put None ts k places takes = absurd k.holds
     put (Some os) ts k places takes = subst (λ o. HasTables o (mid.events ++ (events.Install n ts ∷ []))) (sym takes) (record {
-      holds = subst (Holds (with_tables os ts)) (sym (tables-more mid.events (events.Install n ts)))
+      holds = subst (Holds (with_tables os ts)) (sym (tables_more mid.events (events.Install n ts)))
           (holds_puts os (length (runs_of mid.events) + 1) 0 (tables_of mid.events) ts (omega (arith, k.few, size))
           (subst (AllByRecursion (IsEarlier (length (runs_of mid.events) + 1) 0)) (sym (tables_are mid.events)) (earlier_all 1 (length (runs_of mid.events) + 1) (runs_of mid.events) k.numbered (omega arith))) places k.holds);
       numbered = subst (NumberedFrom 1) (sym more) (numbered_more 1 (runs_of mid.events) ts k.numbered (subst (λ (i : ℕ). ArePlaced i 0 ts) (turn (length (runs_of mid.events))) places));
@@ -123,7 +115,7 @@ flushed-filtered m layout old mid new n before after frozen flushed h = by flush
     by : IsFlushed m layout mid new n before after → AreFiltered m.encode layout.policies (tables_of new.events)
     by (idle none is untouched) = subst (λ (c : CoreModel). AreFiltered m.encode layout.policies (tables_of c.events)) (sym is) here
     by (stored ts is made takes) =
-        subst (AreFiltered m.encode layout.policies) (sym (ap (λ (c : CoreModel). tables_of c.events) is ∙ tables-more mid.events (events.Install n ts)))
+        subst (AreFiltered m.encode layout.policies) (sym (ap (λ (c : CoreModel). tables_of c.events) is ∙ tables_more mid.events (events.Install n ts)))
         (filtered-both m.encode layout.policies (tables_of mid.events) ts here (built-filtered m.encode layout _ 0 made.parts ts made.built))
 
 pub flush-settled : (m : Meaning) (seg : Segments) (layout : Layout) (objects after : Option Objects) (e : SessionModel) (mid core : CoreModel) (n : ℕ) → IsFrozen e.core mid → IsFlushed m layout mid core n objects after → length e.core.events ≤ LIMIT →

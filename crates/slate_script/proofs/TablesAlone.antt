@@ -11,6 +11,7 @@ use Rattle.slate_types.specs.Keys.{key_cmp}
 use Rattle.slate_types.specs.Outside.{Objects}
 use Rattle.slate_types.specs.Rows.{of_key}
 use Rattle.slate_types.proofs.KeyOrder.{same-key}
+use Rattle.slate_types.proofs.Lists.{AllByRecursion-append, AllByRecursion-behind, AllByRecursion-front, AllByRecursion-weaken}
 use Rattle.slate_store.specs.Store.{IsEmpty, with_object}
 use Rattle.slate_table.specs.Parts.{Encode}
 use Rattle.slate_table.specs.Paths.{path_of, table_id}
@@ -33,15 +34,11 @@ use Rattle.slate_db.specs.Layers.{AreRising}
 use Rattle.slate_db.specs.Log.{LIMIT}
 use Rattle.slate_script.specs.Session.{SessionModel, StandsFor, StoresNothing, IsTableUpTo, HasTablesAlone}
 use Rattle.slate_script.specs.StoredState.{IsStoredState, IsTableObject}
-use Rattle.slate_script.proofs.BySequence.{all-front, all-behind, all-both, one-table-more}
+use Rattle.slate_script.proofs.BySequence.{one-table-more}
 use Rattle.slate_db.proofs.OneSegment.{InOneSegment, flushed_stand}
 use Rattle.slate_db.proofs.RunsOf.{runs_more, tables_are}
 use Rattle.slate_db.proofs.PathsApart.{ids_same}
 use Rattle.slate_script.proofs.SessionLeaves.{leaves-frozen}
-
-each-as : {X : Type 0} (P Q : X → Type 0) → ((x : X) → P x → Q x) → (xs : List X) → AllByRecursion P xs → AllByRecursion Q xs
-each-as P Q f [] h = tt
-each-as P Q f (x ∷ xs) h = (f x h.0, each-as P Q f xs h.1)
 
 -- the objects on both sides of a path that none of them has
 record IsPutAmong (os : Objects) (path bytes : List ℕ) : Type 0 where
@@ -124,13 +121,13 @@ table-alone : (m : Meaning) (layout : Layout) (n p : ℕ) (os : Objects) (ts : L
     HoldsAlone m layout n (p + 1) (with_object os (path_of root t.0.0) t.1) (ts ++ (t ∷ []))
 table-alone m layout n p os ts t here first fits made one h =
     let is : IsTable m.encode t.1 layout.version t.0.0 here = subst (IsTable m.encode t.1 layout.version t.0.0) made.read (built_has m.encode layout.policies layout.min_filter_keys layout.block_size layout.version t.0.0 t.1 here made.built) in
-    let place : IsPutAmong os (path_of root t.0.0) t.1 = put-among os (path_of root t.0.0) t.1 (each-as _ _ (λ o b same. path-apart m layout n p o fits made.fits b (sym (ap (path_of root) made.id) ∙ same)) os h.each) in
+    let place : IsPutAmong os (path_of root t.0.0) t.1 = put-among os (path_of root t.0.0) t.1 (AllByRecursion-weaken _ _ (λ o b same. path-apart m layout n p o fits made.fits b (sym (ap (path_of root) made.id) ∙ same)) os h.each) in
     let parts : AreHeldApart m.encode place.a place.b h.rows = held-apart m.encode place.a place.b h.rows (subst (λ (x : Objects). HoldRows m.encode x h.rows) place.before h.held) in
-    let each : AllByRecursion (IsTableBefore m layout n (p + 1)) (place.a ++ place.b) = subst (AllByRecursion (IsTableBefore m layout n (p + 1))) place.before (each-as (IsTableBefore m layout n p) _ (later-place m layout n p) os h.each) in
+    let each : AllByRecursion (IsTableBefore m layout n (p + 1)) (place.a ++ place.b) = subst (AllByRecursion (IsTableBefore m layout n (p + 1))) place.before (AllByRecursion-weaken (IsTableBefore m layout n p) _ (later-place m layout n p) os h.each) in
     let new : IsTableBefore m layout n (p + 1) (path_of root t.0.0, t.1) =
     (record { number = n; first = first; fits = fits; place = p; place_fits = made.fits; rows = here; path = ap (path_of root) made.id; built = subst (λ (id : ℕ). IsBuilt m.encode layout.policies layout.min_filter_keys layout.block_size layout.version id t.1 here) made.id made.built; prefix = one.0; one = one.1 }, inr (refl, omega arith)) in
     record {
-      each = subst (AllByRecursion (IsTableBefore m layout n (p + 1))) (sym place.after) (all-both _ place.a ((path_of root t.0.0, t.1) ∷ place.b) (all-front _ place.a place.b each) (new, all-behind _ place.a place.b each));
+      each = subst (AllByRecursion (IsTableBefore m layout n (p + 1))) (sym place.after) (AllByRecursion-append _ place.a ((path_of root t.0.0, t.1) ∷ place.b) (AllByRecursion-front _ place.a place.b each) (new, AllByRecursion-behind _ place.a place.b each));
       layers = h.layers ++ (here ∷ []);
       tables = tables-more m ts t layout.version h.layers here h.tables is;
       rows = parts.first ++ (here ++ parts.last);
@@ -155,7 +152,7 @@ run-alone m layout runs us parts before after few made one takes h =
     let n : ℕ = length runs + 1 in
     let size : length (runs ++ (us ∷ [])) ≡ length runs + 1 = length-append runs (us ∷ []) in
     let start : HoldsAlone m layout (length runs + 1) 0 h.os (flat_map (λ ts. ts) runs) = record {
-      each = each-as (IsTableUpTo m layout (length runs)) _ (λ o b. (b.0, inl (omega (arith, b.1)))) h.os h.each;
+      each = AllByRecursion-weaken (IsTableUpTo m layout (length runs)) _ (λ o b. (b.0, inl (omega (arith, b.1)))) h.os h.each;
       layers = h.layers;
       tables = h.tables;
       rows = h.rows;
@@ -168,7 +165,7 @@ run-alone m layout runs us parts before after few made one takes h =
     record {
       os = with_tables h.os us;
       told = subst (λ o. IfSome o (λ os. after ≡ Some (with_tables os us))) h.told takes;
-      each = each-as _ (IsTableUpTo m layout (length (runs ++ (us ∷ [])))) (λ o b. (b.0, within b.0.number b.0.place (tables-alone m layout (length runs + 1) 0 h.os (flat_map (λ ts. ts) runs) us parts (omega arith) few made one start).0 b.1)) (with_tables h.os us) end.each;
+      each = AllByRecursion-weaken _ (IsTableUpTo m layout (length (runs ++ (us ∷ [])))) (λ o b. (b.0, within b.0.number b.0.place (tables-alone m layout (length runs + 1) 0 h.os (flat_map (λ ts. ts) runs) us parts (omega arith) few made one start).0 b.1)) (with_tables h.os us) end.each;
       layers = end.layers;
       tables = subst (λ (ts : List (Ulid × List ℕ)). AreTables m ts end.layers) (sym flat) end.tables;
       rows = end.rows;
@@ -221,7 +218,7 @@ pub stored-state : (m : Meaning) (seg : Segments) (r : Rules) (layout : Layout) 
 stored-state m seg r layout objects e s rules stores stands h = record {
   os = h.os;
   told = h.told;
-  each = each-as _ (IsTableObject m layout) (λ o p. p.0) h.os h.each;
+  each = AllByRecursion-weaken _ (IsTableObject m layout) (λ o p. p.0) h.os h.each;
   rows = h.rows;
   held = h.held;
   folds = λ k.

@@ -27,9 +27,10 @@ use Rattle.slate_db.specs.Sound.{IsKept}
 use Rattle.slate_db.specs.Log.{LIMIT}
 use Rattle.slate_script.specs.Session.{SessionModel, IsSettled, StoresNothing}
 use Rattle.slate_script.specs.Told.{ArePut, AreTrue, Follows, IsRefusedAt, IsShownAtEnd, IsShownBy, IsUntrue, PutsTables, after_act, after_acts}
+use Rattle.slate_db.proofs.Logs.{tables_more}
 use Rattle.slate_script.proofs.Running.{not-damage}
 use Rattle.slate_script.proofs.SessionLeaves.{leaves-frozen}
-use Rattle.slate_script.proofs.SessionStores.{flush-settled, same-tables, stays-settled, tables-more, tables-still}
+use Rattle.slate_script.proofs.SessionStores.{flush-settled, same-tables, stays-settled, tables-still}
 
 -- ---- acts
 
@@ -115,7 +116,7 @@ follows-flush m seg layout os objects left e mid core n before after frozen flus
         settles [] (append_cancel_left (tables_of e.core.events) us [] (sym grown ∙ ap (λ (c : CoreModel). tables_of c.events) is ∙ same ∙ sym (append-nil (tables_of e.core.events))))
         (flush-settled m seg layout (Some os) (Some os) e mid core n frozen (idle none is refl) room kept segmented settled)
     by (stored ts is made takes) =
-        settles ts (append_cancel_left (tables_of e.core.events) us ts (sym grown ∙ ap (λ (c : CoreModel). tables_of c.events) is ∙ tables-more mid.events (events.Install n ts) ∙ ap (λ xs. xs ++ ts) same))
+        settles ts (append_cancel_left (tables_of e.core.events) us ts (sym grown ∙ ap (λ (c : CoreModel). tables_of c.events) is ∙ tables_more mid.events (events.Install n ts) ∙ ap (λ xs. xs ++ ts) same))
         (flush-settled m seg layout (Some os) (Some (with_tables os ts)) e mid core n frozen (stored ts is made refl) room kept segmented settled)
 
 -- ---- damage

@@ -1,6 +1,6 @@
 -- The steps of a scan, as they are taken one after the other.
 use Rattle.std.proofs.Common.{◌≡◌, ℕ, zero, suc, ◌+◌, ◌-◌, ◌<◌, ◌≤◌, Bool, true, false, cond, ◌==◌, List, [], ◌∷◌, ◌++◌, length, take, drop, get_or, Some, None, refl, sym, ap, ◌∙◌, arith, add-one, append_assoc, append-nil, ltb}
-use Rattle.std.specs.Prelude.{count_by}
+use Rattle.std.specs.Prelude.{count_by, Option}
 use Rattle.std.proofs.Math.Seq.{drop-cons, drop-nil}
 use Rattle.std.proofs.lemmas.Bool.Decides.{nat_tests}
 use Rattle.std.proofs.lemmas.Bool.{lt-ltb, ltb-true, ltb-false}
@@ -19,7 +19,16 @@ use Rattle.slate_txn.specs.declared.line.ScanStep.TheVariants.{Rows}
 use Rattle.slate_txn.specs.Alone.{first_left}
 use Rattle.slate_txn.specs.Reads.{answer_of, handed, nexts, steps_walk}
 use Rattle.slate_txn.specs.Step.{is_scan}
-use Rattle.slate_script.specs.Walking.{TakesFirst, TakesNext, TakesRest, TakesStep, Walks}
+use Rattle.slate_script.specs.Walking.{TakesStep, Walks, Means}
+
+abbrev pub TakesFirst : ℕ → ℕ → Means
+TakesFirst n i rows left ts = (ts ≡ nexts n (take i rows)) × (left ≡ drop i rows) × (i ≤ length rows)
+
+abbrev pub TakesNext : ℕ → Option KeyValue → Means
+TakesNext n a rows left ts = (ts ≡ steps.Next n a ∷ []) × (a ≡ first_left rows) × (left ≡ drop 1 rows)
+
+abbrev pub TakesRest : ℕ → IterationOrder → List ScanStep → ℕ → Means
+TakesRest n order sts i rows left ts = ts ++ steps_walk order n left (drop i sts) ≡ steps_walk order n rows sts
 
 pub handed_both : (ts us : List TranscriptStep) → handed (ts ++ us) ≡ handed ts ++ handed us
 handed_both ts us = filter_map-append answer_of ts us

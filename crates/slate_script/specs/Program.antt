@@ -6,10 +6,13 @@
 --     status e      the exit status of a run that an error ended
 --     IsStatus n      the statuses that there are: 0, 2 for words that aren't known, and those of errors
 --     IsDamageStatus n      those of a table that isn't what was stored
+--     IsShownStatus policies m before after n      the status is that of an error which the last of the acts show that a store tells
 --     IsGeneratedStatus n      those of a run over a script that it makes for itself
 use Rattle.std.specs.Prelude.{◌≡◌, ℕ, ◌⊎◌, List, Option, Some, None, option_map, unwrap_or}
 use Rattle.slate_types.specs.declared.error.SlateDBError.{SlateDBError}
 use Rattle.slate_types.specs.ExitStatus as exit
+use Rattle.slate_types.specs.Outside.{Act}
+use Rattle.slate_filter.specs.Policy.{Policy}
 use Rattle.slate_txn.specs.Settings.{settings_of, rules}
 use Rattle.slate_txn.specs.State.{Rules}
 use Rattle.slate_mem.specs.KeyTests.{Segments}
@@ -17,6 +20,7 @@ use Rattle.slate_db.specs.Meaning.{Meaning, segments_by}
 use Rattle.slate_language.specs.Parts.{named, xored}
 use Rattle.slate_language.specs.Segments.{lengths_of}
 use Rattle.slate_language.specs.declared.words.Settings.{Settings}
+use Rattle.slate_script.specs.Told.{IsShown}
 
 abbrev pub segments_of : Settings → Segments
 segments_of s = segments_by lengths_of s.segments
@@ -37,6 +41,9 @@ status e = unwrap_or (exit.status e) 20
 
 abbrev pub IsDamageStatus : ℕ → Type 0
 IsDamageStatus n = (n ≡ 12) ⊎ (n ≡ 14) ⊎ (n ≡ 15) ⊎ (n ≡ 16) ⊎ (n ≡ 18) ⊎ (n ≡ 19)
+
+abbrev pub IsShownStatus : List Policy → Meaning → Option (List Act) → Option (List Act) → ℕ → Type 0
+IsShownStatus policies m before after n = (e : SlateDBError) × (status e ≡ n) × IsShown policies m before after e
 
 abbrev pub IsStatus : ℕ → Type 0
 IsStatus n = (n ≡ 0) ⊎ (n ≡ 2) ⊎ (n ≡ 3) ⊎ (n ≡ 4) ⊎ (n ≡ 5) ⊎ (n ≡ 6) ⊎ (n ≡ 7) ⊎ IsDamageStatus n ⊎ (n ≡ 20)

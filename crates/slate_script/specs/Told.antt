@@ -8,7 +8,8 @@
 --     asking_for policies k      what the get of a line asks filters
 --     IsShownBy policies m c reads e      reads show the error, as those of a get do or as those of a scan
 --     IsRefusedAt policies line m c reads e      what a line is refused for by its reads: a get, a scan and a prefix; others are for none
---     IsShownAtEnd policies before after e      the last acts are reads that show the error, by tables that were put before them
+--     IsShown policies m before after e      of acts that a store tells the last ones are reads that show the error, by tables that were put before them
+--     IsShownAtEnd policies before after e      the same of what a run reaches
 use Rattle.std.specs.Prelude.{◌≡◌, ◌⊎◌, ℕ, List, [], ◌∷◌, ◌++◌, Contains, Option, None, Some}
 use Rattle.std.specs.List.{AllByRecursion}
 use Rattle.slate_types.specs.declared.error.SlateDBError.{SlateDBError}
@@ -71,9 +72,12 @@ IsRefusedAt policies (lines.Prefix name order p start end sts) m c reads e = IsR
 IsRefusedAt policies line m c reads e = ⊥
 
 -- core: as it was before the reads
-pub record IsShownAtEnd (policies : List Policy) (before after : Reach) (e : SlateDBError) : Type 0 where
+pub record IsShown (policies : List Policy) (m : Meaning) (before after : Option (List Act)) (e : SlateDBError) : Type 0 where
   pub core : CoreModel
   pub reads : List Act
   pub each : AllByRecursion IsReadAct reads
-  pub refused : IsShownBy policies before.meaning core reads e
-  pub last : (known : List Act) → before.acts ≡ Some known → (earlier : List Act) × (after.acts ≡ Some ((known ++ earlier) ++ reads)) × ArePut earlier (tables_of core.events)
+  pub refused : IsShownBy policies m core reads e
+  pub last : (known : List Act) → before ≡ Some known → (earlier : List Act) × (after ≡ Some ((known ++ earlier) ++ reads)) × ArePut earlier (tables_of core.events)
+
+abbrev pub IsShownAtEnd : List Policy → Reach → Reach → SlateDBError → Type 0
+IsShownAtEnd policies before after e = IsShown policies before.meaning before.acts after.acts e

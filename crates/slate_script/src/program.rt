@@ -13,7 +13,7 @@ ghost use Rattle.slate_db.specs.Flushed.{layout_of};
 ghost use Rattle.slate_language.specs.Generate.{generate, summary};
 ghost use Rattle.slate_language.specs.declared.words.Generated.{Generated};
 ghost use Rattle.slate_language.specs.declared.words.Settings.{Settings};
-ghost use Rattle.slate_script.specs.Program.{main_rules, parts_of, segments_of, status, IsDamageStatus, IsGeneratedStatus, IsStatus};
+ghost use Rattle.slate_script.specs.Program.{main_rules, parts_of, segments_of, status, IsDamageStatus, IsGeneratedStatus, IsShownStatus, IsStatus};
 ghost use Rattle.slate_language.specs.Replies.{after_lines, replies, replies_to, IsWellFormed};
 ghost use Rattle.slate_language.specs.Words.{max_rounds, read_generated, read_words, used};
 ghost use Rattle.slate_script.specs.Run.{script_error, lines_taken, IsOutside, IsScriptError, HasAnswered, HasAnsweredAll, HasBegun};
@@ -43,7 +43,7 @@ use std::alloc::Global;
 /// What is said of the script and of what was written holds where source and sink tell their bytes, and what is said
 /// of replies and of stored tables where the policies are lawful and the store was empty and tells its objects besides.
 /// Over such a store 12, 14, 15, 16, 18 and 19 never come, and over one that tells its acts only where a read was answered
-/// otherwise than by what the run had put. At 0 each line was answered, and the store's objects are the tables that flushes
+/// otherwise than by what the run had put; by whichever policies, the last acts that it tells show the error. At 0 each line was answered, and the store's objects are the tables that flushes
 /// put, with the filters of the policies that the words use, and their rows alone fold to the state at the last flush. At 7
 /// and 20 the replies to some first lines are written.
 pub fn run_main<R: Source, W: Sink, S: Store>(
@@ -94,6 +94,10 @@ pub fn run_main<R: Source, W: Sink, S: Store>(
     ensures store_fault { result ≡ 7 → Rose (S.faults store.old) (S.faults store.new) }
     ensures undamaged { AreLawful (map (λ p. meaning p) policies.items) → IsEmpty (S.objects store.old) → IsDamageStatus result → ⊥ }
     ensures untrue { AreLawful (map (λ p. meaning p) policies.items) → IsDamageStatus result → IsUntrue [] (S.acts store.old) (S.acts store.new) }
+    ensures shown { let ws = map string_bytes words.now in
+        let handed = map (λ p. (meaning p).name) policies.items in
+        let given = map (λ p. meaning p) policies.items in
+        (s : Settings) → read_words handed ws ≡ Some s → IsDamageStatus result → IsShownStatus (used ws given) (parts_of s) (S.acts store.old) (S.acts store.new) result }
     ensures complete { let ws = map string_bytes words.now in
         let handed = map (λ p. (meaning p).name) policies.items in
         let given = map (λ p. meaning p) policies.items in
@@ -153,6 +157,10 @@ pub fn run_main<R: Source, W: Sink, S: Store>(
         let given = map (λ p. meaning p) policies.items in
         (g : Generated) → read_generated handed ws ≡ Some g → AreLawful given → IsEmpty (S.objects store.old) →
         (Rose (W.faults sink.old) (W.faults sink.new) → ⊥) → (Rose (S.faults store.old) (S.faults store.new) → ⊥) → (result ≡ 0) ⊎ (result ≡ 20) }
+    ensures summed_shown { let ws = map string_bytes words.now in
+        let handed = map (λ p. (meaning p).name) policies.items in
+        let given = map (λ p. meaning p) policies.items in
+        (g : Generated) → read_generated handed ws ≡ Some g → IsDamageStatus result → IsShownStatus (used ws given) (parts_of g.settings) (S.acts store.old) (S.acts store.new) result }
     ensures summed_begun { let ws = map string_bytes words.now in
         let handed = map (λ p. (meaning p).name) policies.items in
         let given = map (λ p. meaning p) policies.items in
@@ -213,6 +221,7 @@ fn main_generated<W: Sink, S: Store>(
     ensures store_fault { result ≡ 7 → Rose (S.faults store.old) (S.faults store.new) }
     ensures undamaged { AreLawful (map (λ p. meaning p) policies.items) → IsEmpty (S.objects store.old) → IsDamageStatus result → ⊥ }
     ensures untrue { AreLawful (map (λ p. meaning p) policies.items) → IsDamageStatus result → IsUntrue [] (S.acts store.old) (S.acts store.new) }
+    ensures shown { IsDamageStatus result → IsShownStatus (map (λ p. meaning p) policies.items) (parts_of generated.now.settings) (S.acts store.old) (S.acts store.new) result }
     ensures complete { AreLawful (map (λ p. meaning p) policies.items) → IsEmpty (S.objects store.old) →
         (Rose (W.faults sink.old) (W.faults sink.new) → ⊥) → (Rose (S.faults store.old) (S.faults store.new) → ⊥) → (result ≡ 0) ⊎ (result ≡ 20) }
     ensures begun { (before : List ℕ) → W.content sink.old ≡ Some before → AreLawful (map (λ p. meaning p) policies.items) → IsEmpty (S.objects store.old) → result ≡ 6 →

@@ -3,7 +3,6 @@ use Rattle.slate_store.specs.Lines.{lines_of}
 use Rattle.slate_txn.specs.State.{opening}
 use Rattle.slate_txn.specs.Step.{answers}
 use Rattle.slate_db.specs.Meaning.{segments_by}
-use Rattle.slate_db.specs.Parts.{meaning_of}
 use Rattle.slate_language.specs.Generate.{generate, summary}
 use Rattle.slate_language.specs.Replies.{meanings, IsWellFormed}
 use Rattle.slate_language.specs.Tally.{tallied, tally_text}
@@ -14,6 +13,7 @@ use Rattle.slate_script.proofs.GeneratedEnds.{formed-outside, lines-cause, lines
 use Rattle.slate_script.proofs.LineEnds.{writing-no-damage, writing-no-error}
 use Rattle.slate_script.proofs.Running.{always}
 use Rattle.slate_script.proofs.generated.run_generated.Goals as goal
+use Rattle.slate_script.proofs.MeaningOf.{meaning_of}
 
 pub returns-in-Ok : goal.returns-in-Ok
 returns-in-Ok g c =

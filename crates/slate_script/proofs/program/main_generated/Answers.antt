@@ -7,10 +7,10 @@ use Rattle.slate_db.specs.Flushed.{layout_of}
 use Rattle.slate_db.specs.Meaning.{Meaning}
 use Rattle.slate_language.specs.Generate.{generate, summary}
 use Rattle.slate_language.specs.Replies.{after_lines}
-use Rattle.slate_script.specs.Program.{segments_of, main_rules, parts_of, status}
+use Rattle.slate_script.specs.Program.{segments_of, main_rules, parts_of, status, IsShownStatus}
 use Rattle.slate_script.specs.Run.{run_rules}
 use Rattle.slate_script.specs.StoredState.{IsStoredState}
-use Rattle.slate_script.specs.Told.{IsUntrue}
+use Rattle.slate_script.specs.Told.{IsShown, IsUntrue}
 use Rattle.slate_script.proofs.Mains.{lawful, premises, none-rose, rules-are, words-are}
 use Rattle.slate_script.proofs.RunEnds.{unless-error}
 use Rattle.slate_script.proofs.Statuses.{damage-between, is-damage, is-ended, is-generated, is-store, is-write, status-or, written-or}
@@ -33,6 +33,7 @@ returns-in-Ok g c =
       store_fault = λ seven. absurd (omega (arith, seven));
       undamaged = λ lawful_policies empty which. absurd (omega (arith, (damage-between 0 which).0));
       untrue = λ lawful_policies which. absurd (omega (arith, (damage-between 0 which).0));
+      shown = λ which. absurd (omega (arith, (damage-between 0 which).0));
       complete = λ lawful_policies empty no-write no-store. inl refl;
       begun = λ before told lawful_policies empty six. absurd (omega (arith, six));
       unwritten = inl refl;
@@ -57,6 +58,14 @@ returns-in-Err g c =
           let within = subst (λ (n : ℕ). (12 ≤ n) × (n ≤ 19)) c.status_of-status.ensures (damage-between c.status_of-status.result which) in
           subst (λ t. IsUntrue [] (g.S.Store.acts c.args.store.now) (g.S.Store.acts t)) (sym (c.store-1.given.1 (sym c.in-Err.ensures.puts.store)))
           (c.in-Err.ensures.untrue lawful_policies (lawful c.args.generated.now.settings.operator c.transformer_of.result) (is-damage c.in-Err.error c.in-Err.ensures.cause.kinds within.0 within.1)));
+      shown = (λ which.
+          let within = subst (λ (n : ℕ). (12 ≤ n) × (n ≤ 19)) c.status_of-status.ensures (damage-between c.status_of-status.result which) in
+          let given = map (λ p. (goal.FilterPolicy-dyn g (p.vtable, p.value)).meaning p.value) c.args.policies.items in
+          let acts = g.S.Store.acts in
+          subst (λ t. IsShownStatus given (parts_of c.args.generated.now.settings) (acts c.args.store.now) (acts t) c.status_of-status.result) (sym (c.store-1.given.1 (sym c.in-Err.ensures.puts.store)))
+          (c.in-Err.error, sym c.status_of-status.ensures,
+          subst (λ (m : Meaning). IsShown given m (acts c.args.store.now) (acts c.run_generated-ran.new.env.store.now) c.in-Err.error) (words-are c.args.generated.now.settings c.transformer_of.result c.transformer_of.ensures)
+          (c.in-Err.ensures.shown (is-damage c.in-Err.error c.in-Err.ensures.cause.kinds within.0 within.1))));
       complete = (λ lawful_policies empty no-write no-store.
           inr (c.status_of-status.ensures ∙ ap status (c.in-Err.ensures.complete (premises _ c.args.generated.now.settings.operator c.transformer_of.result _ lawful_policies empty) (record { source_still = λ h. h; sink_still = no-write; store = λ h. no-store (subst (λ t. Rose (g.S.Store.faults c.args.store.now) (g.S.Store.faults t)) (sym (c.store-1.given.1 (sym c.in-Err.ensures.puts.store))) h); operator = none-rose c.args.generated.now.settings.operator c.run_generated-ran.new.env.operator; transformer = none-rose c.transformer_of.result c.run_generated-ran.new.env.transformer }))));
       begun = λ before told lawful_policies empty six.

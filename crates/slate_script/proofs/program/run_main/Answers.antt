@@ -4,11 +4,11 @@ use Rattle.slate_script.specs.Program.{segments_of, status}
 use Rattle.slate_script.specs.Run.{run_rules, script_error}
 use Rattle.slate_script.proofs.Statuses.{is-status, is-ended, is-read, is-write, is-store, is-too_long, is-syntax, is-damage, is-part, damage-between, its-own, status-or}
 use Rattle.slate_language.specs.declared.words.Settings.{Settings}
-use Rattle.slate_script.specs.Program.{segments_of, main_rules, parts_of}
+use Rattle.slate_script.specs.Program.{segments_of, main_rules, parts_of, IsShownStatus}
 use Rattle.slate_language.specs.Replies.{after_lines, replies, replies_to}
 use Rattle.slate_script.specs.Run.{lines_taken, HasAnswered, HasAnsweredAll, HasBegun}
 use Rattle.slate_script.specs.StoredState.{IsStoredState}
-use Rattle.slate_script.specs.Told.{IsUntrue}
+use Rattle.slate_script.specs.Told.{IsShown, IsUntrue}
 use Rattle.slate_store.specs.Lines.{lines_of}
 use Rattle.slate_txn.specs.State.{Rules, opening}
 use Rattle.slate_types.specs.Faults.{Rose}
@@ -75,6 +75,7 @@ returns-in-Ok g c =
       store_fault = λ seven. absurd (omega (arith, seven));
       undamaged = λ lawful_policies empty which. absurd (omega (arith, (damage-between 0 which).0));
       untrue = λ lawful_policies which. absurd (omega (arith, (damage-between 0 which).0));
+      shown = λ s named which. absurd (omega (arith, (damage-between 0 which).0));
       complete = λ s script named is formed lawful_policies empty no-read no-write no-store. inl refl;
       source_still = inr (unless-error _ ReadFault c.in-Ok.ensures.source_still);
       sink_still = inr (unless-error _ WriteFault c.in-Ok.ensures.sink_still);
@@ -90,6 +91,7 @@ returns-in-Ok g c =
       summed_kinds = λ named-g named. absurd (no-generated named-g named);
       summed_alone = λ named-g named. absurd (no-generated named-g named);
       summed_complete = λ named-g named lawful_policies empty no-write no-store. absurd (no-generated named-g named);
+      summed_shown = λ named-g named which. absurd (no-generated named-g named);
       summed_begun = λ named-g before named told lawful_policies empty six. absurd (no-generated named-g named);
       summed_unwritten = λ named-g named. absurd (no-generated named-g named);
     }
@@ -134,6 +136,19 @@ returns-in-Err g c =
           let within = subst (λ (n : ℕ). (12 ≤ n) × (n ≤ 19)) c.status_of-status.ensures (damage-between c.status_of-status.result which) in
           subst (λ t. IsUntrue [] (g.S.Store.acts c.args.store.now) (g.S.Store.acts t)) (sym (c.store-1.given.1 (sym c.in-Err.ensures.puts.store)))
           (c.in-Err.ensures.untrue (fit lawful_policies) (lawful c.in-Some-parse_words.settings.operator c.transformer_of.result) (is-damage c.in-Err.error c.in-Err.ensures.cause.kinds within.0 within.1)));
+      shown = (λ s named which.
+          let same : c.in-Some-parse_words.settings ≡ s = same-settings c.parse_words.result c.in-Some-parse_words.settings s c.in-Some-parse_words.is (settings ∙ named) in
+          let within = subst (λ (n : ℕ). (12 ≤ n) × (n ≤ 19)) c.status_of-status.ensures (damage-between c.status_of-status.result which) in
+          let given : List Policy = map (λ p. (goal.FilterPolicy-dyn g (p.vtable, p.value)).meaning p.value) c.args.policies.items in
+          let kept : List Policy = map (λ p. (goal.FilterPolicy-dyn g (p.vtable, p.value)).meaning p.value) c.keep_used-kept-2.result.items in
+          let acts = g.S.Store.acts in
+          let told = acts c.run_script-ran.new.env.store.now in
+          subst (λ t. IsShownStatus (used ws given) (parts_of s) (acts c.args.store.now) (acts t) c.status_of-status.result) (sym (c.store-1.given.1 (sym c.in-Err.ensures.puts.store)))
+          (c.in-Err.error, sym c.status_of-status.ensures,
+          subst (λ (ps : List Policy). IsShown ps (parts_of s) (acts c.args.store.now) told c.in-Err.error) c.keep_used-kept-2.ensures
+          (subst (λ (t : Settings). IsShown kept (parts_of t) (acts c.args.store.now) told c.in-Err.error) same
+          (subst (λ (m : Meaning). IsShown kept m (acts c.args.store.now) told c.in-Err.error) (words-are c.in-Some-parse_words.settings c.transformer_of.result c.transformer_of.ensures)
+          (c.in-Err.ensures.shown (is-damage c.in-Err.error c.in-Err.ensures.cause.kinds within.0 within.1))))));
       complete = (λ s script named is formed lawful_policies empty no-read no-write no-store.
           inr (c.status_of-status.ensures ∙ ap status (c.in-Err.ensures.complete script is formed (premises _ c.in-Some-parse_words.settings.operator c.transformer_of.result _ (fit lawful_policies) empty) (record { source_still = no-read; sink_still = no-write; store = λ h. no-store (subst (λ t. Rose (g.S.Store.faults c.args.store.now) (g.S.Store.faults t)) (sym (c.store-1.given.1 (sym c.in-Err.ensures.puts.store))) h); operator = none-rose c.in-Some-parse_words.settings.operator c.run_script-ran.new.env.operator; transformer = none-rose c.transformer_of.result c.run_script-ran.new.env.transformer }))));
       source_still = status-or c.in-Err.error ReadFault c.status_of-status.result _ c.status_of-status.ensures refl c.in-Err.ensures.source_still;
@@ -166,6 +181,7 @@ returns-in-Err g c =
       summed_kinds = λ named-g named. absurd (no-generated named-g named);
       summed_alone = λ named-g named. absurd (no-generated named-g named);
       summed_complete = λ named-g named lawful_policies empty no-write no-store. absurd (no-generated named-g named);
+      summed_shown = λ named-g named which. absurd (no-generated named-g named);
       summed_begun = λ named-g before named told lawful_policies empty six. absurd (no-generated named-g named);
       summed_unwritten = λ named-g named. absurd (no-generated named-g named);
     }
@@ -195,6 +211,7 @@ returns-in_default-parse_words g c =
       store_fault = λ seven. absurd (omega (arith, seven));
       undamaged = λ lawful_policies empty which. absurd (omega (arith, (damage-between 2 which).0));
       untrue = λ lawful_policies which. absurd (omega (arith, (damage-between 2 which).0));
+      shown = λ s named which. absurd (omega (arith, (damage-between 2 which).0));
       complete = λ s script named is formed lawful_policies empty no-read no-write no-store. absurd (some-not-none c.parse_words.result s (settings ∙ named) c.in_default-parse_words.is);
       source_still = inr refl;
       sink_still = inr refl;
@@ -210,6 +227,7 @@ returns-in_default-parse_words g c =
       summed_kinds = λ named-g named. absurd (no-generated named-g named);
       summed_alone = λ named-g named. absurd (no-generated named-g named);
       summed_complete = λ named-g named lawful_policies empty no-write no-store. absurd (no-generated named-g named);
+      summed_shown = λ named-g named which. absurd (no-generated named-g named);
       summed_begun = λ named-g before named told lawful_policies empty six. absurd (no-generated named-g named);
       summed_unwritten = λ named-g named. absurd (no-generated named-g named);
     }
@@ -242,6 +260,7 @@ returns-in-Some g c =
       store_fault = c.main_generated.ensures.store_fault;
       undamaged = λ lawful_policies. c.main_generated.ensures.undamaged (fit lawful_policies);
       untrue = λ lawful_policies. c.main_generated.ensures.untrue (fit lawful_policies);
+      shown = λ s named which. one-script handed ws its s read named;
       complete = λ s script named is formed lawful_policies empty no-read no-write no-store. one-script handed ws its s read named;
       source_still = inr refl;
       sink_still = c.main_generated.ensures.sink_still;
@@ -263,6 +282,12 @@ returns-in-Some g c =
       summed_kinds = λ x named. own;
       summed_alone = λ x named. refl;
       summed_complete = λ x named lawful_policies. c.main_generated.ensures.complete (fit lawful_policies);
+      summed_shown = (λ x named which.
+          let given : List Policy = map (λ p. (goal.FilterPolicy-dyn g (p.vtable, p.value)).meaning p.value) c.args.policies.items in
+          let kept : List Policy = map (λ p. (goal.FilterPolicy-dyn g (p.vtable, p.value)).meaning p.value) c.keep_used-kept.result.items in
+          let ends = λ (y : Generated) (ps : List Policy). IsShownStatus ps (parts_of y.settings) (g.S.Store.acts c.args.store.now) (g.S.Store.acts c.main_generated.new.store) c.main_generated.result in
+          subst (λ (ps : List Policy). ends x ps) c.keep_used-kept.ensures
+          (subst (λ (y : Generated). ends y kept) (same x named) (c.main_generated.ensures.shown which)));
       summed_begun = (λ x before named told lawful_policies empty six.
           subst (λ (y : Generated). (n : ℕ) × (n < length (summary (main_rules y.settings) (generate y.rounds y.seed))) × (g.W.Sink.content c.main_generated.new.sink ≡ Some (before ++ take n (summary (main_rules y.settings) (generate y.rounds y.seed))))) (same x named)
           (c.main_generated.ensures.begun before told (fit lawful_policies) empty six));

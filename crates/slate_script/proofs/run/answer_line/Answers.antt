@@ -3,7 +3,6 @@ use Rattle.slate_types.proofs.Reaching.{puts_none}
 use Rattle.slate_db.specs.Flushed.{layout_of}
 use Rattle.slate_db.specs.Installs.{runs_of, tables_of}
 use Rattle.slate_db.specs.Meaning.{Meaning, segments_by}
-use Rattle.slate_db.specs.Parts.{meaning_of, counts_of}
 use Rattle.slate_language.specs.Answers.{reply_of}
 use Rattle.slate_language.specs.Replies.{replies_from, reply_line}
 use Rattle.slate_script.specs.Run.{IsPartCause}
@@ -14,6 +13,7 @@ use Rattle.slate_script.proofs.RunEnds.{is-no-error}
 use Rattle.slate_script.proofs.ToldLaws.{follows-itself, line-shown, stores-itself}
 use Rattle.slate_script.proofs.Running.{line-stands, line-reply, runs-on, is-settled, one-moment, always, at-ok, not-damage, silent-line, silent-after, silent-says, silent-counts, line-counts}
 use Rattle.slate_script.proofs.run.answer_line.Goals as goal
+use Rattle.slate_script.proofs.MeaningOf.{meaning_of, counts_of}
 
 pub answer-requires-clause-moment : goal.answer-requires-clause-moment
 answer-requires-clause-moment g c = λ κs lives.

@@ -5,7 +5,6 @@ use Rattle.slate_txn.specs.State.{opening}
 use Rattle.slate_language.specs.Tally.{tallied}
 use Rattle.slate_txn.specs.Step.{answers}
 use Rattle.slate_language.specs.Replies.{after_lines, meanings, replies_from, replies_to}
-use Rattle.slate_db.specs.Parts.{meaning_of, counts_of}
 use Rattle.slate_txn.specs.declared.event.Event.{Event}
 use Rattle.slate_db.specs.Flushed.{layout_of}
 use Rattle.slate_db.specs.Installs.{tables_of}
@@ -25,6 +24,7 @@ use Rattle.slate_script.specs.Told.{Follows, IsUntrue, PutsTables}
 use Rattle.slate_script.proofs.ToldLaws.{follows-itself, follows-on, shown-at-end, stores-itself, stores-on, untrue-on}
 use Rattle.slate_script.proofs.run.answer_lines.Given as given
 use Rattle.slate_script.proofs.run.answer_lines.Goals as goal
+use Rattle.slate_script.proofs.MeaningOf.{meaning_of, counts_of}
 
 same-error : {T : Type 0} (e f : SlateDBError) (r : Result T SlateDBError) → r ≡ Err e → r ≡ Err f → e ≡ f
 same-error e f r is was = cc

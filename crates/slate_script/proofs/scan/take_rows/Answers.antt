@@ -4,9 +4,8 @@ use Rattle.slate_types.proofs.Exits.{err_exit}
 use Rattle.slate_types.proofs.Reaching.{reads_none, reads_then}
 use Rattle.slate_txn.specs.declared.event.TranscriptStep.TheVariants as steps
 use Rattle.slate_db.specs.Scans.{id_of, number_of}
-use Rattle.slate_script.specs.Walking.{TakesFirst}
 use Rattle.slate_script.proofs.Scanned.{fails_call, fails_memory, fails_on, noted_then, open_on, took_end, took_filled, took_none, took_row}
-use Rattle.slate_script.proofs.WalkLaws.{first_none}
+use Rattle.slate_script.proofs.WalkLaws.{first_none, TakesFirst}
 use Rattle.slate_script.proofs.scan.take_rows.Goals as goal
 use Rattle.slate_script.proofs.scan.take_rows.Goals.{else-loop-test, then-loop-test+in_ok-row+in_default}
 

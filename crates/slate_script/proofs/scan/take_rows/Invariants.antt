@@ -2,8 +2,8 @@ use Rattle.slate_types.specs.Outside.{OnlyReads}
 use Rattle.slate_store.specs.Reach.{reach_of}
 use Rattle.slate_db.specs.Scans.{IsOpenScan, number_of}
 use Rattle.slate_script.specs.Scanning.{Took}
-use Rattle.slate_script.specs.Walking.{TakesFirst}
 use Rattle.slate_script.proofs.scan.take_rows.Given as goal
+use Rattle.slate_script.proofs.WalkLaws.{TakesFirst}
 
 abbrev pub invariant-loop : goal.invariant-loop
 invariant-loop g l =

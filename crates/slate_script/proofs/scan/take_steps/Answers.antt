@@ -3,9 +3,8 @@ use Rattle.std.proofs.lemmas.Result.{IfOk-from_err}
 use Rattle.slate_types.proofs.Exits.{err_exit}
 use Rattle.slate_types.proofs.Reaching.{reads_none, reads_then}
 use Rattle.slate_db.specs.Scans.{id_of, number_of, scan_of}
-use Rattle.slate_script.specs.Walking.{TakesRest}
 use Rattle.slate_script.proofs.Scanned.{fails_on, noted_then, open_on, took_none, took_step, took_steps}
-use Rattle.slate_script.proofs.WalkLaws.{rest_none}
+use Rattle.slate_script.proofs.WalkLaws.{rest_none, TakesRest}
 use Rattle.slate_script.proofs.scan.take_steps.Goals as goal
 
 pub loop-step-init : goal.loop-step-init

@@ -2,8 +2,8 @@ use Rattle.slate_types.specs.Outside.{OnlyReads}
 use Rattle.slate_store.specs.Reach.{reach_of}
 use Rattle.slate_db.specs.Scans.{IsOpenScan, number_of, scan_of}
 use Rattle.slate_script.specs.Scanning.{Took}
-use Rattle.slate_script.specs.Walking.{TakesRest}
 use Rattle.slate_script.proofs.scan.take_steps.Given as goal
+use Rattle.slate_script.proofs.WalkLaws.{TakesRest}
 
 abbrev pub invariant-loop-step : goal.invariant-loop-step
 invariant-loop-step g l =

@@ -22,6 +22,7 @@ use Rattle.slate_db.specs.Vouched.{IsVouchedFor}
 use Rattle.slate_db.proofs.Flushes.{kept_flushed, step_flush, frozen_settings, steps_after, steps_in, place_cause, freeze_cause, frozen_idle, none_frozen, installed_after, cause_after, too_large_before, wants_before, among_frozen, kept_behind, none_idle, never_missing, place_left, some_frozen, frozen_at_fault, no_fault, settled, all_taken, quiet_after}
 use Rattle.slate_db.proofs.Built.{may_keep}
 use Rattle.slate_db.specs.Segmented.{IsSegmented}
+use Rattle.slate_db.proofs.SegmentRuns.{adds_runs, none_added}
 use Rattle.slate_db.proofs.Segmenting.{segmented_as, segmented_flushed, segmented_frozen}
 use Rattle.slate_db.proofs.Vouches.{vouched_flushed}
 use Rattle.slate_db.proofs.Wholes.{whole_flushed}
@@ -75,6 +76,7 @@ returns-in_err-place_for_flush g c =
       full = λ h. refl;
       full_objects = λ h. refl;
       vouched = IfOk-from_err c.from_residual.result _ c.from_residual.ensures.0;
+      runs = λ k z. IfOk-from_err c.from_residual.result _ c.from_residual.ensures.0;
       segmented = λ h z. z;
       kept = λ k. k;
       settings = refl;
@@ -106,6 +108,7 @@ returns-in_err-freeze g c =
       full = λ h. c.in_err-freeze.ensures.same;
       full_objects = λ h. refl;
       vouched = IfOk-from_err c.from_residual-in_err-freeze.result _ c.from_residual-in_err-freeze.ensures.0;
+      runs = λ k z. IfOk-from_err c.from_residual-in_err-freeze.result _ c.from_residual-in_err-freeze.ensures.0;
       segmented = λ h z. subst (λ (v : CoreModel). IsSegmented h v) (sym c.in_err-freeze.ensures.same) z;
       kept = λ k. subst (λ (v : CoreModel). IsKept (reach_of g.S.Store g.M.MergeOperator g.T.BlockTransformer c.args.env.now).meaning v) (sym c.in_err-freeze.ensures.same) k;
       settings = ap (λ (v : CoreModel). v.settings) c.in_err-freeze.ensures.same;
@@ -134,6 +137,12 @@ pub returns-then-is_empty-clause-segmented : goal.returns-then-is_empty-clause-s
 returns-then-is_empty-clause-segmented g c h z =
     subst (λ (v : CoreModel). IsSegmented h v) (sym (noted c.self.inside c.freeze.new.self c.note_flush.new.self c.self.view_is c.note_flush.ensures.value))
     (segmented_as h c.freeze.new.self _ refl refl (segmented_frozen h c.args.self.now c.freeze.new.self c.in_ok-freeze.ensures.event z))
+
+pub returns-then-is_empty-clause-runs : goal.returns-then-is_empty-clause-runs
+returns-then-is_empty-clause-runs g c k z =
+    none_added (reach_of g.S.Store g.M.MergeOperator g.T.BlockTransformer c.args.env.now).meaning (segments_by g.X.PrefixExtractor.lengths c.args.laws.now.segments) c.args.self.now c.freeze.new.self (view_of (record c.self.inside { log = c.note_flush.new.self })) _ c.in_ok-freeze.ensures.event
+    (sym (ap (λ (v : CoreModel). v.frozen) c.self.view_is) ∙ sym c.frozen.ensures ∙ none_frozen c.frozen.result.now c.frozen.result.now c.is_empty.result c.is_empty.ensures c.if-is_empty.true refl)
+    (noted c.self.inside c.freeze.new.self c.note_flush.new.self c.self.view_is c.note_flush.ensures.value)
 
 pub returns-then-is_empty-clause-settings : goal.returns-then-is_empty-clause-settings
 returns-then-is_empty-clause-settings g c = ap (λ (v : CoreModel). v.settings) (noted c.self.inside c.freeze.new.self c.note_flush.new.self c.self.view_is c.note_flush.ensures.value) ∙ frozen_settings c.args.self.now c.freeze.new.self c.in_ok-freeze.ensures.event
@@ -228,6 +237,8 @@ returns g c =
       full = λ h. absurd (omega (arith, c.in_ok-place_for_flush.ensures.place, h));
       full_objects = λ h. absurd (omega (arith, c.in_ok-place_for_flush.ensures.place, h));
       vouched = vouched_flushed c.install.result c.args.self.now c.install.new.self steps same;
+      runs = (λ k z.
+          adds_runs c.install.result before.meaning layout c.args.self.now c.freeze.new.self c.install.new.self (g.S.Store.objects c.args.env.now.store.now) (g.S.Store.objects c.install.new.env.store.now) c.in_ok-freeze.ensures.event c.install.ensures.newest c.install.ensures.installed k.0 z);
       segmented = (λ h z.
           segmented_flushed c.install.result before.meaning layout c.freeze.new.self c.install.new.self (g.S.Store.objects c.args.env.now.store.now) (g.S.Store.objects c.install.new.env.store.now) c.install.ensures.installed c.install.ensures.same h
           (segmented_frozen h c.args.self.now c.freeze.new.self c.in_ok-freeze.ensures.event z));

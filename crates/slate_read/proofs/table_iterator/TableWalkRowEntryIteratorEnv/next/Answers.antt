@@ -17,7 +17,7 @@ returns-in-Ok-clause-checked g c = (walk_step c.args.self.now.range c.args.self.
 
 pub returns-in-Ok-clause-taken : goal.returns-in-Ok-clause-taken
 returns-in-Ok-clause-taken g c =
-    let t = walk_hands c.args.self.now.table c.args.self.now.order _ _ _ _ _ _ _ c.in-Walking.is refl c.in-Ok.ensures.hands in
+    let t = walk_hands c.args.self.now.table c.args.self.now.order _ _ _ _ _ c.advance-answer.new.self _ c.in-Walking.is refl c.in-Ok.ensures.hands in
     (t.0, t.1, ((walking_of _ _ c.in-Walking.is, tt, (refl, refl, refl), t.2.0), t.2.1))
 
 pub returns-in-Err-clause-still : goal.returns-in-Err-clause-still

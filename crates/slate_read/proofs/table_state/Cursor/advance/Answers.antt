@@ -1,4 +1,4 @@
-use Rattle.std.proofs.Common.{◌≡◌, ◌-◌, None, arith}
+use Rattle.std.proofs.Common.{◌≡◌, ◌-◌, None, Some, arith}
 use Rattle.std.proofs.lemmas.Result.{err_from_is_err_and, IfOk-from_err}
 use Rattle.slate_types.proofs.Reaching.{reads_none, reads_then}
 use Rattle.slate_read.proofs.Bringings.{adds_both, adds_hands, adds_none, end_hands, row_hands, spent_adds}
@@ -9,7 +9,7 @@ use Rattle.slate_read.proofs.table_state.Cursor.advance.Goals as goal
 pub loop-row-init : goal.loop-row-init
 loop-row-init g c = record {
   moves = moves_none _ _ _ _ _;
-  adds = adds_none _ _ _ _;
+  adds = adds_none c.args.table.now c.args.order _ c.args.self.now;
   bound = omega arith;
   reads = reads_none _;
 }
@@ -24,7 +24,7 @@ loop-row-preserved g c =
     let d : c.row.new.self.stop - c.row.new.self.first ≡ c.loop-row.self.stop - c.loop-row.self.first = (λ k. r.stop k - r.first k) in
     record {
       moves = moves_both _ _ _ _ _ _ _ _ _ i.moves (moves_both _ _ _ _ _ _ _ _ _ moved o.moved);
-      adds = adds_both _ _ _ _ _ _ _ _ i.adds (adds_both _ _ _ _ _ _ _ _ (spent_adds c.args.table.now c.args.order _ c.loop-row.self c.row.new.self took r.index r.ready) o.adds);
+      adds = adds_both c.args.table.now c.args.order _ _ _ c.args.self.now c.loop-row.self c.open.new.self i.adds (adds_both c.args.table.now c.args.order _ _ _ c.loop-row.self c.row.new.self c.open.new.self (spent_adds c.args.table.now c.args.order _ c.loop-row.self c.row.new.self took r.index r.ready) o.adds);
       bound = omega (arith, i.bound, o.small, o.fewer, d);
       reads = reads_then _ _ _ i.reads o.reads;
     }
@@ -60,7 +60,7 @@ returns-in-Some g c =
       step = moves_step _ _ _ _ _ _ _ _ _ _ i.moves (row_step c.args.table.now c.args.order _ c.loop-row.self c.row.new.self c.in-Some.row took r.index r.first r.stop r.ready);
       cause = tt;
       smaller = λ some. omega (arith, i.bound, less, d);
-      hands = adds_hands _ _ _ _ _ _ _ _ _ i.adds (row_hands c.args.table.now c.args.order _ c.loop-row.self c.row.new.self c.in-Some.row took r.index r.ready);
+      hands = adds_hands c.args.table.now c.args.order _ _ _ c.args.self.now c.loop-row.self c.row.new.self (Some c.in-Some.row) i.adds (row_hands c.args.table.now c.args.order _ c.loop-row.self c.row.new.self c.in-Some.row took r.index r.ready);
       no_larger = omega (arith, i.bound, less, d);
       reads = i.reads;
     }
@@ -77,7 +77,7 @@ returns-then-self g c =
       step = moves_step _ _ _ _ _ _ _ _ _ _ i.moves (moves_step _ _ _ _ _ _ _ _ _ _ moved (end_step c.args.table.now c.args.order _ c.row.new.self none (omega (arith, c.if-self.true))));
       cause = tt;
       smaller = λ some. cc;
-      hands = adds_hands _ _ _ _ _ _ _ _ _ i.adds (adds_hands _ _ _ _ _ _ _ _ _ (spent_adds c.args.table.now c.args.order _ c.loop-row.self c.row.new.self took r.index r.ready) (end_hands c.args.table.now c.args.order _ c.row.new.self));
+      hands = adds_hands c.args.table.now c.args.order _ _ _ c.args.self.now c.loop-row.self c.row.new.self None i.adds (adds_hands c.args.table.now c.args.order _ _ _ c.loop-row.self c.row.new.self c.row.new.self None (spent_adds c.args.table.now c.args.order _ c.loop-row.self c.row.new.self took r.index r.ready) (end_hands c.args.table.now c.args.order _ c.row.new.self));
       no_larger = omega (arith, i.bound, none, d);
       reads = i.reads;
     }

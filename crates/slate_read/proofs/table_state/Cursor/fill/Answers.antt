@@ -43,7 +43,7 @@ loop-preserved g c =
     let f = e.fetched.2 in
     record {
       moves = moves_both _ _ _ _ _ _ _ _ _ i.moves (fetches_moves c.args.table.now c.args.order c.args.limits.bytes _ _ e.fetched.0 c.loop.self c.read_ahead-in-loop.new.self e.fetched.1 f);
-      adds = adds_both _ _ _ _ _ _ _ _ i.adds (fetches_adds c.args.table.now c.args.order c.args.limits.bytes _ _ e.fetched.0 c.loop.self c.read_ahead-in-loop.new.self e.fetched.1 f);
+      adds = adds_both c.args.table.now c.args.order _ _ _ c.args.self.now c.loop.self c.read_ahead-in-loop.new.self i.adds (fetches_adds c.args.table.now c.args.order c.args.limits.bytes _ _ e.fetched.0 c.loop.self c.read_ahead-in-loop.new.self e.fetched.1 f);
       first = f.first ∙ i.first;
       stop = f.stop ∙ i.stop;
       rows = f.rows ∙ i.rows;

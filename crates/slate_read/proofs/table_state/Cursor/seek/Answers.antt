@@ -53,6 +53,6 @@ returns g c =
       sought = on_ok_weaker c.walk_to.result (λ k. sought_behind c.args.table.now c.args.order c.args.key.now _ _ _ c.args.self.now c.jump.new.self c.walk_to.new.self moved k) o.sought;
       cause = IfErr-weaker c.walk_to.result _ _ (λ e made. moves_fails _ _ _ _ _ _ _ _ (Some c.args.key.now) e moved (later_none _) made) o.cause;
       no_larger = on_ok_weaker c.walk_to.result (λ k. omega (arith, k, smaller)) o.no_larger;
-      adds = on_ok_weaker c.walk_to.result (λ k. adds_both _ _ _ _ _ _ _ _ (adds_both _ _ _ _ _ _ _ _ (skip_adds c.args.table.now c.args.order c.args.key.now _ c.args.self.now c.skip.new.self _ skips r.index r.ready) (jump_adds c.args.table.now c.args.order c.args.key.now _ c.skip.new.self c.jump.new.self j)) k) o.adds;
+      adds = on_ok_weaker c.walk_to.result (λ k. adds_both c.args.table.now c.args.order _ _ _ c.args.self.now c.jump.new.self c.walk_to.new.self (adds_both c.args.table.now c.args.order _ _ _ c.args.self.now c.skip.new.self c.jump.new.self (skip_adds c.args.table.now c.args.order c.args.key.now _ c.args.self.now c.skip.new.self _ skips r.index r.ready) (jump_adds c.args.table.now c.args.order c.args.key.now _ c.skip.new.self c.jump.new.self j)) k) o.adds;
       reads = o.reads;
     }

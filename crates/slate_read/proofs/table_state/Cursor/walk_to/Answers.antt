@@ -10,7 +10,7 @@ use Rattle.slate_read.proofs.table_state.Cursor.walk_to.Goals as goal
 pub loop-self-init : goal.loop-self-init
 loop-self-init g c = record {
   moves = moves_none _ _ _ _ _;
-  adds = adds_none _ _ _ _;
+  adds = adds_none c.args.table.now c.args.order _ c.args.self.now;
   bound = omega arith;
   reads = reads_none _;
 }
@@ -27,7 +27,7 @@ loop-self-preserved g c =
     let d : c.skip.new.self.stop - c.skip.new.self.first ≡ c.loop-self.self.stop - c.loop-self.self.first = (λ k. r.stop k - r.first k) in
     record {
       moves = moves_both _ _ _ _ _ _ _ _ _ i.moves (moves_both _ _ _ _ _ _ _ _ _ moved opened);
-      adds = adds_both _ _ _ _ _ _ _ _ i.adds (adds_both _ _ _ _ _ _ _ _ (skip_adds c.args.table.now c.args.order c.args.key.now _ c.loop-self.self c.skip.new.self _ skips r.index r.ready) o.adds);
+      adds = adds_both c.args.table.now c.args.order _ _ _ c.args.self.now c.loop-self.self c.open.new.self i.adds (adds_both c.args.table.now c.args.order _ _ _ c.loop-self.self c.skip.new.self c.open.new.self (skip_adds c.args.table.now c.args.order c.args.key.now _ c.loop-self.self c.skip.new.self _ skips r.index r.ready) o.adds);
       bound = omega (arith, i.bound, o.small, o.fewer, d);
       reads = reads_then _ _ _ i.reads o.reads;
     }
@@ -62,7 +62,7 @@ returns-then-branch g c =
       sought = done_some c.args.table.now c.args.order c.args.key.now _ _ c.args.self.now c.loop-self.self c.skip.new.self i.moves skips r.index r.first r.stop r.ready;
       cause = tt;
       no_larger = omega (arith, i.bound, less, d);
-      adds = adds_both _ _ _ _ _ _ _ _ i.adds (skip_adds c.args.table.now c.args.order c.args.key.now _ c.loop-self.self c.skip.new.self _ skips r.index r.ready);
+      adds = adds_both c.args.table.now c.args.order _ _ _ c.args.self.now c.loop-self.self c.skip.new.self i.adds (skip_adds c.args.table.now c.args.order c.args.key.now _ c.loop-self.self c.skip.new.self _ skips r.index r.ready);
       reads = i.reads;
     }
 
@@ -77,7 +77,7 @@ returns-then-self g c =
       sought = done_none c.args.table.now c.args.order c.args.key.now _ _ c.args.self.now c.loop-self.self c.skip.new.self i.moves skips r.index r.first r.stop r.ready (omega (arith, c.if-self.true));
       cause = tt;
       no_larger = omega (arith, i.bound, less, d);
-      adds = adds_both _ _ _ _ _ _ _ _ i.adds (skip_adds c.args.table.now c.args.order c.args.key.now _ c.loop-self.self c.skip.new.self _ skips r.index r.ready);
+      adds = adds_both c.args.table.now c.args.order _ _ _ c.args.self.now c.loop-self.self c.skip.new.self i.adds (skip_adds c.args.table.now c.args.order c.args.key.now _ c.loop-self.self c.skip.new.self _ skips r.index r.ready);
       reads = i.reads;
     }
 

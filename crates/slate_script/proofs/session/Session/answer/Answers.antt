@@ -5,7 +5,7 @@ use Rattle.slate_store.specs.Reach.{reach_of}
 use Rattle.slate_types.proofs.Reaching.{adds_none, puts_none, reads_put_nothing}
 use Rattle.slate_txn.specs.declared.line.Line.{Line}
 use Rattle.slate_db.specs.Meaning.{segments_by}
-use Rattle.slate_db.specs.Parts.{IsTableError, meaning_of, counts_of}
+use Rattle.slate_db.specs.Parts.{IsTableError}
 use Rattle.slate_script.specs.Session.{AnswersAs, Grows}
 use Rattle.slate_script.proofs.LineEnds.{keeps-core, keeps-settings, keeps-settled, memory-or-limit, or-limit, or-damage, or-operator, stores-at, limit-between, no-damage, no-error, shown-of}
 use Rattle.slate_script.specs.Told.{IsRefusedAt, asking_for}
@@ -15,6 +15,7 @@ use Rattle.slate_script.proofs.SessionParts.{settled-answered, true-answered}
 use Rattle.slate_script.proofs.TablesAlone.{stays-where}
 use Rattle.slate_script.proofs.ToldLaws.{follows-reads, follows-still, stores-none, untrue-get}
 use Rattle.slate_script.proofs.session.Session.answer.Goals as goal
+use Rattle.slate_script.proofs.MeaningOf.{meaning_of, counts_of}
 
 pub returns-in_default : goal.returns-in_default
 returns-in_default g c =

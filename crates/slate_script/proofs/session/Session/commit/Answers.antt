@@ -11,7 +11,6 @@ use Rattle.slate_txn.specs.declared.line.Line.TheVariants as lines
 use Rattle.slate_db.specs.Installs.{runs_of}
 use Rattle.slate_db.specs.Meaning.{rules_in, segments_by}
 use Rattle.slate_db.specs.Segmented.{IsSegmented}
-use Rattle.slate_db.specs.Parts.{counts_of, meaning_of}
 use Rattle.slate_db.specs.Sound.{IsKept, IsOperable}
 use Rattle.slate_language.specs.declared.reply.Answer.{Answer}
 use Rattle.slate_language.specs.declared.reply.Answer.TheVariants as answers
@@ -28,6 +27,7 @@ use Rattle.slate_script.proofs.Growth.{grows, takes-closed}
 use Rattle.slate_script.proofs.Running.{always}
 use Rattle.slate_script.proofs.session.Session.commit.Goals as goal
 use Rattle.slate_script.proofs.session.Session.commit.Goals.{in-Ok, in-Err}
+use Rattle.slate_script.proofs.MeaningOf.{counts_of, meaning_of}
 
 pub returns-in_default : goal.returns-in_default
 returns-in_default g c =

@@ -8,7 +8,6 @@ use Rattle.slate_db.specs.Meaning.{segments_by}
 use Rattle.slate_db.specs.Answered.{AddsTables}
 use Rattle.slate_db.specs.Flushed.{layout_of}
 use Rattle.slate_db.specs.Installs.{runs_of, tables_of}
-use Rattle.slate_db.specs.Parts.{meaning_of}
 use Rattle.slate_db.specs.Log.{LIMIT}
 use Rattle.slate_db.specs.Sound.{IsKept}
 use Rattle.slate_language.specs.declared.reply.Answer.TheVariants as answers
@@ -20,6 +19,7 @@ use Rattle.slate_script.proofs.TablesAlone.{flush-alone}
 use Rattle.slate_script.proofs.ToldLaws.{follows-flush, stores-added}
 use Rattle.slate_script.proofs.Growth.{grows, takes-flushed}
 use Rattle.slate_script.proofs.session.Session.flush.Goals as goal
+use Rattle.slate_script.proofs.MeaningOf.{meaning_of}
 
 pub returns : goal.returns
 returns g c =

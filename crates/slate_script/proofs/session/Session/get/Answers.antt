@@ -12,7 +12,6 @@ use Rattle.slate_txn.specs.declared.line.Line.TheVariants as lines
 use Rattle.slate_db.specs.Installs.{runs_of}
 use Rattle.slate_db.specs.Meaning.{Meaning, rules_in}
 use Rattle.slate_db.specs.Model.{CoreModel}
-use Rattle.slate_db.specs.Parts.{meaning_of}
 use Rattle.slate_db.specs.Readable.{IsAnswered, IsReadError}
 use Rattle.slate_language.specs.declared.reply.Answer.TheVariants as answers
 use Rattle.slate_script.specs.Session.{SessionModel, AnswersAs, Grows, NamesStand, StoresNothing, reader_id}
@@ -22,6 +21,7 @@ use Rattle.slate_script.proofs.SessionNames.{names-updated}
 use Rattle.slate_script.proofs.SessionSteps.{get-refused, get-found}
 use Rattle.slate_script.proofs.Growth.{grows, takes-noted}
 use Rattle.slate_script.proofs.session.Session.get.Goals as goal
+use Rattle.slate_script.proofs.MeaningOf.{meaning_of}
 
 pub returns-in_default : goal.returns-in_default
 returns-in_default g c =

@@ -8,7 +8,6 @@ use Rattle.slate_types.specs.declared.error.SlateDBError.TheVariants as errors
 use Rattle.slate_types.specs.Outside.{OnlyReads}
 use Rattle.slate_store.specs.Reach.{reach_of}
 use Rattle.slate_types.proofs.Reaching.{reads_none}
-use Rattle.slate_db.specs.Parts.{counts_of, meaning_of}
 use Rattle.slate_script.specs.Session.{SessionModel, AnswersAs, Grows, IsLimit, StoresNothing}
 use Rattle.slate_script.proofs.NamesLaws.{find_named-lookup}
 use Rattle.slate_script.proofs.SessionNames.{names-ran}
@@ -18,6 +17,7 @@ use Rattle.slate_script.proofs.LineEnds.{memory-or-limit}
 use Rattle.slate_script.proofs.Running.{always}
 use Rattle.slate_script.proofs.Growth.{grows, grows-where, takes-ran, own-op}
 use Rattle.slate_script.proofs.session.Session.merge.Goals as goal
+use Rattle.slate_script.proofs.MeaningOf.{counts_of, meaning_of}
 
 pub returns-in_default : goal.returns-in_default
 returns-in_default g c =

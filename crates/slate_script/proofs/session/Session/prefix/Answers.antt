@@ -2,10 +2,10 @@ use Rattle.std.proofs.Common.{◌≡◌, Option, refl, ap, ◌∙◌, subst}
 use Rattle.slate_types.specs.declared.bytes_range.BytesRange.{BytesRange}
 use Rattle.slate_types.specs.Keys.{prefix_subrange}
 use Rattle.slate_txn.specs.declared.line.Line.TheVariants as lines
-use Rattle.slate_db.specs.Parts.{meaning_of}
 use Rattle.slate_script.specs.Scanning.{ScansAs}
 use Rattle.slate_script.proofs.SessionScans.{begins_behind, composed_fits}
 use Rattle.slate_script.proofs.session.Session.prefix.Goals as goal
+use Rattle.slate_script.proofs.MeaningOf.{meaning_of}
 
 pub scan_range-requires-clause-range : goal.scan_range-requires-clause-range
 scan_range-requires-clause-range g c = λ κs lives. composed_fits c.as_slice.result.now c.args.start c.args.end c.in-Ok.range c.in-Ok.ensures.range

@@ -1,10 +1,10 @@
 use Rattle.std.proofs.Common.{Option, refl, subst}
 use Rattle.slate_types.specs.declared.bytes_range.BytesRange.{BytesRange}
 use Rattle.slate_txn.specs.declared.line.Line.TheVariants as lines
-use Rattle.slate_db.specs.Parts.{meaning_of}
 use Rattle.slate_script.specs.Scanning.{ScansAs}
 use Rattle.slate_script.proofs.SessionScans.{begins_none, bounds_fit}
 use Rattle.slate_script.proofs.session.Session.scan.Goals as goal
+use Rattle.slate_script.proofs.MeaningOf.{meaning_of}
 
 pub scan_range-requires-clause-range : goal.scan_range-requires-clause-range
 scan_range-requires-clause-range g c = λ κs lives. bounds_fit c.args.start c.args.end c.try_new-range.result c.try_new-range.ensures

@@ -13,7 +13,6 @@ use Rattle.slate_txn.specs.Step.{reader, step}
 use Rattle.slate_db.specs.Installs.{runs_of}
 use Rattle.slate_db.specs.Meaning.{Meaning, rules_in}
 use Rattle.slate_db.specs.Model.{CoreModel}
-use Rattle.slate_db.specs.Parts.{meaning_of}
 use Rattle.slate_db.specs.Readable.{IsAnswered}
 use Rattle.slate_language.specs.declared.reply.Answer.TheVariants as answers
 use Rattle.slate_script.specs.Scanning.{BeginsWith, ScansAs}
@@ -23,6 +22,7 @@ use Rattle.slate_script.proofs.SessionNames.{names-updated}
 use Rattle.slate_script.proofs.SessionScans.{range-refused, scan-found, scan-refused}
 use Rattle.slate_script.proofs.Growth.{grows, takes-noted}
 use Rattle.slate_script.proofs.session.Session.scan_range.Goals as goal
+use Rattle.slate_script.proofs.MeaningOf.{meaning_of}
 
 pub returns-in_default-clause-step : goal.returns-in_default-clause-step
 returns-in_default-clause-step g c = λ is seg.

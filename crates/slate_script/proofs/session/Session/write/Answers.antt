@@ -5,7 +5,6 @@ use Rattle.slate_types.proofs.Reaching.{reads_none}
 use Rattle.slate_txn.specs.Reply.{Written}
 use Rattle.slate_db.specs.Meaning.{rules_in, segments_by}
 use Rattle.slate_db.specs.Segmented.{IsSegmented}
-use Rattle.slate_db.specs.Parts.{counts_of, meaning_of}
 use Rattle.slate_types.specs.declared.error.SlateDBError.{SlateDBError}
 use Rattle.slate_txn.specs.declared.line.Line.TheVariants as lines
 use Rattle.slate_language.specs.declared.reply.Answer.{Answer}
@@ -19,6 +18,7 @@ use Rattle.slate_script.proofs.Refusing.{write-cause}
 use Rattle.slate_script.proofs.Running.{always}
 use Rattle.slate_script.proofs.session.Session.write.Goals as goal
 use Rattle.slate_script.proofs.session.Session.write.Goals.{in-Ok-write, in-Err-write}
+use Rattle.slate_script.proofs.MeaningOf.{counts_of, meaning_of}
 
 pub returns-clause-step : goal.returns-clause-step
 returns-clause-step g c = λ segmented.
