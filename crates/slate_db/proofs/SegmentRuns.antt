@@ -115,7 +115,7 @@ touched_more g p rows rest some are =
     ∙ set_of_same p (prefixes_in g rows) (prefixes_in g rest) (some_prefixes g rows some) (all_mapped (λ r. segment_of g r.key) (λ q. q ≡ p) rows are)
 
 -- a run of its own
-apart : (m : Meaning) (g : Segments) (t : Ulid × List ℕ) (ts : List (Ulid × List ℕ)) (version : ℕ) (p : List ℕ) (rows rest : Rows) → IsTable m.encode t.1 version rows → 0 < length rows → AreOfSegment g p rows →
+apart : (m : Meaning) (g : Segments) (t : Ulid × List ℕ) (ts : List (Ulid × List ℕ)) (version : ℕ) (p : List ℕ) (rows rest : Rows) → IsTable m.encode t.1 version t.0.0 rows → 0 < length rows → AreOfSegment g p rows →
     (before : Grouped m g rest ts) → AllAbove p (map (λ run. run.prefix) before.runs) → Grouped m g (rows ++ rest) (t ∷ ts)
 apart m g t ts version p rows rest table some are before higher = record {
   runs = run ∷ before.runs;
@@ -142,7 +142,7 @@ apart m g t ts version p rows rest table some are before higher = record {
     first (next ∷ runs) h = ap (λ o. match_ordering o (p ∷ map (λ r. r.prefix) (next ∷ runs)) (map (λ r. r.prefix) (next ∷ runs)) (next.prefix ∷ insert_key key_cmp (map (λ r. r.prefix) runs) p)) (sym h.0)
 
 -- in the run that comes next
-joined : (m : Meaning) (g : Segments) (t : Ulid × List ℕ) (ts : List (Ulid × List ℕ)) (version : ℕ) (rows rest : Rows) (next : SegmentRun) (runs : List SegmentRun) → IsTable m.encode t.1 version rows → 0 < length rows → AreOfSegment g next.prefix rows →
+joined : (m : Meaning) (g : Segments) (t : Ulid × List ℕ) (ts : List (Ulid × List ℕ)) (version : ℕ) (rows rest : Rows) (next : SegmentRun) (runs : List SegmentRun) → IsTable m.encode t.1 version t.0.0 rows → 0 < length rows → AreOfSegment g next.prefix rows →
     next.tables ++ flat_map (λ run. run.tables) runs ≡ ts → next.prefix ∷ map (λ run. run.prefix) runs ≡ keys_set (prefixes_in g rest) → AllByRecursion (IsSegmentRun m g rest) (next ∷ runs) → AllAbove next.prefix (map (λ run. run.prefix) runs) →
     Grouped m g (rows ++ rest) (t ∷ ts)
 joined m g t ts version rows rest next runs table some are added touched each higher = record {
@@ -160,7 +160,7 @@ joined m g t ts version rows rest next runs table some are added touched each hi
   );
 }
 
-table_before : (m : Meaning) (g : Segments) (t : Ulid × List ℕ) (ts : List (Ulid × List ℕ)) (version : ℕ) (p : List ℕ) (rows rest : Rows) → IsTable m.encode t.1 version rows → 0 < length rows → AreOfSegment g p rows →
+table_before : (m : Meaning) (g : Segments) (t : Ulid × List ℕ) (ts : List (Ulid × List ℕ)) (version : ℕ) (p : List ℕ) (rows rest : Rows) → IsTable m.encode t.1 version t.0.0 rows → 0 < length rows → AreOfSegment g p rows →
     AllByRecursion (IsUpTo p) (prefixes_in g rest) → Grouped m g rest ts → Grouped m g (rows ++ rest) (t ∷ ts)
 unfolding IsStrictlySortedBy
 table_before m g t ts version p rows rest table some are up before =
@@ -190,7 +190,7 @@ grouped m g limit (t ∷ ts) parts (version, rows, rest, table, are, is) some on
     subst (λ (xs : List Rows). Grouped m g (flat_map (λ rs. rs) xs) (t ∷ ts)) (sym is)
     (by rows table (λ some on none. grouped m g limit ts rest are some on none) (subst (AllByRecursion (λ rs. 0 < length rs)) is some) (subst (AllByRecursion (GoesOn g limit)) is on) (subst (λ (xs : List Rows). NoneFalls (prefixes_in g (flat_map (λ rs. rs) xs))) is none))
   where
-    by : (rows : Rows) → IsTable m.encode t.1 version rows →
+    by : (rows : Rows) → IsTable m.encode t.1 version t.0.0 rows →
         (AllByRecursion (λ rs. 0 < length rs) rest → AllByRecursion (GoesOn g limit) rest → NoneFalls (prefixes_in g (flat_map (λ rs. rs) rest)) → Grouped m g (flat_map (λ rs. rs) rest) ts) → AllByRecursion (λ rs. 0 < length rs) (rows ∷ rest) → AllByRecursion (GoesOn g limit) (rows ∷ rest) → NoneFalls (prefixes_in g (rows ++ flat_map (λ rs. rs) rest)) →
         Grouped m g (rows ++ flat_map (λ rs. rs) rest) (t ∷ ts)
     by [] table later some on none = absurd (omega (arith, some.0))
