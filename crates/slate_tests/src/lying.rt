@@ -92,7 +92,7 @@ type Lie = (
 const TURNED: &[u8] = b"\
 \x80\x01\x00\x11_bf:p=fixed4:wh=0\x00\x00\x00\x00\x00\x00\x00\x02\x00\x06\xef-\xe0l";
 
-// The section of the block of the first flush's table.
+// The section of the block of the first flush's table, in version 3.
 const FIRST_BLOCK: &[u8] = b"\
 \x00\x01\x01a1\x00\x00\x00\x00\x00\x00\x00\x01\x04\x00\x00\x00\x00\x00\x00\x00\x00\x00\x00\x00\x01i\xa7wY";
 
@@ -135,7 +135,7 @@ fn is_caught(alloc: Global, lie: &Lie) -> Result<bool, SlateDBError> {
     Ok(is_caught)
 }
 
-// A section whose bit was turned, and in version 3 one of another table whose checksum fits there.
+// A section whose bit was turned, and in version 3 the block of another table, whose checksum fits in that table.
 #[test]
 fn lies_are_caught(rt: HostRuntime) {
     let mut all = true;
