@@ -1,6 +1,6 @@
 -- How tables are built where nothing else is said.
 --     codec_byte codec      the byte that names a codec
---     default_format      blocks of 4096 bytes in the newest version, filters for every table, and no codec
+--     default_format      blocks of 4096 bytes in the version of `Latest`, filters for every table, and no codec
 use Rattle.std.specs.Prelude.{ℕ, None}
 use Rattle.slate_types.specs.declared.config.BlockFormat.TheVariants.{Latest}
 use Rattle.slate_types.specs.declared.config.CompressionCodec.{CompressionCodec}

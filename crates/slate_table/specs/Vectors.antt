@@ -7,7 +7,7 @@
 --     FilterPart      the part with one filter
 --     SumsFit, DamageShows      the checksums of its sections fit, and no longer do where a byte of a section was changed
 --     OneRowV3      the table of the same row in version 3, whose checksums cover its id, and each section's kind and place
---     CoversDiffer      a section of it fits neither another table's id, nor another kind, nor another place
+--     CoversDiffer      its block fits neither the id of another table, nor the kind of an index, nor another place
 --     DamagedEnds      what a reader finds at the end of a table that was cut, or whose last bytes were changed
 use Rattle.std.specs.Prelude.{◌≡◌, ℕ, ◌+◌, ◌-◌, ◌*◌, ◌^◌, true, false, List, [], ◌∷◌, ◌++◌, take, drop, length, Some, None, pos, codes}
 use Rattle.std.specs.Int.{w16, w64, from_be_bytes}

@@ -48,7 +48,7 @@ pub struct SectionPlace {
 }
 
 /// The checksum of a section's bytes: their CRC-32, which in version 3 begins with the table's id, the section's kind (1 a block, 2
-/// filters, 3 the index, 4 statistics, 5 the info) and its offset, so that no section can stand in for another one.
+/// filters, 3 the index, 4 statistics, 5 the info) and its offset, so that one section read for another is refused as other damage is.
 pub fn section_checksum(version: u16, id: Ulid, kind: u8, offset: u64, bytes: &[u8]) -> u32
     ensures { result ≡ section_sum version id.0 kind offset bytes.now }
 {
@@ -67,8 +67,8 @@ fn checksum_at(place: SectionPlace, bytes: &[u8]) -> u32
     section_checksum(place.version, place.id, place.kind, place.offset, bytes)
 }
 
-/// The bytes before the checksum of a section that stands at a place; they share the buffer. `CorruptTable` at 0 where there are fewer bytes than a checksum has,
-/// `ChecksumMismatch` where it isn't theirs, or `OutOfMemory`.
+/// The bytes before the checksum of a section that stands at a place; they share the buffer. `CorruptTable` at 0 where there are fewer
+/// bytes than a checksum has, `ChecksumMismatch` where it isn't theirs, or `OutOfMemory`.
 pub fn checked_part(bytes: &Bytes, place: SectionPlace) -> Result<Bytes, SlateDBError>
     ensures found { IfOk result (λ part. bytes.now ≡ summed (covered_by place) part) }
     ensures front { IfOk result (λ part. part ≡ part_of_sum bytes.now) }

@@ -53,7 +53,7 @@ impl<S: Store, T: BlockTransformer> SstReader<S, T> {
     /// store's count of faults rose. Otherwise the first of these: `CorruptTable` at 0 where there is no such object;
     /// `EmptySSTable` where it has at most 10 bytes; `InvalidVersion` where the version isn't 1, 2 or 3; `CorruptTable` at 0 where
     /// the info would begin behind its last 10 bytes or in them; `EmptyBlockMeta` where the info and its checksum have at most
-    /// 4 bytes; `ChecksumMismatch`; `CorruptTable` with the place of the first field of the info that fails;
+    /// 4 bytes; `ChecksumMismatch`, in version 3 for this id; `CorruptTable` with the place of the first field of the info that fails;
     /// `UnsupportedCompression` with the codec's byte. Or `OutOfMemory`.
     pub fn open(&mut self, alloc: Global, id: Ulid) -> Result<SstFile, SlateDBError>
         ensures found { IfOk result (λ file. IsOpened (S.objects self.old.store) (S.acts self.old.store) (S.acts self.new.store) (path_of (string_bytes self.old.root_path) id.0) id.0 file.handle.format_version (seen_info file.handle.info)) }
