@@ -11,6 +11,7 @@ use Rattle.slate_db.specs.Installs.{tables_of}
 use Rattle.slate_script.specs.Session.{StandsFor}
 use Rattle.slate_script.specs.Run.{run_rules, Premises, IsPartError}
 use Rattle.slate_store.specs.Lines.{lines_of}
+use Rattle.slate_store.specs.Reach.{reach_of}
 use Rattle.slate_types.proofs.Reaching.{puts_none, puts_then}
 use Rattle.slate_script.proofs.Taken.{begin, answer-it, took-told, end-told}
 use Rattle.slate_script.proofs.Running.{begins}
@@ -195,7 +196,7 @@ returns-in-Err-answer_line g c =
       untrue = (λ lawful_policies lawful.
           (λ damage. untrue-on policies (meaning_of g.M.MergeOperator.combine g.T.BlockTransformer.encoded g.T.BlockTransformer.decoded c.args.env.now.operator c.args.env.now.transformer) (segments_by g.X.PrefixExtractor.lengths c.args.laws.now.segments) c.loop-line.session (g.S.Store.acts c.args.env.now.store.now) (g.S.Store.acts c.loop-line.env.store.now) (g.S.Store.acts c.answer_line.new.env.store.now) (c.loop-line.invariant.followed lawful_policies lawful)
           (subst (λ (m : Meaning). (os : Objects) → IsSettled policies m (segments_by g.X.PrefixExtractor.lengths c.args.laws.now.segments) (Some os) c.loop-line.session → IsUntrue os (g.S.Store.acts c.loop-line.env.store.now) (g.S.Store.acts c.answer_line.new.env.store.now)) c.loop-line.invariant.puts.meaning (λ os settled. c.in-Err-answer_line.ensures.untrue os settled damage))));
-      shown = λ damage. shown-at-end policies _ _ _ c.loop-line.session.core c.in-Err-answer_line.error c.loop-line.invariant.puts.meaning c.loop-line.invariant.stored
+      shown = λ damage. shown-at-end policies (reach_of g.S.Store g.M.MergeOperator g.T.BlockTransformer c.args.env.now) (reach_of g.S.Store g.M.MergeOperator g.T.BlockTransformer c.loop-line.env) (reach_of g.S.Store g.M.MergeOperator g.T.BlockTransformer c.answer_line.new.env) c.loop-line.session.core c.in-Err-answer_line.error c.loop-line.invariant.puts.meaning c.loop-line.invariant.stored
           (c.in-Err-answer_line.ensures.shown (subst (λ (x : Meaning). IsKept x c.loop-line.session.core) (sym c.loop-line.invariant.puts.meaning) c.loop-line.invariant.kept) damage);
       complete = (λ script is formed premises none.
           let took = took-told (λ v. v.items) c.in-Ok-Some.field-0 c.in-Ok-Some.line c.as_slice.result.now (g.R.Source.left c.next.new.source) c.next.new.self c.in-Ok-Some.ensures.told c.in-Ok-Some.ensures.within c.in-Ok-Some.field-0-is c.as_slice.ensures.value (c.loop-line.invariant.told script is) in
