@@ -284,9 +284,12 @@ filters_first encode decode lawful asking os ts hs reads small are holds answere
 -- ---- of the core
 
 pub asks_by : (asking : Asking) (a b : Reach) (c : CoreModel) (hs : List SsTableHandle) → AreHandles (tables_of c.events) hs → Made a b (AreBehindFilters a.meaning.decode asking hs) → Asks asking a b c
-asks_by asking a b c hs are (reads, call, behind) is set =
-    (reads, call, filters_first a.meaning.encode a.meaning.decode is.readable.lawful.transformer asking is.os (tables_of c.events) hs reads
-    (all_map (λ (t : Ulid × List ℕ). HasFiltersOf a.meaning.encode asking.policies t.0.0 t.1) (λ (t : Ulid × List ℕ). t.0.0 < 2 ^ 128) (λ t has. has.is.named) (tables_of c.events) is.readable.filtered) are is.readable.holds (acts_answered is.os a b reads call is.answers) set behind)
+asks_by asking a b c hs are (reads, call, behind) is set = (
+  reads,
+  call,
+  filters_first a.meaning.encode a.meaning.decode is.readable.lawful.transformer asking is.os (tables_of c.events) hs reads
+      (all_map (λ (t : Ulid × List ℕ). HasFiltersOf a.meaning.encode asking.policies t.0.0 t.1) (λ (t : Ulid × List ℕ). t.0.0 < 2 ^ 128) (λ t has. has.is.named) (tables_of c.events) is.readable.filtered) are is.readable.holds (acts_answered is.os a b reads call is.answers) set behind,
+)
 
 -- where nothing is read
 pub asks_none : (asking : Asking) (a b : Reach) (c : CoreModel) → IsCall a b [] → Asks asking a b c

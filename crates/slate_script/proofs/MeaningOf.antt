@@ -16,4 +16,3 @@ meaning_of combine encoded decoded operator transformer =
 abbrev pub counts_of : {M T : Type 0} → ℕ → (M → ℕ) → (T → ℕ) → Option M → Option T → Counts
 counts_of store operator_faults transformer_faults operator transformer =
     record { store = store; operator = faults_of operator_faults operator; transformer = faults_of transformer_faults transformer }
-

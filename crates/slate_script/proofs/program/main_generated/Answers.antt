@@ -62,10 +62,12 @@ returns-in-Err g c =
           let within = subst (λ (n : ℕ). (12 ≤ n) × (n ≤ 19)) c.status_of-status.ensures (damage-between c.status_of-status.result which) in
           let given = map (λ p. (goal.FilterPolicy-dyn g (p.vtable, p.value)).meaning p.value) c.args.policies.items in
           let acts = g.S.Store.acts in
-          subst (λ t. IsShownStatus given (parts_of c.args.generated.now.settings) (acts c.args.store.now) (acts t) c.status_of-status.result) (sym (c.store-1.given.1 (sym c.in-Err.ensures.puts.store)))
-          (c.in-Err.error, sym c.status_of-status.ensures,
-          subst (λ (m : Meaning). IsShown given m (acts c.args.store.now) (acts c.run_generated-ran.new.env.store.now) c.in-Err.error) (words-are c.args.generated.now.settings c.transformer_of.result c.transformer_of.ensures)
-          (c.in-Err.ensures.shown (is-damage c.in-Err.error c.in-Err.ensures.cause.kinds within.0 within.1))));
+          subst (λ t. IsShownStatus given (parts_of c.args.generated.now.settings) (acts c.args.store.now) (acts t) c.status_of-status.result) (sym (c.store-1.given.1 (sym c.in-Err.ensures.puts.store))) (
+            c.in-Err.error,
+            sym c.status_of-status.ensures,
+            subst (λ (m : Meaning). IsShown given m (acts c.args.store.now) (acts c.run_generated-ran.new.env.store.now) c.in-Err.error) (words-are c.args.generated.now.settings c.transformer_of.result c.transformer_of.ensures)
+                (c.in-Err.ensures.shown (is-damage c.in-Err.error c.in-Err.ensures.cause.kinds within.0 within.1)),
+          ));
       complete = (λ lawful_policies empty no-write no-store.
           inr (c.status_of-status.ensures ∙ ap status (c.in-Err.ensures.complete (premises _ c.args.generated.now.settings.operator c.transformer_of.result _ lawful_policies empty) (record { source_still = λ h. h; sink_still = no-write; store = λ h. no-store (subst (λ t. Rose (g.S.Store.faults c.args.store.now) (g.S.Store.faults t)) (sym (c.store-1.given.1 (sym c.in-Err.ensures.puts.store))) h); operator = none-rose c.args.generated.now.settings.operator c.run_generated-ran.new.env.operator; transformer = none-rose c.transformer_of.result c.run_generated-ran.new.env.transformer }))));
       begun = λ before told lawful_policies empty six.

@@ -143,12 +143,14 @@ returns-in-Err g c =
           let kept : List Policy = map (λ p. (goal.FilterPolicy-dyn g (p.vtable, p.value)).meaning p.value) c.keep_used-kept-2.result.items in
           let acts = g.S.Store.acts in
           let told = acts c.run_script-ran.new.env.store.now in
-          subst (λ t. IsShownStatus (used ws given) (parts_of s) (acts c.args.store.now) (acts t) c.status_of-status.result) (sym (c.store-1.given.1 (sym c.in-Err.ensures.puts.store)))
-          (c.in-Err.error, sym c.status_of-status.ensures,
-          subst (λ (ps : List Policy). IsShown ps (parts_of s) (acts c.args.store.now) told c.in-Err.error) c.keep_used-kept-2.ensures
-          (subst (λ (t : Settings). IsShown kept (parts_of t) (acts c.args.store.now) told c.in-Err.error) same
-          (subst (λ (m : Meaning). IsShown kept m (acts c.args.store.now) told c.in-Err.error) (words-are c.in-Some-parse_words.settings c.transformer_of.result c.transformer_of.ensures)
-          (c.in-Err.ensures.shown (is-damage c.in-Err.error c.in-Err.ensures.cause.kinds within.0 within.1))))));
+          subst (λ t. IsShownStatus (used ws given) (parts_of s) (acts c.args.store.now) (acts t) c.status_of-status.result) (sym (c.store-1.given.1 (sym c.in-Err.ensures.puts.store))) (
+            c.in-Err.error,
+            sym c.status_of-status.ensures,
+            subst (λ (ps : List Policy). IsShown ps (parts_of s) (acts c.args.store.now) told c.in-Err.error) c.keep_used-kept-2.ensures
+                (subst (λ (t : Settings). IsShown kept (parts_of t) (acts c.args.store.now) told c.in-Err.error) same
+                (subst (λ (m : Meaning). IsShown kept m (acts c.args.store.now) told c.in-Err.error) (words-are c.in-Some-parse_words.settings c.transformer_of.result c.transformer_of.ensures)
+                (c.in-Err.ensures.shown (is-damage c.in-Err.error c.in-Err.ensures.cause.kinds within.0 within.1)))),
+          ));
       complete = (λ s script named is formed lawful_policies empty no-read no-write no-store.
           inr (c.status_of-status.ensures ∙ ap status (c.in-Err.ensures.complete script is formed (premises _ c.in-Some-parse_words.settings.operator c.transformer_of.result _ (fit lawful_policies) empty) (record { source_still = no-read; sink_still = no-write; store = λ h. no-store (subst (λ t. Rose (g.S.Store.faults c.args.store.now) (g.S.Store.faults t)) (sym (c.store-1.given.1 (sym c.in-Err.ensures.puts.store))) h); operator = none-rose c.in-Some-parse_words.settings.operator c.run_script-ran.new.env.operator; transformer = none-rose c.transformer_of.result c.run_script-ran.new.env.transformer }))));
       source_still = status-or c.in-Err.error ReadFault c.status_of-status.result _ c.status_of-status.ensures refl c.in-Err.ensures.source_still;
