@@ -13,7 +13,7 @@ use Rattle.slate_block.specs.BlockWalks.{LastBefore, IsBlockDamage, IsPast, Refu
 use Rattle.slate_block.specs.GroupWalks.{restart_at, BeginsBefore, turned, reads_back, left_back}
 use Rattle.slate_block.proofs.FieldLaws.{ok_is}
 use Rattle.slate_block.proofs.GroupRows.{Left, joined, joined_ok, all_ok_joined}
-use Rattle.slate_block.proofs.GroupSteps.{reads_from, restart_some, named_reads}
+use Rattle.slate_block.proofs.GroupSteps.{reads_from, restart_some, named_reads, none_of}
 use Rattle.slate_block.proofs.WalkLaws.{ok_read, all_ok_map, reads_of_ok}
 use Rattle.slate_block.proofs.SeekLaws.{last_joined, past_none, past_trans, past_ahead, part_fewer}
 use Rattle.slate_block.proofs.BackSteps.{back_of, last_back, mapped, back_read, back_refused, nothing_kept}
@@ -237,10 +237,6 @@ pub refused_held : (body offsets : List ℕ) (groups : ℕ) (rows : List RowEntr
 refused_held body offsets groups rows e m h = refused_or_behind body offsets groups groups rows e m (omega arith) h
 
 -- ---- whether a row is left
-
-none_of : {A : Type 0} (xs ys : List A) → xs ++ ys ≡ [] → (xs ≡ []) × (ys ≡ [])
-none_of [] ys e = (refl, e)
-none_of (x ∷ xs) ys e = absurd cc
 
 none_held : (rows : List RowEntry) → back_of rows ≡ [] → rows ≡ []
 none_held [] e = refl

@@ -22,7 +22,7 @@ use Rattle.slate_block.proofs.RowLaws.{same_row_v2}
 use Rattle.slate_block.proofs.BlockLaws.{some_v2}
 use Rattle.slate_block.proofs.ReadingLaws.{row_v2_begins, row_v2_end, row_v2_again}
 use Rattle.slate_block.proofs.GroupSteps.{named_rows}
-use Rattle.slate_block.proofs.WalkedBlocks.{IsBytes-between, three_from}
+use Rattle.slate_block.proofs.WalkedBlocks.{IsBytes_between, three_from}
 use Rattle.slate_block.proofs.WalkedBlocksV2.{not_restart, restart}
 
 -- ---- one row
@@ -48,7 +48,7 @@ row_again body other b rest at end n row fits shares spelled key h le within =
     let bytes = slice_range body at end in
     let more = take (end - (at + length b)) rest in
     let begins : BeginsV2 entry bytes more = (spelled.0, begins_between body b rest at end h le ∙ ap (λ (l : List ℕ). l ++ more) spelled.1) in
-    let read : row_v2_of bytes ≡ Ok (entry, length b) = read_front bytes more entry (IsBytes-between body at end fits) begins ∙ (λ i. Ok (entry, length (sym spelled.1 i))) in
+    let read : row_v2_of bytes ≡ Ok (entry, length b) = read_front bytes more entry (IsBytes_between body at end fits) begins ∙ (λ i. Ok (entry, length (sym spelled.1 i))) in
     let inside : (leb at end && leb end (length body)) ≡ true = and_from _ _ (le-leb _ _ (omega (arith, le))) (le-leb _ _ within) in
     let len : n + length (drop n row.key) ≡ length row.key = omega (arith, length-drop n row.key, shares.1) in
     let fine : is_restored n other (drop n row.key) ≡ true = three_from _ _ _ (le-leb _ _ shares.0) (lt-ltb _ _ (omega (arith, len, key.0))) (lt-ltb _ _ (omega (arith, len, key.1))) in

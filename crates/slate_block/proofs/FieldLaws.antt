@@ -17,11 +17,11 @@ use Rattle.slate_block.specs.Damage.{◌>>=◌, Field, head_layout, front_varint
 use Rattle.slate_block.proofs.Groups.{IsBytes, front_found, front_again}
 use Rattle.slate_block.proofs.VarintLaws.{one_varint}
 
-pub IsBytes-drop : (n : ℕ) (bytes : List ℕ) → IsBytes bytes → IsBytes (drop n bytes)
-IsBytes-drop n bytes h i = rw get_or-drop (h (n + i))
+pub IsBytes_drop : (n : ℕ) (bytes : List ℕ) → IsBytes bytes → IsBytes (drop n bytes)
+IsBytes_drop n bytes h i = rw get_or-drop (h (n + i))
 
-pub IsBytes-take : (n : ℕ) (bytes : List ℕ) → IsBytes bytes → IsBytes (take n bytes)
-IsBytes-take n bytes h i =
+pub IsBytes_take : (n : ℕ) (bytes : List ℕ) → IsBytes bytes → IsBytes (take n bytes)
+IsBytes_take n bytes h i =
     elim (cases_lt i n) [
       | inl lt ↦ rw (get_or-take n bytes i 0 lt) (h i)
       | inr le ↦ rw (get_or_past (take n bytes) i 0 (omega (arith, length-take n bytes))) (omega arith)
@@ -66,7 +66,7 @@ varint_takes bytes at n next fits e = by (front_varint (drop at bytes)) refl e
     by : (o : Option (ℕ × ℕ)) → front_varint (drop at bytes) ≡ o → varint_at at o ≡ Ok (n, next) → Stands bytes at (varint n) next × (n < 2 ^ 32)
     by None is f = absurd cc
     by (Some x) is f =
-        let found = front_found (drop at bytes) x (IsBytes-drop at bytes fits) is in
+        let found = front_found (drop at bytes) x (IsBytes_drop at bytes fits) is in
         let one : take x.1 (drop at bytes) ≡ varint x.0 = one_varint (take x.1 (drop at bytes)) x.0 found.1 in
         let here : Stands bytes at (varint x.0) (at + x.1) = subst (λ (t : List ℕ). Stands bytes at t (at + x.1)) one (stands bytes at x.1 found.0) in
         subst (λ (p : ℕ × ℕ). Stands bytes at (varint p.0) p.1 × (p.0 < 2 ^ 32)) (ok_is (x.0, at + x.1) (n, next) f) (here, found.1.0)
@@ -114,7 +114,7 @@ number_takes w limit wide bytes at n next fits e =
     let front = take (byte_len w) rest in
     let g = guard_ok (ltb (length rest) (byte_len w)) (CorruptTable at) (from_be_bytes w front, at + byte_len w) (n, next) e in
     let long : byte_len w ≤ length rest = ltb-false _ _ g.0 in
-    let bytes_there : IsBytes front = IsBytes-take (byte_len w) rest (IsBytes-drop at bytes fits) in
+    let bytes_there : IsBytes front = IsBytes_take (byte_len w) rest (IsBytes_drop at bytes fits) in
     let same : to_be_bytes w (from_be_bytes w front) ≡ front = wide.back front (omega (arith, length-take (byte_len w) rest, long)) bytes_there in
     let here : Stands bytes at (to_be_bytes w (from_be_bytes w front)) (at + byte_len w) = subst (λ (t : List ℕ). Stands bytes at t (at + byte_len w)) (sym same) (stands bytes at (byte_len w) long) in
     subst (λ (p : ℕ × ℕ). Stands bytes at (to_be_bytes w p.0) p.1 × (p.0 < limit)) g.1 (here, wide.below front bytes_there)
@@ -175,7 +175,7 @@ flags_takes bytes at f next e = by (slice_get bytes at) refl e
     by None is g = absurd cc
     by (Some b) is g = known b (are_flags b) refl is g
 
-front_byte : (bytes : List ℕ) (at b : ℕ) (rest : List ℕ) → drop at bytes ≡ b ∷ rest → slice_get bytes at ≡ Some b
+pub front_byte : (bytes : List ℕ) (at b : ℕ) (rest : List ℕ) → drop at bytes ≡ b ∷ rest → slice_get bytes at ≡ Some b
 front_byte [] zero b rest h = absurd cc
 front_byte [] (suc at) b rest h = absurd cc
 front_byte (x ∷ bytes) zero b rest h = ap Some (ap (λ l. get_or l 0 0) h)
@@ -203,7 +203,7 @@ stamp_takes true bytes at z next fits e =
     let here : Stands bytes at (be64 (cast_unsigned w64 (cast_signed w64 n))) b.0.1 = subst (λ (l : List ℕ). Stands bytes at l b.0.1) same t.0 in
     subst (λ (p : Option ℤ × ℕ). Stands bytes at (stamp_bytes p.0) p.1 × FitsStamp p.0 × (is_some p.0 ≡ true)) (ok_is (Some (cast_signed w64 n), b.0.1) (z, next) b.2) (here, stamp_fits n t.1, refl)
 
-stamp_below : (z : ℤ) → FitsSigned w64 z → cast_unsigned w64 z < 2 ^ 64
+pub stamp_below : (z : ℤ) → FitsSigned w64 z → cast_unsigned w64 z < 2 ^ 64
 stamp_below z f = omega (arith, ints)
 
 pub stamp_again : (bytes rest : List ℕ) (at : ℕ) (z : Option ℤ) → FitsStamp z → drop at bytes ≡ stamp_bytes z ++ rest → stamp_field (is_some z) bytes at ≡ Ok (z, at + length (stamp_bytes z))

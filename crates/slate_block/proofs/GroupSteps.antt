@@ -229,7 +229,7 @@ named_rows body offsets h = ap (λ (x : Result (List RowRead) SlateDBError). x >
 
 -- ---- whether a row is left
 
-none_of : {A : Type 0} (xs ys : List A) → xs ++ ys ≡ [] → (xs ≡ []) × (ys ≡ [])
+pub none_of : {A : Type 0} (xs ys : List A) → xs ++ ys ≡ [] → (xs ≡ []) × (ys ≡ [])
 none_of [] ys e = (refl, e)
 none_of (x ∷ xs) ys e = absurd cc
 

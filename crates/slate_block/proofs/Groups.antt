@@ -111,8 +111,8 @@ too_long weight low index (Some x) p q = by (eqb x.0 0) refl
 abbrev pub IsBytes : List ℕ → Type 0
 IsBytes bytes = (i : ℕ) → get_or bytes i 0 < 256
 
-IsBytes-rest : (b : ℕ) (bytes : List ℕ) → IsBytes (b ∷ bytes) → IsBytes bytes
-IsBytes-rest b bytes h i = h (suc i)
+IsBytes_rest : (b : ℕ) (bytes : List ℕ) → IsBytes (b ∷ bytes) → IsBytes bytes
+IsBytes_rest b bytes h i = h (suc i)
 
 abbrev found_in : List ℕ → ℕ × ℕ → Type 0
 found_in bytes x = (x.1 ≤ length bytes) × SpellsVarint (take x.1 bytes) x.0
@@ -122,7 +122,7 @@ some_is x y e = cc
 
 groups_found : (bytes : List ℕ) (x : ℕ × ℕ) → IsBytes bytes → front_groups bytes ≡ Some x → found_in bytes x
 groups_found [] x fits e = absurd cc
-groups_found (b ∷ bs) x fits e = by (ltb b 128) refl e (front_groups bs) refl (λ h is. groups_found bs h (IsBytes-rest b bs fits) is)
+groups_found (b ∷ bs) x fits e = by (ltb b 128) refl e (front_groups bs) refl (λ h is. groups_found bs h (IsBytes_rest b bs fits) is)
   where
     high : (h : ℕ × ℕ) (t : Bool) → eqb h.0 0 ≡ t → cond t None (Some (b - 128 + 128 * h.0, h.1 + 1)) ≡ Some x → 128 ≤ b → found_in bs h → found_in (b ∷ bs) x
     high h true z f far g = absurd cc

@@ -7,7 +7,7 @@ use Rattle.slate_types.specs.declared.types.RowEntry.{RowEntry}
 use Rattle.slate_types.specs.declared.iter.IterationOrder.{IterationOrder}
 use Rattle.slate_types.specs.Iteration.{comes_before}
 use Rattle.slate_types.specs.Keys.{key_cmp, key_lt}
-use Rattle.slate_types.proofs.KeyOrder.{turned-key}
+use Rattle.slate_types.proofs.KeyOrder.{turned_key}
 use Rattle.slate_block.specs.declared.row.SstRowEntry.{SstRowEntry}
 use Rattle.slate_block.specs.declared.flags.RowFlags.{RowFlags}
 use Rattle.slate_block.specs.declared.fields.RowFields.{RowFields}
@@ -18,6 +18,7 @@ use Rattle.slate_block.specs.Walks.{next_place, row_upto, reads_v1}
 use Rattle.slate_block.proofs.FieldLaws.{bind_ok, ok_is}
 use Rattle.slate_block.proofs.WalkLaws.{read_at}
 use Rattle.slate_block.proofs.WalkedBlocks.{row_runs}
+use Rattle.slate_types.proofs.RangeLaws.{reversed}
 
 then_again : (o p q : Ordering) → ordering_then o (ordering_then p q) ≡ ordering_then (ordering_then o p) q
 then_again Less p q = refl
@@ -32,13 +33,8 @@ parts_cmp (x ∷ a) b [] (suc n) e = absurd (omega (arith, e))
 parts_cmp (x ∷ a) b (y ∷ k) zero e = absurd (omega (arith, e))
 parts_cmp (x ∷ a) b (y ∷ k) (suc n) e = sym (then_again (nat_cmp x y) (key_cmp a (take n k)) (key_cmp b (drop n k))) ∙ ap (ordering_then (nat_cmp x y)) (parts_cmp a b k n (omega (arith, e)))
 
-reversed : (o : Ordering) → is_lt (ordering_reverse o) ≡ is_gt o
-reversed Less = refl
-reversed Equal = refl
-reversed Greater = refl
-
 pub turned_lt : (a b : List ℕ) → is_gt (key_cmp a b) ≡ key_lt b a
-turned_lt a b = sym (ap is_lt (turned-key b a) ∙ reversed (key_cmp a b))
+turned_lt a b = sym (ap is_lt (turned_key b a) ∙ reversed (key_cmp a b))
 
 -- ---- the fields up to the suffix are those of the row
 

@@ -13,12 +13,9 @@ use Rattle.slate_block.specs.Varint.{varint}
 use Rattle.slate_block.specs.RowSpelling.{be64, flags, kind_bits, stamp_bytes, meta_bytes, v1_value, v1_bytes, v2_bytes, FitsStamp, FitsV1, FitsV2, IsRowV1, IsRowV2, as_read_v1}
 use Rattle.slate_block.proofs.Pieces.{same_head, same_tail, same_pieces, same_whole, same_be16, same_be32, same_be64}
 use Rattle.slate_block.proofs.VarintLaws.{same_varint}
+use Rattle.slate_block.proofs.FieldLaws.{stamp_below}
 
 -- ---- stamps
-
-stamp_below : (z : ℤ) → FitsSigned w64 z → cast_unsigned w64 z < 2 ^ 64
-stamp_below (pos n) f = omega (arith, ints)
-stamp_below (negsuc n) f = omega (arith, ints)
 
 same_stamp : (a b : ℤ) (x y : List ℕ) → FitsSigned w64 a → FitsSigned w64 b → be64 (cast_unsigned w64 a) ++ x ≡ be64 (cast_unsigned w64 b) ++ y → (a ≡ b) × (x ≡ y)
 same_stamp a b x y f g h =

@@ -11,7 +11,7 @@ use Rattle.slate_block.specs.Varint.{varint}
 use Rattle.slate_block.specs.RowSpelling.{v1_bytes, v2_bytes, meta_bytes}
 use Rattle.slate_block.specs.BlockSpelling.{entry_v1, entry_v2, is_restart, shared_with, places, restarts, offsets_of, longest, spelled, spelled_v1, spelled_v2, FitsRow}
 use Rattle.slate_block.specs.Building.{first_key, last_key, front_key, row_bytes, is_named, named, next_front, Holds}
-use Rattle.slate_types.proofs.Lists.{AllByRecursion-append}
+use Rattle.slate_types.proofs.Lists.{AllByRecursion_append}
 
 joined : List (List ℕ) → List ℕ
 joined bs = flat_map (λ b. b) bs
@@ -194,11 +194,11 @@ holds_more version body offsets n front rows r h fits small few =
     let b = row_bytes version (longest (front_key version rows) r.key) r in
     let grown : n + 1 ≡ length (rows ++ r ∷ []) = omega (arith, h.counted, length-append rows (r ∷ [])) in
     record {
-      each = AllByRecursion-append FitsRow rows (r ∷ []) h.each (fits, tt);
+      each = AllByRecursion_append FitsRow rows (r ∷ []) h.each (fits, tt);
       is_body = (λ i. h.is_body i ++ row_bytes version (longest (h.front_is i) r.key) r) ∙ sym (joined_more version rows r);
       are_offsets = ap (λ (l : List ℕ). l ++ named version n (length body)) h.are_offsets ∙ sym (ap (offsets_of version) (spelled_more version rows r)
           ∙ offsets_more version n (length body) (spelled version rows) b (h.counted ∙ sym (length_spelled version rows)) (ap length h.is_body));
-      fit = AllByRecursion-append (λ p. p < 2 ^ 16) offsets (named version n (length body)) h.fit (named_fits version n (length body) small);
+      fit = AllByRecursion_append (λ p. p < 2 ^ 16) offsets (named version n (length body)) h.fit (named_fits version n (length body) small);
       counted = grown;
       few = omega (arith, grown, few);
       front_is = front_more version n front rows r h.counted h.front_is;

@@ -13,6 +13,7 @@ use Rattle.slate_types.specs.Iteration.{comes_before, in_order}
 use Rattle.slate_block.specs.Damage.{◌>>=◌}
 use Rattle.slate_block.specs.Walks.{next_place, row_upto, RowRead, reads_v1, are_named, all_ok, before, block_reads, block_rows}
 use Rattle.slate_block.specs.BlockWalks.{place_in, IsBlockDamage, Refuses}
+use Rattle.slate_types.proofs.Lists.{map_reverse}
 
 -- the row at an index is read up to the next place
 pub read_at : (body first ats : List ℕ) (end i : ℕ) → i < length ats → slice_get (reads_v1 body first ats end) i ≡ Some (row_upto body first (get_or ats i 0) (next_place end (drop (i + 1) ats)))
@@ -119,10 +120,6 @@ reads_of_ok [] [] e = refl
 reads_of_ok [] (row ∷ rows) e = absurd cc
 reads_of_ok (Err d ∷ reads) rows e = absurd cc
 reads_of_ok (Ok row ∷ reads) rows e = ok_before row reads (all_ok reads) rows (λ more. reads_of_ok reads more) e
-
-pub map_reverse : {A B : Type 0} (f : A → B) (xs : List A) → map f (reverse xs) ≡ reverse (map f xs)
-map_reverse f [] = refl
-map_reverse f (x ∷ xs) = ap (map f) (reverse_onto xs x []) ∙ map-append f (reverse xs) (x ∷ []) ∙ ap (λ l. l ++ (f x ∷ [])) (map_reverse f xs) ∙ sym (reverse_onto (map f xs) (f x) [])
 
 all_ok_turned : (reads : List RowRead) (rows : List RowEntry) → all_ok reads ≡ Ok rows → all_ok (reverse reads) ≡ Ok (reverse rows)
 all_ok_turned reads rows e = ap (λ (l : List RowRead). all_ok (reverse l)) (reads_of_ok reads rows e) ∙ ap all_ok (sym (map_reverse ok_read rows)) ∙ all_ok_map (reverse rows)

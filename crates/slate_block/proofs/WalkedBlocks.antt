@@ -15,7 +15,7 @@ use Rattle.slate_block.specs.RowReading.{row_v1_of, BeginsV1}
 use Rattle.slate_block.specs.Damage.{◌>>=◌}
 use Rattle.slate_block.specs.Walks.{moved_result, between, is_restored, whole_v1, row_v1_in, row_upto, next_place, RowRead, all_ok, before, reads_v1, first_key_v1, block_reads_v1, block_reads, block_rows}
 use Rattle.slate_block.proofs.Groups.{IsBytes}
-use Rattle.slate_block.proofs.FieldLaws.{IsBytes-take, IsBytes-drop, bind_ok, ok_is, behind, block_text}
+use Rattle.slate_block.proofs.FieldLaws.{IsBytes_take, IsBytes_drop, bind_ok, ok_is, behind, block_text}
 use Rattle.slate_block.proofs.ReadingLawsV1.{row_v1_begins, row_v1_within, row_v1_again}
 use Rattle.slate_block.proofs.BlockLaws.{next_v1}
 use Rattle.slate_block.proofs.Versions.{two_versions}
@@ -43,8 +43,8 @@ record RowStands (body : List ℕ) (other : List ℕ) (at : ℕ) (upto : ℕ) (r
 pub length_between : (body : List ℕ) (at upto : ℕ) → at ≤ upto → upto ≤ length body → length (slice_range body at upto) ≡ upto - at
 length_between body at upto p q = omega (arith, p, q, length-take (upto - at) (drop at body), length-drop at body)
 
-pub IsBytes-between : (body : List ℕ) (at upto : ℕ) → IsBytes body → IsBytes (slice_range body at upto)
-IsBytes-between body at upto fits = IsBytes-take (upto - at) (drop at body) (IsBytes-drop at body fits)
+pub IsBytes_between : (body : List ℕ) (at upto : ℕ) → IsBytes body → IsBytes (slice_range body at upto)
+IsBytes_between body at upto fits = IsBytes_take (upto - at) (drop at body) (IsBytes_drop at body fits)
 
 -- a row that fills its bytes
 filled : (bytes : List ℕ) (row : SstRowEntry) (end : ℕ) → IsBytes bytes → row_v1_of bytes ≡ Ok (row, end) → length bytes ≤ end → IsRowV1 bytes row
@@ -131,7 +131,7 @@ row_found body other at upto row fits e =
     let bytes = slice_range body at upto in
     let k = restored entry.key_prefix_len other entry.key_suffix r.fine in
     let size = length_between body at upto r.ordered r.within in
-    let spelled : IsRowV1 bytes entry = filled bytes entry r.len (IsBytes-between body at upto fits) r.read (omega (arith, size, r.end, r.ordered)) in
+    let spelled : IsRowV1 bytes entry = filled bytes entry r.len (IsBytes_between body at upto fits) r.read (omega (arith, size, r.end, r.ordered)) in
     let shorter : entry ≡ entry_v1 entry.key_prefix_len (whole_v1 other entry) = λ i. record { key_prefix_len = entry.key_prefix_len; key_suffix = sym k.2 i; seq = entry.seq; expire_ts = entry.expire_ts; create_ts = entry.create_ts; value = entry.value } in
     let stands : RowStands body other at upto (whole_v1 other entry) = record {
       ordered = r.ordered;
@@ -149,7 +149,7 @@ row_again body other at upto row fits s =
     let bytes = slice_range body at upto in
     let n = s.shared in
     let entry = entry_v1 n row in
-    let read : row_v1_of bytes ≡ Ok (entry, length bytes) = read_whole bytes entry (IsBytes-between body at upto fits) s.spelled in
+    let read : row_v1_of bytes ≡ Ok (entry, length bytes) = read_whole bytes entry (IsBytes_between body at upto fits) s.spelled in
     let inside : (leb at upto && leb upto (length body)) ≡ true = and_from _ _ (le-leb _ _ s.ordered) (le-leb _ _ s.within) in
     let size = length_between body at upto s.ordered s.within in
     let len : n + length (drop n row.key) ≡ length row.key = omega (arith, length-drop n row.key, s.shares.1) in

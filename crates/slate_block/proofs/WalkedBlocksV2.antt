@@ -15,7 +15,7 @@ use Rattle.slate_block.specs.Walks.{moved_result, between, is_restored, whole_v2
 use Rattle.slate_block.proofs.Groups.{IsBytes}
 use Rattle.slate_block.proofs.FieldLaws.{bind_ok, ok_is, behind}
 use Rattle.slate_block.proofs.ReadingLaws.{row_v2_begins, row_v2_end}
-use Rattle.slate_block.proofs.WalkedBlocks.{passed, unmoved, length_between, IsBytes-between, restored, passed_on}
+use Rattle.slate_block.proofs.WalkedBlocks.{passed, unmoved, length_between, IsBytes_between, restored, passed_on}
 use Rattle.slate_block.proofs.GroupRows.{group_v2, restart_v2, rows_v2, rows_are, joined_ok}
 
 -- ---- one row
@@ -45,7 +45,7 @@ row_found body other at end found fits e =
     let ordered : at ≤ end = leb-true _ _ h.0 in
     let within : end ≤ length body = leb-true _ _ h.1 in
     let read : row_v2_of bytes ≡ Ok a.0 = ap row_v2_of g.1 ∙ unmoved at (row_v2_of b.0) a.0 b.2 in
-    let fine = IsBytes-between body at end fits in
+    let fine = IsBytes_between body at end fits in
     let begins = row_v2_begins bytes entry a.0.1 fine read in
     let piece = v2_bytes entry in
     let size : a.0.1 ≡ length piece = row_v2_end bytes entry a.0.1 fine read in

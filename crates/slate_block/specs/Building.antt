@@ -73,8 +73,8 @@ SomeHeld version body offsets count front = (rows : List RowEntry) × Holds vers
 abbrev pub Held : ℕ → List ℕ → List ℕ → ℕ → List ℕ → Type 0
 Held version body offsets count front = IsContr (SomeHeld version body offsets count front)
 
-pub Held-prop : (version : ℕ) (body offsets : List ℕ) (count : ℕ) (front : List ℕ) → IsProp (Held version body offsets count front)
-Held-prop version body offsets count front = IsContr-prop
+pub Held_prop : (version : ℕ) (body offsets : List ℕ) (count : ℕ) (front : List ℕ) → IsProp (Held version body offsets count front)
+Held_prop version body offsets count front = IsContr-prop
 
 abbrev pub part_size : ℕ → RowsPart → RowEntry → ℕ
 part_size n part r = 2 + 2 * (length part.offsets.items + named_size (number part.version) part.num_rows) + length part.body.items + length (row_bytes (number part.version) n r)

@@ -2,7 +2,7 @@
 --     moved at e      the refusal of a field, with its place in the rows' part, where a row's bytes begin at a place
 --     entry_v2_in body from upto      the fields of the row of version 2 at a place of the rows' part; or the refusal
 --     row_v1_in, row_v2_in body other from upto      the row at a place of the rows' part, whose key leaves out a front of the other key, and the place behind it; or the refusal
---     before row left, joined first second      a row before others, and rows before others, or the first refusal
+--     before row left      a row before others, or the first refusal
 --     next_place end ats      where the next row, or the next restart, begins
 --     row_upto body other at upto      the row of version 1 between two places, which it fills
 --     all_ok reads      what was read, or the first refusal
@@ -63,12 +63,9 @@ abbrev pub next_place : ℕ → List ℕ → ℕ
 next_place end [] = end
 next_place end (at ∷ ats) = at
 
--- a row before others, and rows before others, where nothing is refused
+-- a row before others, where nothing is refused
 abbrev pub before : RowEntry → Result (List RowEntry) SlateDBError → Result (List RowEntry) SlateDBError
 before row left = left >>= λ rows. Ok (row ∷ rows)
-
-abbrev pub joined : Result (List RowEntry) SlateDBError → Result (List RowEntry) SlateDBError → Result (List RowEntry) SlateDBError
-joined first second = first >>= λ rows. second >>= λ more. Ok (rows ++ more)
 
 -- ---- version 1: each row ends where the next begins; the first shares with nothing, the others with the first
 

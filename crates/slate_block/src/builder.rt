@@ -1,7 +1,7 @@
 //! Blocks, built row by row.
 ghost use Rattle.std.specs.Prelude.{◌≡◌, ◌≤◌, ◌<◌, ◌^◌, ◌↔◌, ◌⊎◌, ◌==◌, [], true, false, Ok, Err, length, map, IfOk, IfErr, OnOk, OnErr, IsOkUnless};
 ghost use Rattle.slate_block.specs.BlockSpelling.{IsBlockOf, FitsBlock, block_spelling, block_bytes, as_read, longest};
-ghost use Rattle.slate_block.specs.Building.{number, front_key, Held, Held-prop, CanTake, Building, with_row};
+ghost use Rattle.slate_block.specs.Building.{number, front_key, Held, Held_prop, CanTake, Building, with_row};
 ghost use Rattle.slate_block.specs.Fitting.{fits_in};
 
 use crate::block::{Block, encoded};
@@ -19,7 +19,7 @@ pub struct BlockBuilder {
     block_size: u32,
     part: RowsPart,
     // These are the bytes and the offsets of one list of rows alone, so that contracts can name it.
-    ghost held: { Held (number part.version) part.body.items part.offsets.items part.num_rows part.front_key } by { Held-prop (number part.version) part.body.items part.offsets.items part.num_rows part.front_key },
+    ghost held: { Held (number part.version) part.body.items part.offsets.items part.num_rows part.front_key } by { Held_prop (number part.version) part.body.items part.offsets.items part.num_rows part.front_key },
 }
 
 impl Model for BlockBuilder {

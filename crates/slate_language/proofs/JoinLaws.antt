@@ -3,9 +3,9 @@ use Rattle.std.proofs.Common.{◌≡◌, ℕ, zero, suc, ◌+◌, ◌<◌, List,
 use Rattle.std.specs.List.{join_with_byte}
 use Rattle.std.proofs.lemmas.List.{map_more}
 
-join-push : (c : ℕ) (x : List ℕ) (xs : List (List ℕ)) (y : List ℕ) → join_with_byte c ((x ∷ xs) ++ (y ∷ [])) ≡ join_with_byte c (x ∷ xs) ++ (c ∷ y)
-join-push c x [] y = refl
-join-push c x (z ∷ zs) y = ap (λ ws. x ++ (c ∷ ws)) (join-push c z zs y) ∙ sym (append_assoc x (c ∷ join_with_byte c (z ∷ zs)) (c ∷ y))
+join_push : (c : ℕ) (x : List ℕ) (xs : List (List ℕ)) (y : List ℕ) → join_with_byte c ((x ∷ xs) ++ (y ∷ [])) ≡ join_with_byte c (x ∷ xs) ++ (c ∷ y)
+join_push c x [] y = refl
+join_push c x (z ∷ zs) y = ap (λ ws. x ++ (c ∷ ws)) (join_push c z zs y) ∙ sym (append_assoc x (c ∷ join_with_byte c (z ∷ zs)) (c ∷ y))
 
 pub joined_first : {A : Type 0} (c : ℕ) (text : A → List ℕ) (ws : List A) (i : ℕ) (d : A) → i < length ws → i ≡ 0 →
     join_with_byte c (map text (take (i + 1) ws)) ≡ text (get_or ws i d)
@@ -19,4 +19,4 @@ joined_more c text [] i d within later = absurd (omega arith)
 joined_more c text (x ∷ xs) zero d within later = absurd (omega arith)
 joined_more c text (x ∷ xs) (suc i) d within later =
     ap (join_with_byte c) (map_more text (x ∷ xs) (suc i) d within)
-    ∙ join-push c (text x) (map text (take i xs)) (text (get_or xs i d))
+    ∙ join_push c (text x) (map text (take i xs)) (text (get_or xs i d))

@@ -23,7 +23,7 @@ use Rattle.slate_txn.specs.Step.{answers, refused_or, with_reply, as_commit}
 use Rattle.slate_language.specs.Replies.{onto_meanings, reply_line, replies_to, replies}
 use Rattle.slate_language.specs.Text.{is_visible}
 use Rattle.slate_language.specs.WorkedRows.{LongKeys, plain, long_key, text}
-use Rattle.slate_language.proofs.ParseLaws.{parse-is}
+use Rattle.slate_language.proofs.ParseLaws.{parse_is}
 
 abbrev key : ℕ → List ℕ
 key n = replicate n 97
@@ -37,20 +37,20 @@ abbrev ahead : List ℕ → List (List ℕ) → List (List ℕ)
 ahead [] ls = ls
 ahead (b ∷ bs) ls = before_lines b (ahead bs ls)
 
-in-front : (n : ℕ) (bytes line : List ℕ) → lines_of bytes ≡ line ∷ [] → lines_of (key n ++ bytes) ≡ (key n ++ line) ∷ []
-in-front zero bytes line h = h
-in-front (suc n) bytes line h = ap (before_lines 97) (in-front n bytes line h)
+in_front : (n : ℕ) (bytes line : List ℕ) → lines_of bytes ≡ line ∷ [] → lines_of (key n ++ bytes) ≡ (key n ++ line) ∷ []
+in_front zero bytes line h = h
+in_front (suc n) bytes line h = ap (before_lines 97) (in_front n bytes line h)
 
 -- ---- a write of a long key
 
 abbrev batch : ℕ → Ops
 batch n = (key n, plain_put (49 ∷ [])) ∷ []
 
-one-line : (n : ℕ) → lines_of (long_key n) ≡ long_key n ∷ []
-one-line n = ap (ahead (codes "write put '")) (in-front n (codes " '1") (codes " '1") refl)
+one_line : (n : ℕ) → lines_of (long_key n) ≡ long_key n ∷ []
+one_line n = ap (ahead (codes "write put '")) (in_front n (codes " '1") (codes " '1") refl)
 
-is-line : (n : ℕ) → IsLine (long_key n) (lines.Write (batch n))
-is-line n =
+is_line : (n : ℕ) → IsLine (long_key n) (lines.Write (batch n))
+is_line n =
     let t = 39 ∷ key n in
     let u = codes "'1" in
     let us = codes "put" ∷ t ∷ u ∷ [] in
@@ -75,42 +75,42 @@ shown n os o =
 own : (n : ℕ) → ops_of (batch n) (key n) ≡ plain_put (49 ∷ []) ∷ []
 own n = ap (λ b. map (λ (o : List ℕ × WriteOp). o.1) (cond b (batch n) [])) ((bytes_eq-Decides (key n) (key n)).1 refl)
 
-shown-is : (n : ℕ) → flat_map reply_line (answers plain opening (lines.Write (batch n) ∷ [])) ≡ shown n (plain_put (49 ∷ []) ∷ []) (refusal n)
-shown-is n = (λ i. shown n (own n i) (refusal (long n i)))
+shown_is : (n : ℕ) → flat_map reply_line (answers plain opening (lines.Write (batch n) ∷ [])) ≡ shown n (plain_put (49 ∷ []) ∷ []) (refusal n)
+shown_is n = (λ i. shown n (own n i) (refusal (long n i)))
 
 written : (n : ℕ) → parse (long_key n) ≡ Some (lines.Write (batch n))
-written n = parse-is (long_key n) (lines.Write (batch n)) (is-line n)
+written n = parse_is (long_key n) (lines.Write (batch n)) (is_line n)
 
 replied : (n : ℕ) → replies plain (long_key n) ≡ shown n (plain_put (49 ∷ []) ∷ []) (refusal n)
 replied n =
-    ap (replies_to plain) (one-line n) ∙ ap (λ line. flat_map reply_line (answers plain opening (onto_meanings false line []))) (written n) ∙ shown-is n
+    ap (replies_to plain) (one_line n) ∙ ap (λ line. flat_map reply_line (answers plain opening (onto_meanings false line []))) (written n) ∙ shown_is n
 
 -- ---- a get of a long key
 
 abbrev get_line : ℕ → List ℕ
 get_line n = codes "get t '" ++ key n
 
-is-get : (n : ℕ) → IsLine (get_line n) (lines.Get (codes "t") (key n))
-is-get n =
+is_get : (n : ℕ) → IsLine (get_line n) (lines.Get (codes "t") (key n))
+is_get n =
     let t = 39 ∷ key n in
     (codes "get" ∷ codes "t" ∷ t ∷ [], (t, (omega arith, omega arith, refl), inl (visible n, refl), refl), refl)
 
 got : (n : ℕ) → parse (get_line n) ≡ Some (lines.Get (codes "t") (key n))
-got n = parse-is (get_line n) (lines.Get (codes "t") (key n)) (is-get n)
+got n = parse_is (get_line n) (lines.Get (codes "t") (key n)) (is_get n)
 
 alone : (n : ℕ) → lines_of (key (suc n)) ≡ key (suc n) ∷ []
 alone zero = refl
 alone (suc n) = ap (before_lines 97) (alone n)
 
-two-lines : (n : ℕ) → lines_of (text ("begin t si" ∷ []) ++ get_line (suc n)) ≡ codes "begin t si" ∷ get_line (suc n) ∷ []
-two-lines n = ap (ahead (text ("begin t si" ∷ []) ++ codes "get t '")) (alone n)
+two_lines : (n : ℕ) → lines_of (text ("begin t si" ∷ []) ++ get_line (suc n)) ≡ codes "begin t si" ∷ get_line (suc n) ∷ []
+two_lines n = ap (ahead (text ("begin t si" ∷ []) ++ codes "get t '")) (alone n)
 
-replied-none : (n : ℕ) → replies plain (text ("begin t si" ∷ []) ++ get_line (suc n)) ≡ text ("begun t 0" ∷ "none" ∷ [])
+replied_none : (n : ℕ) → replies plain (text ("begin t si" ∷ []) ++ get_line (suc n)) ≡ text ("begun t 0" ∷ "none" ∷ [])
 unfolding digits
-replied-none n =
-    ap (replies_to plain) (two-lines n)
+replied_none n =
+    ap (replies_to plain) (two_lines n)
     ∙ ap (λ line. flat_map reply_line (answers plain opening (onto_meanings false (parse (codes "begin t si")) (onto_meanings false line [])))) (got (suc n))
 
 pub long_keys : LongKeys
 unfolding digits
-long_keys = (replied 65535, replied 65536, refl, replied-none 65535)
+long_keys = (replied 65535, replied 65536, refl, replied_none 65535)

@@ -12,30 +12,31 @@ use Rattle.slate_txn.specs.declared.line.ScanStep.{ScanStep}
 use Rattle.slate_txn.specs.declared.line.Line.TheVariants as lines
 use Rattle.slate_language.specs.Parse.{both, three, only_if, ◌>>=◌, read_bound, read_bytes, read_level, read_name, read_pair, read_step, read_ttl, read_all, read_way, named, keyed, many_keyed, OpWord, PutWord, MergeWord, DeleteWord, op_word, op_as, Groups, group_token, grouped, ops_of_groups}
 use Rattle.slate_language.specs.Built.{texts, is_op_word, Op, built_begin, built_put_op, built_merge_op, built_delete_op, built_op, built_ops}
+use Rattle.slate_types.proofs.Lists.{take_behind}
 
 -- ---- the tokens of the first operation
 
-front-take : (ts : List (List ℕ)) → take (length (grouped ts).0) ts ≡ (grouped ts).0
-front-take [] = refl
-front-take (t ∷ ts) = by (op_word t) (front-take ts)
+front_take : (ts : List (List ℕ)) → take (length (grouped ts).0) ts ≡ (grouped ts).0
+front_take [] = refl
+front_take (t ∷ ts) = by (op_word t) (front_take ts)
   where
     by : (o : Option OpWord) → take (length (grouped ts).0) ts ≡ (grouped ts).0 →
         take (length (group_token o t (grouped ts)).0) (t ∷ ts) ≡ (group_token o t (grouped ts)).0
     by None later = ap (λ us. t ∷ us) later
     by (Some w) later = refl
 
-rest-grouped : (ts : List (List ℕ)) → grouped (drop (length (grouped ts).0) ts) ≡ ([], (grouped ts).1)
-rest-grouped [] = refl
-rest-grouped (t ∷ ts) = by (op_word t) refl (rest-grouped ts)
+rest_grouped : (ts : List (List ℕ)) → grouped (drop (length (grouped ts).0) ts) ≡ ([], (grouped ts).1)
+rest_grouped [] = refl
+rest_grouped (t ∷ ts) = by (op_word t) refl (rest_grouped ts)
   where
     by : (o : Option OpWord) → op_word t ≡ o → grouped (drop (length (grouped ts).0) ts) ≡ ([], (grouped ts).1) →
         grouped (drop (length (group_token o t (grouped ts)).0) (t ∷ ts)) ≡ ([], (group_token o t (grouped ts)).1)
     by None e later = later
     by (Some w) e later = ap (λ o. group_token o t (grouped ts)) e
 
-pub front-within : (ts : List (List ℕ)) → length (grouped ts).0 ≤ length ts
-front-within [] = omega arith
-front-within (t ∷ ts) = by (op_word t) (front-within ts)
+pub front_within : (ts : List (List ℕ)) → length (grouped ts).0 ≤ length ts
+front_within [] = omega arith
+front_within (t ∷ ts) = by (op_word t) (front_within ts)
   where
     by : (o : Option OpWord) → length (grouped ts).0 ≤ length ts → length (group_token o t (grouped ts)).0 ≤ length (t ∷ ts)
     by None later = omega (arith, later)
@@ -43,31 +44,31 @@ front-within (t ∷ ts) = by (op_word t) (front-within ts)
 
 -- ---- one operation, and those behind it
 
-delete-as : (ts : List (List ℕ)) → op_as DeleteWord ts ≡ built_delete_op ts
-delete-as [] = refl
-delete-as (k ∷ []) = refl
-delete-as (k ∷ t ∷ ts) = refl
+delete_as : (ts : List (List ℕ)) → op_as DeleteWord ts ≡ built_delete_op ts
+delete_as [] = refl
+delete_as (k ∷ []) = refl
+delete_as (k ∷ t ∷ ts) = refl
 
 abbrev word_by : Bool → Bool → Bool → Option OpWord
 word_by p m d = cond p (Some PutWord) (cond m (Some MergeWord) (only_if d DeleteWord))
 
-op-is : (w : List ℕ) (ts : List (List ℕ)) → (op_word w >>= λ x. op_as x ts) ≡ built_op w ts
-op-is w ts = by (bytes_eq w (codes "put")) (bytes_eq w (codes "merge")) (bytes_eq w (codes "delete"))
+op_is : (w : List ℕ) (ts : List (List ℕ)) → (op_word w >>= λ x. op_as x ts) ≡ built_op w ts
+op_is w ts = by (bytes_eq w (codes "put")) (bytes_eq w (codes "merge")) (bytes_eq w (codes "delete"))
   where
     by : (p m d : Bool) → (word_by p m d >>= λ x. op_as x ts) ≡ cond p (built_put_op ts) (cond m (built_merge_op ts) (cond d (built_delete_op ts) None))
     by true m d = refl
     by false true d = refl
-    by false false true = delete-as ts
+    by false false true = delete_as ts
     by false false false = refl
 
-ops-step : (w : List ℕ) (ts : List (List ℕ)) → built_ops (w ∷ ts) ≡ both ◌∷◌ (built_op w (grouped ts).0) (built_ops (drop (length (grouped ts).0) ts))
-ops-step w ts = by (op_word w) ∙ (λ i. both ◌∷◌ (op-is w (grouped ts).0 i) (behind i))
+ops_step : (w : List ℕ) (ts : List (List ℕ)) → built_ops (w ∷ ts) ≡ both ◌∷◌ (built_op w (grouped ts).0) (built_ops (drop (length (grouped ts).0) ts))
+ops_step w ts = by (op_word w) ∙ (λ i. both ◌∷◌ (op_is w (grouped ts).0 i) (behind i))
   where
     found : Option Ops
     found = read_all (λ p. op_as p.0 p.1) (grouped ts).1
 
     behind : found ≡ built_ops (drop (length (grouped ts).0) ts)
-    behind = sym (ap ops_of_groups (rest-grouped ts))
+    behind = sym (ap ops_of_groups (rest_grouped ts))
 
     by : (o : Option OpWord) → ops_of_groups (group_token o w (grouped ts)) ≡ both ◌∷◌ (o >>= λ x. op_as x (grouped ts).0) found
     by None = refl
@@ -75,49 +76,49 @@ ops-step w ts = by (op_word w) ∙ (λ i. both ◌∷◌ (op-is w (grouped ts).0
 
 -- ---- tokens from a place on
 
-drop-nothing : {A : Type 0} (n : ℕ) → let none : List A = [] in drop n none ≡ none
-drop-nothing zero = refl
-drop-nothing (suc n) = refl
+drop_nothing : {A : Type 0} (n : ℕ) → let none : List A = [] in drop n none ≡ none
+drop_nothing zero = refl
+drop_nothing (suc n) = refl
 
-drop-add : {A : Type 0} (i j : ℕ) (l : List A) → drop (i + j) l ≡ drop j (drop i l)
-drop-add zero j l = let same : 0 + j ≡ j = omega arith in ap (λ n. drop n l) same
-drop-add (suc i) j [] = drop-nothing (suc i + j) ∙ sym (drop-nothing j)
-drop-add (suc i) j (x ∷ l) = let more : suc i + j ≡ suc (i + j) = omega arith in ap (λ n. drop n (x ∷ l)) more ∙ drop-add i j l
+drop_add : {A : Type 0} (i j : ℕ) (l : List A) → drop (i + j) l ≡ drop j (drop i l)
+drop_add zero j l = let same : 0 + j ≡ j = omega arith in ap (λ n. drop n l) same
+drop_add (suc i) j [] = drop_nothing (suc i + j) ∙ sym (drop_nothing j)
+drop_add (suc i) j (x ∷ l) = let more : suc i + j ≡ suc (i + j) = omega arith in ap (λ n. drop n (x ∷ l)) more ∙ drop_add i j l
 
-texts-from : (ts : List (Bor (List ℕ))) (i : ℕ) (d : Bor (List ℕ)) → i < length ts → texts (drop i ts) ≡ (get_or ts i d).now ∷ texts (drop (i + 1) ts)
-texts-from ts i d within = ap texts (drop-cons ts i d within) ∙ ap (λ n. (get_or ts i d).now ∷ texts (drop n ts)) (sym (add-one i))
+texts_from : (ts : List (Bor (List ℕ))) (i : ℕ) (d : Bor (List ℕ)) → i < length ts → texts (drop i ts) ≡ (get_or ts i d).now ∷ texts (drop (i + 1) ts)
+texts_from ts i d within = ap texts (drop-cons ts i d within) ∙ ap (λ n. (get_or ts i d).now ∷ texts (drop n ts)) (sym (add-one i))
 
 -- how many tokens of the first operation stand from a place on
 abbrev pub own_from : List (Bor (List ℕ)) → ℕ → ℕ
 own_from ts i = length (grouped (texts (drop i ts))).0
 
-word-some : (t : List ℕ) (g : Groups) → is_op_word t ≡ true → length (group_token (op_word t) t g).0 ≡ 0
-word-some t g h = by (op_word t) h
+word_some : (t : List ℕ) (g : Groups) → is_op_word t ≡ true → length (group_token (op_word t) t g).0 ≡ 0
+word_some t g h = by (op_word t) h
   where
     by : (o : Option OpWord) → is_some o ≡ true → length (group_token o t g).0 ≡ 0
     by None e = cc
     by (Some w) e = refl
 
-word-none : (t : List ℕ) (g : Groups) → is_op_word t ≡ false → length (group_token (op_word t) t g).0 ≡ suc (length g.0)
-word-none t g h = by (op_word t) h
+word_none : (t : List ℕ) (g : Groups) → is_op_word t ≡ false → length (group_token (op_word t) t g).0 ≡ suc (length g.0)
+word_none t g h = by (op_word t) h
   where
     by : (o : Option OpWord) → is_some o ≡ false → length (group_token o t g).0 ≡ suc (length g.0)
     by None e = refl
     by (Some w) e = cc
 
-pub own-ends : (ts : List (Bor (List ℕ))) (i : ℕ) (d : Bor (List ℕ)) → i < length ts → is_op_word (get_or ts i d).now ≡ true → own_from ts i ≡ 0
-own-ends ts i d within is = ap (λ us. length (grouped us).0) (texts-from ts i d within) ∙ word-some (get_or ts i d).now (grouped (texts (drop (i + 1) ts))) is
+pub own_ends : (ts : List (Bor (List ℕ))) (i : ℕ) (d : Bor (List ℕ)) → i < length ts → is_op_word (get_or ts i d).now ≡ true → own_from ts i ≡ 0
+own_ends ts i d within is = ap (λ us. length (grouped us).0) (texts_from ts i d within) ∙ word_some (get_or ts i d).now (grouped (texts (drop (i + 1) ts))) is
 
-pub own-more : (ts : List (Bor (List ℕ))) (i : ℕ) (d : Bor (List ℕ)) → i < length ts → is_op_word (get_or ts i d).now ≡ false → own_from ts i ≡ own_from ts (i + 1) + 1
-own-more ts i d within is =
-    ap (λ us. length (grouped us).0) (texts-from ts i d within)
-    ∙ word-none (get_or ts i d).now (grouped (texts (drop (i + 1) ts))) is ∙ sym (add-one (own_from ts (i + 1)))
+pub own_more : (ts : List (Bor (List ℕ))) (i : ℕ) (d : Bor (List ℕ)) → i < length ts → is_op_word (get_or ts i d).now ≡ false → own_from ts i ≡ own_from ts (i + 1) + 1
+own_more ts i d within is =
+    ap (λ us. length (grouped us).0) (texts_from ts i d within)
+    ∙ word_none (get_or ts i d).now (grouped (texts (drop (i + 1) ts))) is ∙ sym (add-one (own_from ts (i + 1)))
 
 -- The operations from a place on are the one there, and those behind its tokens.
-pub ops-more : (ts : List (Bor (List ℕ))) (at n : ℕ) (d : Bor (List ℕ)) → at < length ts → n ≡ own_from ts (at + 1) →
+pub ops_more : (ts : List (Bor (List ℕ))) (at n : ℕ) (d : Bor (List ℕ)) → at < length ts → n ≡ own_from ts (at + 1) →
     built_ops (texts (drop at ts)) ≡ both ◌∷◌ (built_op (get_or ts at d).now (texts (take n (drop (at + 1) ts)))) (built_ops (texts (drop (at + 1 + n) ts)))
-ops-more ts at n d within is =
-    ap built_ops (texts-from ts at d within) ∙ ops-step (get_or ts at d).now us
+ops_more ts at n d within is =
+    ap built_ops (texts_from ts at d within) ∙ ops_step (get_or ts at d).now us
     ∙ (λ i. both ◌∷◌ (built_op (get_or ts at d).now (front i)) (built_ops (later i)))
   where
     behind : List (Bor (List ℕ))
@@ -127,25 +128,22 @@ ops-more ts at n d within is =
     us = texts behind
 
     front : (grouped us).0 ≡ texts (take n behind)
-    front = sym (front-take us) ∙ ap (λ k. take k us) (sym is) ∙ take-map (λ t. t.now) n behind
+    front = sym (front_take us) ∙ ap (λ k. take k us) (sym is) ∙ take-map (λ t. t.now) n behind
 
     later : drop (length (grouped us).0) us ≡ texts (drop (at + 1 + n) ts)
-    later = ap (λ k. drop k us) (sym is) ∙ drop-map (λ t. t.now) n behind ∙ ap texts (sym (drop-add (at + 1) n ts))
+    later = ap (λ k. drop k us) (sym is) ∙ drop-map (λ t. t.now) n behind ∙ ap texts (sym (drop_add (at + 1) n ts))
 
 -- ---- a turn of the loop over them
 
-take-whole : {A : Type 0} (n : ℕ) (l : List A) → length l ≤ n → take n l ≡ l
-take-whole zero [] h = refl
-take-whole zero (x ∷ l) h = absurd (omega (arith, h))
-take-whole (suc n) [] h = refl
-take-whole (suc n) (x ∷ l) h = ap (λ ys. x ∷ ys) (take-whole n l (omega (arith, h)))
+take_whole : {A : Type 0} (n : ℕ) (l : List A) → length l ≤ n → take n l ≡ l
+take_whole zero [] h = refl
+take_whole zero (x ∷ l) h = absurd (omega (arith, h))
+take_whole (suc n) [] h = refl
+take_whole (suc n) (x ∷ l) h = ap (λ ys. x ∷ ys) (take_whole n l (omega (arith, h)))
 
-behind-all : {A : Type 0} (ts : List A) (i : ℕ) → take (length ts - i) (drop i ts) ≡ drop i ts
-behind-all ts i = let size : length (drop i ts) ≡ length ts - i = length-drop i ts in take-whole (length ts - i) (drop i ts) (omega (arith, size))
-
-pub own-within : {A : Type 0} (ts : List A) (at n : ℕ) → at < length ts → n ≤ length (take (length ts - (at + 1)) (drop (at + 1) ts)) → at + 1 + n ≤ length ts
-own-within ts at n within h =
-    let size : length (take (length ts - (at + 1)) (drop (at + 1) ts)) ≡ length ts - (at + 1) = ap length (behind-all ts (at + 1)) ∙ length-drop (at + 1) ts in
+pub own_within : {A : Type 0} (ts : List A) (at n : ℕ) → at < length ts → n ≤ length (take (length ts - (at + 1)) (drop (at + 1) ts)) → at + 1 + n ≤ length ts
+own_within ts at n within h =
+    let size : length (take (length ts - (at + 1)) (drop (at + 1) ts)) ≡ length ts - (at + 1) = ap length (take_behind ts (at + 1)) ∙ length-drop (at + 1) ts in
     omega (arith, size, h)
 
 -- the tokens' operation at a place, as the code names its parts
@@ -158,46 +156,46 @@ own_at ts at = length (grouped (texts (take (length ts - (at + 1)) (drop (at + 1
 turn : (ts : List (Bor (List ℕ))) (at n : ℕ) (d : Bor (List ℕ)) (o : Option Op) → at < length ts → n ≡ own_at ts at → o ≡ op_at ts at n d →
     built_ops (texts (drop at ts)) ≡ both ◌∷◌ o (built_ops (texts (drop (at + 1 + n) ts)))
 turn ts at n d o within len is =
-    let own : n ≡ own_from ts (at + 1) = len ∙ ap (λ us. length (grouped (texts us)).0) (behind-all ts (at + 1)) in
+    let own : n ≡ own_from ts (at + 1) = len ∙ ap (λ us. length (grouped (texts us)).0) (take_behind ts (at + 1)) in
     let count : n ≡ at + 1 + n - (at + 1) = omega arith in
-    ops-more ts at n d within own
+    ops_more ts at n d within own
     ∙ ap (λ p. both ◌∷◌ p (built_ops (texts (drop (at + 1 + n) ts)))) (ap (λ k. built_op (get_or ts at d).now (texts (take k (drop (at + 1) ts)))) count ∙ sym is)
 
-pub ops-refused : (ts : List (Bor (List ℕ))) (at n : ℕ) (d : Bor (List ℕ)) (held : Ops) (o : Option Op) → at < length ts →
+pub ops_refused : (ts : List (Bor (List ℕ))) (at n : ℕ) (d : Bor (List ℕ)) (held : Ops) (o : Option Op) → at < length ts →
     option_map (λ os. held ++ os) (built_ops (texts (drop at ts))) ≡ built_ops (texts ts) → n ≡ own_at ts at → o ≡ op_at ts at n d → o ≡ None → None ≡ built_ops (texts ts)
-ops-refused ts at n d held o within kept len is none =
+ops_refused ts at n d held o within kept len is none =
     let later = built_ops (texts (drop (at + 1 + n) ts)) in
     sym (ap (λ p. option_map (λ os. held ++ os) (both ◌∷◌ p later)) none) ∙ ap (λ b. option_map (λ os. held ++ os) b) (sym (turn ts at n d o within len is)) ∙ kept
 
-push-one : {X : Type 0} (held : List X) (x : X) (b : Option (List X)) → option_map (λ os. (held ++ (x ∷ [])) ++ os) b ≡ option_map (λ os. held ++ os) (both ◌∷◌ (Some x) b)
-push-one held x None = refl
-push-one held x (Some os) = ap Some (append_assoc held (x ∷ []) os)
+push_one : {X : Type 0} (held : List X) (x : X) (b : Option (List X)) → option_map (λ os. (held ++ (x ∷ [])) ++ os) b ≡ option_map (λ os. held ++ os) (both ◌∷◌ (Some x) b)
+push_one held x None = refl
+push_one held x (Some os) = ap Some (append_assoc held (x ∷ []) os)
 
-pub ops-taken : (ts : List (Bor (List ℕ))) (at n : ℕ) (d : Bor (List ℕ)) (held : Ops) (o : Option Op) (x : Op) → at < length ts →
+pub ops_taken : (ts : List (Bor (List ℕ))) (at n : ℕ) (d : Bor (List ℕ)) (held : Ops) (o : Option Op) (x : Op) → at < length ts →
     option_map (λ os. held ++ os) (built_ops (texts (drop at ts))) ≡ built_ops (texts ts) → n ≡ own_at ts at → o ≡ op_at ts at n d → o ≡ Some x →
     option_map (λ os. (held ++ (x ∷ [])) ++ os) (built_ops (texts (drop (at + 1 + n) ts))) ≡ built_ops (texts ts)
-ops-taken ts at n d held o x within kept len is some =
+ops_taken ts at n d held o x within kept len is some =
     let later = built_ops (texts (drop (at + 1 + n) ts)) in
-    push-one held x later ∙ ap (λ p. option_map (λ os. held ++ os) (both ◌∷◌ p later)) (sym some) ∙ ap (λ b. option_map (λ os. held ++ os) b) (sym (turn ts at n d o within len is)) ∙ kept
+    push_one held x later ∙ ap (λ p. option_map (λ os. held ++ os) (both ◌∷◌ p later)) (sym some) ∙ ap (λ b. option_map (λ os. held ++ os) b) (sym (turn ts at n d o within len is)) ∙ kept
 
 -- ---- keys and steps, each read from one token, one after the other
 
-each-turn : {A : Type 0} (f : List ℕ → Option A) (ts : List (Bor (List ℕ))) (i : ℕ) (d : Bor (List ℕ)) → i < length ts →
+each_turn : {A : Type 0} (f : List ℕ → Option A) (ts : List (Bor (List ℕ))) (i : ℕ) (d : Bor (List ℕ)) → i < length ts →
     read_all f (texts (drop i ts)) ≡ both ◌∷◌ (f (get_or ts i d).now) (read_all f (texts (drop (i + 1) ts)))
-each-turn f ts i d within = ap (read_all f) (texts-from ts i d within)
+each_turn f ts i d within = ap (read_all f) (texts_from ts i d within)
 
-pub each-refused : {A : Type 0} (f : List ℕ → Option A) (ts : List (Bor (List ℕ))) (i : ℕ) (d : Bor (List ℕ)) (held : List A) (o : Option A) → i < length ts →
+pub each_refused : {A : Type 0} (f : List ℕ → Option A) (ts : List (Bor (List ℕ))) (i : ℕ) (d : Bor (List ℕ)) (held : List A) (o : Option A) → i < length ts →
     option_map (λ xs. held ++ xs) (read_all f (texts (drop i ts))) ≡ read_all f (texts ts) → o ≡ f (get_or ts i d).now → o ≡ None → None ≡ read_all f (texts ts)
-each-refused f ts i d held o within kept read none =
+each_refused f ts i d held o within kept read none =
     let later = read_all f (texts (drop (i + 1) ts)) in
-    sym (ap (λ p. option_map (λ xs. held ++ xs) (both ◌∷◌ p later)) (sym read ∙ none)) ∙ ap (option_map (λ xs. held ++ xs)) (sym (each-turn f ts i d within)) ∙ kept
+    sym (ap (λ p. option_map (λ xs. held ++ xs) (both ◌∷◌ p later)) (sym read ∙ none)) ∙ ap (option_map (λ xs. held ++ xs)) (sym (each_turn f ts i d within)) ∙ kept
 
-pub each-taken : {A : Type 0} (f : List ℕ → Option A) (ts : List (Bor (List ℕ))) (i : ℕ) (d : Bor (List ℕ)) (held : List A) (o : Option A) (x : A) → i < length ts →
+pub each_taken : {A : Type 0} (f : List ℕ → Option A) (ts : List (Bor (List ℕ))) (i : ℕ) (d : Bor (List ℕ)) (held : List A) (o : Option A) (x : A) → i < length ts →
     option_map (λ xs. held ++ xs) (read_all f (texts (drop i ts))) ≡ read_all f (texts ts) → o ≡ f (get_or ts i d).now → o ≡ Some x →
     option_map (λ xs. (held ++ (x ∷ [])) ++ xs) (read_all f (texts (drop (i + 1) ts))) ≡ read_all f (texts ts)
-each-taken f ts i d held o x within kept read some =
+each_taken f ts i d held o x within kept read some =
     let later = read_all f (texts (drop (i + 1) ts)) in
-    push-one held x later ∙ ap (λ p. option_map (λ xs. held ++ xs) (both ◌∷◌ p later)) (sym some ∙ read) ∙ ap (option_map (λ xs. held ++ xs)) (sym (each-turn f ts i d within)) ∙ kept
+    push_one held x later ∙ ap (λ p. option_map (λ xs. held ++ xs) (both ◌∷◌ p later)) (sym some ∙ read) ∙ ap (option_map (λ xs. held ++ xs)) (sym (each_turn f ts i d within)) ∙ kept
 
 -- ---- tokens that a pattern takes apart
 
@@ -205,46 +203,46 @@ each-taken f ts i d held o x within kept read some =
 abbrev pub with_third : {A B C : Type 0} → Option (A × B) → Option C → Option (A × B × C)
 with_third p o = p >>= λ q. o >>= λ z. Some (q.0, q.1, z)
 
-both-three : {A B C : Type 0} (a : Option A) (b : Option B) (o : Option C) → with_third (both (λ x y. (x, y)) a b) o ≡ three (λ x y z. (x, y, z)) a b o
-both-three None b o = refl
-both-three (Some x) None o = refl
-both-three (Some x) (Some y) None = refl
-both-three (Some x) (Some y) (Some z) = refl
+both_three : {A B C : Type 0} (a : Option A) (b : Option B) (o : Option C) → with_third (both (λ x y. (x, y)) a b) o ≡ three (λ x y z. (x, y, z)) a b o
+both_three None b o = refl
+both_three (Some x) None o = refl
+both_three (Some x) (Some y) None = refl
+both_three (Some x) (Some y) (Some z) = refl
 
-without-third : {A B C : Type 0} (p : Option (A × B)) → ◌≡◌ {A = Option (A × B × C)} None (with_third p None)
-without-third None = refl
-without-third (Some q) = refl
+without_third : {A B C : Type 0} (p : Option (A × B)) → ◌≡◌ {A = Option (A × B × C)} None (with_third p None)
+without_third None = refl
+without_third (Some q) = refl
 
 -- a key, a value, and the tokens behind them
-pub pair-is : (ts : List (Bor (List ℕ))) (p : Option (List ℕ × List ℕ)) (o : Option Ttl) → 2 ≤ length ts →
+pub pair_is : (ts : List (Bor (List ℕ))) (p : Option (List ℕ × List ℕ)) (o : Option Ttl) → 2 ≤ length ts →
     p ≡ both (λ k v. (k, v)) (read_bytes (get_or ts 0 (record { ref_ptr = (0, 0); now = [] })).now) (read_bytes (get_or ts 1 (record { ref_ptr = (0, 0); now = [] })).now) →
     o ≡ read_ttl (texts (take (length ts - 2) (drop 2 ts))) →
     with_third p o ≡ read_pair (λ k v ttl. (k, v, ttl)) (texts ts)
-pair-is [] p o some e f = absurd (omega (arith, some))
-pair-is (t ∷ []) p o some e f = absurd (omega (arith, some))
-pair-is (t ∷ u ∷ us) p o some e f =
-    (λ i. with_third (e i) ((f ∙ ap (λ vs. read_ttl (texts vs)) (behind-all (t ∷ u ∷ us) 2)) i)) ∙ both-three (read_bytes t.now) (read_bytes u.now) (read_ttl (texts us))
+pair_is [] p o some e f = absurd (omega (arith, some))
+pair_is (t ∷ []) p o some e f = absurd (omega (arith, some))
+pair_is (t ∷ u ∷ us) p o some e f =
+    (λ i. with_third (e i) ((f ∙ ap (λ vs. read_ttl (texts vs)) (take_behind (t ∷ u ∷ us) 2)) i)) ∙ both_three (read_bytes t.now) (read_bytes u.now) (read_ttl (texts us))
 
-pub pair-unread : (ts : List (Bor (List ℕ))) → 2 ≤ length ts → read_ttl (texts (take (length ts - 2) (drop 2 ts))) ≡ None → ◌≡◌ {A = Option (List ℕ × List ℕ × Ttl)} None (read_pair (λ k v ttl. (k, v, ttl)) (texts ts))
-pair-unread [] some e = refl
-pair-unread (t ∷ []) some e = refl
-pair-unread (t ∷ u ∷ us) some e =
-    without-third (both (λ k v. (k, v)) (read_bytes t.now) (read_bytes u.now)) ∙ pair-is (t ∷ u ∷ us) (both (λ k v. (k, v)) (read_bytes t.now) (read_bytes u.now)) None some refl (sym e)
+pub pair_unread : (ts : List (Bor (List ℕ))) → 2 ≤ length ts → read_ttl (texts (take (length ts - 2) (drop 2 ts))) ≡ None → ◌≡◌ {A = Option (List ℕ × List ℕ × Ttl)} None (read_pair (λ k v ttl. (k, v, ttl)) (texts ts))
+pair_unread [] some e = refl
+pair_unread (t ∷ []) some e = refl
+pair_unread (t ∷ u ∷ us) some e =
+    without_third (both (λ k v. (k, v)) (read_bytes t.now) (read_bytes u.now)) ∙ pair_is (t ∷ u ∷ us) (both (λ k v. (k, v)) (read_bytes t.now) (read_bytes u.now)) None some refl (sym e)
 
 -- two bounds, and the steps behind them
-pub way-is : (ts : List (Bor (List ℕ))) (p : Option (Bound (List ℕ) × Bound (List ℕ))) (o : Option (List ScanStep)) → 2 ≤ length ts →
+pub way_is : (ts : List (Bor (List ℕ))) (p : Option (Bound (List ℕ) × Bound (List ℕ))) (o : Option (List ScanStep)) → 2 ≤ length ts →
     p ≡ both (λ a b. (a, b)) (read_bound (get_or ts 0 (record { ref_ptr = (0, 0); now = [] })).now) (read_bound (get_or ts 1 (record { ref_ptr = (0, 0); now = [] })).now) →
     o ≡ read_all read_step (texts (take (length ts - 2) (drop 2 ts))) →
     with_third p o ≡ read_way (λ start end sts. (start, end, sts)) (texts ts)
-way-is [] p o some e f = absurd (omega (arith, some))
-way-is (t ∷ []) p o some e f = absurd (omega (arith, some))
-way-is (t ∷ u ∷ us) p o some e f =
-    (λ i. with_third (e i) ((f ∙ ap (λ vs. read_all read_step (texts vs)) (behind-all (t ∷ u ∷ us) 2)) i)) ∙ both-three (read_bound t.now) (read_bound u.now) (read_all read_step (texts us))
+way_is [] p o some e f = absurd (omega (arith, some))
+way_is (t ∷ []) p o some e f = absurd (omega (arith, some))
+way_is (t ∷ u ∷ us) p o some e f =
+    (λ i. with_third (e i) ((f ∙ ap (λ vs. read_all read_step (texts vs)) (take_behind (t ∷ u ∷ us) 2)) i)) ∙ both_three (read_bound t.now) (read_bound u.now) (read_all read_step (texts us))
 
 -- what is made of a key, a value and a time to live
-pub pair-made : {A : Type 0} (make : List ℕ → List ℕ → Ttl → A) (ts : List (List ℕ)) (p : Option (List ℕ × List ℕ × Ttl)) → p ≡ read_pair (λ k v ttl. (k, v, ttl)) ts →
+pub pair_made : {A : Type 0} (make : List ℕ → List ℕ → Ttl → A) (ts : List (List ℕ)) (p : Option (List ℕ × List ℕ × Ttl)) → p ≡ read_pair (λ k v ttl. (k, v, ttl)) ts →
     option_map (λ (q : List ℕ × List ℕ × Ttl). make q.0 q.1 q.2) p ≡ read_pair make ts
-pair-made {A} make ts p e = ap (option_map (λ (q : List ℕ × List ℕ × Ttl). make q.0 q.1 q.2)) e ∙ by ts
+pair_made {A} make ts p e = ap (option_map (λ (q : List ℕ × List ℕ × Ttl). make q.0 q.1 q.2)) e ∙ by ts
   where
     made : (a b : Option (List ℕ)) (o : Option Ttl) → option_map (λ (q : List ℕ × List ℕ × Ttl). make q.0 q.1 q.2) (three (λ k v ttl. (k, v, ttl)) a b o) ≡ three make a b o
     made None b o = refl
@@ -258,13 +256,13 @@ pair-made {A} make ts p e = ap (option_map (λ (q : List ℕ × List ℕ × Ttl)
     by (k ∷ v ∷ us) = made (read_bytes k) (read_bytes v) (read_ttl us)
 
 -- a name and a key
-pub keyed-is : {A : Type 0} (make : List ℕ → List ℕ → A) (ts : List (Bor (List ℕ))) (p : Option (List ℕ × List ℕ)) → length ts ≡ 2 →
+pub keyed_is : {A : Type 0} (make : List ℕ → List ℕ → A) (ts : List (Bor (List ℕ))) (p : Option (List ℕ × List ℕ)) → length ts ≡ 2 →
     p ≡ both (λ n k. (n, k)) (read_name (get_or ts 0 (record { ref_ptr = (0, 0); now = [] })).now) (read_bytes (get_or ts 1 (record { ref_ptr = (0, 0); now = [] })).now) →
     option_map (λ (q : List ℕ × List ℕ). make q.0 q.1) p ≡ keyed make (texts ts)
-keyed-is {A} make [] p two e = absurd (omega (arith, two))
-keyed-is {A} make (t ∷ []) p two e = absurd (omega (arith, two))
-keyed-is {A} make (t ∷ u ∷ v ∷ us) p two e = absurd (omega (arith, two))
-keyed-is {A} make (t ∷ u ∷ []) p two e = ap (option_map (λ (q : List ℕ × List ℕ). make q.0 q.1)) e ∙ by (read_name t.now) (read_bytes u.now)
+keyed_is {A} make [] p two e = absurd (omega (arith, two))
+keyed_is {A} make (t ∷ []) p two e = absurd (omega (arith, two))
+keyed_is {A} make (t ∷ u ∷ v ∷ us) p two e = absurd (omega (arith, two))
+keyed_is {A} make (t ∷ u ∷ []) p two e = ap (option_map (λ (q : List ℕ × List ℕ). make q.0 q.1)) e ∙ by (read_name t.now) (read_bytes u.now)
   where
     by : (a b : Option (List ℕ)) → option_map (λ (q : List ℕ × List ℕ). make q.0 q.1) (both (λ n k. (n, k)) a b) ≡ both make a b
     by None b = refl
@@ -272,34 +270,34 @@ keyed-is {A} make (t ∷ u ∷ []) p two e = ap (option_map (λ (q : List ℕ ×
     by (Some n) (Some k) = refl
 
 -- a name and a level
-pub begin-read : (ts : List (Bor (List ℕ))) (p : Option (List ℕ)) (o : Option IsolationLevel) → length ts ≡ 2 →
+pub begin_read : (ts : List (Bor (List ℕ))) (p : Option (List ℕ)) (o : Option IsolationLevel) → length ts ≡ 2 →
     p ≡ read_name (get_or ts 0 (record { ref_ptr = (0, 0); now = [] })).now → o ≡ read_level (get_or ts 1 (record { ref_ptr = (0, 0); now = [] })).now →
     both lines.Begin p o ≡ built_begin (texts ts)
-begin-read [] p o two e f = absurd (omega (arith, two))
-begin-read (t ∷ []) p o two e f = absurd (omega (arith, two))
-begin-read (t ∷ u ∷ v ∷ us) p o two e f = absurd (omega (arith, two))
-begin-read (t ∷ u ∷ []) p o two e f = λ i. both lines.Begin (e i) (f i)
+begin_read [] p o two e f = absurd (omega (arith, two))
+begin_read (t ∷ []) p o two e f = absurd (omega (arith, two))
+begin_read (t ∷ u ∷ v ∷ us) p o two e f = absurd (omega (arith, two))
+begin_read (t ∷ u ∷ []) p o two e f = λ i. both lines.Begin (e i) (f i)
 
-pub begin-unread : (ts : List (Bor (List ℕ))) → length ts ≡ 2 → read_level (get_or ts 1 (record { ref_ptr = (0, 0); now = [] })).now ≡ None → None ≡ built_begin (texts ts)
-begin-unread ts two e =
+pub begin_unread : (ts : List (Bor (List ℕ))) → length ts ≡ 2 → read_level (get_or ts 1 (record { ref_ptr = (0, 0); now = [] })).now ≡ None → None ≡ built_begin (texts ts)
+begin_unread ts two e =
     nothing (read_name (get_or ts 0 (record { ref_ptr = (0, 0); now = [] })).now)
-    ∙ begin-read ts (read_name (get_or ts 0 (record { ref_ptr = (0, 0); now = [] })).now) None two refl (sym e)
+    ∙ begin_read ts (read_name (get_or ts 0 (record { ref_ptr = (0, 0); now = [] })).now) None two refl (sym e)
   where
     nothing : (p : Option (List ℕ)) → None ≡ both lines.Begin p None
     nothing None = refl
     nothing (Some n) = refl
 
 -- a name alone
-pub named-is : {A : Type 0} (make : List ℕ → A) (ts : List (Bor (List ℕ))) (p : Option (List ℕ)) → length ts ≡ 1 → p ≡ read_name (get_or ts 0 (record { ref_ptr = (0, 0); now = [] })).now →
+pub named_is : {A : Type 0} (make : List ℕ → A) (ts : List (Bor (List ℕ))) (p : Option (List ℕ)) → length ts ≡ 1 → p ≡ read_name (get_or ts 0 (record { ref_ptr = (0, 0); now = [] })).now →
     option_map make p ≡ named make (texts ts)
-named-is {A} make [] p one e = absurd (omega (arith, one))
-named-is {A} make (t ∷ u ∷ us) p one e = absurd (omega (arith, one))
-named-is {A} make (t ∷ []) p one e = ap (option_map make) e
+named_is {A} make [] p one e = absurd (omega (arith, one))
+named_is {A} make (t ∷ u ∷ us) p one e = absurd (omega (arith, one))
+named_is {A} make (t ∷ []) p one e = ap (option_map make) e
 
 -- a name, and one key or more
-pub many-is : {A : Type 0} (make : List ℕ → List (List ℕ) → A) (ts : List (List ℕ)) (p : Option (List ℕ × List (List ℕ))) → p ≡ many_keyed (λ n ks. (n, ks)) ts →
+pub many_is : {A : Type 0} (make : List ℕ → List (List ℕ) → A) (ts : List (List ℕ)) (p : Option (List ℕ × List (List ℕ))) → p ≡ many_keyed (λ n ks. (n, ks)) ts →
     option_map (λ (q : List ℕ × List (List ℕ)). make q.0 q.1) p ≡ many_keyed make ts
-many-is {A} make ts p e = ap (option_map (λ (q : List ℕ × List (List ℕ)). make q.0 q.1)) e ∙ by ts
+many_is {A} make ts p e = ap (option_map (λ (q : List ℕ × List (List ℕ)). make q.0 q.1)) e ∙ by ts
   where
     made : (a : Option (List ℕ)) (b : Option (List (List ℕ))) → option_map (λ (q : List ℕ × List (List ℕ)). make q.0 q.1) (both (λ n ks. (n, ks)) a b) ≡ both make a b
     made None b = refl
@@ -312,8 +310,8 @@ many-is {A} make ts p e = ap (option_map (λ (q : List ℕ × List (List ℕ)). 
     by (n ∷ k ∷ ks) = made (read_name n) (read_all read_bytes (k ∷ ks))
 
 -- a key alone
-pub delete-read : (ts : List (Bor (List ℕ))) (p : Option (List ℕ)) → length ts ≡ 1 → p ≡ read_bytes (get_or ts 0 (record { ref_ptr = (0, 0); now = [] })).now →
+pub delete_read : (ts : List (Bor (List ℕ))) (p : Option (List ℕ)) → length ts ≡ 1 → p ≡ read_bytes (get_or ts 0 (record { ref_ptr = (0, 0); now = [] })).now →
     option_map (λ (key : List ℕ). (key, ops.Delete)) p ≡ built_delete_op (texts ts)
-delete-read [] p one e = absurd (omega (arith, one))
-delete-read (t ∷ u ∷ us) p one e = absurd (omega (arith, one))
-delete-read (t ∷ []) p one e = ap (option_map (λ (key : List ℕ). (key, ops.Delete))) e
+delete_read [] p one e = absurd (omega (arith, one))
+delete_read (t ∷ u ∷ us) p one e = absurd (omega (arith, one))
+delete_read (t ∷ []) p one e = ap (option_map (λ (key : List ℕ). (key, ops.Delete))) e

@@ -3,7 +3,7 @@ use Rattle.std.proofs.Common.{◌≡◌, ℕ, zero, suc, ◌-◌, ◌^◌, ◌�
 use Rattle.std.specs.Prelude.{IfErr, IsErrAnd, MatchResult}
 use Rattle.slate_types.specs.Fold.{IsLawful, KeepsShort}
 use Rattle.slate_types.specs.Keys.{key_lt}
-use Rattle.slate_types.proofs.KeyOrder.{lt-trans, not-lt-trans}
+use Rattle.slate_types.proofs.KeyOrder.{lt_trans, not_lt_trans}
 use Rattle.std.specs.Int.Bits.{bit_xor, xor_assoc, xor_self, xor_zero_r}
 use Rattle.slate_types.specs.Lawful.{IsLawfulLengths, IsWithinTarget}
 use Rattle.slate_filter.proofs.ExtractorLaws.{extractors_lawful}
@@ -15,74 +15,74 @@ use Rattle.slate_language.specs.declared.operators.NamedOperator.TheVariants as 
 use Rattle.slate_language.specs.Parts.{concat, greater, named, xored}
 use Rattle.slate_language.specs.ShortParts.{concat_short, greater_short}
 
-take-all : (n : ℕ) (v : List ℕ) → length v ≤ n → take n v ≡ v
-take-all zero [] h = refl
-take-all zero (x ∷ xs) h = absurd (omega (arith, h))
-take-all (suc n) [] h = refl
-take-all (suc n) (x ∷ xs) h = ap (λ ys. x ∷ ys) (take-all n xs (omega (arith, h)))
+take_all : (n : ℕ) (v : List ℕ) → length v ≤ n → take n v ≡ v
+take_all zero [] h = refl
+take_all zero (x ∷ xs) h = absurd (omega (arith, h))
+take_all (suc n) [] h = refl
+take_all (suc n) (x ∷ xs) h = ap (λ ys. x ∷ ys) (take_all n xs (omega (arith, h)))
 
-take-front : (n : ℕ) (xs ws : List ℕ) → take n (take n xs ++ ws) ≡ take n (xs ++ ws)
-take-front zero xs ws = refl
-take-front (suc n) [] ws = refl
-take-front (suc n) (x ∷ xs) ws = ap (λ ys. x ∷ ys) (take-front n xs ws)
+take_front : (n : ℕ) (xs ws : List ℕ) → take n (take n xs ++ ws) ≡ take n (xs ++ ws)
+take_front zero xs ws = refl
+take_front (suc n) [] ws = refl
+take_front (suc n) (x ∷ xs) ws = ap (λ ys. x ∷ ys) (take_front n xs ws)
 
-take-take : (n m : ℕ) (zs : List ℕ) → n ≤ m → take n (take m zs) ≡ take n zs
-take-take zero m zs h = refl
-take-take (suc n) zero zs h = absurd (omega (arith, h))
-take-take (suc n) (suc m) [] h = refl
-take-take (suc n) (suc m) (z ∷ zs) h = ap (λ ys. z ∷ ys) (take-take n m zs (omega (arith, h)))
+take_take : (n m : ℕ) (zs : List ℕ) → n ≤ m → take n (take m zs) ≡ take n zs
+take_take zero m zs h = refl
+take_take (suc n) zero zs h = absurd (omega (arith, h))
+take_take (suc n) (suc m) [] h = refl
+take_take (suc n) (suc m) (z ∷ zs) h = ap (λ ys. z ∷ ys) (take_take n m zs (omega (arith, h)))
 
-take-back : (n m : ℕ) (xs zs : List ℕ) → n ≤ m → take n (xs ++ take m zs) ≡ take n (xs ++ zs)
-take-back n m [] zs h = take-take n m zs h
-take-back zero m (x ∷ xs) zs h = refl
-take-back (suc n) m (x ∷ xs) zs h = ap (λ ys. x ∷ ys) (take-back n m xs zs (omega (arith, h)))
+take_back : (n m : ℕ) (xs zs : List ℕ) → n ≤ m → take n (xs ++ take m zs) ≡ take n (xs ++ zs)
+take_back n m [] zs h = take_take n m zs h
+take_back zero m (x ∷ xs) zs h = refl
+take_back (suc n) m (x ∷ xs) zs h = ap (λ ys. x ∷ ys) (take_back n m xs zs (omega (arith, h)))
 
-concat-assoc : (n : ℕ) (u v w : List ℕ) → take n (take n (u ++ v) ++ w) ≡ take n (u ++ take n (v ++ w))
-concat-assoc n u v w = take-front n (u ++ v) w ∙ ap (take n) (append_assoc u v w) ∙ sym (take-back n n u (v ++ w) (omega arith))
+concat_assoc : (n : ℕ) (u v w : List ℕ) → take n (take n (u ++ v) ++ w) ≡ take n (u ++ take n (v ++ w))
+concat_assoc n u v w = take_front n (u ++ v) w ∙ ap (take n) (append_assoc u v w) ∙ sym (take_back n n u (v ++ w) (omega arith))
 
-concat-law : (k : List ℕ) → IsLawful (concat k)
-concat-law k = record {
-  first = λ v h. take-all (2 ^ 32 - 1) v h;
-  assoc = λ u v w hu hv hw. concat-assoc (2 ^ 32 - 1) u v w;
+concat_law : (k : List ℕ) → IsLawful (concat k)
+concat_law k = record {
+  first = λ v h. take_all (2 ^ 32 - 1) v h;
+  assoc = λ u v w hu hv hw. concat_assoc (2 ^ 32 - 1) u v w;
 }
 
-pub concat-lawful : (k : List ℕ) → IsLawful (concat k) × KeepsShort (concat k)
-concat-lawful k = (concat-law k, concat_short k)
+pub concat_lawful : (k : List ℕ) → IsLawful (concat k) × KeepsShort (concat k)
+concat_lawful k = (concat_law k, concat_short k)
 
-greater-assoc : (k u v w : List ℕ) → greater k (Some (greater k (Some u) v)) w ≡ greater k (Some u) (greater k (Some v) w)
-greater-assoc k u v w = by (key_lt u v) refl (key_lt v w) refl
+greater_assoc : (k u v w : List ℕ) → greater k (Some (greater k (Some u) v)) w ≡ greater k (Some u) (greater k (Some v) w)
+greater_assoc k u v w = by (key_lt u v) refl (key_lt v w) refl
   where
     by : (s : Bool) → key_lt u v ≡ s → (t : Bool) → key_lt v w ≡ t → greater k (Some (cond s v u)) w ≡ greater k (Some u) (cond t w v)
-    by true e true f = ap (λ b. cond b w v) f ∙ sym (ap (λ b. cond b w u) (lt-trans u v w e f))
+    by true e true f = ap (λ b. cond b w v) f ∙ sym (ap (λ b. cond b w u) (lt_trans u v w e f))
     by true e false f = ap (λ b. cond b w v) f ∙ sym (ap (λ b. cond b v u) e)
     by false e true f = refl
-    by false e false f = ap (λ b. cond b w u) (not-lt-trans u v w e f) ∙ sym (ap (λ b. cond b v u) e)
+    by false e false f = ap (λ b. cond b w u) (not_lt_trans u v w e f) ∙ sym (ap (λ b. cond b v u) e)
 
-greater-law : (k : List ℕ) → IsLawful (greater k)
-greater-law k = record {
+greater_law : (k : List ℕ) → IsLawful (greater k)
+greater_law k = record {
   first = λ v h. refl;
-  assoc = λ u v w hu hv hw. greater-assoc k u v w;
+  assoc = λ u v w hu hv hw. greater_assoc k u v w;
 }
 
-pub greater-lawful : (k : List ℕ) → IsLawful (greater k) × KeepsShort (greater k)
-greater-lawful k = (greater-law k, greater_short k)
+pub greater_lawful : (k : List ℕ) → IsLawful (greater k) × KeepsShort (greater k)
+greater_lawful k = (greater_law k, greater_short k)
 
-pub named-lawful : (o : NamedOperator) (k : List ℕ) → IsLawful (named o k) × KeepsShort (named o k)
-named-lawful operators.Concat k = concat-lawful k
-named-lawful operators.Max k = greater-lawful k
+pub named_lawful : (o : NamedOperator) (k : List ℕ) → IsLawful (named o k) × KeepsShort (named o k)
+named_lawful operators.Concat k = concat_lawful k
+named_lawful operators.Max k = greater_lawful k
 
-pub named_extractor-lawful : (x : NamedExtractor) → IsWithinTarget (lengths_of x) × IsLawfulLengths (lengths_of x)
-named_extractor-lawful (extractors.Fixed n) = let l = extractors_lawful.0 n in (l.0, l.1)
-named_extractor-lawful extractors.Colon = (extractors_lawful.1, extractors_lawful.2)
-named_extractor-lawful extractors.LastColon = (extractors_lawful.3, extractors_lawful.4)
+pub named_extractor_lawful : (x : NamedExtractor) → IsWithinTarget (lengths_of x) × IsLawfulLengths (lengths_of x)
+named_extractor_lawful (extractors.Fixed n) = let l = extractors_lawful.0 n in (l.0, l.1)
+named_extractor_lawful extractors.Colon = (extractors_lawful.1, extractors_lawful.2)
+named_extractor_lawful extractors.LastColon = (extractors_lawful.3, extractors_lawful.4)
 
 -- ---- bytes that are changed by one number
 
-pub xor-back : (n : ℕ) (d : List ℕ) → xored n (xored n d) ≡ d
-xor-back n [] = refl
-xor-back n (b ∷ bs) =
+pub xor_back : (n : ℕ) (d : List ℕ) → xored n (xored n d) ≡ d
+xor_back n [] = refl
+xor_back n (b ∷ bs) =
     let back : bit_xor (bit_xor b n) n ≡ b = xor_assoc b n n ∙ ap (bit_xor b) (xor_self n) ∙ xor_zero_r b in
-    λ i. back i ∷ xor-back n bs i
+    λ i. back i ∷ xor_back n bs i
 
 -- ---- a result whose error is mapped to one
 

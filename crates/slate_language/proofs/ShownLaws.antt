@@ -12,47 +12,47 @@ use Rattle.slate_language.specs.Answers.{shown_commits, as_shown, entry_commit, 
 use Rattle.slate_language.specs.Replies.{reply_line}
 use Rattle.slate_language.specs.Text.{commit_words}
 
-entries-shown : (es : List JournalEntry) → map entry_commit es ≡ shown_commits (map entry_commit es)
-entries-shown [] = refl
-entries-shown (e ∷ es) = ap (λ cs. entry_commit e ∷ cs) (entries-shown es)
+entries_shown : (es : List JournalEntry) → map entry_commit es ≡ shown_commits (map entry_commit es)
+entries_shown [] = refl
+entries_shown (e ∷ es) = ap (λ cs. entry_commit e ∷ cs) (entries_shown es)
 
 -- An answer is a reply as it is shown.
-pub shown-of : (a : Answer) → reply_of a ≡ as_shown (reply_of a)
-shown-of answers.Done = refl
-shown-of (answers.Refused error) = refl
-shown-of (answers.NowIs moment) = refl
-shown-of (answers.Begun name start) = refl
-shown-of (answers.SnapshotAt name seq) = refl
-shown-of (answers.Found row) = refl
-shown-of (answers.Rows rows) = refl
-shown-of (answers.Committed seq) = refl
-shown-of (answers.Written seq) = refl
-shown-of (answers.Frozen seq) = refl
-shown-of (answers.Flushed seq) = refl
-shown-of (answers.Journal entries) = ap replies.JournalIs (entries-shown entries.items)
+pub shown_of : (a : Answer) → reply_of a ≡ as_shown (reply_of a)
+shown_of answers.Done = refl
+shown_of (answers.Refused error) = refl
+shown_of (answers.NowIs moment) = refl
+shown_of (answers.Begun name start) = refl
+shown_of (answers.SnapshotAt name seq) = refl
+shown_of (answers.Found row) = refl
+shown_of (answers.Rows rows) = refl
+shown_of (answers.Committed seq) = refl
+shown_of (answers.Written seq) = refl
+shown_of (answers.Frozen seq) = refl
+shown_of (answers.Flushed seq) = refl
+shown_of (answers.Journal entries) = ap replies.JournalIs (entries_shown entries.items)
 
-words-shown : (cs : List Commit) → flat_map commit_words (shown_commits cs) ≡ flat_map commit_words cs
-words-shown [] = refl
-words-shown (c ∷ cs) = ap (λ ws. commit_words c ++ ws) (words-shown cs)
+words_shown : (cs : List Commit) → flat_map commit_words (shown_commits cs) ≡ flat_map commit_words cs
+words_shown [] = refl
+words_shown (c ∷ cs) = ap (λ ws. commit_words c ++ ws) (words_shown cs)
 
-many-shown : (cs : List Commit) → length (shown_commits cs) ≡ length cs
-many-shown [] = refl
-many-shown (c ∷ cs) = ap suc (many-shown cs)
+many_shown : (cs : List Commit) → length (shown_commits cs) ≡ length cs
+many_shown [] = refl
+many_shown (c ∷ cs) = ap suc (many_shown cs)
 
 -- It has the reply's text.
-pub shown-line : (r : Reply) → reply_line (as_shown r) ≡ reply_line r
-shown-line replies.Done = refl
-shown-line (replies.Refused error) = refl
-shown-line (replies.NowIs moment) = refl
-shown-line (replies.Begun name start) = refl
-shown-line (replies.SnapshotAt name start) = refl
-shown-line (replies.Found row) = refl
-shown-line (replies.RowsAre rows) = refl
-shown-line (replies.Committed seq) = refl
-shown-line (replies.Written seq) = refl
-shown-line (replies.Frozen seq) = refl
-shown-line (replies.Flushed seq) = refl
-shown-line (replies.JournalIs cs) =
-    let many = many-shown cs in
-    let said = words-shown cs in
+pub shown_line : (r : Reply) → reply_line (as_shown r) ≡ reply_line r
+shown_line replies.Done = refl
+shown_line (replies.Refused error) = refl
+shown_line (replies.NowIs moment) = refl
+shown_line (replies.Begun name start) = refl
+shown_line (replies.SnapshotAt name start) = refl
+shown_line (replies.Found row) = refl
+shown_line (replies.RowsAre rows) = refl
+shown_line (replies.Committed seq) = refl
+shown_line (replies.Written seq) = refl
+shown_line (replies.Frozen seq) = refl
+shown_line (replies.Flushed seq) = refl
+shown_line (replies.JournalIs cs) =
+    let many = many_shown cs in
+    let said = words_shown cs in
     λ i. join_with_byte 32 (codes "journal" ∷ decimal (many i) ∷ said i) ++ (10 ∷ [])

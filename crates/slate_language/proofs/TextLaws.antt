@@ -10,19 +10,19 @@ abbrev same_digits : ℕ → Bool
 same_digits zero = true
 same_digits (suc n) = (slice_index lower_digits n == hex_digit n) && same_digits n
 
-digit-below : (n k : ℕ) → same_digits n ≡ true → k < n → slice_index lower_digits k ≡ hex_digit k
-digit-below zero k h lt = absurd (omega arith)
-digit-below (suc n) k h lt =
+digit_below : (n k : ℕ) → same_digits n ≡ true → k < n → slice_index lower_digits k ≡ hex_digit k
+digit_below zero k h lt = absurd (omega arith)
+digit_below (suc n) k h lt =
     let parts = and_parts (slice_index lower_digits n == hex_digit n) (same_digits n) h in
     elim (cases_lt k n) [
-      | inl below ↦ digit-below n k parts.1 below
+      | inl below ↦ digit_below n k parts.1 below
       | inr top ↦
           let same : k ≡ n = omega arith in
           rw same (eqb-true (slice_index lower_digits n) (hex_digit n) parts.0)
     ]
 
-digit-is : (k : ℕ) → k < 16 → slice_index lower_digits k ≡ hex_digit k
-digit-is k lt = digit-below 16 k refl lt
+digit_is : (k : ℕ) → k < 16 → slice_index lower_digits k ≡ hex_digit k
+digit_is k lt = digit_below 16 k refl lt
 
 -- The digits of the crate `hex` are those of the text.
 pub hex_is : (bytes : List ℕ) → IsBytes bytes → encode_lower bytes ≡ hex bytes
@@ -30,4 +30,4 @@ unfolding encode_with
 hex_is [] h = refl
 hex_is (b ∷ bs) h =
     let small : b < 256 = h 0 in
-    λ i. digit-is (b / 16) (omega arith) i ∷ digit-is (b % 16) (omega arith) i ∷ hex_is bs (λ k. h (suc k)) i
+    λ i. digit_is (b / 16) (omega arith) i ∷ digit_is (b % 16) (omega arith) i ∷ hex_is bs (λ k. h (suc k)) i

@@ -12,7 +12,7 @@ use Rattle.smallvec.specs.SmallVec.{SmallVec}
 use Rattle.slate_types.specs.Keys.{key_cmp}
 use Rattle.slate_types.specs.Fold.{from_last}
 use Rattle.slate_types.proofs.KeySetLaws.{AllAbove}
-use Rattle.slate_types.proofs.Lists.{AllByRecursion-append}
+use Rattle.slate_types.proofs.Lists.{AllByRecursion_append}
 use Rattle.slate_mem.specs.declared.WriteOp.{WriteOp}
 use Rattle.slate_mem.specs.declared.WriteOp.TheVariants.{Merge}
 use Rattle.slate_types.specs.declared.config.MergeOptions.{MergeOptions}
@@ -20,26 +20,10 @@ use Rattle.slate_mem.specs.Batch.{replaces}
 use Rattle.slate_mem.specs.BatchModel.{BatchModel, with_op}
 use Rattle.slate_mem.specs.Kept.{Entries, items_at, listed, IsKept, AreKept, AreFineAt, AreFine, IsWhole}
 use Rattle.slate_mem.specs.Refusals.{op_refusal}
-use Rattle.slate_mem.proofs.KeptLaws.{all-insert, at-insert, fine-insert, kept-at, listed-more}
-use Rattle.slate_mem.proofs.MemLaws.{from-last-stays}
+use Rattle.slate_mem.proofs.KeptLaws.{all_insert, at_insert, fine_insert, kept_at, listed_more}
+use Rattle.slate_mem.proofs.MemLaws.{from_last_stays}
 
 -- ---- an answer that is passed on
-
-pub ok_as : {X E P Q : Type 0} (r : Result X E) → (P → Q) → OnOk r P → OnOk r Q
-ok_as (Ok x) f h = f h
-ok_as (Err e) f h = tt
-
-pub err_as : {X E P Q : Type 0} (r : Result X E) → (P → Q) → OnErr r P → OnErr r Q
-err_as (Ok x) f h = tt
-err_as (Err e) f h = f h
-
-pub ok_to : {X E : Type 0} (r : Result X E) (P Q : X → Type 0) → ((x : X) → P x → Q x) → IfOk r P → IfOk r Q
-ok_to (Ok x) P Q f h = f x h
-ok_to (Err e) P Q f h = tt
-
-pub err_to : {X E : Type 0} (r : Result X E) (P Q : E → Type 0) → ((e : E) → P e → Q e) → IfErr r P → IfErr r Q
-err_to (Ok x) P Q f h = tt
-err_to (Err e) P Q f h = f e h
 
 -- ---- keys
 
@@ -96,7 +80,7 @@ fine_at (e ∷ es) k h = by (bytes_eq e.0 k) refl (fine_at es k h.1)
 
 -- what is kept of a key's operations and an operand is all of them
 stays_kept : (es : Entries) (k : List ℕ) (op : WriteOp) → replaces op ≡ false → AreKept es → from_last replaces (items_at es k ++ (op ∷ [])) ≡ items_at es k ++ (op ∷ [])
-stays_kept es k op r h = from-last-stays replaces (items_at es k) op r ∙ ap (λ xs. xs ++ (op ∷ [])) (kept-at es k h)
+stays_kept es k op r h = from_last_stays replaces (items_at es k) op r ∙ ap (λ xs. xs ++ (op ∷ [])) (kept_at es k h)
 
 some_more : (xs : List WriteOp) (op : WriteOp) → 0 < length (xs ++ (op ∷ []))
 some_more xs op = let more = length-append xs (op ∷ []) in omega (arith, more)
@@ -105,15 +89,15 @@ pub whole_append : (es fs : Entries) (held : Bool) (k : List ℕ) (op : WriteOp)
     IsStrictlySortedBy key_cmp (keys_of fs) → IsWhole es held → IsWhole fs true
 whole_append es fs held k op v fine r more is rising w = record {
   rising = rising;
-  kept = subst AreKept (sym is) (all-insert (λ u. IsKept u.items) es k v w.kept (subst IsKept (sym more) (some_more (items_at es k) op, stays_kept es k op r w.kept)));
-  fine = subst AreFine (sym is) (fine-insert es k v w.fine (subst (AreFineAt k) (sym more) (AllByRecursion-append (λ (o : WriteOp). op_refusal k o ≡ None) (items_at es k) (op ∷ []) (fine_at es k w.fine) (fine, tt))));
+  kept = subst AreKept (sym is) (all_insert (λ u. IsKept u.items) es k v w.kept (subst IsKept (sym more) (some_more (items_at es k) op, stays_kept es k op r w.kept)));
+  fine = subst AreFine (sym is) (fine_insert es k v w.fine (subst (AreFineAt k) (sym more) (AllByRecursion_append (λ (o : WriteOp). op_refusal k o ≡ None) (items_at es k) (op ∷ []) (fine_at es k w.fine) (fine, tt))));
   told = λ h. cc;
 }
 
 pub view_append : (es fs : Entries) (held : Bool) (k v : List ℕ) (o : MergeOptions) (list : SmallVec WriteOp) → op_refusal k (Merge v o) ≡ None → list.items ≡ items_at es k ++ (Merge v o ∷ []) → fs ≡ insert_entry key_cmp es k list →
     IsStrictlySortedBy key_cmp (keys_of fs) → IsWhole es held → (let after : BatchModel = record { ops = listed fs; held_merge = true } in after) ≡ with_op (record { ops = listed es; held_merge = held }) k (Merge v o)
 view_append es fs held k v o list fine more is rising w =
-    let ops = listed-more es fs k (Merge v o) w.rising w.kept rising (whole_append es fs held k (Merge v o) list fine refl more is rising w).kept at in
+    let ops = listed_more es fs k (Merge v o) w.rising w.kept rising (whole_append es fs held k (Merge v o) list fine refl more is rising w).kept at in
     let flag : true ≡ (held || true) = or_true held in
     λ i. record { ops = ops i; held_merge = flag i }
   where
@@ -122,4 +106,4 @@ view_append es fs held k v o list fine more is rising w =
     or_true false = refl
 
     at : (j : List ℕ) → items_at fs j ≡ cond (bytes_eq k j) (from_last replaces (items_at es k ++ (Merge v o ∷ []))) (items_at es j)
-    at j = ap (λ gs. items_at gs j) is ∙ at-insert es k list j ∙ ap (λ xs. cond (bytes_eq k j) xs (items_at es j)) (more ∙ sym (stays_kept es k (Merge v o) refl w.kept))
+    at j = ap (λ gs. items_at gs j) is ∙ at_insert es k list j ∙ ap (λ xs. cond (bytes_eq k j) xs (items_at es j)) (more ∙ sym (stays_kept es k (Merge v o) refl w.kept))

@@ -8,7 +8,7 @@ use Rattle.slate_types.specs.Iteration.{Steps}
 use Rattle.slate_types.specs.Outside.{Act, Meaning, no_parts}
 use Rattle.slate_types.specs.Rows.{is_base}
 use Rattle.slate_types.proofs.IterationLaws.{steps_more}
-use Rattle.slate_types.proofs.Lists.{AllByRecursion-append}
+use Rattle.slate_types.proofs.Lists.{AllByRecursion_append}
 use Rattle.slate_mem.specs.Lookup.{Brings}
 use Rattle.slate_mem.specs.Table.{newest, to_base, up_to}
 
@@ -25,7 +25,7 @@ brought_on step before now after row found more (rows, steps, each) s is = (rows
   where
     by : (more ≡ found) ⊎ (more ≡ found ++ (row ∷ [])) → AllByRecursion (Contains (rows ++ (row ∷ []))) more
     by (inl same) = subst (AllByRecursion (Contains (rows ++ (row ∷ [])))) (sym same) (wider rows row found each)
-    by (inr one) = subst (AllByRecursion (Contains (rows ++ (row ∷ [])))) (sym one) (AllByRecursion-append (Contains (rows ++ (row ∷ []))) found (row ∷ []) (wider rows row found each) (Contains-push rows row, tt))
+    by (inr one) = subst (AllByRecursion (Contains (rows ++ (row ∷ [])))) (sym one) (AllByRecursion_append (Contains (rows ++ (row ∷ []))) found (row ∷ []) (wider rows row found each) (Contains-push rows row, tt))
 
 -- of an iterator that reaches nothing outside
 pub brought_more : {A : Type 0} (takes : A → Meaning → List Act → Option RowEntry → A → Type 0) (before now after : A) (row : RowEntry) (found more : List RowEntry) → Brought (λ u answer v. (reads : List Act) × takes u no_parts reads answer v) before found now →

@@ -12,13 +12,13 @@ use Rattle.slate_types.specs.Iteration.{NoneBefore, IsInOrder}
 use Rattle.slate_types.specs.Keys.{key_cmp, key_lt}
 use Rattle.slate_types.specs.Rows.{is_base, of_key}
 use Rattle.slate_types.specs.Fold.{Combine, from_last, fold_taken, fold_rows}
-use Rattle.slate_types.proofs.KeyOrder.{same-key, turned-key, lt-irreflexive}
+use Rattle.slate_types.proofs.KeyOrder.{equal_keys, turned_key, lt_irreflexive}
 use Rattle.slate_mem.specs.Table.{to_base}
 use Rattle.slate_mem.specs.Lookup.{is_decided}
 use Rattle.slate_mem.specs.FlushRows.{high_rows, low_rows, kept_and_folded, fold_of, is_ended, ended, left, above, waits, IsGroup}
 use Rattle.slate_mem.proofs.LayerLaws.{base_rest}
-use Rattle.slate_mem.proofs.MemLaws.{taken-newest}
-use Rattle.slate_mem.proofs.RowOfLaws.{from_last-all}
+use Rattle.slate_mem.proofs.MemLaws.{taken_newest}
+use Rattle.slate_mem.proofs.RowOfLaws.{from_last_all}
 
 abbrev pub flush_rows : (List ℕ → Combine) → ℕ → List RowEntry → List RowEntry → List RowEntry
 flush_rows c b low [] = fold_of c low
@@ -54,7 +54,7 @@ all_turned P (r ∷ rs) h = subst (AllByRecursion P) (sym (reverse-append (r ∷
 
 -- the fold of rows of a key has the key
 fold_keys : (c : Combine) (j : List ℕ) (rows : List RowEntry) → AllByRecursion (λ (r : RowEntry). r.key ≡ j) rows → AllByRecursion (λ (r : RowEntry). r.key ≡ j) (option_to_list (fold_rows c rows))
-fold_keys c j rows h = by (from_last is_base rows) (from_last-all (λ (r : RowEntry). r.key ≡ j) is_base rows h)
+fold_keys c j rows h = by (from_last is_base rows) (from_last_all (λ (r : RowEntry). r.key ≡ j) is_base rows h)
   where
     by : (xs : List RowEntry) → AllByRecursion (λ (r : RowEntry). r.key ≡ j) xs → AllByRecursion (λ (r : RowEntry). r.key ≡ j) (option_to_list (fold_taken c xs))
     by [] h = tt
@@ -80,7 +80,7 @@ of_fold c j k (p ∷ ps) h = by (bytes_eq j k) refl
 
 -- a fold takes the rows to the first that is no operand
 by_base : (c : Combine) (xs ys : List RowEntry) → to_base xs ≡ to_base ys → option_to_list (fold_rows c (reverse xs)) ≡ option_to_list (fold_rows c (reverse ys))
-by_base c xs ys h = ap (λ zs. option_to_list (fold_taken c zs)) (sym (taken-newest xs) ∙ ap reverse h ∙ taken-newest ys)
+by_base c xs ys h = ap (λ zs. option_to_list (fold_taken c zs)) (sym (taken_newest xs) ∙ ap reverse h ∙ taken_newest ys)
 
 -- behind one no row counts
 decided_ends : (low ys : List RowEntry) → to_base low ≡ low → is_decided low ≡ true → to_base (low ++ ys) ≡ low
@@ -206,8 +206,8 @@ key_below a b e n = by (key_cmp a b) refl
   where
     by : (o : Ordering) → key_cmp a b ≡ o → is_lt o ≡ true
     by Less is = refl
-    by Equal is = let t : bytes_eq a b ≡ true = (bytes_eq-Decides a b).1 (same-key a b is) in cc
-    by Greater is = let t : key_lt b a ≡ true = ap is_lt (turned-key b a ∙ ap ordering_reverse is) in cc
+    by Equal is = let t : bytes_eq a b ≡ true = (bytes_eq-Decides a b).1 (equal_keys a b is) in cc
+    by Greater is = let t : key_lt b a ≡ true = ap is_lt (turned_key b a ∙ ap ordering_reverse is) in cc
 
 none_of : (k j : List ℕ) (rs : List RowEntry) → key_lt k j ≡ true → NoneBefore Ascending j rs → of_key k rs ≡ []
 none_of k j [] l n = refl
@@ -243,7 +243,7 @@ next_key c b j (p ∷ ps) r rs X k keys end after order rest =
         itself x = at (key_lt x x) refl
           where
             at : (t : Bool) → key_lt x x ≡ t → t ≡ false
-            at true e = lt-irreflexive x e
+            at true e = lt_irreflexive x e
             at false e = refl
 
     by : (t : Bool) → bytes_eq j k ≡ t →
@@ -305,7 +305,7 @@ itself : (x : List ℕ) → key_lt x x ≡ false
 itself x = by (key_lt x x) refl
   where
     by : (t : Bool) → key_lt x x ≡ t → t ≡ false
-    by true e = lt-irreflexive x e
+    by true e = lt_irreflexive x e
     by false e = refl
 
 one_in_order : (j : List ℕ) (xs ys : List RowEntry) → AllByRecursion (λ (x : RowEntry). x.key ≡ j) xs → NoneBefore Ascending j ys → IsInOrder Ascending ys → IsInOrder Ascending (xs ++ ys)

@@ -7,7 +7,7 @@ use Rattle.slate_types.specs.declared.types.ValueDeletable.TheVariants.{Value, M
 use Rattle.slate_types.specs.Fold.{Combine, merge_all, onto, value_of_taken, fold_rows, fold_taken, greatest_seq, latest_creation, earliest_expiry, from_last}
 use Rattle.slate_types.specs.Rows.{operand, is_base}
 use Rattle.slate_mem.specs.Table.{to_base}
-use Rattle.slate_mem.proofs.MemLaws.{taken-newest}
+use Rattle.slate_mem.proofs.MemLaws.{taken_newest}
 use Rattle.slate_mem.proofs.FlushLaws.{all_turned}
 
 -- operands combined onto a value
@@ -46,5 +46,5 @@ pub fold_of_group : (combine : List ℕ → Combine) (k : List ℕ) (o made : Ro
     fold_taken (combine o.key) (o ∷ newer) ≡ Some made → made ∷ [] ≡ option_to_list (fold_rows (combine k) (reverse rows))
 fold_of_group combine k o made rows left newer keys based split turned h =
     let key : o.key ≡ k = (subst (AllByRecursion (λ (r : RowEntry). r.key ≡ k)) split (all_turned (λ (r : RowEntry). r.key ≡ k) rows keys)).0 in
-    let whole : from_last is_base (reverse rows) ≡ reverse rows = sym (taken-newest rows) ∙ ap reverse based in
+    let whole : from_last is_base (reverse rows) ≡ reverse rows = sym (taken_newest rows) ∙ ap reverse based in
     sym (ap (λ xs. option_to_list (fold_taken (combine k) xs)) (whole ∙ split ∙ ap (λ xs. o ∷ xs) (sym turned)) ∙ ap (λ j. option_to_list (fold_taken (combine j) (o ∷ newer))) (sym key) ∙ ap option_to_list h)

@@ -21,15 +21,15 @@ use Rattle.slate_mem.specs.Lookup.{IsCallback}
 use Rattle.slate_mem.specs.Kept.{Entries, items_at, listed, IsKept, IsWhole}
 use Rattle.slate_mem.specs.RowOf.{op_row, row_at}
 use Rattle.slate_mem.specs.Table.{to_base}
-use Rattle.slate_mem.proofs.BatchRowLaws.{key-stamped}
-use Rattle.slate_mem.proofs.KeptLaws.{Gives, gives-each, kept-listed, keys-listed, rows-listed}
-use Rattle.slate_mem.proofs.MemLaws.{taken-newest}
+use Rattle.slate_mem.proofs.BatchRowLaws.{key_stamped}
+use Rattle.slate_mem.proofs.KeptLaws.{Gives, gives_each, kept_listed, keys_listed, rows_listed}
+use Rattle.slate_mem.proofs.MemLaws.{taken_newest}
 
 -- ---- the rows of a key
 
 stamped_keys : (s : Stamps) (k : List ℕ) (ops : List WriteOp) → AllByRecursion (λ (r : RowEntry). r.key ≡ k) (map (stamped s k) ops)
 stamped_keys s k [] = tt
-stamped_keys s k (op ∷ ops) = (key-stamped s k op, stamped_keys s k ops)
+stamped_keys s k (op ∷ ops) = (key_stamped s k op, stamped_keys s k ops)
 
 turned_map : {A B : Type 0} (f : A → B) (xs : List A) → reverse (map f (reverse xs)) ≡ map f xs
 turned_map f [] = refl
@@ -77,7 +77,7 @@ pub record OwnRows (s : Stamps) (k : List ℕ) (ops : List WriteOp) (own : List 
 pub own_rows : (s : Stamps) (k : List ℕ) (ops : List WriteOp) (own : List RowEntry) → own ≡ map (stamped s k) (reverse ops) → IsKept ops → OwnRows s k ops own
 own_rows s k ops own is kept = record {
   keys = subst (AllByRecursion (λ (r : RowEntry). r.key ≡ k)) (sym is) (stamped_keys s k (reverse ops));
-  based = sym (reverse-reverse (to_base own)) ∙ ap reverse (taken-newest own ∙ ap (from_last is_base) turned ∙ last_map s k ops ∙ ap (map (stamped s k)) kept.1 ∙ sym turned) ∙ reverse-reverse own;
+  based = sym (reverse-reverse (to_base own)) ∙ ap reverse (taken_newest own ∙ ap (from_last is_base) turned ∙ last_map s k ops ∙ ap (map (stamped s k)) kept.1 ∙ sym turned) ∙ reverse-reverse own;
   turned = turned;
 }
   where
@@ -107,12 +107,12 @@ by_entries f c default_millis n now (e ∷ es) h = λ i. cons_option (fold_rows 
 pub rows_folded : (c : List ℕ → Combine) (default_millis : Option ℕ) (n : ℕ) (now : ℤ) (es : Entries) (held : Bool) → IsWhole es held →
     commit_rows c default_millis n now (listed es) ≡ folded_entries c (record { seq = n; create_ts = Some now; default_ttl_millis = default_millis }) es
 rows_folded c default_millis n now es held w =
-    (λ i. filter_map (λ k. fold_rows (c k) (map (op_row k n default_millis now) (kept-listed es k w.rising w.kept i))) (keys-listed es w.rising w.kept i))
-    ∙ by_entries (items_at es) c default_millis n now es (gives-each es w.rising)
+    (λ i. filter_map (λ k. fold_rows (c k) (map (op_row k n default_millis now) (kept_listed es k w.rising w.kept i))) (keys_listed es w.rising w.kept i))
+    ∙ by_entries (items_at es) c default_millis n now es (gives_each es w.rising)
 
 -- where no merge was taken, whatever the operator does
 pub any_operator : (c d : List ℕ → Combine) (default_millis : Option ℕ) (n : ℕ) (now : ℤ) (es : Entries) → IsWhole es false → commit_rows c default_millis n now (listed es) ≡ commit_rows d default_millis n now (listed es)
-any_operator c d default_millis n now es w = rows-listed c default_millis n now es w ∙ sym (rows-listed d default_millis n now es w)
+any_operator c d default_millis n now es w = rows_listed c default_millis n now es w ∙ sym (rows_listed d default_millis n now es w)
 
 -- ---- without an operator
 

@@ -6,7 +6,7 @@ use Rattle.slate_types.specs.declared.types.RowEntry.{RowEntry}
 use Rattle.slate_types.specs.Rows.{is_operand}
 use Rattle.slate_types.specs.Fold.{Combine, IsLawful, KeepsShort, fold_rows}
 use Rattle.slate_types.specs.Join.{AreOf, join}
-use Rattle.slate_types.proofs.FoldLaws.{hides-older, fold-join, AreOf-join}
+use Rattle.slate_types.proofs.FoldLaws.{hides_older, fold_join, AreOf_join}
 
 abbrev pub first_of : List RowEntry → Option RowEntry
 first_of [] = None
@@ -24,7 +24,7 @@ first_is false b h = refl
 pub first_folds : (c : Combine) (rows : List RowEntry) (o : Option RowEntry) → o ≡ first_of rows → list_any is_operand rows ≡ false → o ≡ fold_rows c (reverse rows)
 first_folds c [] o is none = is
 first_folds c (r ∷ rs) o is none =
-    is ∙ sym (ap (fold_rows c) (reverse-append (r ∷ []) rs) ∙ hides-older c (reverse rs) [] r (base_of (is_operand r) (first_is (is_operand r) (list_any is_operand rs) none)))
+    is ∙ sym (ap (fold_rows c) (reverse-append (r ∷ []) rs) ∙ hides_older c (reverse rs) [] r (base_of (is_operand r) (first_is (is_operand r) (list_any is_operand rs) none)))
 
 -- the two oldest rows are joined
 pub record Joined (combine : List ℕ → Combine) (k : List ℕ) (row : RowEntry) (rs all : List RowEntry) : Type 0 where
@@ -37,8 +37,8 @@ joined combine now k a b row rows rs law keeps same split is h =
     let are : AreOf k (a ∷ b ∷ reverse rs) = subst (λ (xs : List RowEntry). AreOf k (a ∷ xs)) split h in
     let made : row ≡ join (combine k) a b = is ∙ (λ i. join (same i (are.0.0 i)) a b) in
     record {
-      are = subst (λ (r : RowEntry). AreOf k (r ∷ reverse rs)) (sym made) (AreOf-join k (combine k) law keeps a b (reverse rs) are);
-      fold = ap (λ r. fold_rows (combine k) (r ∷ reverse rs)) made ∙ fold-join k (combine k) law keeps a b (reverse rs) are ∙ ap (λ xs. fold_rows (combine k) (a ∷ xs)) (sym split);
+      are = subst (λ (r : RowEntry). AreOf k (r ∷ reverse rs)) (sym made) (AreOf_join k (combine k) law keeps a b (reverse rs) are);
+      fold = ap (λ r. fold_rows (combine k) (r ∷ reverse rs)) made ∙ fold_join k (combine k) law keeps a b (reverse rs) are ∙ ap (λ xs. fold_rows (combine k) (a ∷ xs)) (sym split);
     }
 
 pub last_first : (rows new : List RowEntry) (b : RowEntry) → rows ≡ new ++ (b ∷ []) → reverse rows ≡ b ∷ reverse new

@@ -12,7 +12,7 @@ use Rattle.slate_mem.specs.KeyTests.{Segments, first_other, segment_refusal, ttl
 use Rattle.slate_mem.specs.Kept.{Entries, items_at, listed, IsWhole}
 use Rattle.slate_mem.specs.Refusals.{first_refusal}
 use Rattle.slate_mem.specs.RowOf.{op_expiry}
-use Rattle.slate_mem.proofs.KeptLaws.{Gives, gives-each, kept-listed, keys-listed}
+use Rattle.slate_mem.proofs.KeptLaws.{Gives, gives_each, kept_listed, keys_listed}
 
 by_entries : (f : List ℕ → List WriteOp) (segments : Segments) (default_millis : Option ℕ) (now : ℤ) (es : Entries) → Gives f es →
     map (λ k. first_refusal (segment_refusal segments k ∷ ttl_refusal k (reverse (map (op_expiry default_millis now) (f k))) ∷ [])) (keys_of es) ≡ entry_refusals segments default_millis now es
@@ -24,8 +24,8 @@ by_entries f segments default_millis now (e ∷ es) h = λ i.
 pub tests_listed : (segments : Segments) (default_millis : Option ℕ) (now : ℤ) (es : Entries) (held : Bool) → IsWhole es held →
     map (key_refusal segments default_millis now (listed es)) (batch_keys (listed es)) ≡ entry_refusals segments default_millis now es
 tests_listed segments default_millis now es held w =
-    (λ i. map (λ k. first_refusal (segment_refusal segments k ∷ ttl_refusal k (reverse (map (op_expiry default_millis now) (kept-listed es k w.rising w.kept i))) ∷ [])) (keys-listed es w.rising w.kept i))
-    ∙ by_entries (items_at es) segments default_millis now es (gives-each es w.rising)
+    (λ i. map (λ k. first_refusal (segment_refusal segments k ∷ ttl_refusal k (reverse (map (op_expiry default_millis now) (kept_listed es k w.rising w.kept i))) ∷ [])) (keys_listed es w.rising w.kept i))
+    ∙ by_entries (items_at es) segments default_millis now es (gives_each es w.rising)
 
 -- what passed is no refusal
 pub passed : (o : Option SlateDBError) (os : List (Option SlateDBError)) → o ≡ None → first_refusal os ≡ first_refusal (o ∷ os)

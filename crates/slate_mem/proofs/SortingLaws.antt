@@ -11,7 +11,7 @@ use Rattle.slate_types.specs.declared.types.ValueDeletable.TheVariants.{Tombston
 use Rattle.slate_types.specs.declared.iter.IterationOrder.TheVariants.{Ascending}
 use Rattle.slate_types.specs.Keys.{key_cmp}
 use Rattle.slate_types.specs.Iteration.{NoneBefore, IsInOrder}
-use Rattle.slate_types.proofs.KeyOrder.{turned-key}
+use Rattle.slate_types.proofs.KeyOrder.{turned_key}
 use Rattle.slate_types.specs.Rows.{of_key}
 
 abbrev pub rises : RowEntry → RowEntry → Bool
@@ -22,8 +22,8 @@ rises_weakly = ranks_by nat_list_cmp_total (λ (r : RowEntry). r.key)
 
 tie : (k : List ℕ) (r : RowEntry) → (not (is_lt (key_cmp k r.key)) && not (is_lt (key_cmp r.key k))) ≡ bytes_eq r.key k
 tie k r =
-    ap (λ o. not (is_lt (key_cmp k r.key)) && not (is_lt o)) (turned-key r.key k) ∙ by (key_cmp k r.key)
-    ∙ sym (ap is_eq (turned-key r.key k)) ∙ is_eq-slice_cmp r.key k
+    ap (λ o. not (is_lt (key_cmp k r.key)) && not (is_lt o)) (turned_key r.key k) ∙ by (key_cmp k r.key)
+    ∙ sym (ap is_eq (turned_key r.key k)) ∙ is_eq-slice_cmp r.key k
   where
     by : (o : Ordering) → (not (is_lt o) && not (is_lt (ordering_reverse o))) ≡ is_eq (ordering_reverse o)
     by Less = refl

@@ -16,14 +16,15 @@ use Rattle.slate_types.specs.declared.types.RowEntry.{RowEntry}
 use Rattle.slate_types.specs.declared.sequenced_key.SequencedKey.{SequencedKey}
 use Rattle.slate_types.specs.Keys.{key_cmp, keys_set, among}
 use Rattle.slate_types.specs.Rows.{sequenced, sequenced_cmp}
-use Rattle.slate_types.proofs.KeyOrder.{turned-key}
-use Rattle.slate_types.proofs.RowLaws.{sequenced-total, sequenced-same}
-use Rattle.slate_types.proofs.KeySetLaws.{set-rises, set-keeps, same-set}
+use Rattle.slate_types.proofs.KeyOrder.{turned_key}
+use Rattle.slate_types.proofs.RowLaws.{sequenced_total, sequenced_same}
+use Rattle.slate_types.proofs.KeySetLaws.{set_rises, set_keeps, same_set}
 use Rattle.slate_mem.specs.declared.mem_table.Step.{Step}
 use Rattle.slate_mem.specs.Table.{put_row, put_rows, to_base, newest}
 use Rattle.slate_mem.specs.Tied.{TableEntries, AreTied, insert_row, insert_rows, undo_at, undone, all_undone}
 use Rattle.std.specs.BTreeMap.Range.{entries_between}
 use Rattle.std.specs.declared.ops.Bound.TheVariants.{Included}
+use Rattle.slate_types.proofs.Plain.{or_swap}
 
 abbrev pub newest_entries : List ℕ → ℕ → TableEntries → List RowEntry
 newest_entries k n es =
@@ -35,37 +36,37 @@ newest_entries k n es =
 abbrev pub AreKeyed : TableEntries → Type 0
 AreKeyed es = AllByRecursion (λ e. e.0 ≡ sequenced e.1) es
 
-pub tied-keyed : (es : TableEntries) → AreTied es → AreKeyed es
-tied-keyed [] t = tt
-tied-keyed (e ∷ es) t = (t.0.0, tied-keyed es t.1)
+pub tied_keyed : (es : TableEntries) → AreTied es → AreKeyed es
+tied_keyed [] t = tt
+tied_keyed (e ∷ es) t = (t.0.0, tied_keyed es t.1)
 
-put-step : (row : RowEntry) (e : SequencedKey × RowEntry) (es fs : TableEntries) (rs : List RowEntry) (o : Ordering) → values_of fs ≡ rs →
+put_step : (row : RowEntry) (e : SequencedKey × RowEntry) (es fs : TableEntries) (rs : List RowEntry) (o : Ordering) → values_of fs ≡ rs →
     values_of (match_ordering o ((sequenced row, row) ∷ e ∷ es) ((e.0, row) ∷ es) (e ∷ fs)) ≡ match_ordering o (row ∷ e.1 ∷ values_of es) (row ∷ values_of es) (e.1 ∷ rs)
-put-step row e es fs rs Less q = refl
-put-step row e es fs rs Equal q = refl
-put-step row e es fs rs Greater q = ap (λ ys. e.1 ∷ ys) q
+put_step row e es fs rs Less q = refl
+put_step row e es fs rs Equal q = refl
+put_step row e es fs rs Greater q = ap (λ ys. e.1 ∷ ys) q
 
-pub rows-put : (row : RowEntry) (es : TableEntries) → AreKeyed es → values_of (insert_row es row) ≡ put_row (values_of es) row
-rows-put row [] t = refl
-rows-put row (e ∷ es) t =
+pub rows_put : (row : RowEntry) (es : TableEntries) → AreKeyed es → values_of (insert_row es row) ≡ put_row (values_of es) row
+rows_put row [] t = refl
+rows_put row (e ∷ es) t =
     ap (λ k. values_of (match_ordering (sequenced_cmp (sequenced row) k) ((sequenced row, row) ∷ e ∷ es) ((e.0, row) ∷ es) (e ∷ insert_row es row))) t.0
-    ∙ put-step row e es (insert_row es row) (put_row (values_of es) row) (sequenced_cmp (sequenced row) (sequenced e.1)) (rows-put row es t.1)
+    ∙ put_step row e es (insert_row es row) (put_row (values_of es) row) (sequenced_cmp (sequenced row) (sequenced e.1)) (rows_put row es t.1)
 
-tied-step : (row : RowEntry) (e : SequencedKey × RowEntry) (es fs : TableEntries) (o : Ordering) → sequenced_cmp (sequenced row) e.0 ≡ o → row.seq < 2 ^ 64 → AreTied (e ∷ es) → AreTied fs →
+tied_step : (row : RowEntry) (e : SequencedKey × RowEntry) (es fs : TableEntries) (o : Ordering) → sequenced_cmp (sequenced row) e.0 ≡ o → row.seq < 2 ^ 64 → AreTied (e ∷ es) → AreTied fs →
     AreTied (match_ordering o ((sequenced row, row) ∷ e ∷ es) ((e.0, row) ∷ es) (e ∷ fs))
-tied-step row e es fs Less h s t f = ((refl, s), t)
-tied-step row e es fs Equal h s t f = ((sym (sequenced-same (sequenced row) e.0 h), s), t.1)
-tied-step row e es fs Greater h s t f = (t.0, f)
+tied_step row e es fs Less h s t f = ((refl, s), t)
+tied_step row e es fs Equal h s t f = ((sym (sequenced_same (sequenced row) e.0 h), s), t.1)
+tied_step row e es fs Greater h s t f = (t.0, f)
 
-pub tied-put : (row : RowEntry) (es : TableEntries) → row.seq < 2 ^ 64 → AreTied es → AreTied (insert_row es row)
-tied-put row [] s t = ((refl, s), tt)
-tied-put row (e ∷ es) s t = tied-step row e es (insert_row es row) (sequenced_cmp (sequenced row) e.0) refl s t (tied-put row es s t.1)
+pub tied_put : (row : RowEntry) (es : TableEntries) → row.seq < 2 ^ 64 → AreTied es → AreTied (insert_row es row)
+tied_put row [] s t = ((refl, s), tt)
+tied_put row (e ∷ es) s t = tied_step row e es (insert_row es row) (sequenced_cmp (sequenced row) e.0) refl s t (tied_put row es s t.1)
 
 -- ---- what is taken back
 
-remove-put : (k : SequencedKey) (row : RowEntry) (es : TableEntries) → sequenced_cmp k k ≡ Equal → lookup (is_at (sequenced_cmp k)) es ≡ None → remove_entry (is_at (sequenced_cmp k)) (insert_entry sequenced_cmp es k row) ≡ es
-remove-put k row [] t h = ap (λ o. cond (is_eq o) [] ((k, row) ∷ [])) t
-remove-put k row (e ∷ es) t h = by (sequenced_cmp k e.0) refl h (remove-put k row es t)
+remove_put : (k : SequencedKey) (row : RowEntry) (es : TableEntries) → sequenced_cmp k k ≡ Equal → lookup (is_at (sequenced_cmp k)) es ≡ None → remove_entry (is_at (sequenced_cmp k)) (insert_entry sequenced_cmp es k row) ≡ es
+remove_put k row [] t h = ap (λ o. cond (is_eq o) [] ((k, row) ∷ [])) t
+remove_put k row (e ∷ es) t h = by (sequenced_cmp k e.0) refl h (remove_put k row es t)
   where
     rest : TableEntries
     rest = insert_entry sequenced_cmp es k row
@@ -76,10 +77,10 @@ remove-put k row (e ∷ es) t h = by (sequenced_cmp k e.0) refl h (remove-put k 
     by Equal is found later = cc
     by Greater is found later = ap (λ o. cond (is_eq o) rest (e ∷ remove_entry (is_at (sequenced_cmp k)) rest)) is ∙ ap (λ fs. e ∷ fs) (later found)
 
-set-put : (k : SequencedKey) (row was : RowEntry) (es : TableEntries) → sequenced_cmp k k ≡ Equal → IsStrictlySortedBy sequenced_cmp (keys_of es) → lookup (is_at (sequenced_cmp k)) es ≡ Some was →
+set_put : (k : SequencedKey) (row was : RowEntry) (es : TableEntries) → sequenced_cmp k k ≡ Equal → IsStrictlySortedBy sequenced_cmp (keys_of es) → lookup (is_at (sequenced_cmp k)) es ≡ Some was →
     set_value (is_at (sequenced_cmp k)) (insert_entry sequenced_cmp es k row) was ≡ es
-set-put k row was [] t h found = cc
-set-put k row was (e ∷ es) t h found = by (sequenced_cmp k e.0) refl found (set-put k row was es t (sorted_tail sequenced_cmp e.0 (keys_of es) h))
+set_put k row was [] t h found = cc
+set_put k row was (e ∷ es) t h found = by (sequenced_cmp k e.0) refl found (set_put k row was es t (sorted_tail sequenced_cmp e.0 (keys_of es) h))
   where
     rest : TableEntries
     rest = insert_entry sequenced_cmp es k row
@@ -88,85 +89,80 @@ set-put k row was (e ∷ es) t h found = by (sequenced_cmp k e.0) refl found (se
         (lookup (is_at (sequenced_cmp k)) es ≡ Some was → set_value (is_at (sequenced_cmp k)) rest was ≡ es) →
         set_value (is_at (sequenced_cmp k)) (match_ordering o ((k, row) ∷ e ∷ es) ((e.0, row) ∷ es) (e ∷ rest)) was ≡ e ∷ es
     by Less is some later =
-        let none : lookup (is_at (sequenced_cmp k)) (e ∷ es) ≡ None = lookup-none (is_at (sequenced_cmp k)) (e ∷ es) (none_below_head sequenced-total k e es h is) in
+        let none : lookup (is_at (sequenced_cmp k)) (e ∷ es) ≡ None = lookup-none (is_at (sequenced_cmp k)) (e ∷ es) (none_below_head sequenced_total k e es h is) in
         let tail : lookup (is_at (sequenced_cmp k)) (e ∷ es) ≡ Some was = ap (λ o. cond (is_eq o) (Some e.1) (lookup (is_at (sequenced_cmp k)) es)) is ∙ some in
         cc
     by Equal is some later =
         ap (λ o. cond (is_eq o) ((e.0, was) ∷ es) ((e.0, row) ∷ set_value (is_at (sequenced_cmp k)) es was)) is
-        ∙ ap (λ v. (e.0, v) ∷ es) (sym (some-is e.1 was some))
+        ∙ ap (λ v. (e.0, v) ∷ es) (sym (some_is e.1 was some))
       where
-        some-is : (a b : RowEntry) → Some a ≡ Some b → a ≡ b
-        some-is a b q = cc
+        some_is : (a b : RowEntry) → Some a ≡ Some b → a ≡ b
+        some_is a b q = cc
     by Greater is some later = ap (λ o. cond (is_eq o) ((e.0, was) ∷ rest) (e ∷ set_value (is_at (sequenced_cmp k)) rest was)) is ∙ ap (λ fs. e ∷ fs) (later some)
 
 -- a put is taken back by what stood there before
-pub undo-put : (k : SequencedKey) (row : RowEntry) (before : Option RowEntry) (es fs : TableEntries) → IsStrictlySortedBy sequenced_cmp (keys_of es) → before ≡ lookup (is_at (sequenced_cmp k)) es →
+pub undo_put : (k : SequencedKey) (row : RowEntry) (before : Option RowEntry) (es fs : TableEntries) → IsStrictlySortedBy sequenced_cmp (keys_of es) → before ≡ lookup (is_at (sequenced_cmp k)) es →
     fs ≡ insert_entry sequenced_cmp es k row → undo_at k before fs ≡ es
-undo-put k row None es fs h was is = ap (remove_entry (is_at (sequenced_cmp k))) is ∙ remove-put k row es (tied_itself sequenced-total k) (sym was)
-undo-put k row (Some v) es fs h was is = ap (λ gs. set_value (is_at (sequenced_cmp k)) gs v) is ∙ set-put k row v es (tied_itself sequenced-total k) h (sym was)
+undo_put k row None es fs h was is = ap (remove_entry (is_at (sequenced_cmp k))) is ∙ remove_put k row es (tied_itself sequenced_total k) (sym was)
+undo_put k row (Some v) es fs h was is = ap (λ gs. set_value (is_at (sequenced_cmp k)) gs v) is ∙ set_put k row v es (tied_itself sequenced_total k) h (sym was)
 
 pub undone_last : (steps : List Step) (step : Step) (es : TableEntries) → all_undone es (steps ++ (step ∷ [])) ≡ all_undone (undone es step) steps
 undone_last [] step es = refl
 undone_last (s ∷ steps) step es = ap (λ fs. undone fs s) (undone_last steps step es)
 
-keyed-step : (row : RowEntry) (e : SequencedKey × RowEntry) (es fs : TableEntries) (o : Ordering) → sequenced_cmp (sequenced row) e.0 ≡ o → AreKeyed (e ∷ es) → AreKeyed fs →
+keyed_step : (row : RowEntry) (e : SequencedKey × RowEntry) (es fs : TableEntries) (o : Ordering) → sequenced_cmp (sequenced row) e.0 ≡ o → AreKeyed (e ∷ es) → AreKeyed fs →
     AreKeyed (match_ordering o ((sequenced row, row) ∷ e ∷ es) ((e.0, row) ∷ es) (e ∷ fs))
-keyed-step row e es fs Less h t f = (refl, t)
-keyed-step row e es fs Equal h t f = (sym (sequenced-same (sequenced row) e.0 h), t.1)
-keyed-step row e es fs Greater h t f = (t.0, f)
+keyed_step row e es fs Less h t f = (refl, t)
+keyed_step row e es fs Equal h t f = (sym (sequenced_same (sequenced row) e.0 h), t.1)
+keyed_step row e es fs Greater h t f = (t.0, f)
 
-keyed-put : (row : RowEntry) (es : TableEntries) → AreKeyed es → AreKeyed (insert_row es row)
-keyed-put row [] t = (refl, tt)
-keyed-put row (e ∷ es) t = keyed-step row e es (insert_row es row) (sequenced_cmp (sequenced row) e.0) refl t (keyed-put row es t.1)
+keyed_put : (row : RowEntry) (es : TableEntries) → AreKeyed es → AreKeyed (insert_row es row)
+keyed_put row [] t = (refl, tt)
+keyed_put row (e ∷ es) t = keyed_step row e es (insert_row es row) (sequenced_cmp (sequenced row) e.0) refl t (keyed_put row es t.1)
 
-pub rows-put-all : (rows : List RowEntry) (es : TableEntries) → AreKeyed es → values_of (insert_rows es rows) ≡ put_rows (values_of es) rows
-rows-put-all [] es t = refl
-rows-put-all (row ∷ rows) es t = rows-put-all rows (insert_row es row) (keyed-put row es t) ∙ ap (λ rs. put_rows rs rows) (rows-put row es t)
+pub rows_put_all : (rows : List RowEntry) (es : TableEntries) → AreKeyed es → values_of (insert_rows es rows) ≡ put_rows (values_of es) rows
+rows_put_all [] es t = refl
+rows_put_all (row ∷ rows) es t = rows_put_all rows (insert_row es row) (keyed_put row es t) ∙ ap (λ rs. put_rows rs rows) (rows_put row es t)
 
 -- ---- recorded prefixes
 
-pub set-of-set : (ks : List (List ℕ)) → IsStrictlySortedBy key_cmp ks → keys_set ks ≡ ks
-set-of-set ks h = same-set (keys_set ks) ks (set-rises ks) h (set-keeps ks)
+pub set_of_set : (ks : List (List ℕ)) → IsStrictlySortedBy key_cmp ks → keys_set ks ≡ ks
+set_of_set ks h = same_set (keys_set ks) ks (set_rises ks) h (set_keeps ks)
 
-pub any-append : (k : List ℕ) (xs ys : List (List ℕ)) → among k (xs ++ ys) ≡ (among k xs || among k ys)
-any-append k [] ys = refl
-any-append k (x ∷ xs) ys = by (bytes_eq x k) (any-append k xs ys)
+pub any_append : (k : List ℕ) (xs ys : List (List ℕ)) → among k (xs ++ ys) ≡ (among k xs || among k ys)
+any_append k [] ys = refl
+any_append k (x ∷ xs) ys = by (bytes_eq x k) (any_append k xs ys)
   where
     by : (b : Bool) → among k (xs ++ ys) ≡ (among k xs || among k ys) → (b || among k (xs ++ ys)) ≡ ((b || among k xs) || among k ys)
     by true later = refl
     by false later = later
 
-or-swap : (a b c : Bool) → (a || (b || c)) ≡ (b || (a || c))
-or-swap true true c = refl
-or-swap true false c = refl
-or-swap false b c = refl
-
 -- a prefix that is inserted into the rising rest counts as one before it
-pub set-moved : (p : List ℕ) (left ks : List (List ℕ)) → IsStrictlySortedBy key_cmp ks → keys_set (left ++ insert_key key_cmp ks p) ≡ keys_set (p ∷ (left ++ ks))
-set-moved p left ks h =
-    same-set (keys_set (left ++ insert_key key_cmp ks p)) (keys_set (p ∷ (left ++ ks))) (set-rises (left ++ insert_key key_cmp ks p)) (set-rises (p ∷ (left ++ ks))) each
+pub set_moved : (p : List ℕ) (left ks : List (List ℕ)) → IsStrictlySortedBy key_cmp ks → keys_set (left ++ insert_key key_cmp ks p) ≡ keys_set (p ∷ (left ++ ks))
+set_moved p left ks h =
+    same_set (keys_set (left ++ insert_key key_cmp ks p)) (keys_set (p ∷ (left ++ ks))) (set_rises (left ++ insert_key key_cmp ks p)) (set_rises (p ∷ (left ++ ks))) each
   where
     each : (k : List ℕ) → among k (keys_set (left ++ insert_key key_cmp ks p)) ≡ among k (keys_set (p ∷ (left ++ ks)))
     each k =
-        set-keeps (left ++ insert_key key_cmp ks p) k ∙ any-append k left (insert_key key_cmp ks p)
-        ∙ ap (λ xs. among k left || among k (insert_key key_cmp xs p)) (sym (set-of-set ks h))
-        ∙ ap (λ b. among k left || b) (set-keeps (p ∷ ks) k)
-        ∙ or-swap (among k left) (bytes_eq p k) (among k ks)
-        ∙ ap (λ b. bytes_eq p k || b) (sym (any-append k left ks))
-        ∙ sym (set-keeps (p ∷ (left ++ ks)) k)
+        set_keeps (left ++ insert_key key_cmp ks p) k ∙ any_append k left (insert_key key_cmp ks p)
+        ∙ ap (λ xs. among k left || among k (insert_key key_cmp xs p)) (sym (set_of_set ks h))
+        ∙ ap (λ b. among k left || b) (set_keeps (p ∷ ks) k)
+        ∙ or_swap (among k left) (bytes_eq p k) (among k ks)
+        ∙ ap (λ b. bytes_eq p k || b) (sym (any_append k left ks))
+        ∙ sym (set_keeps (p ∷ (left ++ ks)) k)
 
 -- ---- the rows of a key
 
-first-not-past : (n : ℕ) → is_gt (nat_cmp 0 n) ≡ false
-first-not-past n = grind (arith, nat_tests)
+first_not_past : (n : ℕ) → is_gt (nat_cmp 0 n) ≡ false
+first_not_past n = grind (arith, nat_tests)
 
 -- the greatest sequence of a key stands before the least
-pub newest-first : (k : List ℕ) (n : ℕ) → is_gt (sequenced_cmp (record { user_key = k; seq = n }) (record { user_key = k; seq = 0 })) ≡ false
-newest-first k n = ap (λ o. is_gt (ordering_then o (nat_cmp 0 n))) (tied_itself nat_list_cmp_total k) ∙ first-not-past n
+pub newest_first : (k : List ℕ) (n : ℕ) → is_gt (sequenced_cmp (record { user_key = k; seq = n }) (record { user_key = k; seq = 0 })) ≡ false
+newest_first k n = ap (λ o. is_gt (ordering_then o (nat_cmp 0 n))) (tied_itself nat_list_cmp_total k) ∙ first_not_past n
 
-pub set-none : (test : SequencedKey → Bool) (es : TableEntries) (row : RowEntry) → lookup test es ≡ None → set_value test es row ≡ es
-set-none test [] row h = refl
-set-none test (e ∷ es) row h = by (test e.0) h (set-none test es row)
+pub set_none : (test : SequencedKey → Bool) (es : TableEntries) (row : RowEntry) → lookup test es ≡ None → set_value test es row ≡ es
+set_none test [] row h = refl
+set_none test (e ∷ es) row h = by (test e.0) h (set_none test es row)
   where
     by : (b : Bool) → cond b (Some e.1) (lookup test es) ≡ None → (lookup test es ≡ None → set_value test es row ≡ es) → cond b ((e.0, row) ∷ es) (e ∷ set_value test es row) ≡ e ∷ es
     by true found later = cc
@@ -183,29 +179,29 @@ between k n r = by (key_cmp k r.key) refl
   where
     by : (o : Ordering) → key_cmp k r.key ≡ o →
         (is_le (ordering_then o (nat_cmp r.seq n)) && not (is_lt (ordering_then o (nat_cmp r.seq 0)))) ≡ (bytes_eq r.key k && nat_le r.seq n)
-    by Less e = sym (ap (λ b. b && nat_le r.seq n) (sym (is_eq-slice_cmp r.key k) ∙ ap is_eq (turned-key r.key k ∙ ap ordering_reverse e)))
+    by Less e = sym (ap (λ b. b && nat_le r.seq n) (sym (is_eq-slice_cmp r.key k) ∙ ap is_eq (turned_key r.key k ∙ ap ordering_reverse e)))
     by Equal e =
-        let same : bytes_eq r.key k ≡ true = sym (is_eq-slice_cmp r.key k) ∙ ap is_eq (turned-key r.key k ∙ ap ordering_reverse e) in
-        ap (λ b. is_le (nat_cmp r.seq n) && b) (never r.seq) ∙ and-true (is_le (nat_cmp r.seq n)) ∙ le-is r.seq n ∙ sym (ap (λ b. b && nat_le r.seq n) same)
+        let same : bytes_eq r.key k ≡ true = sym (is_eq-slice_cmp r.key k) ∙ ap is_eq (turned_key r.key k ∙ ap ordering_reverse e) in
+        ap (λ b. is_le (nat_cmp r.seq n) && b) (never r.seq) ∙ and_true (is_le (nat_cmp r.seq n)) ∙ le_is r.seq n ∙ sym (ap (λ b. b && nat_le r.seq n) same)
       where
         never : (m : ℕ) → not (is_lt (nat_cmp m 0)) ≡ true
         never m = grind (arith, nat_tests)
 
-        and-true : (b : Bool) → (b && true) ≡ b
-        and-true true = refl
-        and-true false = refl
+        and_true : (b : Bool) → (b && true) ≡ b
+        and_true true = refl
+        and_true false = refl
 
-        le-is : (m i : ℕ) → is_le (nat_cmp m i) ≡ nat_le m i
-        le-is m i = grind (arith, nat_tests)
-    by Greater e = sym (ap (λ b. b && nat_le r.seq n) (sym (is_eq-slice_cmp r.key k) ∙ ap is_eq (turned-key r.key k ∙ ap ordering_reverse e)))
+        le_is : (m i : ℕ) → is_le (nat_cmp m i) ≡ nat_le m i
+        le_is m i = grind (arith, nat_tests)
+    by Greater e = sym (ap (λ b. b && nat_le r.seq n) (sym (is_eq-slice_cmp r.key k) ∙ ap is_eq (turned_key r.key k ∙ ap ordering_reverse e)))
 
-filter-step : {X : Type 0} (b c : Bool) (x : X) (xs ys : List X) → b ≡ c → xs ≡ ys → cond b (x ∷ xs) xs ≡ cond c (x ∷ ys) ys
-filter-step b c x xs ys h q = λ i. cond (h i) (x ∷ q i) (q i)
+filter_step : {X : Type 0} (b c : Bool) (x : X) (xs ys : List X) → b ≡ c → xs ≡ ys → cond b (x ∷ xs) xs ≡ cond c (x ∷ ys) ys
+filter_step b c x xs ys h q = λ i. cond (h i) (x ∷ q i) (q i)
 
 -- rows of entries that a test of the keys keeps
-pub values-filtered : (test : SequencedKey → Bool) (p : RowEntry → Bool) (es : TableEntries) → AllByRecursion (λ e. test e.0 ≡ p e.1) es → values_of (filter (λ e. test e.0) es) ≡ filter p (values_of es)
-values-filtered test p [] h = refl
-values-filtered test p (e ∷ es) h = by (test e.0) (p e.1) h.0 (values-filtered test p es h.1)
+pub values_filtered : (test : SequencedKey → Bool) (p : RowEntry → Bool) (es : TableEntries) → AllByRecursion (λ e. test e.0 ≡ p e.1) es → values_of (filter (λ e. test e.0) es) ≡ filter p (values_of es)
+values_filtered test p [] h = refl
+values_filtered test p (e ∷ es) h = by (test e.0) (p e.1) h.0 (values_filtered test p es h.1)
   where
     by : (b c : Bool) → b ≡ c → values_of (filter (λ f. test f.0) es) ≡ filter p (values_of es) →
         values_of (cond b (e ∷ filter (λ f. test f.0) es) (filter (λ f. test f.0) es)) ≡ cond c (e.1 ∷ filter p (values_of es)) (filter p (values_of es))
@@ -214,9 +210,9 @@ values-filtered test p (e ∷ es) h = by (test e.0) (p e.1) h.0 (values-filtered
     by false true same later = cc
     by false false same later = later
 
-pub newest-listed : (k : List ℕ) (n : ℕ) (es : TableEntries) → AreKeyed es → newest_entries k n es ≡ newest k n (values_of es)
+pub newest_listed : (k : List ℕ) (n : ℕ) (es : TableEntries) → AreKeyed es → newest_entries k n es ≡ newest k n (values_of es)
 unfolding is_up_to
-newest-listed k n es keyed = ap to_base (values-filtered test (is_up_to k n) es (each es keyed))
+newest_listed k n es keyed = ap to_base (values_filtered test (is_up_to k n) es (each es keyed))
   where
     test : SequencedKey → Bool
     test q = is_le (sequenced_cmp (record { user_key = k; seq = n }) q) && not (is_lt (sequenced_cmp (record { user_key = k; seq = 0 }) q))
@@ -227,27 +223,27 @@ newest-listed k n es keyed = ap to_base (values-filtered test (is_up_to k n) es 
 
 -- ---- what is dropped
 
-pub tied-filtered : (p : SequencedKey × RowEntry → Bool) (es : TableEntries) → AreTied es → AreTied (filter p es)
-tied-filtered p [] t = tt
-tied-filtered p (e ∷ es) t = by (p e) (tied-filtered p es t.1)
+pub tied_filtered : (p : SequencedKey × RowEntry → Bool) (es : TableEntries) → AreTied es → AreTied (filter p es)
+tied_filtered p [] t = tt
+tied_filtered p (e ∷ es) t = by (p e) (tied_filtered p es t.1)
   where
     by : (b : Bool) → AreTied (filter p es) → AreTied (cond b (e ∷ filter p es) (filter p es))
     by true later = (t.0, later)
     by false later = later
 
-pub values-kept : (p : RowEntry → Bool) (es : TableEntries) → values_of (filter (λ e. p e.1) es) ≡ filter p (values_of es)
-values-kept p [] = refl
-values-kept p (e ∷ es) = by (p e.1) (values-kept p es)
+pub values_kept : (p : RowEntry → Bool) (es : TableEntries) → values_of (filter (λ e. p e.1) es) ≡ filter p (values_of es)
+values_kept p [] = refl
+values_kept p (e ∷ es) = by (p e.1) (values_kept p es)
   where
     by : (b : Bool) → values_of (filter (λ f. p f.1) es) ≡ filter p (values_of es) →
         values_of (cond b (e ∷ filter (λ f. p f.1) es) (filter (λ f. p f.1) es)) ≡ cond b (e.1 ∷ filter p (values_of es)) (filter p (values_of es))
     by true later = ap (λ rs. e.1 ∷ rs) later
     by false later = later
 
-turned-is : (o : Ordering) → is_eq (ordering_reverse o) ≡ is_eq o
-turned-is Less = refl
-turned-is Equal = refl
-turned-is Greater = refl
+turned_is : (o : Ordering) → is_eq (ordering_reverse o) ≡ is_eq o
+turned_is Less = refl
+turned_is Equal = refl
+turned_is Greater = refl
 
-pub among-is : (k : List ℕ) (ks : List (List ℕ)) → list_any (is_at (key_cmp k)) ks ≡ among k ks
-among-is k ks = λ i. list_any (λ x. (ap is_eq (turned-key k x) ∙ turned-is (key_cmp x k) ∙ is_eq-slice_cmp x k) i) ks
+pub among_is : (k : List ℕ) (ks : List (List ℕ)) → list_any (is_at (key_cmp k)) ks ≡ among k ks
+among_is k ks = λ i. list_any (λ x. (ap is_eq (turned_key k x) ∙ turned_is (key_cmp x k) ∙ is_eq-slice_cmp x k) i) ks

@@ -17,14 +17,14 @@ use Rattle.slate_types.specs.Iteration.{comes_before, NoneBefore, IsInOrder}
 use Rattle.slate_types.specs.Keys.{key_cmp, in_range}
 use Rattle.slate_types.specs.RowTurns.{key_order, row_before, NoneEarlier, AreInTurn}
 use Rattle.slate_types.specs.Rows.{sequenced, sequenced_cmp, of_key}
-use Rattle.slate_types.proofs.KeyOrder.{same-key, bytes_eq-same}
+use Rattle.slate_types.proofs.KeyOrder.{equal_keys, bytes_eq_same}
 use Rattle.slate_mem.specs.declared.WriteOp.{WriteOp}
 use Rattle.slate_mem.specs.Batch.{Ops, kept}
 use Rattle.slate_mem.specs.BatchRows.{batch_rows}
 use Rattle.slate_mem.specs.RowOf.{row_at}
 use Rattle.slate_mem.specs.Table.{ranged}
 use Rattle.slate_mem.specs.Tied.{TableEntries, IsRows}
-use Rattle.slate_mem.proofs.TableLaws.{AreKeyed, tied-keyed}
+use Rattle.slate_mem.proofs.TableLaws.{AreKeyed, tied_keyed}
 
 abbrev pub newer : RowEntry → RowEntry → Bool
 newer r s = nat_lt s.seq r.seq
@@ -44,8 +44,8 @@ comes_is Ascending a b = refl
 comes_is Descending a b = refl
 
 tied_key : (order : IterationOrder) (a b : List ℕ) → key_order order a b ≡ Equal → a ≡ b
-tied_key Ascending a b e = same-key a b e
-tied_key Descending a b e = sym (same-key b a e)
+tied_key Ascending a b e = equal_keys a b e
+tied_key Descending a b e = sym (equal_keys b a e)
 
 neither : (o p : Ordering) → is_lt o ≡ false → (o ≡ Equal → is_lt p ≡ false) → is_lt (ordering_then o p) ≡ false
 neither Less p h k = cc
@@ -69,7 +69,7 @@ none_earlier order r (s ∷ rows) h k = (neither (key_order order s.key r.key) (
 
 pub in_turn : (order : IterationOrder) (rows : List RowEntry) → IsInOrder order rows → ((k : List ℕ) → AreInTurn newer (of_key k rows)) → AreInTurn (row_before order) rows
 in_turn order [] h k = tt
-in_turn order (r ∷ rows) h k = (none_earlier order r rows h.0 (own (bytes_eq r.key r.key) (bytes_eq-same r.key) (k r.key)), in_turn order rows h.1 (λ j. later j (bytes_eq r.key j) (k j)))
+in_turn order (r ∷ rows) h k = (none_earlier order r rows h.0 (own (bytes_eq r.key r.key) (bytes_eq_same r.key) (k r.key)), in_turn order rows h.1 (λ j. later j (bytes_eq r.key j) (k j)))
   where
     own : (b : Bool) → b ≡ true → AreInTurn newer (cond b (r ∷ of_key r.key rows) (of_key r.key rows)) → NoneEarlier newer r (of_key r.key rows)
     own true e t = t.0
@@ -171,4 +171,4 @@ key_turn k (e ∷ es) t h = by (bytes_eq e.1.key k) refl (key_turn k es t.1 h.1)
 pub ranged_in_turn : (range : BytesRange) (es : TableEntries) (order : IterationOrder) (rows : List RowEntry) → IsRows es → IsInOrder order rows → ((k : List ℕ) → of_key k rows ≡ of_key k (ranged range (values_of es))) → AreInTurn (row_before order) rows
 ranged_in_turn range es order rows w h is =
     in_turn order rows h (λ k. subst (AreInTurn newer) (sym (is k ∙ filters_turn (λ r. bytes_eq r.key k) (λ r. in_range range r.key) (values_of es)))
-    (turn_filtered newer (λ r. in_range range r.key) (of_key k (values_of es)) (key_turn k es (tied-keyed es w.tied) w.rising)))
+    (turn_filtered newer (λ r. in_range range r.key) (of_key k (values_of es)) (key_turn k es (tied_keyed es w.tied) w.rising)))

@@ -8,7 +8,7 @@ use Rattle.slate_types.specs.Iteration.{NoneBefore, IsInOrder, TakesRow, drop_be
 use Rattle.slate_types.specs.Keys.{key_cmp, key_lt, key_le}
 use Rattle.slate_types.specs.Rows.{is_base}
 use Rattle.slate_types.proofs.IterationLaws.{none_before_earlier}
-use Rattle.slate_types.proofs.KeyOrder.{same-key, turned-key, not-lt, lt-le-trans, lt-irreflexive}
+use Rattle.slate_types.proofs.KeyOrder.{equal_keys, turned_key, not_lt, lt_le_trans, lt_irreflexive}
 use Rattle.slate_mem.specs.Table.{newest, to_base, up_to}
 
 -- rows past a key have none of it
@@ -19,16 +19,16 @@ none_past k n row (r ∷ rs) past h = by (bytes_eq r.key k) refl (none_past k n 
     by : (b : Bool) → bytes_eq r.key k ≡ b → up_to k n rs ≡ [] → cond (b && nat_le r.seq n) (r ∷ up_to k n rs) (up_to k n rs) ≡ []
     by true e rest =
         let same : r.key ≡ k = (bytes_eq-Decides r.key k).0 e in
-        let above : key_le row.key k ≡ true = ap (key_le row.key) (sym same) ∙ not-lt r.key row.key h.0 in
-        lt-irreflexive k (lt-le-trans k row.key k past above)
+        let above : key_le row.key k ≡ true = ap (key_le row.key) (sym same) ∙ not_lt r.key row.key h.0 in
+        lt_irreflexive k (lt_le_trans k row.key k past above)
     by false e rest = rest
 
 tied_keys : (k j : List ℕ) → key_lt j k ≡ false → key_lt k j ≡ false → bytes_eq j k ≡ true
-tied_keys k j h s = by (key_cmp j k) refl h (sym (ap is_lt (turned-key k j)) ∙ s)
+tied_keys k j h s = by (key_cmp j k) refl h (sym (ap is_lt (turned_key k j)) ∙ s)
   where
     by : (o : Ordering) → key_cmp j k ≡ o → is_lt o ≡ false → is_lt (ordering_reverse (key_cmp j k)) ≡ false → bytes_eq j k ≡ true
     by Less e a b = cc
-    by Equal e a b = (bytes_eq-Decides j k).1 (same-key j k e)
+    by Equal e a b = (bytes_eq-Decides j k).1 (equal_keys j k e)
     by Greater e a b = let clash : true ≡ false = sym (ap (λ o. is_lt (ordering_reverse o)) e) ∙ b in cc
 
 past_is : (k j : List ℕ) → key_lt j k ≡ false → bytes_eq j k ≡ false → key_lt k j ≡ true
@@ -70,7 +70,7 @@ dropped_same k n (r ∷ rs) = by (key_lt r.key k) refl (bytes_eq r.key k) refl (
   where
     by : (t : Bool) → key_lt r.key k ≡ t → (b : Bool) → bytes_eq r.key k ≡ b → newest k n (drop_before Ascending k rs) ≡ newest k n rs →
         newest k n (cond t (drop_before Ascending k rs) (r ∷ rs)) ≡ to_base (cond (b && nat_le r.seq n) (r ∷ up_to k n rs) (up_to k n rs))
-    by true e true f rest = lt-irreflexive k (ap (λ j. key_lt j k) (sym ((bytes_eq-Decides r.key k).0 f)) ∙ e)
+    by true e true f rest = lt_irreflexive k (ap (λ j. key_lt j k) (sym ((bytes_eq-Decides r.key k).0 f)) ∙ e)
     by true e false f rest = rest
     by false e b f rest = ap (λ c. to_base (cond (c && nat_le r.seq n) (r ∷ up_to k n rs) (up_to k n rs))) f
 

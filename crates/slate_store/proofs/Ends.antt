@@ -14,19 +14,19 @@ both_true true b h r = absurd (h refl)
 both_true false b h r = r
 
 -- a byte that is no end, before bytes with none
-pub no_end-cons : (b : ℕ) (bs : List ℕ) → ¬ (is_end b ≡ true) → HasNoEnd bs → HasNoEnd (b ∷ bs)
-no_end-cons b bs h r = both_true (is_end b) _ h r
+pub no_end_cons : (b : ℕ) (bs : List ℕ) → ¬ (is_end b ≡ true) → HasNoEnd bs → HasNoEnd (b ∷ bs)
+no_end_cons b bs h r = both_true (is_end b) _ h r
 
 -- no end among the first k bytes
-pub no_end-take : (bs : List ℕ) (k : ℕ) → ((j : ℕ) → j < k → ¬ (is_end (get_or bs j 0) ≡ true)) → k ≤ length bs → HasNoEnd (take k bs)
-no_end-take bs zero h w = refl
-no_end-take [] (suc k) h w = absurd (omega arith)
-no_end-take (b ∷ bs) (suc k) h w =
-    no_end-cons b (take k bs) (h 0 (omega arith)) (no_end-take bs k (λ j below. h (suc j) (omega arith)) (omega arith))
+pub no_end_take : (bs : List ℕ) (k : ℕ) → ((j : ℕ) → j < k → ¬ (is_end (get_or bs j 0) ≡ true)) → k ≤ length bs → HasNoEnd (take k bs)
+no_end_take bs zero h w = refl
+no_end_take [] (suc k) h w = absurd (omega arith)
+no_end_take (b ∷ bs) (suc k) h w =
+    no_end_cons b (take k bs) (h 0 (omega arith)) (no_end_take bs k (λ j below. h (suc j) (omega arith)) (omega arith))
 
 -- no end in either part
-pub no_end-append : (xs ys : List ℕ) → HasNoEnd xs → HasNoEnd ys → HasNoEnd (xs ++ ys)
-no_end-append xs ys h k = rw (list_all-append (λ b. not (is_end b)) xs ys, h, k) refl
+pub no_end_append : (xs ys : List ℕ) → HasNoEnd xs → HasNoEnd ys → HasNoEnd (xs ++ ys)
+no_end_append xs ys h k = rw (list_all-append (λ b. not (is_end b)) xs ys, h, k) refl
 
 pub parts_at : (bs : List ℕ) (k : ℕ) → k < length bs → get_or bs k 0 ≡ 10 → bs ≡ take k bs ++ (10 ∷ drop (k + 1) bs)
 parts_at bs k h e =
@@ -36,11 +36,11 @@ parts_at bs k h e =
 pub found_end : (bs : List ℕ) (r : Option ℕ) → IsFirstByte (is_byte 10) bs r → MatchOption r (HasNoEnd bs) (SplitsAt bs)
 found_end bs None h =
     let all : take (length bs) bs ≡ bs = grind (arith, common_steps) in
-    let none : HasNoEnd (take (length bs) bs) = no_end-take bs (length bs) (λ j below. h j (omega arith) below) (omega arith) in
+    let none : HasNoEnd (take (length bs) bs) = no_end_take bs (length bs) (λ j below. h j (omega arith) below) (omega arith) in
     subst HasNoEnd all none
 found_end bs (Some k) h = record {
   within = h.0.high;
-  none = no_end-take bs k (λ j below. h.0.before j (omega arith) below) (omega arith);
+  none = no_end_take bs k (λ j below. h.0.before j (omega arith) below) (omega arith);
   parts = parts_at bs k h.0.high (grind (arith, common_steps));
 }
 
@@ -59,7 +59,7 @@ pub cut_told : (line piece : List ℕ) (start finish place : ℕ) → HasNoEnd l
 cut_told line piece start finish place h s =
     let parts : slice_range piece start finish ≡ take place (slice_range piece start finish) ++ (10 ∷ slice_range piece (start + (place + 1)) finish)
     = s.parts ∙ ap (λ ys. take place (slice_range piece start finish) ++ (10 ∷ ys)) (unread_behind piece start finish place s.within) in (
-      no_end-append line _ h s.none,
+      no_end_append line _ h s.none,
       ap (λ ys. line ++ ys) parts ∙ sym (append_assoc line (take place (slice_range piece start finish)) (10 ∷ slice_range piece (start + (place + 1)) finish)),
     )
 

@@ -8,11 +8,11 @@ use Rattle.std.proofs.lemmas.Map.Text.{is_eq-slice_cmp}
 use Rattle.std.proofs.lemmas.Slice.Eq.{bytes_eq-Decides}
 use Rattle.slate_types.specs.Keys.{key_cmp}
 use Rattle.slate_types.specs.Outside.{Objects}
-use Rattle.slate_types.proofs.KeyOrder.{same-key}
+use Rattle.slate_types.proofs.KeyOrder.{equal_keys}
 use Rattle.slate_store.specs.Store.{object_at, with_object}
 
-eq-turned : (a b : List ℕ) → bytes_eq a b ≡ bytes_eq b a
-eq-turned a b = by (bytes_eq a b) (bytes_eq b a) refl refl
+eq_turned : (a b : List ℕ) → bytes_eq a b ≡ bytes_eq b a
+eq_turned a b = by (bytes_eq a b) (bytes_eq b a) refl refl
   where
     by : (s t : Bool) → bytes_eq a b ≡ s → bytes_eq b a ≡ t → s ≡ t
     by true true e f = refl
@@ -21,7 +21,7 @@ eq-turned a b = by (bytes_eq a b) (bytes_eq b a) refl refl
     by false true e f = sym e ∙ (bytes_eq-Decides a b).1 (sym ((bytes_eq-Decides b a).0 f))
 
 at_path : (a b : List ℕ) → is_at (key_cmp b) a ≡ bytes_eq a b
-at_path a b = is_eq-slice_cmp b a ∙ eq-turned b a
+at_path a b = is_eq-slice_cmp b a ∙ eq_turned b a
 
 -- a map's look-up finds the object
 pub found_object : (os : Objects) (path : List ℕ) → lookup (is_at (key_cmp path)) os ≡ object_at os path
@@ -55,5 +55,5 @@ others_stay (o ∷ os) path bytes other n = by (key_cmp path o.0) refl (others_s
   where
     by : (r : Ordering) → key_cmp path o.0 ≡ r → object_at (with_object os path bytes) other ≡ object_at os other → object_at (match_ordering r ((path, bytes) ∷ o ∷ os) ((o.0, bytes) ∷ os) (o ∷ insert_entry key_cmp os path bytes)) other ≡ object_at (o ∷ os) other
     by Less e h = rw (other_bytes path other n) refl
-    by Equal e h = let is : bytes_eq o.0 other ≡ false = other_bytes o.0 other (λ same. n (same-key path o.0 e ∙ same)) in rw is refl
+    by Equal e h = let is : bytes_eq o.0 other ≡ false = other_bytes o.0 other (λ same. n (equal_keys path o.0 e ∙ same)) in rw is refl
     by Greater e h = rw h refl

@@ -2,7 +2,7 @@
 use Rattle.std.proofs.Common.{◌≡◌, ℕ, ◌≤◌, min, List, [], ◌∷◌, map, Option, Some, None, refl, ◌∙◌, arith}
 use Rattle.std.specs.Prelude.{IfSome}
 use Rattle.std.specs.List.{AllByRecursion}
-use Rattle.slate_types.proofs.Lists.{AllByRecursion-weaken}
+use Rattle.slate_types.proofs.Lists.{AllByRecursion_weaken}
 use Rattle.slate_txn.specs.Managers.{with_least, least_seq, least_start as manager_start, untracked, Active}
 use Rattle.slate_txn.specs.Open.{least_begin, or_least, least_start}
 use Rattle.slate_txn.specs.State.{Tx, State}
@@ -46,7 +46,7 @@ start_within n s =
 pub start_begins : (n : ℕ) (s : State) → AllByRecursion (λ p. least_start n s ≤ p.1.begin) s.txns
 start_begins n s =
     let above : least_start n s ≤ least_begin n s.txns = or_within (least_begin n s.txns) (least_seq s.snapshots) in
-    AllByRecursion-weaken (λ p. least_begin n s.txns ≤ p.1.begin) (λ p. least_start n s ≤ p.1.begin) (λ p h. let k : least_begin n s.txns ≤ p.1.begin = h in omega arith) s.txns (begin_each n s.txns)
+    AllByRecursion_weaken (λ p. least_begin n s.txns ≤ p.1.begin) (λ p. least_start n s ≤ p.1.begin) (λ p h. let k : least_begin n s.txns ≤ p.1.begin = h in omega arith) s.txns (begin_each n s.txns)
 
 with_each : (b n : ℕ) (o : Option ℕ) → IfSome (with_least n o) (λ m. b ≤ m) → (b ≤ n) × IfSome o (λ m. b ≤ m)
 with_each b n None h = (h, tt)

@@ -6,28 +6,28 @@ use Rattle.std.specs.BTreeSet.{insert_key}
 use Rattle.slate_types.specs.Keys.{key_cmp}
 use Rattle.slate_mem.specs.declared.WriteOp.{WriteOp}
 use Rattle.slate_mem.specs.Batch.{Ops, batch_keys, kept_ops}
-use Rattle.slate_mem.proofs.BatchLaws.{keeps-keys}
+use Rattle.slate_mem.proofs.BatchLaws.{keeps_its_keys}
 
 abbrev pub HasSome : {A : Type 0} → List A → Type 0
 HasSome [] = ⊥
 HasSome (x ∷ xs) = ⊤
 
-pub some-length : {A : Type 0} (xs : List A) → HasSome xs → 0 < length xs
-some-length [] h = absurd h
-some-length (x ∷ xs) h = omega arith
+pub some_length : {A : Type 0} (xs : List A) → HasSome xs → 0 < length xs
+some_length [] h = absurd h
+some_length (x ∷ xs) h = omega arith
 
-some-insert : (k : List ℕ) (ks : List (List ℕ)) → HasSome (insert_key key_cmp ks k)
-some-insert k [] = tt
-some-insert k (x ∷ xs) = by (key_cmp k x)
+some_insert : (k : List ℕ) (ks : List (List ℕ)) → HasSome (insert_key key_cmp ks k)
+some_insert k [] = tt
+some_insert k (x ∷ xs) = by (key_cmp k x)
   where
     by : (o : Ordering) → HasSome (match_ordering o (k ∷ x ∷ xs) (x ∷ xs) (x ∷ insert_key key_cmp xs k))
     by Less = tt
     by Equal = tt
     by Greater = tt
 
-some-keys : (ops : Ops) → HasSome (batch_keys ops) → HasSome ops
-some-keys [] h = h
-some-keys (o ∷ os) h = tt
+some_keys : (ops : Ops) → HasSome (batch_keys ops) → HasSome ops
+some_keys [] h = h
+some_keys (o ∷ os) h = tt
 
-pub some-kept : (o : List ℕ × WriteOp) (os : Ops) → HasSome (kept_ops (o ∷ os))
-some-kept o os = some-keys (kept_ops (o ∷ os)) (subst HasSome (sym (keeps-keys (o ∷ os))) (some-insert o.0 (batch_keys os)))
+pub some_kept : (o : List ℕ × WriteOp) (os : Ops) → HasSome (kept_ops (o ∷ os))
+some_kept o os = some_keys (kept_ops (o ∷ os)) (subst HasSome (sym (keeps_its_keys (o ∷ os))) (some_insert o.0 (batch_keys os)))

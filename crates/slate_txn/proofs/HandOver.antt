@@ -6,8 +6,8 @@ use Rattle.std.specs.List.{list_any}
 use Rattle.std.proofs.lemmas.List.Folds.{list_any-append}
 use Rattle.slate_types.specs.declared.bytes_range.BytesRange.{BytesRange}
 use Rattle.slate_types.specs.Keys.{key_cmp, key_lt, key_le, among, in_range, common_range}
-use Rattle.slate_types.proofs.KeyOrder.{turned-key}
-use Rattle.slate_types.proofs.RangeLaws.{common-is-both, no-common-key}
+use Rattle.slate_types.proofs.KeyOrder.{turned_key}
+use Rattle.slate_types.proofs.RangeLaws.{common_is_both, no_common_key}
 use Rattle.slate_txn.specs.Conflict.{greatest, conflict_of}
 use Rattle.slate_txn.specs.HandedOver.{AreKeysOf, Grown, SameKeys, TakesIn, HandsOver}
 use Rattle.slate_txn.specs.Managers.{Active, Manager, StandsFor, reading_of, conflict_among}
@@ -20,7 +20,7 @@ use Rattle.std.proofs.Math.Bool.{or-false, or_assoc}
 -- ---- the part of a scan
 
 pub le_not_lt : (a b : List ℕ) → key_le a b ≡ not (key_lt b a)
-le_not_lt a b = by (key_cmp a b) ∙ sym (ap (λ o. not (is_lt o)) (turned-key b a))
+le_not_lt a b = by (key_cmp a b) ∙ sym (ap (λ o. not (is_lt o)) (turned_key b a))
   where
     by : (o : Ordering) → is_le o ≡ not (is_lt (ordering_reverse o))
     by Less = refl
@@ -28,22 +28,22 @@ le_not_lt a b = by (key_cmp a b) ∙ sym (ap (λ o. not (is_lt o)) (turned-key b
     by Greater = refl
 
 pub common_keys : (r near : BytesRange) (f : List ℕ → Bool) → ((k : List ℕ) → in_range near k ≡ f k) → (o : Option BytesRange) → o ≡ common_range r near → AreKeysOf (λ k. in_range r k && f k) o
-common_keys r near f h None e = λ k. ap (λ b. in_range r k && b) (sym (h k)) ∙ no-common-key r near k (sym e)
-common_keys r near f h (Some s) e = λ k. common-is-both r near s k (sym e) ∙ ap (λ b. in_range r k && b) (h k)
+common_keys r near f h None e = λ k. ap (λ b. in_range r k && b) (sym (h k)) ∙ no_common_key r near k (sym e)
+common_keys r near f h (Some s) e = λ k. common_is_both r near s k (sym e) ∙ ap (λ b. in_range r k && b) (h k)
 
 -- ---- one more is tracked
 
-without-updated : (id : List ℕ) (f : Active → Active) (ps : Actives) → without id (update_named id f ps) ≡ without id ps
-without-updated id f [] = refl
-without-updated id f (p ∷ ps) = by (bytes_eq p.0 id) refl (without-updated id f ps)
+without_updated : (id : List ℕ) (f : Active → Active) (ps : Actives) → without id (update_named id f ps) ≡ without id ps
+without_updated id f [] = refl
+without_updated id f (p ∷ ps) = by (bytes_eq p.0 id) refl (without_updated id f ps)
   where
     by : (b : Bool) → bytes_eq p.0 id ≡ b → without id (update_named id f ps) ≡ without id ps → without id (cond b ((p.0, f p.1) ∷ ps) (p ∷ update_named id f ps)) ≡ cond b ps (p ∷ without id ps)
     by true e r = ap (λ t. cond t ps ((p.0, f p.1) ∷ without id ps)) e
     by false e r = ap (λ t. cond t (update_named id f ps) (p ∷ without id (update_named id f ps))) e ∙ ap (λ qs. p ∷ qs) r
 
-find-updated : (id : List ℕ) (f : Active → Active) (ps : Actives) → find_named id (update_named id f ps) ≡ option_map f (find_named id ps)
-find-updated id f [] = refl
-find-updated id f (p ∷ ps) = by (bytes_eq p.0 id) refl (find-updated id f ps)
+find_updated : (id : List ℕ) (f : Active → Active) (ps : Actives) → find_named id (update_named id f ps) ≡ option_map f (find_named id ps)
+find_updated id f [] = refl
+find_updated id f (p ∷ ps) = by (bytes_eq p.0 id) refl (find_updated id f ps)
   where
     by : (b : Bool) → bytes_eq p.0 id ≡ b → find_named id (update_named id f ps) ≡ option_map f (find_named id ps) → find_named id (cond b ((p.0, f p.1) ∷ ps) (p ∷ update_named id f ps)) ≡ option_map f (cond b (Some p.1) (find_named id ps))
     by true e r = ap (λ t. cond t (Some (f p.1)) (find_named id ps)) e
@@ -59,7 +59,7 @@ grown_trans id a b c f g = record {
 pub grown_of : {X E : Type 0} (f : Active → Active) (id : List ℕ) (a b : Manager) (r : Result X E) → OnOk r (b ≡ record a { active = update_named id f a.active }) → OnErr r (b ≡ a) → ((cs : List Commit) → StandsFor a cs → StandsFor b cs) → Grown id a b
 grown_of f id a b (Ok x) e g s = record {
   others = e ∙ (let q = sym e in λ i. record a { active = (q i).active });
-  apart = ap (λ (m : Manager). without id m.active) e ∙ without-updated id f a.active;
+  apart = ap (λ (m : Manager). without id m.active) e ∙ without_updated id f a.active;
   stands = s;
 }
 grown_of f id a b (Err x) e g s = record {
@@ -69,7 +69,7 @@ grown_of f id a b (Err x) e g s = record {
 }
 
 pub found_of : (f : Active → Active) (id : List ℕ) (a b : Manager) → b ≡ record a { active = update_named id f a.active } → find_named id b.active ≡ option_map f (find_named id a.active)
-found_of f id a b e = ap (λ (m : Manager). find_named id m.active) e ∙ find-updated id f a.active
+found_of f id a b e = ap (λ (m : Manager). find_named id m.active) e ∙ find_updated id f a.active
 
 -- ---- its ranges
 
@@ -148,20 +148,20 @@ handed_all n ws ms rs (Some x) (Some y) s t u v = (
 
 -- ---- what a conflict makes of it
 
-list_any-same : {X : Type 0} (p q : X → Bool) → ((x : X) → p x ≡ q x) → (xs : List X) → list_any p xs ≡ list_any q xs
-list_any-same p q h [] = refl
-list_any-same p q h (x ∷ xs) = let r = list_any-same p q h xs in λ i. h x i || r i
+list_any_same : {X : Type 0} (p q : X → Bool) → ((x : X) → p x ≡ q x) → (xs : List X) → list_any p xs ≡ list_any q xs
+list_any_same p q h [] = refl
+list_any_same p q h (x ∷ xs) = let r = list_any_same p q h xs in λ i. h x i || r i
 
-filter-same : {X : Type 0} (p q : X → Bool) → ((x : X) → p x ≡ q x) → (xs : List X) → filter p xs ≡ filter q xs
-filter-same p q h [] = refl
-filter-same p q h (x ∷ xs) = let r = filter-same p q h xs in λ i. cond (h x i) (x ∷ r i) (r i)
+filter_same : {X : Type 0} (p q : X → Bool) → ((x : X) → p x ≡ q x) → (xs : List X) → filter p xs ≡ filter q xs
+filter_same p q h [] = refl
+filter_same p q h (x ∷ xs) = let r = filter_same p q h xs in λ i. cond (h x i) (x ∷ r i) (r i)
 
 pub conflict_handed : (cs : List Commit) (n : ℕ) (ws ms : List (List ℕ)) (rs : Reading) (o : Option Active) → HandsOver n ws ms rs o → conflict_among cs o ≡ conflict_of cs n (ws ++ ms) rs
 conflict_handed cs n ws ms rs None h = absurd h
 conflict_handed cs n ws ms rs (Some t) h =
     ap (λ ds. greatest (map (λ (c : Commit). c.seq) ds))
-    (filter-same (λ (c : Commit). ltb t.start c.seq && list_any (λ k. among k t.writes || is_read (reading_of t) k) c.tracked) (λ (c : Commit). ltb n c.seq && list_any (λ k. among k (ws ++ ms) || is_read rs k) c.tracked)
-    (λ c. let start = h.0 in let keys = list_any-same (λ k. among k t.writes || is_read (reading_of t) k) (λ k. among k (ws ++ ms) || is_read rs k) each c.tracked in λ i. ltb (start i) c.seq && keys i) cs)
+    (filter_same (λ (c : Commit). ltb t.start c.seq && list_any (λ k. among k t.writes || is_read (reading_of t) k) c.tracked) (λ (c : Commit). ltb n c.seq && list_any (λ k. among k (ws ++ ms) || is_read rs k) c.tracked)
+    (λ c. let start = h.0 in let keys = list_any_same (λ k. among k t.writes || is_read (reading_of t) k) (λ k. among k (ws ++ ms) || is_read rs k) each c.tracked in λ i. ltb (start i) c.seq && keys i) cs)
   where
     each : (k : List ℕ) → (among k t.writes || is_read (reading_of t) k) ≡ (among k (ws ++ ms) || is_read rs k)
     each k =

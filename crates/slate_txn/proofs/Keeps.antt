@@ -7,7 +7,7 @@ use Rattle.std.specs.declared.cmp.Ordering.TheVariants.{Less}
 use Rattle.std.proofs.lemmas.Slice.Eq.{bytes_eq-Decides}
 use Rattle.slate_types.specs.Keys.{key_cmp}
 use Rattle.std.proofs.lemmas.Cmp.{nat_list_eq_equiv}
-use Rattle.slate_types.proofs.KeyOrder.{bytes_eq-above}
+use Rattle.slate_types.proofs.KeyOrder.{bytes_eq_above}
 use Rattle.slate_txn.specs.State.{Commit}
 use Rattle.slate_txn.specs.Conflict.{with_greatest, greatest}
 use Rattle.slate_txn.specs.Named.{find_named}
@@ -39,12 +39,12 @@ commits_writes p b (c ∷ cs) = by (ltb b c.seq && list_any p c.tracked) (commit
 
 -- ---- one key
 
-none-of-key : (k : List ℕ) (b : ℕ) (es : Entries) → AllByRecursion (λ x. key_cmp k x ≡ Less) (keys_of es) → newest_kept (is k) b es ≡ None
-none-of-key k b [] h = refl
-none-of-key k b (e ∷ es) h =
-    (let t = bytes_eq-above k e.0 h.0 in λ i. cond (ltb b e.1 && t i) (with_greatest e.1 (newest_kept (is k) b es)) (newest_kept (is k) b es))
+none_of_key : (k : List ℕ) (b : ℕ) (es : Entries) → AllByRecursion (λ x. key_cmp k x ≡ Less) (keys_of es) → newest_kept (is k) b es ≡ None
+none_of_key k b [] h = refl
+none_of_key k b (e ∷ es) h =
+    (let t = bytes_eq_above k e.0 h.0 in λ i. cond (ltb b e.1 && t i) (with_greatest e.1 (newest_kept (is k) b es)) (newest_kept (is k) b es))
     ∙ ap (λ t. cond t (with_greatest e.1 (newest_kept (is k) b es)) (newest_kept (is k) b es)) (and-false (ltb b e.1))
-    ∙ none-of-key k b es h.1
+    ∙ none_of_key k b es h.1
 
 -- keys rise, so that each stands once
 pub newest_of_key : (k : List ℕ) (b : ℕ) (es : Entries) → IsStrictlySortedBy key_cmp (keys_of es) → newest_kept (is k) b es ≡ above b (find_named k es)
@@ -55,7 +55,7 @@ newest_of_key k b (e ∷ es) h = by (bytes_eq e.0 k) refl (newest_of_key k b es 
     by : (t : Bool) → bytes_eq e.0 k ≡ t → newest_kept (is k) b es ≡ above b (find_named k es) →
         cond (ltb b e.1 && t) (with_greatest e.1 (newest_kept (is k) b es)) (newest_kept (is k) b es) ≡ above b (cond t (Some e.1) (find_named k es))
     by true d r =
-        let none : newest_kept (is k) b es ≡ None = ap (λ x. newest_kept (is x) b es) (sym ((bytes_eq-Decides e.0 k).0 d)) ∙ none-of-key e.0 b es h.0 in
+        let none : newest_kept (is k) b es ≡ None = ap (λ x. newest_kept (is x) b es) (sym ((bytes_eq-Decides e.0 k).0 d)) ∙ none_of_key e.0 b es h.0 in
         (λ i. cond (ltb b e.1 && true) (with_greatest e.1 (none i)) (none i)) ∙ here (ltb b e.1)
       where
         here : (c : Bool) → cond (c && true) (Some e.1) None ≡ cond c (Some e.1) None
@@ -102,28 +102,28 @@ later_assoc (Some n) None c = refl
 later_assoc (Some n) (Some m) None = refl
 later_assoc (Some n) (Some m) (Some l) = ap Some (let e : max (max n m) l ≡ max n (max m l) = omega arith in e)
 
-later-twice : (n : ℕ) (a b : Option ℕ) → with_greatest n (later a b) ≡ later (with_greatest n a) (with_greatest n b)
-later-twice n None None = ap Some (let e : n ≡ max n n = omega arith in e)
-later-twice n None (Some m) = ap Some (let e : max n m ≡ max n (max n m) = omega arith in e)
-later-twice n (Some m) None = ap Some (let e : max n m ≡ max (max n m) n = omega arith in e)
-later-twice n (Some m) (Some l) = ap Some (let e : max n (max m l) ≡ max (max n m) (max n l) = omega arith in e)
+later_twice : (n : ℕ) (a b : Option ℕ) → with_greatest n (later a b) ≡ later (with_greatest n a) (with_greatest n b)
+later_twice n None None = ap Some (let e : n ≡ max n n = omega arith in e)
+later_twice n None (Some m) = ap Some (let e : max n m ≡ max n (max n m) = omega arith in e)
+later_twice n (Some m) None = ap Some (let e : max n m ≡ max (max n m) n = omega arith in e)
+later_twice n (Some m) (Some l) = ap Some (let e : max n (max m l) ≡ max (max n m) (max n l) = omega arith in e)
 
-later-first : (n : ℕ) (a b : Option ℕ) → with_greatest n (later a b) ≡ later (with_greatest n a) b
-later-first n None None = refl
-later-first n None (Some m) = refl
-later-first n (Some m) None = refl
-later-first n (Some m) (Some l) = ap Some (let e : max n (max m l) ≡ max (max n m) l = omega arith in e)
+later_first : (n : ℕ) (a b : Option ℕ) → with_greatest n (later a b) ≡ later (with_greatest n a) b
+later_first n None None = refl
+later_first n None (Some m) = refl
+later_first n (Some m) None = refl
+later_first n (Some m) (Some l) = ap Some (let e : max n (max m l) ≡ max (max n m) l = omega arith in e)
 
-later-second : (n : ℕ) (a b : Option ℕ) → with_greatest n (later a b) ≡ later a (with_greatest n b)
-later-second n None None = refl
-later-second n None (Some m) = refl
-later-second n (Some m) None = ap Some (let e : max n m ≡ max m n = omega arith in e)
-later-second n (Some m) (Some l) = ap Some (let e : max n (max m l) ≡ max m (max n l) = omega arith in e)
+later_second : (n : ℕ) (a b : Option ℕ) → with_greatest n (later a b) ≡ later a (with_greatest n b)
+later_second n None None = refl
+later_second n None (Some m) = refl
+later_second n (Some m) None = ap Some (let e : max n m ≡ max m n = omega arith in e)
+later_second n (Some m) (Some l) = ap Some (let e : max n (max m l) ≡ max m (max n l) = omega arith in e)
 
 step : (n : ℕ) (one two : Option ℕ) (c t u : Bool) → cond (c && (t || u)) (with_greatest n (later one two)) (later one two) ≡ later (cond (c && t) (with_greatest n one) one) (cond (c && u) (with_greatest n two) two)
-step n one two true true true = later-twice n one two
-step n one two true true false = later-first n one two
-step n one two true false true = later-second n one two
+step n one two true true true = later_twice n one two
+step n one two true true false = later_first n one two
+step n one two true false true = later_second n one two
 step n one two true false false = refl
 step n one two false t u = refl
 

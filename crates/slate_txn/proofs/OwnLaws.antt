@@ -15,8 +15,8 @@ use Rattle.slate_types.specs.Fold.{from_last}
 use Rattle.slate_types.specs.Iteration.{NoneBefore}
 use Rattle.slate_types.specs.Keys.{key_cmp, key_le, key_lt, in_range}
 use Rattle.slate_types.specs.Rows.{is_base, of_key}
-use Rattle.slate_types.proofs.Lists.{AllByRecursion-append}
-use Rattle.slate_types.proofs.KeyOrder.{bytes_eq-same, turned-key}
+use Rattle.slate_types.proofs.Lists.{AllByRecursion_append, map_reverse}
+use Rattle.slate_types.proofs.KeyOrder.{bytes_eq_same, turned_key}
 use Rattle.slate_mem.specs.declared.WriteOp.{WriteOp}
 use Rattle.slate_mem.specs.declared.WriteOp.TheVariants.{Put, Delete, Merge}
 use Rattle.slate_mem.specs.Batch.{Ops, kept, ops_of, replaces}
@@ -25,8 +25,8 @@ use Rattle.slate_mem.specs.BatchRows.{batch_rows}
 use Rattle.slate_mem.specs.Refusals.{op_refusal}
 use Rattle.slate_mem.specs.RowOf.{own_row}
 use Rattle.slate_mem.specs.Table.{newest, to_base, up_to}
-use Rattle.slate_mem.proofs.BatchLaws.{from_last-again}
-use Rattle.slate_mem.proofs.MemLaws.{taken-newest}
+use Rattle.slate_mem.proofs.BatchLaws.{from_last_again}
+use Rattle.slate_mem.proofs.MemLaws.{taken_newest}
 use Rattle.slate_txn.specs.declared.event.TranscriptStep.{TranscriptStep}
 use Rattle.slate_txn.specs.declared.event.TranscriptStep.TheVariants as steps
 use Rattle.slate_txn.specs.Alone.{own_of}
@@ -36,7 +36,7 @@ use Rattle.slate_txn.specs.OwnView.{IsOwn}
 use Rattle.slate_txn.specs.State.{Tx}
 use Rattle.slate_txn.specs.Step.{is_scan, with_op as tx_with_op}
 use Rattle.slate_txn.specs.Tracking.{Reading, nothing_read, with_step, with_steps}
-use Rattle.slate_txn.proofs.StepLaws.{own-append}
+use Rattle.slate_txn.proofs.StepLaws.{own_append}
 
 -- ---- what it has read
 
@@ -81,13 +81,13 @@ own_same level ts us b c rs ss n m same batches readings count w = record {
 }
 
 pub own_more : (ts : List TranscriptStep) (k : List ℕ) (op : WriteOp) → own_of (ts ++ (steps.Own k op ∷ [])) ≡ own_of ts ++ ((k, op) ∷ [])
-own_more ts k op = own-append ts (steps.Own k op ∷ [])
+own_more ts k op = own_append ts (steps.Own k op ∷ [])
 
 pub own_operated : (level : IsolationLevel) (ts us : List TranscriptStep) (b c : BatchModel) (rs : Reading) (n : ℕ) (k : List ℕ) (op : WriteOp) → op_refusal k op ≡ None →
     us ≡ ts ++ (steps.Own k op ∷ []) → ((ops : Ops) → IsBatchOf ops b → IsBatchOf (ops ++ ((k, op) ∷ [])) c) → IsOwn level ts b rs n → IsOwn level us c rs n
 own_operated level ts us b c rs n k op fine added means w = record {
   batch = subst (λ (os : Ops). IsBatchOf os c) (sym (own_more ts k op) ∙ ap own_of (sym added)) (means (own_of ts) w.batch);
-  fine = subst AreFine (sym (own_more ts k op) ∙ ap own_of (sym added)) (AllByRecursion-append (λ (o : List ℕ × WriteOp). op_refusal o.0 o.1 ≡ None) (own_of ts) ((k, op) ∷ []) w.fine (fine, tt));
+  fine = subst AreFine (sym (own_more ts k op) ∙ ap own_of (sym added)) (AllByRecursion_append (λ (o : List ℕ × WriteOp). op_refusal o.0 o.1 ≡ None) (own_of ts) ((k, op) ∷ []) w.fine (fine, tt));
   reading = w.reading ∙ sym (reads_more level ts (steps.Own k op) ∙ read_own level (reads_at level ts) k op) ∙ ap (reads_at level) (sym added);
   scans = w.scans ∙ sym (count_same ts (steps.Own k op) refl) ∙ ap (λ (x : List TranscriptStep). count_by is_scan x) (sym added);
 }
@@ -97,7 +97,7 @@ abbrev pub IsRead : TranscriptStep → Type 0
 IsRead t = own_of (t ∷ []) ≡ []
 
 pub noted_own : (ts : List TranscriptStep) (t : TranscriptStep) → IsRead t → own_of (ts ++ (t ∷ [])) ≡ own_of ts
-noted_own ts t h = own-append ts (t ∷ []) ∙ ap (λ (os : Ops). own_of ts ++ os) h ∙ append-nil (own_of ts)
+noted_own ts t h = own_append ts (t ∷ []) ∙ ap (λ (os : Ops). own_of ts ++ os) h ∙ append-nil (own_of ts)
 
 pub own_noted : (level : IsolationLevel) (ts us : List TranscriptStep) (b : BatchModel) (rs ss : Reading) (n m : ℕ) (t : TranscriptStep) → IsRead t →
     us ≡ ts ++ (t ∷ []) → ss ≡ read_on level rs t → m ≡ n + cond (is_scan t) 1 0 → IsOwn level ts b rs n → IsOwn level us b ss m
@@ -111,7 +111,7 @@ own_noted level ts us b rs ss n m t none noted read count w = record {
 -- ---- the rows of one key
 
 equal_le : (k : List ℕ) → key_le k k ≡ true
-equal_le k = by (key_cmp k k) (turned-key k k)
+equal_le k = by (key_cmp k k) (turned_key k k)
   where
     by : (o : Ordering) → o ≡ ordering_reverse o → is_le o ≡ true
     by Less h = cc
@@ -119,7 +119,7 @@ equal_le k = by (key_cmp k k) (turned-key k k)
     by Greater h = cc
 
 not_before : (a k : List ℕ) → key_le k a ≡ true → key_lt a k ≡ false
-not_before a k h = ap is_lt (turned-key a k) ∙ by (key_cmp k a) h
+not_before a k h = ap is_lt (turned_key a k) ∙ by (key_cmp k a) h
   where
     by : (o : Ordering) → is_le o ≡ true → is_lt (ordering_reverse o) ≡ false
     by Less h = refl
@@ -143,7 +143,7 @@ none_before_only k (r ∷ rs) h = (not_before r.key k (and_left (key_le k r.key)
   where
     head : (b : Bool) → in_range (only_key k) r.key ≡ b → b ≡ true
     head true e = refl
-    head false e = let none : r ∷ of_key r.key rs ≡ [] = ap (λ t. cond t (r ∷ of_key r.key rs) (of_key r.key rs)) (sym (bytes_eq-same r.key)) ∙ h r.key e in cc
+    head false e = let none : r ∷ of_key r.key rs ≡ [] = ap (λ t. cond t (r ∷ of_key r.key rs) (of_key r.key rs)) (sym (bytes_eq_same r.key)) ∙ h r.key e in cc
 
     rest : OnlyOf k rs
     rest j e = by (bytes_eq r.key j) (h j e)
@@ -173,19 +173,15 @@ last_base k (op ∷ ops) = ap (λ b. cond b (from_last is_base (map (own_row k) 
     by true rest = rest
     by false rest = refl
 
-map_reverse : {X Y : Type 0} (f : X → Y) (xs : List X) → map f (reverse xs) ≡ reverse (map f xs)
-map_reverse f [] = refl
-map_reverse f (x ∷ xs) = ap (map f) (reverse_onto xs x []) ∙ map-append f (reverse xs) (x ∷ []) ∙ ap (λ l. l ++ (f x ∷ [])) (map_reverse f xs) ∙ sym (reverse_onto (map f xs) (f x) [])
-
 base_kept : (k : List ℕ) (ops : Ops) (j : List ℕ) → to_base (map (own_row j) (reverse (kept ops k))) ≡ map (own_row j) (reverse (kept ops k))
 base_kept k ops j =
     let rows : List RowEntry = map (own_row j) (reverse (kept ops k)) in
     sym (reverse-reverse (to_base rows))
-    ∙ ap reverse (taken-newest rows
+    ∙ ap reverse (taken_newest rows
     ∙ ap (λ xs. from_last is_base (reverse xs)) (map_reverse (own_row j) (kept ops k))
     ∙ ap (from_last is_base) (reverse-reverse (map (own_row j) (kept ops k)))
     ∙ last_base j (kept ops k)
-    ∙ ap (map (own_row j)) (from_last-again replaces (ops_of ops k)))
+    ∙ ap (map (own_row j)) (from_last_again replaces (ops_of ops k)))
     ∙ sym (map_reverse (own_row j) (kept ops k))
 
 up_to_of : (k : List ℕ) (n : ℕ) (rows : List RowEntry) → up_to k n rows ≡ filter (λ r. nat_le r.seq n) (of_key k rows)
@@ -255,7 +251,7 @@ none_has range n k = by (in_range range k) _ refl
 
 no_key : (rows : List RowEntry) → ((k : List ℕ) → of_key k rows ≡ []) → rows ≡ []
 no_key [] h = refl
-no_key (r ∷ rs) h = let none : r ∷ of_key r.key rs ≡ [] = ap (λ t. cond t (r ∷ of_key r.key rs) (of_key r.key rs)) (sym (bytes_eq-same r.key)) ∙ h r.key in cc
+no_key (r ∷ rs) h = let none : r ∷ of_key r.key rs ≡ [] = ap (λ t. cond t (r ∷ of_key r.key rs) (of_key r.key rs)) (sym (bytes_eq_same r.key)) ∙ h r.key in cc
 
 pub none_of_keys : (range : BytesRange) (n : ℕ) (rows : List RowEntry) (b : BatchModel) → b ≡ no_ops → ((k : List ℕ) → of_key k rows ≡ batch_rows range n None None b.ops k) → rows ≡ []
 none_of_keys range n rows b is h = no_key rows (λ k. h k ∙ ap (λ (c : BatchModel). batch_rows range n None None c.ops k) is ∙ none_has range n k)

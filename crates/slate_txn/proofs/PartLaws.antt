@@ -13,46 +13,46 @@ use Rattle.slate_types.specs.declared.bytes_range.BytesRange.{BytesRange}
 use Rattle.slate_types.specs.declared.iter.IterationOrder.{IterationOrder}
 use Rattle.slate_types.specs.declared.iter.IterationOrder.TheVariants.{Ascending, Descending}
 use Rattle.slate_types.specs.Keys.{key_cmp, key_lt, in_range, among}
-use Rattle.slate_types.proofs.KeyOrder.{lt-trans, not-lt-trans, lt-irreflexive}
-use Rattle.slate_types.proofs.KeySetLaws.{same-set}
+use Rattle.slate_types.proofs.KeyOrder.{lt_trans, not_lt_trans, lt_irreflexive}
+use Rattle.slate_types.proofs.KeySetLaws.{same_set}
 use Rattle.slate_types.specs.Iteration.{comes_before, drop_before, in_order}
 use Rattle.slate_txn.specs.Alone.{Left, first_left, advanced, sought}
-use Rattle.slate_types.proofs.Lists.{AllByRecursion-append, AllByRecursion-weaken, AllByRecursion-reverse, AllByRecursion-filter, filter-all}
+use Rattle.slate_types.proofs.Lists.{AllByRecursion_append, AllByRecursion_weaken, AllByRecursion_reverse, AllByRecursion_filter, filter_all}
 
 -- ---- the order
 
-pub before-trans : (o : IterationOrder) (a b c : List ℕ) → comes_before o a b ≡ true → comes_before o b c ≡ true → comes_before o a c ≡ true
-before-trans Ascending a b c h k = lt-trans a b c h k
-before-trans Descending a b c h k = lt-trans c b a k h
+pub before_trans : (o : IterationOrder) (a b c : List ℕ) → comes_before o a b ≡ true → comes_before o b c ≡ true → comes_before o a c ≡ true
+before_trans Ascending a b c h k = lt_trans a b c h k
+before_trans Descending a b c h k = lt_trans c b a k h
 
-pub not-before-trans : (o : IterationOrder) (a b c : List ℕ) → comes_before o a b ≡ false → comes_before o b c ≡ false → comes_before o a c ≡ false
-not-before-trans Ascending a b c h k = not-lt-trans a b c h k
-not-before-trans Descending a b c h k = not-lt-trans c b a k h
+pub not_before_trans : (o : IterationOrder) (a b c : List ℕ) → comes_before o a b ≡ false → comes_before o b c ≡ false → comes_before o a c ≡ false
+not_before_trans Ascending a b c h k = not_lt_trans a b c h k
+not_before_trans Descending a b c h k = not_lt_trans c b a k h
 
-pub before-itself : {A : Type 0} (o : IterationOrder) (a : List ℕ) → comes_before o a a ≡ true → A
-before-itself Ascending a h = lt-irreflexive a h
-before-itself Descending a h = lt-irreflexive a h
+pub before_itself : {A : Type 0} (o : IterationOrder) (a : List ℕ) → comes_before o a a ≡ true → A
+before_itself Ascending a h = lt_irreflexive a h
+before_itself Descending a h = lt_irreflexive a h
 
-pub not-before-itself : (o : IterationOrder) (a : List ℕ) → comes_before o a a ≡ false
-not-before-itself o a = by (comes_before o a a) refl
+pub not_before_itself : (o : IterationOrder) (a : List ℕ) → comes_before o a a ≡ false
+not_before_itself o a = by (comes_before o a a) refl
   where
     by : (t : Bool) → comes_before o a a ≡ t → t ≡ false
-    by true e = before-itself o a e
+    by true e = before_itself o a e
     by false e = refl
 
 -- ---- lists
 
-pub filter-passes : {X : Type 0} (t : X → Bool) (xs : List X) → AllByRecursion (λ x. t x ≡ true) (filter t xs)
-filter-passes t [] = tt
-filter-passes t (x ∷ xs) = by (t x) refl (filter-passes t xs)
+pub filter_passes : {X : Type 0} (t : X → Bool) (xs : List X) → AllByRecursion (λ x. t x ≡ true) (filter t xs)
+filter_passes t [] = tt
+filter_passes t (x ∷ xs) = by (t x) refl (filter_passes t xs)
   where
     by : (b : Bool) → t x ≡ b → AllByRecursion (λ x. t x ≡ true) (filter t xs) → AllByRecursion (λ x. t x ≡ true) (cond b (x ∷ filter t xs) (filter t xs))
     by true e later = (e, later)
     by false e later = later
 
-filter-swap : {X : Type 0} (p q : X → Bool) (xs : List X) → filter p (filter q xs) ≡ filter q (filter p xs)
-filter-swap p q [] = refl
-filter-swap {X = X} p q (x ∷ xs) = by (p x) (q x) refl refl (filter-swap p q xs)
+pub filter_swap : {X : Type 0} (p q : X → Bool) (xs : List X) → filter p (filter q xs) ≡ filter q (filter p xs)
+filter_swap p q [] = refl
+filter_swap {X = X} p q (x ∷ xs) = by (p x) (q x) refl refl (filter_swap p q xs)
   where
     ps : List X
     ps = filter p xs
@@ -66,10 +66,10 @@ filter-swap {X = X} p q (x ∷ xs) = by (p x) (q x) refl refl (filter-swap p q x
     by false true ea eb later = ap (λ t. cond t (x ∷ filter p qs) (filter p qs)) ea ∙ later
     by false false ea eb later = later
 
-filter-reverse : {X : Type 0} (u : X → Bool) (xs : List X) → filter u (reverse xs) ≡ reverse (filter u xs)
-filter-reverse u [] = refl
-filter-reverse {X = X} u (x ∷ xs) =
-    ap (filter u) (reverse-append (x ∷ []) xs) ∙ filter-append u (reverse xs) (x ∷ []) ∙ ap (λ ys. ys ++ filter u (x ∷ [])) (filter-reverse u xs) ∙ by (u x)
+pub filter_reverse : {X : Type 0} (u : X → Bool) (xs : List X) → filter u (reverse xs) ≡ reverse (filter u xs)
+filter_reverse u [] = refl
+filter_reverse {X = X} u (x ∷ xs) =
+    ap (filter u) (reverse-append (x ∷ []) xs) ∙ filter-append u (reverse xs) (x ∷ []) ∙ ap (λ ys. ys ++ filter u (x ∷ [])) (filter_reverse u xs) ∙ by (u x)
   where
     us : List X
     us = filter u xs
@@ -82,13 +82,13 @@ filter-reverse {X = X} u (x ∷ xs) =
         nil [] = refl
         nil (y ∷ ys) = ap (λ zs. y ∷ zs) (nil ys)
 
-filter-order : {X : Type 0} (o : IterationOrder) (u : X → Bool) (xs : List X) → filter u (in_order o xs) ≡ in_order o (filter u xs)
-filter-order Ascending u xs = refl
-filter-order Descending u xs = filter-reverse u xs
+filter_order : {X : Type 0} (o : IterationOrder) (u : X → Bool) (xs : List X) → filter u (in_order o xs) ≡ in_order o (filter u xs)
+filter_order Ascending u xs = refl
+filter_order Descending u xs = filter_reverse u xs
 
-all-order : {X : Type 0} (P : X → Type 0) (o : IterationOrder) (xs : List X) → AllByRecursion P xs → AllByRecursion P (in_order o xs)
-all-order P Ascending xs h = h
-all-order P Descending xs h = AllByRecursion-reverse P xs h
+all_order : {X : Type 0} (P : X → Type 0) (o : IterationOrder) (xs : List X) → AllByRecursion P xs → AllByRecursion P (in_order o xs)
+all_order P Ascending xs h = h
+all_order P Descending xs h = AllByRecursion_reverse P xs h
 
 -- ---- rising keys and rows
 
@@ -100,51 +100,51 @@ abbrev pub Rises : IterationOrder → List RowEntry → Type 0
 Rises o [] = Unit {0}
 Rises o (x ∷ xs) = AllByRecursion (λ y. comes_before o x.key y.key ≡ true) xs × Rises o xs
 
-rise-last : (o : IterationOrder) (ks : List (List ℕ)) (k : List ℕ) → KeysRise o ks → AllByRecursion (λ j. comes_before o j k ≡ true) ks → KeysRise o (ks ++ (k ∷ []))
-rise-last o [] k h a = (tt, tt)
-rise-last o (j ∷ js) k h a = (AllByRecursion-append (λ i. comes_before o j i ≡ true) js (k ∷ []) h.0 (a.0, tt), rise-last o js k h.1 a.1)
+rise_last : (o : IterationOrder) (ks : List (List ℕ)) (k : List ℕ) → KeysRise o ks → AllByRecursion (λ j. comes_before o j k ≡ true) ks → KeysRise o (ks ++ (k ∷ []))
+rise_last o [] k h a = (tt, tt)
+rise_last o (j ∷ js) k h a = (AllByRecursion_append (λ i. comes_before o j i ≡ true) js (k ∷ []) h.0 (a.0, tt), rise_last o js k h.1 a.1)
 
-rise-up : (ks : List (List ℕ)) → IsStrictlySortedBy key_cmp ks → KeysRise Ascending ks
+rise_up : (ks : List (List ℕ)) → IsStrictlySortedBy key_cmp ks → KeysRise Ascending ks
 unfolding IsStrictlySortedBy
-rise-up [] h = tt
-rise-up (k ∷ ks) h = (AllByRecursion-weaken (λ j. key_cmp k j ≡ Less) (λ j. key_lt k j ≡ true) (λ j e. ap is_lt e) ks h.0, rise-up ks h.1)
+rise_up [] h = tt
+rise_up (k ∷ ks) h = (AllByRecursion_weaken (λ j. key_cmp k j ≡ Less) (λ j. key_lt k j ≡ true) (λ j e. ap is_lt e) ks h.0, rise_up ks h.1)
 
-rise-down : (ks : List (List ℕ)) → KeysRise Ascending ks → KeysRise Descending (reverse ks)
-rise-down [] h = tt
-rise-down (k ∷ ks) h =
-    subst (KeysRise Descending) (sym (reverse-append (k ∷ []) ks)) (rise-last Descending (reverse ks) k (rise-down ks h.1) (AllByRecursion-reverse (λ j. key_lt k j ≡ true) ks h.0))
+rise_down : (ks : List (List ℕ)) → KeysRise Ascending ks → KeysRise Descending (reverse ks)
+rise_down [] h = tt
+rise_down (k ∷ ks) h =
+    subst (KeysRise Descending) (sym (reverse-append (k ∷ []) ks)) (rise_last Descending (reverse ks) k (rise_down ks h.1) (AllByRecursion_reverse (λ j. key_lt k j ≡ true) ks h.0))
 
-rise-order : (o : IterationOrder) (ks : List (List ℕ)) → IsStrictlySortedBy key_cmp ks → KeysRise o (in_order o ks)
-rise-order Ascending ks h = rise-up ks h
-rise-order Descending ks h = rise-down ks (rise-up ks h)
+rise_order : (o : IterationOrder) (ks : List (List ℕ)) → IsStrictlySortedBy key_cmp ks → KeysRise o (in_order o ks)
+rise_order Ascending ks h = rise_up ks h
+rise_order Descending ks h = rise_down ks (rise_up ks h)
 
 -- what a reader finds under a key is a row of this key
 abbrev pub IsOfKeys : (List ℕ → Option RowEntry) → Type 0
 IsOfKeys f = (k : List ℕ) (x : RowEntry) → f k ≡ Some x → x.key ≡ k
 
-all-found : (f : List ℕ → Option RowEntry) → IsOfKeys f → (P : List ℕ → Type 0) (ks : List (List ℕ)) → AllByRecursion P ks → AllByRecursion (λ x. P x.key) (filter_map f ks)
-all-found f own P [] h = tt
-all-found f own P (k ∷ ks) h = by (f k) refl (all-found f own P ks h.1)
+all_found : (f : List ℕ → Option RowEntry) → IsOfKeys f → (P : List ℕ → Type 0) (ks : List (List ℕ)) → AllByRecursion P ks → AllByRecursion (λ x. P x.key) (filter_map f ks)
+all_found f own P [] h = tt
+all_found f own P (k ∷ ks) h = by (f k) refl (all_found f own P ks h.1)
   where
     by : (o : Option RowEntry) → f k ≡ o → AllByRecursion (λ x. P x.key) (filter_map f ks) → AllByRecursion (λ x. P x.key) (cons_option o (filter_map f ks))
     by None e later = later
     by (Some x) e later = (subst P (sym (own k x e)) h.0, later)
 
-rows-rise : (f : List ℕ → Option RowEntry) → IsOfKeys f → (o : IterationOrder) (ks : List (List ℕ)) → KeysRise o ks → Rises o (filter_map f ks)
-rows-rise f own o [] h = tt
-rows-rise f own o (k ∷ ks) h = by (f k) refl (rows-rise f own o ks h.1)
+rows_rise : (f : List ℕ → Option RowEntry) → IsOfKeys f → (o : IterationOrder) (ks : List (List ℕ)) → KeysRise o ks → Rises o (filter_map f ks)
+rows_rise f own o [] h = tt
+rows_rise f own o (k ∷ ks) h = by (f k) refl (rows_rise f own o ks h.1)
   where
     by : (z : Option RowEntry) → f k ≡ z → Rises o (filter_map f ks) → Rises o (cons_option z (filter_map f ks))
     by None e later = later
     by (Some x) e later =
-        (all-found f own (λ j. comes_before o x.key j ≡ true) ks (subst (λ (i : List ℕ). AllByRecursion (λ j. comes_before o i j ≡ true) ks) (sym (own k x e)) h.0), later)
+        (all_found f own (λ j. comes_before o x.key j ≡ true) ks (subst (λ (i : List ℕ). AllByRecursion (λ j. comes_before o i j ≡ true) ks) (sym (own k x e)) h.0), later)
 
-rises-filter : (o : IterationOrder) (t : RowEntry → Bool) (xs : List RowEntry) → Rises o xs → Rises o (filter t xs)
-rises-filter o t [] h = tt
-rises-filter o t (x ∷ xs) h = by (t x) (rises-filter o t xs h.1)
+rises_filter : (o : IterationOrder) (t : RowEntry → Bool) (xs : List RowEntry) → Rises o xs → Rises o (filter t xs)
+rises_filter o t [] h = tt
+rises_filter o t (x ∷ xs) h = by (t x) (rises_filter o t xs h.1)
   where
     by : (b : Bool) → Rises o (filter t xs) → Rises o (cond b (x ∷ filter t xs) (filter t xs))
-    by true later = (AllByRecursion-filter (λ y. comes_before o x.key y.key ≡ true) t xs h.0, later)
+    by true later = (AllByRecursion_filter (λ y. comes_before o x.key y.key ≡ true) t xs h.0, later)
     by false later = later
 
 -- ---- a seek
@@ -152,20 +152,20 @@ rises-filter o t (x ∷ xs) h = by (t x) (rises-filter o t xs h.1)
 abbrev is_left : IterationOrder → List ℕ → RowEntry → Bool
 is_left o k x = not (comes_before o x.key k)
 
-drop-filters : (o : IterationOrder) (k : List ℕ) (xs : List RowEntry) → Rises o xs → drop_before o k xs ≡ filter (is_left o k) xs
-drop-filters o k [] h = refl
-drop-filters o k (x ∷ xs) h = by (comes_before o x.key k) refl (drop-filters o k xs h.1)
+drop_filters : (o : IterationOrder) (k : List ℕ) (xs : List RowEntry) → Rises o xs → drop_before o k xs ≡ filter (is_left o k) xs
+drop_filters o k [] h = refl
+drop_filters o k (x ∷ xs) h = by (comes_before o x.key k) refl (drop_filters o k xs h.1)
   where
     behind : comes_before o x.key k ≡ false → (y : RowEntry) → comes_before o x.key y.key ≡ true → is_left o k y ≡ true
     behind e y later = by (comes_before o y.key k) refl
       where
         by : (t : Bool) → comes_before o y.key k ≡ t → not t ≡ true
-        by true f = let is : true ≡ false = sym (before-trans o x.key y.key k later f) ∙ e in cc
+        by true f = let is : true ≡ false = sym (before_trans o x.key y.key k later f) ∙ e in cc
         by false f = refl
 
     by : (t : Bool) → comes_before o x.key k ≡ t → drop_before o k xs ≡ filter (is_left o k) xs → cond t (drop_before o k xs) (x ∷ xs) ≡ cond (not t) (x ∷ filter (is_left o k) xs) (filter (is_left o k) xs)
     by true e later = later
-    by false e later = ap (λ ys. x ∷ ys) (sym (filter-all (is_left o k) xs (AllByRecursion-weaken (λ y. comes_before o x.key y.key ≡ true) (λ y. is_left o k y ≡ true) (behind e) xs h.0)))
+    by false e later = ap (λ ys. x ∷ ys) (sym (filter_all (is_left o k) xs (AllByRecursion_weaken (λ y. comes_before o x.key y.key ≡ true) (λ y. is_left o k y ≡ true) (behind e) xs h.0)))
 
 -- ---- two lists that are alike at quiet keys
 
@@ -185,25 +185,25 @@ pub record Agree (u : List ℕ → Bool) (o : IterationOrder) (range : BytesRang
   pub other_within : AreIn range m.1
   pub alike : quiet u l.1 ≡ quiet u m.1
 
-sought-filters : (o : IterationOrder) (k : List ℕ) (l : Left) → l.0 ≡ o → Rises o l.1 → (sought k l).1 ≡ filter (is_left o k) l.1
-sought-filters o k l e h = ap (λ z. drop_before z k l.1) e ∙ drop-filters o k l.1 h
+sought_filters : (o : IterationOrder) (k : List ℕ) (l : Left) → l.0 ≡ o → Rises o l.1 → (sought k l).1 ≡ filter (is_left o k) l.1
+sought_filters o k l e h = ap (λ z. drop_before z k l.1) e ∙ drop_filters o k l.1 h
 
-pub agree-sought : (u : List ℕ → Bool) (o : IterationOrder) (range : BytesRange) (k : List ℕ) (l m : Left) → Agree u o range l m → Agree u o range (sought k l) (sought k m)
-agree-sought u o range k l m h = record {
+pub agree_sought : (u : List ℕ → Bool) (o : IterationOrder) (range : BytesRange) (k : List ℕ) (l m : Left) → Agree u o range l m → Agree u o range (sought k l) (sought k m)
+agree_sought u o range k l m h = record {
   order = h.order;
   other_order = h.other_order;
-  rises = subst (Rises o) (sym p) (rises-filter o (is_left o k) l.1 h.rises);
-  other_rises = subst (Rises o) (sym q) (rises-filter o (is_left o k) m.1 h.other_rises);
-  within = subst (AreIn range) (sym p) (AllByRecursion-filter (λ x. in_range range x.key ≡ true) (is_left o k) l.1 h.within);
-  other_within = subst (AreIn range) (sym q) (AllByRecursion-filter (λ x. in_range range x.key ≡ true) (is_left o k) m.1 h.other_within);
-  alike = ap (quiet u) p ∙ filter-swap (λ x. u x.key) (is_left o k) l.1 ∙ ap (filter (is_left o k)) h.alike ∙ sym (filter-swap (λ x. u x.key) (is_left o k) m.1) ∙ sym (ap (quiet u) q);
+  rises = subst (Rises o) (sym p) (rises_filter o (is_left o k) l.1 h.rises);
+  other_rises = subst (Rises o) (sym q) (rises_filter o (is_left o k) m.1 h.other_rises);
+  within = subst (AreIn range) (sym p) (AllByRecursion_filter (λ x. in_range range x.key ≡ true) (is_left o k) l.1 h.within);
+  other_within = subst (AreIn range) (sym q) (AllByRecursion_filter (λ x. in_range range x.key ≡ true) (is_left o k) m.1 h.other_within);
+  alike = ap (quiet u) p ∙ filter_swap (λ x. u x.key) (is_left o k) l.1 ∙ ap (filter (is_left o k)) h.alike ∙ sym (filter_swap (λ x. u x.key) (is_left o k) m.1) ∙ sym (ap (quiet u) q);
 }
   where
     p : (sought k l).1 ≡ filter (is_left o k) l.1
-    p = sought-filters o k l h.order h.rises
+    p = sought_filters o k l h.order h.rises
 
     q : (sought k m).1 ≡ filter (is_left o k) m.1
-    q = sought-filters o k m h.other_order h.other_rises
+    q = sought_filters o k m h.other_order h.other_rises
 
 -- ---- the next row
 
@@ -215,71 +215,71 @@ abbrev AreNext : (List ℕ → Bool) → List RowEntry → List RowEntry → Typ
 AreNext u xs ys = (first_left xs ≡ first_left ys) × (quiet u (drop 1 xs) ≡ quiet u (drop 1 ys))
 
 -- all keys of the range that the order doesn't put after the first row are quiet
-next-row : (u : List ℕ → Bool) (o : IterationOrder) (range : BytesRange) (x : RowEntry) (xs ys : List RowEntry) → in_range range x.key ≡ true → Rises o ys → AreIn range ys →
+next_row : (u : List ℕ → Bool) (o : IterationOrder) (range : BytesRange) (x : RowEntry) (xs ys : List RowEntry) → in_range range x.key ≡ true → Rises o ys → AreIn range ys →
     ((k : List ℕ) → in_range range k ≡ true → comes_before o x.key k ≡ false → u k ≡ true) → quiet u (x ∷ xs) ≡ quiet u ys → AreNext u (x ∷ xs) ys
-next-row u o range x xs [] here rises within clear same =
-    let one : x ∷ quiet u xs ≡ [] = sym (ap (λ b. cond b (x ∷ quiet u xs) (quiet u xs)) (clear x.key here (not-before-itself o x.key))) ∙ same in cc
-next-row u o range x xs (y ∷ ys) here rises within clear same = by (comes_before o x.key y.key) refl
+next_row u o range x xs [] here rises within clear same =
+    let one : x ∷ quiet u xs ≡ [] = sym (ap (λ b. cond b (x ∷ quiet u xs) (quiet u xs)) (clear x.key here (not_before_itself o x.key))) ∙ same in cc
+next_row u o range x xs (y ∷ ys) here rises within clear same = by (comes_before o x.key y.key) refl
   where
     one : x ∷ quiet u xs ≡ quiet u (y ∷ ys)
-    one = sym (ap (λ b. cond b (x ∷ quiet u xs) (quiet u xs)) (clear x.key here (not-before-itself o x.key))) ∙ same
+    one = sym (ap (λ b. cond b (x ∷ quiet u xs) (quiet u xs)) (clear x.key here (not_before_itself o x.key))) ∙ same
 
     by : (t : Bool) → comes_before o x.key y.key ≡ t → AreNext u (x ∷ xs) (y ∷ ys)
     by true e =
         let after : AllByRecursion (λ z. comes_before o x.key z.key ≡ true) (y ∷ ys) =
-        (e, AllByRecursion-weaken (λ z. comes_before o y.key z.key ≡ true) (λ z. comes_before o x.key z.key ≡ true) (λ z f. before-trans o x.key y.key z.key e f) ys rises.0) in
+        (e, AllByRecursion_weaken (λ z. comes_before o y.key z.key ≡ true) (λ z. comes_before o x.key z.key ≡ true) (λ z f. before_trans o x.key y.key z.key e f) ys rises.0) in
         let all : AllByRecursion (λ z. comes_before o x.key z.key ≡ true) (x ∷ quiet u xs) =
-        subst (AllByRecursion (λ z. comes_before o x.key z.key ≡ true)) (sym one) (AllByRecursion-filter (λ z. comes_before o x.key z.key ≡ true) (λ z. u z.key) (y ∷ ys) after) in
-        before-itself o x.key all.0
+        subst (AllByRecursion (λ z. comes_before o x.key z.key ≡ true)) (sym one) (AllByRecursion_filter (λ z. comes_before o x.key z.key ≡ true) (λ z. u z.key) (y ∷ ys) after) in
+        before_itself o x.key all.0
     by false e =
         let both : x ∷ quiet u xs ≡ y ∷ quiet u ys = one ∙ ap (λ b. cond b (y ∷ quiet u ys) (quiet u ys)) (clear y.key within.0 e) in
         (ap first_left both, ap (drop 1) both)
 
 -- all keys of the range are quiet
-next-none : (u : List ℕ → Bool) (range : BytesRange) (ys : List RowEntry) → AreIn range ys → ((k : List ℕ) → in_range range k ≡ true → u k ≡ true) → [] ≡ quiet u ys → AreNext u [] ys
-next-none u range [] within clear same = (refl, refl)
-next-none u range (y ∷ ys) within clear same = let one : [] ≡ y ∷ quiet u ys = same ∙ ap (λ b. cond b (y ∷ quiet u ys) (quiet u ys)) (clear y.key within.0) in cc
+next_none : (u : List ℕ → Bool) (range : BytesRange) (ys : List RowEntry) → AreIn range ys → ((k : List ℕ) → in_range range k ≡ true → u k ≡ true) → [] ≡ quiet u ys → AreNext u [] ys
+next_none u range [] within clear same = (refl, refl)
+next_none u range (y ∷ ys) within clear same = let one : [] ≡ y ∷ quiet u ys = same ∙ ap (λ b. cond b (y ∷ quiet u ys) (quiet u ys)) (clear y.key within.0) in cc
 
-rises-drop : (o : IterationOrder) (xs : List RowEntry) → Rises o xs → Rises o (drop 1 xs)
-rises-drop o [] h = tt
-rises-drop o (x ∷ xs) h = h.1
+rises_drop : (o : IterationOrder) (xs : List RowEntry) → Rises o xs → Rises o (drop 1 xs)
+rises_drop o [] h = tt
+rises_drop o (x ∷ xs) h = h.1
 
-all-drop : {X : Type 0} (P : X → Type 0) (xs : List X) → AllByRecursion P xs → AllByRecursion P (drop 1 xs)
-all-drop P [] h = tt
-all-drop P (x ∷ xs) h = h.1
+all_drop : {X : Type 0} (P : X → Type 0) (xs : List X) → AllByRecursion P xs → AllByRecursion P (drop 1 xs)
+all_drop P [] h = tt
+all_drop P (x ∷ xs) h = h.1
 
 -- the keys that an answer of a scan rests on
 abbrev pub ReadsKeys : (List ℕ → Bool) → IterationOrder → BytesRange → Option KeyValue → Type 0
 ReadsKeys u o range None = (k : List ℕ) → in_range range k ≡ true → u k ≡ true
 ReadsKeys u o range (Some kv) = (k : List ℕ) → in_range range k ≡ true → comes_before o kv.key k ≡ false → u k ≡ true
 
-next-of : (u : List ℕ → Bool) (o : IterationOrder) (range : BytesRange) (xs ys : List RowEntry) → AreIn range xs → Rises o ys → AreIn range ys → ReadsKeys u o range (first_left xs) → quiet u xs ≡ quiet u ys → AreNext u xs ys
-next-of u o range [] ys within rises other clear same = next-none u range ys other clear same
-next-of u o range (x ∷ xs) ys within rises other clear same = next-row u o range x xs ys within.0 rises other clear same
+next_of : (u : List ℕ → Bool) (o : IterationOrder) (range : BytesRange) (xs ys : List RowEntry) → AreIn range xs → Rises o ys → AreIn range ys → ReadsKeys u o range (first_left xs) → quiet u xs ≡ quiet u ys → AreNext u xs ys
+next_of u o range [] ys within rises other clear same = next_none u range ys other clear same
+next_of u o range (x ∷ xs) ys within rises other clear same = next_row u o range x xs ys within.0 rises other clear same
 
-pub agree-next : (u : List ℕ → Bool) (o : IterationOrder) (range : BytesRange) (a : Option KeyValue) (l m : Left) → Agree u o range l m → ReadsKeys u o range a → a ≡ first_left l.1 →
+pub agree_next : (u : List ℕ → Bool) (o : IterationOrder) (range : BytesRange) (a : Option KeyValue) (l m : Left) → Agree u o range l m → ReadsKeys u o range a → a ≡ first_left l.1 →
     (a ≡ first_left m.1) × Agree u o range (advanced l) (advanced m)
-agree-next u o range a l m h clear is = (
+agree_next u o range a l m h clear is = (
   is ∙ both.0,
   record {
     order = h.order;
     other_order = h.other_order;
-    rises = rises-drop o l.1 h.rises;
-    other_rises = rises-drop o m.1 h.other_rises;
-    within = all-drop (λ x. in_range range x.key ≡ true) l.1 h.within;
-    other_within = all-drop (λ x. in_range range x.key ≡ true) m.1 h.other_within;
+    rises = rises_drop o l.1 h.rises;
+    other_rises = rises_drop o m.1 h.other_rises;
+    within = all_drop (λ x. in_range range x.key ≡ true) l.1 h.within;
+    other_within = all_drop (λ x. in_range range x.key ≡ true) m.1 h.other_within;
     alike = both.1;
   },
 )
   where
     both : AreNext u l.1 m.1
-    both = next-of u o range l.1 m.1 h.within h.other_rises h.other_within (subst (ReadsKeys u o range) is clear) h.alike
+    both = next_of u o range l.1 m.1 h.within h.other_rises h.other_within (subst (ReadsKeys u o range) is clear) h.alike
 
 -- ---- a list that is fixed at its opening
 
-quiet-found : (u : List ℕ → Bool) (f : List ℕ → Option RowEntry) → IsOfKeys f → (ks : List (List ℕ)) → quiet u (filter_map f ks) ≡ filter_map f (filter u ks)
-quiet-found u f own [] = refl
-quiet-found u f own (k ∷ ks) = by (f k) (u k) refl refl (quiet-found u f own ks)
+quiet_found : (u : List ℕ → Bool) (f : List ℕ → Option RowEntry) → IsOfKeys f → (ks : List (List ℕ)) → quiet u (filter_map f ks) ≡ filter_map f (filter u ks)
+quiet_found u f own [] = refl
+quiet_found u f own (k ∷ ks) = by (f k) (u k) refl refl (quiet_found u f own ks)
   where
     rest : List RowEntry
     rest = filter_map f ks
@@ -293,21 +293,21 @@ quiet-found u f own (k ∷ ks) = by (f k) (u k) refl refl (quiet-found u f own k
     by (Some x) true e g later = ap (λ b. cond b (x ∷ quiet u rest) (quiet u rest)) (ap u (own k x e) ∙ g) ∙ ap (λ ys. x ∷ ys) later ∙ ap (λ z. cons_option z some) (sym e)
     by (Some x) false e g later = ap (λ b. cond b (x ∷ quiet u rest) (quiet u rest)) (ap u (own k x e) ∙ g) ∙ later
 
-same-found : (u : List ℕ → Bool) (f g : List ℕ → Option RowEntry) → ((k : List ℕ) → u k ≡ true → f k ≡ g k) → (ks : List (List ℕ)) → filter_map f (filter u ks) ≡ filter_map g (filter u ks)
-same-found u f g same [] = refl
-same-found u f g same (k ∷ ks) = by (u k) refl (same-found u f g same ks)
+same_found : (u : List ℕ → Bool) (f g : List ℕ → Option RowEntry) → ((k : List ℕ) → u k ≡ true → f k ≡ g k) → (ks : List (List ℕ)) → filter_map f (filter u ks) ≡ filter_map g (filter u ks)
+same_found u f g same [] = refl
+same_found u f g same (k ∷ ks) = by (u k) refl (same_found u f g same ks)
   where
     by : (t : Bool) → u k ≡ t → filter_map f (filter u ks) ≡ filter_map g (filter u ks) → filter_map f (cond t (k ∷ filter u ks) (filter u ks)) ≡ filter_map g (cond t (k ∷ filter u ks) (filter u ks))
     by true e later = λ i. cons_option (same k e i) (later i)
     by false e later = later
 
-and-nothing : (a : Bool) → false ≡ (a && false)
-and-nothing true = refl
-and-nothing false = refl
+and_nothing : (a : Bool) → false ≡ (a && false)
+and_nothing true = refl
+and_nothing false = refl
 
-among-filter : (u : List ℕ → Bool) (k : List ℕ) (ks : List (List ℕ)) → among k (filter u ks) ≡ (u k && among k ks)
-among-filter u k [] = and-nothing (u k)
-among-filter u k (j ∷ js) = by (u j) (bytes_eq j k) refl refl (among-filter u k js)
+among_filter : (u : List ℕ → Bool) (k : List ℕ) (ks : List (List ℕ)) → among k (filter u ks) ≡ (u k && among k ks)
+among_filter u k [] = and_nothing (u k)
+among_filter u k (j ∷ js) = by (u j) (bytes_eq j k) refl refl (among_filter u k js)
   where
     us : List (List ℕ)
     us = filter u js
@@ -321,12 +321,12 @@ among-filter u k (j ∷ js) = by (u j) (bytes_eq j k) refl refl (among-filter u 
     by false true ea eb later = later ∙ ap (λ t. t && among k js) (is eb ∙ ea) ∙ sym (ap (λ t. t && true) (is eb ∙ ea))
     by false false ea eb later = later
 
-same-quiet-keys : (u : List ℕ → Bool) (js ks : List (List ℕ)) → IsStrictlySortedBy key_cmp js → IsStrictlySortedBy key_cmp ks → ((k : List ℕ) → u k ≡ true → among k js ≡ among k ks) → filter u js ≡ filter u ks
-same-quiet-keys u js ks rises other same =
-    same-set (filter u js) (filter u ks) (IsStrictlySortedBy-filter key_cmp u js rises) (IsStrictlySortedBy-filter key_cmp u ks other) each
+same_quiet_keys : (u : List ℕ → Bool) (js ks : List (List ℕ)) → IsStrictlySortedBy key_cmp js → IsStrictlySortedBy key_cmp ks → ((k : List ℕ) → u k ≡ true → among k js ≡ among k ks) → filter u js ≡ filter u ks
+same_quiet_keys u js ks rises other same =
+    same_set (filter u js) (filter u ks) (IsStrictlySortedBy-filter key_cmp u js rises) (IsStrictlySortedBy-filter key_cmp u ks other) each
   where
     each : (k : List ℕ) → among k (filter u js) ≡ among k (filter u ks)
-    each k = among-filter u k js ∙ by (u k) refl ∙ sym (among-filter u k ks)
+    each k = among_filter u k js ∙ by (u k) refl ∙ sym (among_filter u k ks)
       where
         by : (t : Bool) → u k ≡ t → (t && among k js) ≡ (t && among k ks)
         by true e = same k e
@@ -335,31 +335,31 @@ same-quiet-keys u js ks rises other same =
 abbrev rows_of : (List ℕ → Option RowEntry) → List (List ℕ) → IterationOrder → BytesRange → List RowEntry
 rows_of f ks o range = filter_map f (in_order o (filter (in_range range) ks))
 
-quiet-rows : (u : List ℕ → Bool) (f : List ℕ → Option RowEntry) → IsOfKeys f → (ks : List (List ℕ)) (o : IterationOrder) (range : BytesRange) →
+quiet_rows : (u : List ℕ → Bool) (f : List ℕ → Option RowEntry) → IsOfKeys f → (ks : List (List ℕ)) (o : IterationOrder) (range : BytesRange) →
     quiet u (rows_of f ks o range) ≡ filter_map f (filter u (in_order o (filter (in_range range) ks)))
-quiet-rows u f own ks o range = quiet-found u f own (in_order o (filter (in_range range) ks))
+quiet_rows u f own ks o range = quiet_found u f own (in_order o (filter (in_range range) ks))
 
-quiet-keys : (u : List ℕ → Bool) (js ks : List (List ℕ)) (o : IterationOrder) (range : BytesRange) → filter u js ≡ filter u ks →
+quiet_keys : (u : List ℕ → Bool) (js ks : List (List ℕ)) (o : IterationOrder) (range : BytesRange) → filter u js ≡ filter u ks →
     filter u (in_order o (filter (in_range range) js)) ≡ filter u (in_order o (filter (in_range range) ks))
-quiet-keys u js ks o range same =
-    filter-order o u (filter (in_range range) js)
-    ∙ ap (in_order o) (filter-swap u (in_range range) js ∙ ap (filter (in_range range)) same ∙ sym (filter-swap u (in_range range) ks))
-    ∙ sym (filter-order o u (filter (in_range range) ks))
+quiet_keys u js ks o range same =
+    filter_order o u (filter (in_range range) js)
+    ∙ ap (in_order o) (filter_swap u (in_range range) js ∙ ap (filter (in_range range)) same ∙ sym (filter_swap u (in_range range) ks))
+    ∙ sym (filter_order o u (filter (in_range range) ks))
 
 -- two readers who see the same at quiet keys
-pub agree-opened : (u : List ℕ → Bool) (f g : List ℕ → Option RowEntry) (js ks : List (List ℕ)) (o : IterationOrder) (range : BytesRange) → IsOfKeys f → IsOfKeys g →
+pub agree_opened : (u : List ℕ → Bool) (f g : List ℕ → Option RowEntry) (js ks : List (List ℕ)) (o : IterationOrder) (range : BytesRange) → IsOfKeys f → IsOfKeys g →
     IsStrictlySortedBy key_cmp js → IsStrictlySortedBy key_cmp ks → ((k : List ℕ) → u k ≡ true → f k ≡ g k) → ((k : List ℕ) → u k ≡ true → among k js ≡ among k ks) →
     Agree u o range (o, rows_of f js o range) (o, rows_of g ks o range)
-agree-opened u f g js ks o range own other js_rise ks_rise same keys = record {
+agree_opened u f g js ks o range own other js_rise ks_rise same keys = record {
   order = refl;
   other_order = refl;
-  rises = rows-rise f own o (in_order o (filter (in_range range) js)) (rise-order o _ (IsStrictlySortedBy-filter key_cmp (in_range range) js js_rise));
-  other_rises = rows-rise g other o (in_order o (filter (in_range range) ks)) (rise-order o _ (IsStrictlySortedBy-filter key_cmp (in_range range) ks ks_rise));
-  within = all-found f own (λ k. in_range range k ≡ true) (in_order o (filter (in_range range) js)) (all-order (λ k. in_range range k ≡ true) o _ (filter-passes (in_range range) js));
-  other_within = all-found g other (λ k. in_range range k ≡ true) (in_order o (filter (in_range range) ks)) (all-order (λ k. in_range range k ≡ true) o _ (filter-passes (in_range range) ks));
+  rises = rows_rise f own o (in_order o (filter (in_range range) js)) (rise_order o _ (IsStrictlySortedBy-filter key_cmp (in_range range) js js_rise));
+  other_rises = rows_rise g other o (in_order o (filter (in_range range) ks)) (rise_order o _ (IsStrictlySortedBy-filter key_cmp (in_range range) ks ks_rise));
+  within = all_found f own (λ k. in_range range k ≡ true) (in_order o (filter (in_range range) js)) (all_order (λ k. in_range range k ≡ true) o _ (filter_passes (in_range range) js));
+  other_within = all_found g other (λ k. in_range range k ≡ true) (in_order o (filter (in_range range) ks)) (all_order (λ k. in_range range k ≡ true) o _ (filter_passes (in_range range) ks));
   alike =
-      quiet-rows u f own js o range
-      ∙ same-found u f g same (in_order o (filter (in_range range) js))
-      ∙ ap (filter_map g) (quiet-keys u js ks o range (same-quiet-keys u js ks js_rise ks_rise keys))
-      ∙ sym (quiet-rows u g other ks o range);
+      quiet_rows u f own js o range
+      ∙ same_found u f g same (in_order o (filter (in_range range) js))
+      ∙ ap (filter_map g) (quiet_keys u js ks o range (same_quiet_keys u js ks js_rise ks_rise keys))
+      ∙ sym (quiet_rows u g other ks o range);
 }

@@ -18,7 +18,7 @@ use Rattle.slate_txn.specs.Tracking.{reads_of}
 use Rattle.slate_txn.specs.Replay.{replay, IsLegal}
 use Rattle.slate_txn.specs.Alone.{IsAlone}
 use Rattle.slate_txn.specs.Vouched.{VouchedAt, TracksReads}
-use Rattle.slate_txn.proofs.PlaceLaws.{at-its-place}
+use Rattle.slate_txn.proofs.PlaceLaws.{at_its_place}
 
 abbrev rules : Rules
 rules = record { default_millis = None; start_seq = 0; combine = None; segment = None }
@@ -91,7 +91,7 @@ abbrev scanned : List Event
 scanned = events.Write 1 (pos 0) puts ∷ events.Begin first SerializableSnapshot 1 ∷ events.Write 2 (pos 0) past ∷ []
 
 pub a_part_stands : IsAlone rules (replay scanned).commits 2 saw_one
-a_part_stands = at-its-place rules scanned [] first None (pos 0) [] [] saw_one _ legal (refl, tt) refl refl ((λ later k wrote read. wrote), ((λ later k wrote read. wrote), tt))
+a_part_stands = at_its_place rules scanned [] first None (pos 0) [] [] saw_one _ legal (refl, tt) refl refl ((λ later k wrote read. wrote), ((λ later k wrote read. wrote), tt))
   where
     legal : IsLegal 0 (scanned ++ (events.Commit first None (pos 0) [] [] saw_one ∷ []))
     legal = (((refl, omega arith), refl), ((refl, refl), (((refl, omega arith), refl), ((refl, refl, refl, ((λ k. false), refl), refl), tt))))

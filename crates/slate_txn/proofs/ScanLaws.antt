@@ -17,8 +17,8 @@ use Rattle.slate_txn.specs.Reads.{up_to, seen, rows_seen}
 use Rattle.slate_txn.specs.State.{Rules, Commit}
 use Rattle.slate_txn.specs.Step.{is_scan}
 use Rattle.slate_txn.specs.Tracking.{update_at}
-use Rattle.slate_txn.proofs.ReadLaws.{alone-more, rows-same, same-commits}
-use Rattle.slate_txn.proofs.StepLaws.{count-scans, get-last, get-updated}
+use Rattle.slate_txn.proofs.ReadLaws.{alone_more, rows_same, same_commits}
+use Rattle.slate_txn.proofs.StepLaws.{count_scans, get_last, get_updated}
 use Rattle.slate_txn.proofs.UpdateLaws.{get_before, get_below, get_other}
 
 -- ---- what is left
@@ -41,7 +41,7 @@ left_same_from : (r : Rules) (cs ds : List Commit) (n : ℕ) (ops : Ops) (scans 
 left_same_from r cs ds n ops scans [] p = refl
 left_same_from r cs ds n ops scans (Get k a ∷ ts) p = left_same_from r cs ds n ops scans ts p
 left_same_from r cs ds n ops scans (Scan order range ∷ ts) p =
-    ap (λ (rows : List RowEntry). scans_after r cs n ops (scans ++ ((order, rows) ∷ [])) ts) (rows-same r cs ds n ops order range p)
+    ap (λ (rows : List RowEntry). scans_after r cs n ops (scans ++ ((order, rows) ∷ [])) ts) (rows_same r cs ds n ops order range p)
     ∙ left_same_from r cs ds n ops (scans ++ ((order, rows_seen r ds n ops order range) ∷ [])) ts p
 left_same_from r cs ds n ops scans (Next i a ∷ ts) p = left_same_from r cs ds n ops (update_at i advanced scans) ts p
 left_same_from r cs ds n ops scans (Seek i k ∷ ts) p = left_same_from r cs ds n ops (update_at i (sought k) scans) ts p
@@ -50,7 +50,7 @@ left_same_from r cs ds n ops scans (Own k op ∷ ts) p = left_same_from r cs ds 
 
 -- later commits change nothing of it
 pub left_stays : (r : Rules) (cs later : List Commit) (n : ℕ) (ts : List TranscriptStep) → AllByRecursion (λ c. n < c.seq) later → scans_left r (cs ++ later) n ts ≡ scans_left r cs n ts
-left_stays r cs later n ts h = left_same_from r (cs ++ later) cs n [] [] ts (same-commits n cs later h)
+left_stays r cs later n ts h = left_same_from r (cs ++ later) cs n [] [] ts (same_commits n cs later h)
 
 -- ---- a row that is taken off
 
@@ -81,14 +81,14 @@ module _ (r : Rules) (cs : List Commit) (n : ℕ) (ts : List TranscriptStep) whe
   -- ---- the scan with a number
 
   pub count_left : length (scans_left r cs n ts) ≡ count_by is_scan ts
-  count_left = count-scans r cs n [] [] ts ∙ zero-add (count_by is_scan ts)
+  count_left = count_scans r cs n [] [] ts ∙ zero-add (count_by is_scan ts)
 
   -- a scan that is opened has the next one
   pub opened_left : (order : IterationOrder) (range : BytesRange) → slice_get (scans_left r cs n (ts ++ (Scan order range ∷ []))) (count_by is_scan ts) ≡ Some (order, rows_seen r cs n (own_of ts) order range)
   opened_left order range =
       ap (λ (ls : List Left). slice_get ls (count_by is_scan ts)) (scan_left order range)
       ∙ ap (slice_get (scans_left r cs n ts ++ ((order, rows_seen r cs n (own_of ts) order range) ∷ []))) (sym count_left)
-      ∙ get-last (scans_left r cs n ts) (order, rows_seen r cs n (own_of ts) order range)
+      ∙ get_last (scans_left r cs n ts) (order, rows_seen r cs n (own_of ts) order range)
 
   pub is_opened : (i : ℕ) (s : Left) → slice_get (scans_left r cs n ts) i ≡ Some s → i < count_by is_scan ts
   is_opened i s h = subst (λ (m : ℕ). i < m) count_left (get_below i (scans_left r cs n ts) s h)
@@ -99,13 +99,13 @@ module _ (r : Rules) (cs : List Commit) (n : ℕ) (ts : List TranscriptStep) whe
       ap (λ (ls : List Left). slice_get ls i) (scan_left order range) ∙ get_before i (scans_left r cs n ts) ((order, rows_seen r cs n (own_of ts) order range) ∷ []) s h
 
   pub next_moves : (i : ℕ) (a : Option KeyValue) (s : Left) → slice_get (scans_left r cs n ts) i ≡ Some s → slice_get (scans_left r cs n (ts ++ (Next i a ∷ []))) i ≡ Some (advanced s)
-  next_moves i a s h = ap (λ (ls : List Left). slice_get ls i) (next_left i a) ∙ get-updated i advanced (scans_left r cs n ts) s h
+  next_moves i a s h = ap (λ (ls : List Left). slice_get ls i) (next_left i a) ∙ get_updated i advanced (scans_left r cs n ts) s h
 
   pub next_keeps : (i j : ℕ) (a : Option KeyValue) → i ≢ j → slice_get (scans_left r cs n (ts ++ (Next i a ∷ []))) j ≡ slice_get (scans_left r cs n ts) j
   next_keeps i j a apart = ap (λ (ls : List Left). slice_get ls j) (next_left i a) ∙ get_other i j advanced (scans_left r cs n ts) apart
 
   pub seek_moves : (i : ℕ) (k : List ℕ) (s : Left) → slice_get (scans_left r cs n ts) i ≡ Some s → slice_get (scans_left r cs n (ts ++ (Seek i k ∷ []))) i ≡ Some (sought k s)
-  seek_moves i k s h = ap (λ (ls : List Left). slice_get ls i) (seek_left i k) ∙ get-updated i (sought k) (scans_left r cs n ts) s h
+  seek_moves i k s h = ap (λ (ls : List Left). slice_get ls i) (seek_left i k) ∙ get_updated i (sought k) (scans_left r cs n ts) s h
 
   pub seek_keeps : (i j : ℕ) (k : List ℕ) → i ≢ j → slice_get (scans_left r cs n (ts ++ (Seek i k ∷ []))) j ≡ slice_get (scans_left r cs n ts) j
   seek_keeps i j k apart = ap (λ (ls : List Left). slice_get ls j) (seek_left i k) ∙ get_other i j (sought k) (scans_left r cs n ts) apart
@@ -113,13 +113,13 @@ module _ (r : Rules) (cs : List Commit) (n : ℕ) (ts : List TranscriptStep) whe
   -- ---- alone
 
   pub get_alone : (k : List ℕ) (a : Option KeyValue) → a ≡ option_map key_value (seen r cs n (own_of ts) k) → IsAlone r cs n ts → IsAlone r cs n (ts ++ (Get k a ∷ []))
-  get_alone k a is h = alone-more r cs n [] [] ts (Get k a ∷ []) h (is, tt)
+  get_alone k a is h = alone_more r cs n [] [] ts (Get k a ∷ []) h (is, tt)
 
   pub scan_alone : (order : IterationOrder) (range : BytesRange) → IsAlone r cs n ts → IsAlone r cs n (ts ++ (Scan order range ∷ []))
-  scan_alone order range h = alone-more r cs n [] [] ts (Scan order range ∷ []) h tt
+  scan_alone order range h = alone_more r cs n [] [] ts (Scan order range ∷ []) h tt
 
   pub next_alone : (i : ℕ) (a : Option KeyValue) (s : Left) → slice_get (scans_left r cs n ts) i ≡ Some s → a ≡ first_left s.1 → IsAlone r cs n ts → IsAlone r cs n (ts ++ (Next i a ∷ []))
-  next_alone i a s left is h = alone-more r cs n [] [] ts (Next i a ∷ []) h (subst (λ (o : Option Left). IsNextOf o a) (sym left) is, tt)
+  next_alone i a s left is h = alone_more r cs n [] [] ts (Next i a ∷ []) h (subst (λ (o : Option Left). IsNextOf o a) (sym left) is, tt)
 
   pub seek_alone : (i : ℕ) (k : List ℕ) → IsSome (slice_get (scans_left r cs n ts) i) → IsAlone r cs n ts → IsAlone r cs n (ts ++ (Seek i k ∷ []))
-  seek_alone i k left h = alone-more r cs n [] [] ts (Seek i k ∷ []) h (left, tt)
+  seek_alone i k left h = alone_more r cs n [] [] ts (Seek i k ∷ []) h (left, tt)

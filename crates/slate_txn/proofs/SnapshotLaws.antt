@@ -9,7 +9,7 @@ use Rattle.slate_txn.specs.Ids.{id_of, IsOfCount}
 use Rattle.slate_txn.specs.Managers.{with_least, sooner_of}
 use Rattle.slate_txn.proofs.IdLaws.{all_past, wider}
 use Rattle.slate_txn.proofs.NamedLaws.{put_last}
-use Rattle.slate_types.proofs.Lists.{AllByRecursion-push, AllByRecursion-weaken}
+use Rattle.slate_types.proofs.Lists.{AllByRecursion_push, AllByRecursion_weaken}
 
 abbrev pub joined : Option ℕ → Option ℕ → Option ℕ
 joined None o = o
@@ -29,7 +29,7 @@ put_snapshot n seq ps l h = put_last (id_of (2 ^ 127 + (n + 1))) seq ps (all_pas
 
 pub counted_more : (n seq : ℕ) (ps : List (List ℕ × ℕ)) → AllByRecursion (λ p. IsOfCount (2 ^ 127 + n) p.0) ps → AllByRecursion (λ p. IsOfCount (2 ^ 127 + (n + 1)) p.0) (ps ++ ((id_of (2 ^ 127 + (n + 1)), seq) ∷ []))
 counted_more n seq ps h =
-    AllByRecursion-push _ ps _ (AllByRecursion-weaken _ _ (λ p o. wider (2 ^ 127 + n) (2 ^ 127 + (n + 1)) (omega arith) p.0 o) ps h) (record { count = 2 ^ 127 + (n + 1); within = omega arith; is = refl })
+    AllByRecursion_push _ ps _ (AllByRecursion_weaken _ _ (λ p o. wider (2 ^ 127 + n) (2 ^ 127 + (n + 1)) (omega arith) p.0 o) ps h) (record { count = 2 ^ 127 + (n + 1); within = omega arith; is = refl })
 
 -- no id of a count below the highest bit is one of a snapshot
 pub apart_ids : (n m : ℕ) → n < 2 ^ 64 → m < 2 ^ 64 → id_of (2 ^ 127 + (n + 1)) ≡ id_of m → ⊥

@@ -19,18 +19,18 @@ use Rattle.slate_txn.proofs.Keeps.{Entries, writes_of, kept_writes, commit_write
 use Rattle.slate_txn.specs.Ids.{id_of}
 use Rattle.slate_txn.proofs.IdLaws.{all_past, wider}
 use Rattle.slate_txn.proofs.NamedLaws.{all_without, put_last}
-use Rattle.slate_types.proofs.Lists.{AllByRecursion-push, AllByRecursion-weaken}
+use Rattle.slate_types.proofs.Lists.{AllByRecursion_push, AllByRecursion_weaken}
 
 abbrev pub Actives : Type 0
 Actives = List (List ℕ × Active)
 
 -- ---- the least start
 
-least-same : (n : ℕ) (ps : Actives) → AllByRecursion (λ p. n ≤ p.1.start) ps → with_least n (least_start ps) ≡ Some n
-least-same n [] h = refl
-least-same n (p ∷ ps) h =
+least_same : (n : ℕ) (ps : Actives) → AllByRecursion (λ p. n ≤ p.1.start) ps → with_least n (least_start ps) ≡ Some n
+least_same n [] h = refl
+least_same n (p ∷ ps) h =
     let low : n ≤ p.1.start = h.0 in
-    by (least_start ps) low (least-same n ps h.1)
+    by (least_start ps) low (least_same n ps h.1)
   where
     by : (o : Option ℕ) → n ≤ p.1.start → with_least n o ≡ Some n → with_least n (with_least p.1.start o) ≡ Some n
     by None low later = ap Some (let e : min n p.1.start ≡ n = omega arith in e)
@@ -41,7 +41,7 @@ pub least_first : (ps : Actives) (p : List ℕ × Active) → slice_get ps 0 ≡
 least_first [] p e h = cc
 least_first (q ∷ ps) p e h =
     let same : q.1.start ≡ p.1.start = ap (λ (o : Option (List ℕ × Active)). (unwrap_or o p).1.start) e in
-    sym (least-same q.1.start ps h.0 ∙ ap Some same)
+    sym (least_same q.1.start ps h.0 ∙ ap Some same)
 
 -- a start past all others is not the least of several
 abbrev pub or_start : Option ℕ → ℕ → Option ℕ
@@ -133,26 +133,26 @@ verdict_is m id cs tidy stands = by (find_named id m.active) refl
 
 -- ---- what is dropped
 
-above-filter : (k : List ℕ) (f : List ℕ × ℕ → Bool) (es : Entries) → AllByRecursion (λ x. key_cmp k x ≡ Less) (keys_of es) → AllByRecursion (λ x. key_cmp k x ≡ Less) (keys_of (filter f es))
-above-filter k f [] h = tt
-above-filter k f (e ∷ es) h = by (f e) (above-filter k f es h.1)
+above_filter : (k : List ℕ) (f : List ℕ × ℕ → Bool) (es : Entries) → AllByRecursion (λ x. key_cmp k x ≡ Less) (keys_of es) → AllByRecursion (λ x. key_cmp k x ≡ Less) (keys_of (filter f es))
+above_filter k f [] h = tt
+above_filter k f (e ∷ es) h = by (f e) (above_filter k f es h.1)
   where
     by : (t : Bool) → AllByRecursion (λ x. key_cmp k x ≡ Less) (keys_of (filter f es)) → AllByRecursion (λ x. key_cmp k x ≡ Less) (keys_of (cond t (e ∷ filter f es) (filter f es)))
     by true r = (h.0, r)
     by false r = r
 
-rising-filter : (f : List ℕ × ℕ → Bool) (es : Entries) → IsStrictlySortedBy key_cmp (keys_of es) → IsStrictlySortedBy key_cmp (keys_of (filter f es))
+rising_filter : (f : List ℕ × ℕ → Bool) (es : Entries) → IsStrictlySortedBy key_cmp (keys_of es) → IsStrictlySortedBy key_cmp (keys_of (filter f es))
 unfolding IsStrictlySortedBy
-rising-filter f [] h = tt
-rising-filter f (e ∷ es) h = by (f e) (rising-filter f es h.1)
+rising_filter f [] h = tt
+rising_filter f (e ∷ es) h = by (f e) (rising_filter f es h.1)
   where
     by : (t : Bool) → IsStrictlySortedBy key_cmp (keys_of (filter f es)) → IsStrictlySortedBy key_cmp (keys_of (cond t (e ∷ filter f es) (filter f es)))
-    by true r = (above-filter e.0 f es h.0, r)
+    by true r = (above_filter e.0 f es h.0, r)
     by false r = r
 
-all-filter : (P : List ℕ × ℕ → Type 0) (f : List ℕ × ℕ → Bool) (es : Entries) → AllByRecursion P es → AllByRecursion P (filter f es)
-all-filter P f [] h = tt
-all-filter P f (e ∷ es) h = by (f e) (all-filter P f es h.1)
+all_filter : (P : List ℕ × ℕ → Type 0) (f : List ℕ × ℕ → Bool) (es : Entries) → AllByRecursion P es → AllByRecursion P (filter f es)
+all_filter P f [] h = tt
+all_filter P f (e ∷ es) h = by (f e) (all_filter P f es h.1)
   where
     by : (t : Bool) → AllByRecursion P (filter f es) → AllByRecursion P (cond t (e ∷ filter f es) (filter f es))
     by true r = (h.0, r)
@@ -161,12 +161,12 @@ all-filter P f (e ∷ es) h = by (f e) (all-filter P f es h.1)
 pub kept_pruned : (n : ℕ) (o : Option ℕ) (es : Entries) → AreKept n es → AreKept n (pruned o es)
 unfolding IsStrictlySortedBy
 kept_pruned n None es h = record { rising = tt; within = tt }
-kept_pruned n (Some s) es h = record { rising = rising-filter (λ e. ltb s e.1) es h.rising; within = all-filter (IsKeptWithin n) (λ e. ltb s e.1) es h.within }
+kept_pruned n (Some s) es h = record { rising = rising_filter (λ e. ltb s e.1) es h.rising; within = all_filter (IsKeptWithin n) (λ e. ltb s e.1) es h.within }
 
 -- what is dropped at or below s is asked by none that began at s or later
-newest-pruned : (p : List ℕ → Bool) (s b : ℕ) → s ≤ b → (es : Entries) → newest_kept p b (filter (λ e. ltb s e.1) es) ≡ newest_kept p b es
-newest-pruned p s b l [] = refl
-newest-pruned p s b l (e ∷ es) = by (ltb s e.1) refl (newest-pruned p s b l es)
+newest_pruned : (p : List ℕ → Bool) (s b : ℕ) → s ≤ b → (es : Entries) → newest_kept p b (filter (λ e. ltb s e.1) es) ≡ newest_kept p b es
+newest_pruned p s b l [] = refl
+newest_pruned p s b l (e ∷ es) = by (ltb s e.1) refl (newest_pruned p s b l es)
   where
     by : (t : Bool) → ltb s e.1 ≡ t → newest_kept p b (filter (λ e. ltb s e.1) es) ≡ newest_kept p b es →
         newest_kept p b (cond t (e ∷ filter (λ e. ltb s e.1) es) (filter (λ e. ltb s e.1) es)) ≡ newest_kept p b (e ∷ es)
@@ -175,11 +175,11 @@ newest-pruned p s b l (e ∷ es) = by (ltb s e.1) refl (newest-pruned p s b l es
         let low : ltb b e.1 ≡ false = grind (arith, nat_tests) in
         r ∙ sym (ap (λ t. cond (t && p e.0) (with_greatest e.1 (newest_kept p b es)) (newest_kept p b es)) low)
 
-keeps-pruned : (s : ℕ) (es : Entries) (cs : List Commit) → IsStrictlySortedBy key_cmp (keys_of es) → KeepsAbove s es cs → KeepsAbove s (filter (λ e. ltb s e.1) es) cs
-keeps-pruned s es cs rising h k =
+keeps_pruned : (s : ℕ) (es : Entries) (cs : List Commit) → IsStrictlySortedBy key_cmp (keys_of es) → KeepsAbove s es cs → KeepsAbove s (filter (λ e. ltb s e.1) es) cs
+keeps_pruned s es cs rising h k =
     let low : s ≤ s = omega arith in
-    sym (newest_of_key k s (filter (λ e. ltb s e.1) es) (rising-filter (λ e. ltb s e.1) es rising))
-    ∙ newest-pruned (is k) s s low es ∙ newest_of_key k s es rising ∙ h k
+    sym (newest_of_key k s (filter (λ e. ltb s e.1) es) (rising_filter (λ e. ltb s e.1) es rising))
+    ∙ newest_pruned (is k) s s low es ∙ newest_of_key k s es rising ∙ h k
 
 -- what a manager keeps once a transaction is forgotten
 abbrev pub IsPruned : Option ℕ → Option ℕ → Entries → Entries → Type 0
@@ -194,7 +194,7 @@ pub stands_dropped : (m : Manager) (id : List ℕ) (before : Option ℕ) (fs : E
 stands_dropped m id before fs tidy how cs h = (h.0, by (least_start (without id m.active)) (least_without id m.active) how)
   where
     at : (s : ℕ) → KeepsAbove s m.kept cs → IsPruned before (Some s) m.kept fs → KeepsAbove s fs cs
-    at s k (inl e) = subst (λ (gs : Entries). KeepsAbove s gs cs) (sym e) (keeps-pruned s m.kept cs tidy.kept.rising k)
+    at s k (inl e) = subst (λ (gs : Entries). KeepsAbove s gs cs) (sym e) (keeps_pruned s m.kept cs tidy.kept.rising k)
     at s k (inr e) = subst (λ (gs : Entries). KeepsAbove s gs cs) (sym e.1) k
 
     by : (o : Option ℕ) → IfSome o (λ s. Raised m.active s) → IsPruned before o m.kept fs → IfSome o (λ s. KeepsAbove s fs cs)
@@ -203,24 +203,24 @@ stands_dropped m id before fs tidy how cs h = (h.0, by (least_start (without id 
         let keeps = subst (λ (o : Option ℕ). IfSome o (λ w. KeepsAbove w m.kept cs)) r.least h.1 in
         at s (raised r.was s m.kept cs r.below tidy.kept.rising keeps) how
 
-find-other : (id other : List ℕ) (ps : Actives) → bytes_eq id other ≡ false → find_named other (without id ps) ≡ find_named other ps
-find-other id other [] h = refl
-find-other id other (p ∷ ps) h = by (bytes_eq p.0 id) refl (find-other id other ps h)
+find_other : (id other : List ℕ) (ps : Actives) → bytes_eq id other ≡ false → find_named other (without id ps) ≡ find_named other ps
+find_other id other [] h = refl
+find_other id other (p ∷ ps) h = by (bytes_eq p.0 id) refl (find_other id other ps h)
   where
     by : (t : Bool) → bytes_eq p.0 id ≡ t → find_named other (without id ps) ≡ find_named other ps → find_named other (cond t ps (p ∷ without id ps)) ≡ find_named other (p ∷ ps)
     by true e r =
-        let not-it : bytes_eq p.0 other ≡ false = ap (λ x. bytes_eq x other) ((bytes_eq-Decides p.0 id).0 e) ∙ h in
-        sym (ap (λ t. cond t (Some p.1) (find_named other ps)) not-it)
+        let not_it : bytes_eq p.0 other ≡ false = ap (λ x. bytes_eq x other) ((bytes_eq-Decides p.0 id).0 e) ∙ h in
+        sym (ap (λ t. cond t (Some p.1) (find_named other ps)) not_it)
     by false e r = ap (λ o. cond (bytes_eq p.0 other) (Some p.1) o) r
 
 -- pruning changes no verdict of an open transaction
 pub verdict_dropped : (m : Manager) (id : List ℕ) (before : Option ℕ) (fs : Entries) → IsPruned before (least_start (without id m.active)) m.kept fs →
     (other : List ℕ) → bytes_eq id other ≡ false → verdict (record m { active = without id m.active; kept = fs }) other ≡ verdict m other
 verdict_dropped m id before fs how other apart =
-    by (find_named other (without id m.active)) refl ∙ ap (verdict_of m.kept) (find-other id other m.active apart)
+    by (find_named other (without id m.active)) refl ∙ ap (verdict_of m.kept) (find_other id other m.active apart)
   where
     at : (t : Active) (l : Least (without id m.active) t.start) → IsPruned before (Some l.start) m.kept fs → newest_kept (is_tracked t) t.start fs ≡ newest_kept (is_tracked t) t.start m.kept
-    at t l (inl e) = ap (newest_kept (is_tracked t) t.start) e ∙ newest-pruned (is_tracked t) l.start t.start l.below m.kept
+    at t l (inl e) = ap (newest_kept (is_tracked t) t.start) e ∙ newest_pruned (is_tracked t) l.start t.start l.below m.kept
     at t l (inr e) = ap (newest_kept (is_tracked t) t.start) e.1
 
     by : (o : Option Active) → find_named other (without id m.active) ≡ o → verdict_of fs o ≡ verdict_of m.kept o
@@ -241,7 +241,7 @@ rise_without id (p ∷ ps) h = by (bytes_eq p.0 id) (rise_without id ps h.1)
 
 pub rise_more : (ps : Actives) (p : List ℕ × Active) → StartsRise ps → AllByRecursion (λ q. q.1.start ≤ p.1.start) ps → StartsRise (ps ++ (p ∷ []))
 rise_more [] p h w = (tt, tt)
-rise_more (q ∷ ps) p h w = (AllByRecursion-push _ ps p h.0 w.0, rise_more ps p h.1 w.1)
+rise_more (q ∷ ps) p h w = (AllByRecursion_push _ ps p h.0 w.0, rise_more ps p h.1 w.1)
 
 pub tidy_dropped : (m : Manager) (id : List ℕ) (fs : Entries) → IsTidy m → AreKept m.last fs → IsTidy (record m { active = without id m.active; kept = fs })
 tidy_dropped m id fs h k = record { counted = all_without _ id m.active h.counted; rise = rise_without id m.active h.rise; started = all_without _ id m.active h.started; kept = k }
@@ -256,15 +256,15 @@ put_new m h l = put_last (id_of (m.ids + 1)) (untracked m.last) m.active (all_pa
 
 pub tidy_new : (m : Manager) → IsTidy m → IsTidy (after_new m)
 tidy_new m h = record {
-  counted = AllByRecursion-push _ m.active _ (AllByRecursion-weaken _ _ (λ p o. wider m.ids (m.ids + 1) (omega arith) p.0 o) m.active h.counted) (record { count = m.ids + 1; within = omega arith; is = refl });
+  counted = AllByRecursion_push _ m.active _ (AllByRecursion_weaken _ _ (λ p o. wider m.ids (m.ids + 1) (omega arith) p.0 o) m.active h.counted) (record { count = m.ids + 1; within = omega arith; is = refl });
   rise = rise_more m.active (id_of (m.ids + 1), untracked m.last) h.rise h.started;
-  started = AllByRecursion-push _ m.active _ h.started (omega arith);
+  started = AllByRecursion_push _ m.active _ h.started (omega arith);
   kept = h.kept;
 }
 
-writes-within : (n : ℕ) (es : Entries) → AllByRecursion (IsKeptWithin n) es → AllByRecursion (λ w. w.0 ≤ n) (writes_of es)
-writes-within n [] h = tt
-writes-within n (e ∷ es) h = (h.0.1, writes-within n es h.1)
+writes_within : (n : ℕ) (es : Entries) → AllByRecursion (IsKeptWithin n) es → AllByRecursion (λ w. w.0 ≤ n) (writes_of es)
+writes_within n [] h = tt
+writes_within n (e ∷ es) h = (h.0.1, writes_within n es h.1)
 
 pub commits_within : (n : ℕ) (cs : List Commit) → AllUpTo n cs → AllByRecursion (λ w. w.0 ≤ n) (commit_writes cs)
 commits_within n [] h = tt
@@ -275,7 +275,7 @@ stands_new m tidy cs h = (h.0, subst (λ (o : Option ℕ). IfSome o (λ s. Keeps
   where
     none : KeepsAbove m.last m.kept cs
     none k =
-        sym (newest_of_key k m.last m.kept tidy.kept.rising) ∙ kept_writes (is k) m.last m.kept ∙ none_above (is k) m.last (writes_of m.kept) (writes-within m.last m.kept tidy.kept.within)
+        sym (newest_of_key k m.last m.kept tidy.kept.rising) ∙ kept_writes (is k) m.last m.kept ∙ none_above (is k) m.last (writes_of m.kept) (writes_within m.last m.kept tidy.kept.within)
         ∙ sym (commits_writes (is k) m.last cs ∙ none_above (is k) m.last (commit_writes cs) (commits_within m.last cs h.0))
 
     by : (o : Option ℕ) → IfSome o (λ s. KeepsAbove s m.kept cs) → IfSome (or_start o m.last) (λ s. KeepsAbove s m.kept cs)

@@ -4,7 +4,7 @@ use Rattle.std.specs.Prelude.{Result, Ok, Err, IfOk}
 use Rattle.slate_types.specs.Keys.{among}
 use Rattle.slate_mem.specs.Batch.{batch_keys}
 use Rattle.slate_mem.specs.BatchModel.{BatchModel, IsBatchOf}
-use Rattle.slate_mem.proofs.BatchLaws.{keeps-keys}
+use Rattle.slate_mem.proofs.BatchLaws.{keeps_its_keys}
 use Rattle.slate_txn.specs.Conflict.{conflict, conflict_of, reads_at, tracked_writes}
 use Rattle.slate_txn.specs.HandedOver.{HandsOver}
 use Rattle.slate_txn.specs.Managers.{Active, Manager}
@@ -13,14 +13,10 @@ use Rattle.slate_txn.specs.State.{Commit, Tx}
 use Rattle.slate_txn.specs.Tested.{IsTracked, tracked_of}
 use Rattle.slate_txn.specs.Tracking.{Reading}
 
-pub if_then : {X E : Type 0} (r : Result X E) (P Q : X → Type 0) → ((x : X) → P x → Q x) → IfOk r P → IfOk r Q
-if_then (Ok x) P Q f h = f x h
-if_then (Err e) P Q f h = tt
-
 -- unmarked: the list that is handed over
 pub writes_are : (s t : Tx) (b : BatchModel) (unmarked : List (List ℕ)) → s ≡ t → IsBatchOf s.ops b → unmarked ≡ s.unmarked → tracked_of b.ops unmarked ≡ tracked_writes t
 writes_are s t b unmarked is batch us =
-    (let keys = ap batch_keys batch.0 ∙ keeps-keys s.ops in λ i. filter (λ k. not (among k (us i))) (keys i)) ∙ ap tracked_writes is
+    (let keys = ap batch_keys batch.0 ∙ keeps_its_keys s.ops in λ i. filter (λ k. not (among k (us i))) (keys i)) ∙ ap tracked_writes is
 
 pub conflict_is : (cs : List Commit) (s t : Tx) (b : BatchModel) (unmarked : List (List ℕ)) (rs : Reading) → s ≡ t → IsBatchOf s.ops b → unmarked ≡ s.unmarked → rs ≡ reads_at s.level s.transcript →
     conflict_of cs s.begin (tracked_of b.ops unmarked ++ s.marked) rs ≡ conflict cs t

@@ -9,7 +9,7 @@ use Rattle.slate_types.specs.declared.error.SlateDBError.{SlateDBError}
 use Rattle.slate_types.specs.Outside.{Objects, Act, object_at, part_of, no_reach, IsLater, OnlyReads, PutsNothing, Reach}
 use Rattle.slate_types.specs.World.{Kept, World, nothing, IsReadAct, AnswersObjects, AnswersWorld, IsCall, Made, HoldsWorld, Honest, Answered, Sees, IsSlip, Slips, Checks}
 use Rattle.slate_types.specs.Refusing.{Refusals, NoMore, NoMoreBut}
-use Rattle.slate_types.proofs.Lists.{AllByRecursion-append, AllByRecursion-front, AllByRecursion-behind}
+use Rattle.slate_types.proofs.Lists.{AllByRecursion_append, AllByRecursion_front, AllByRecursion_behind}
 
 -- ---- calls
 
@@ -27,8 +27,8 @@ call_both a b c r s f l = record {
   objects = l.objects ∙ f.objects;
   meaning = l.meaning ∙ f.meaning;
   adds = λ known is. l.adds (known ++ r) (f.adds known is) ∙ ap (λ (x : List Act). Some x) (append_assoc known r s);
-  each = AllByRecursion-append IsReadAct r s f.each l.each;
-  answered = λ os is. AllByRecursion-append (AnswersObjects os) r s (f.answered os is) (l.answered os (f.objects ∙ is));
+  each = AllByRecursion_append IsReadAct r s f.each l.each;
+  answered = λ os is. AllByRecursion_append (AnswersObjects os) r s (f.answered os is) (l.answered os (f.objects ∙ is));
 }
 
 -- ---- worlds
@@ -69,7 +69,7 @@ sees_first w a b c r s f l h = record { meaning = h.meaning; met = by h.met }
 
     by : Honest w a ⊎ Answered w a c → Honest w a ⊎ Answered w a b
     by (inl k) = inl k
-    by (inr k) = inr (record { known = k.known; reads = r; began = k.began; ended = f.adds k.known k.began; each = AllByRecursion-front (AnswersWorld w) r s both })
+    by (inr k) = inr (record { known = k.known; reads = r; began = k.began; ended = f.adds k.known k.began; each = AllByRecursion_front (AnswersWorld w) r s both })
 
 pub sees_last : (w : World) (a b c : Reach) (r s : List Act) → IsCall a b r → IsCall b c s → Sees w a c → Sees w b c
 sees_last w a b c r s f l h = record { meaning = h.meaning ∙ sym f.meaning; met = by h.met }
@@ -79,7 +79,7 @@ sees_last w a b c r s f l h = record { meaning = h.meaning ∙ sym f.meaning; me
 
     by : Honest w a ⊎ Answered w a c → Honest w b ⊎ Answered w b c
     by (inl k) = inl (record { os = k.os; tells = f.objects ∙ k.tells; holds = k.holds })
-    by (inr k) = inr (record { known = k.known ++ r; reads = s; began = f.adds k.known k.began; ended = l.adds (k.known ++ r) (f.adds k.known k.began); each = AllByRecursion-behind (AnswersWorld w) r s both })
+    by (inr k) = inr (record { known = k.known ++ r; reads = s; began = f.adds k.known k.began; ended = l.adds (k.known ++ r) (f.adds k.known k.began); each = AllByRecursion_behind (AnswersWorld w) r s both })
 
 -- sources in memory meet their world
 pub sees_nothing : Sees nothing no_reach no_reach
@@ -115,7 +115,7 @@ pub checks_both : (w : World) (a b c : Reach) (r s : List Act) → IsCall a b r 
 checks_both w a b c r s f l first then_last = λ known began parts. by known began parts (first known began parts)
   where
     last : (known : List Act) → a.acts ≡ Some known → w.meaning ≡ a.meaning → Sees w a b → Sees w b c ⊎ Slips w b c → Sees w a c ⊎ Slips w a c
-    last known began parts h (inl k) = inl (met w a c known (r ++ s) parts began (call_both a b c r s f l) (AllByRecursion-append (AnswersWorld w) r s (seen w a b r h f) (seen w b c s k l)))
+    last known began parts h (inl k) = inl (met w a c known (r ++ s) parts began (call_both a b c r s f l) (AllByRecursion_append (AnswersWorld w) r s (seen w a b r h f) (seen w b c s k l)))
     last known began parts h (inr k) =
         let here : k.reads ≡ s = more_same k.known k.reads s c.acts k.ended (l.adds k.known k.began) in
         inr (record { known = known; reads = r ++ s; began = began; ended = (call_both a b c r s f l).adds known began; act = k.act; among = Contains-append_right r s k.act (subst (λ (x : List Act). Contains x k.act) here k.among); slip = k.slip })

@@ -30,3 +30,16 @@ if_err_both (Err e) P Q R f h k = f e h k
 pub if_err_on : {X E : Type 0} (r : Result X E) (P R : E → Type 0) (Q : Type 0) → ((x : E) → P x → Q → R x) → IfErr r P → OnErr r Q → IfErr r R
 if_err_on (Ok x) P R Q f h k = tt
 if_err_on (Err e) P R Q f h k = f e h k
+
+-- another word of what an answer, or a refusal, leaves
+pub on_ok_weaker : {X E P Q : Type 0} (r : Result X E) → (P → Q) → OnOk r P → OnOk r Q
+on_ok_weaker (Ok x) f h = f h
+on_ok_weaker (Err e) f h = tt
+
+pub on_err_weaker : {X E P Q : Type 0} (r : Result X E) → (P → Q) → OnErr r P → OnErr r Q
+on_err_weaker (Ok x) f h = tt
+on_err_weaker (Err e) f h = f h
+
+pub on_ok_both : {T E P Q R : Type 0} (r : Result T E) → (P → Q → R) → OnOk r P → OnOk r Q → OnOk r R
+on_ok_both (Ok x) f p q = f p q
+on_ok_both (Err e) f p q = tt

@@ -10,6 +10,7 @@ use Rattle.slate_types.specs.Rows.{is_base, is_merge, operand, bytes_of, latest,
 use Rattle.slate_types.specs.Join.{join_value, picked, join, AreOf}
 use Rattle.slate_types.specs.Fold.{Combine, taken, onto, value_of_taken, greatest_seq, latest_creation, earliest_expiry, fold_taken, fold_rows, IsShort, AreShort, IsLawful, KeepsShort, merge_all}
 use Rattle.std.proofs.lemmas.Bool.{or_right}
+use Rattle.slate_types.proofs.Plain.{or_second}
 
 -- the row, with the rows after it joined on one by one
 abbrev pub joins : Combine → RowEntry → List RowEntry → RowEntry
@@ -86,94 +87,94 @@ earliest_assoc (Some x) (Some y) (Some z) = ap Some (int_min_assoc x y z)
 
 -- ---- the join
 
-join_value-short : (c : Combine) → IsLawful c → KeepsShort c → (u w : ValueDeletable) → IsShort (bytes_of u) → IsShort (bytes_of w) → IsShort (bytes_of (join_value c u w))
-join_value-short c law keeps u (Value w) hu h = h
-join_value-short c law keeps u Tombstone hu h = h
-join_value-short c law keeps (Value u) (Merge w) hu h = keeps (Some u) w hu h
-join_value-short c law keeps Tombstone (Merge w) hu h = keeps None w tt h
-join_value-short c law keeps (Merge u) (Merge w) hu h = keeps (Some u) w hu h
+join_value_short : (c : Combine) → IsLawful c → KeepsShort c → (u w : ValueDeletable) → IsShort (bytes_of u) → IsShort (bytes_of w) → IsShort (bytes_of (join_value c u w))
+join_value_short c law keeps u (Value w) hu h = h
+join_value_short c law keeps u Tombstone hu h = h
+join_value_short c law keeps (Value u) (Merge w) hu h = keeps (Some u) w hu h
+join_value_short c law keeps Tombstone (Merge w) hu h = keeps None w tt h
+join_value_short c law keeps (Merge u) (Merge w) hu h = keeps (Some u) w hu h
 
-joins-short : (c : Combine) → IsLawful c → KeepsShort c → (r : RowEntry) (rs : List RowEntry) → IsShort (operand r) → AreShort rs → IsShort (operand (joins c r rs))
-joins-short c law keeps r [] h hs = h
-joins-short c law keeps r (s ∷ rs) h hs = joins-short c law keeps (join c r s) rs (join_value-short c law keeps r.value s.value h hs.0) hs.1
+joins_short : (c : Combine) → IsLawful c → KeepsShort c → (r : RowEntry) (rs : List RowEntry) → IsShort (operand r) → AreShort rs → IsShort (operand (joins c r rs))
+joins_short c law keeps r [] h hs = h
+joins_short c law keeps r (s ∷ rs) h hs = joins_short c law keeps (join c r s) rs (join_value_short c law keeps r.value s.value h hs.0) hs.1
 
-join_value-assoc : (c : Combine) → IsLawful c → KeepsShort c → (u v w : ValueDeletable) → IsShort (bytes_of u) → IsShort (bytes_of v) → IsShort (bytes_of w) → join_value c (join_value c u v) w ≡ join_value c u (join_value c v w)
-join_value-assoc c law keeps u v (Value w) hu hv hw = refl
-join_value-assoc c law keeps u v Tombstone hu hv hw = refl
-join_value-assoc c law keeps u (Value v) (Merge w) hu hv hw = refl
-join_value-assoc c law keeps u Tombstone (Merge w) hu hv hw = refl
-join_value-assoc c law keeps (Value u) (Merge v) (Merge w) hu hv hw = ap Value (law.assoc u v w hu hv hw)
-join_value-assoc c law keeps Tombstone (Merge v) (Merge w) hu hv hw =
+join_value_assoc : (c : Combine) → IsLawful c → KeepsShort c → (u v w : ValueDeletable) → IsShort (bytes_of u) → IsShort (bytes_of v) → IsShort (bytes_of w) → join_value c (join_value c u v) w ≡ join_value c u (join_value c v w)
+join_value_assoc c law keeps u v (Value w) hu hv hw = refl
+join_value_assoc c law keeps u v Tombstone hu hv hw = refl
+join_value_assoc c law keeps u (Value v) (Merge w) hu hv hw = refl
+join_value_assoc c law keeps u Tombstone (Merge w) hu hv hw = refl
+join_value_assoc c law keeps (Value u) (Merge v) (Merge w) hu hv hw = ap Value (law.assoc u v w hu hv hw)
+join_value_assoc c law keeps Tombstone (Merge v) (Merge w) hu hv hw =
     ap (λ x. Value (c (Some x) w)) (law.first v hv) ∙ ap Value (sym (law.first (c (Some v) w) (keeps (Some v) w hv hw)))
-join_value-assoc c law keeps (Merge u) (Merge v) (Merge w) hu hv hw = ap Merge (law.assoc u v w hu hv hw)
+join_value_assoc c law keeps (Merge u) (Merge v) (Merge w) hu hv hw = ap Merge (law.assoc u v w hu hv hw)
 
-picked-assoc : {X : Type 0} (op : X → X → X) → ((x y z : X) → op (op x y) z ≡ op x (op y z)) → (c : Combine) (v w : ValueDeletable) (x y z : X) →
+picked_assoc : {X : Type 0} (op : X → X → X) → ((x y z : X) → op (op x y) z ≡ op x (op y z)) → (c : Combine) (v w : ValueDeletable) (x y z : X) →
     picked w (op (picked v (op x y) y) z) z ≡ picked (join_value c v w) (op x (picked w (op y z) z)) (picked w (op y z) z)
-picked-assoc op assoc c v (Value w) x y z = refl
-picked-assoc op assoc c v Tombstone x y z = refl
-picked-assoc op assoc c (Value v) (Merge w) x y z = refl
-picked-assoc op assoc c Tombstone (Merge w) x y z = refl
-picked-assoc op assoc c (Merge v) (Merge w) x y z = assoc x y z
+picked_assoc op assoc c v (Value w) x y z = refl
+picked_assoc op assoc c v Tombstone x y z = refl
+picked_assoc op assoc c (Value v) (Merge w) x y z = refl
+picked_assoc op assoc c Tombstone (Merge w) x y z = refl
+picked_assoc op assoc c (Merge v) (Merge w) x y z = assoc x y z
 
-join-assoc : (c : Combine) → IsLawful c → KeepsShort c → (a b d : RowEntry) → IsShort (operand a) → IsShort (operand b) → IsShort (operand d) → join c (join c a b) d ≡ join c a (join c b d)
-join-assoc c law keeps a b d ha hb hd = λ i. record {
-  key = picked-assoc (λ x y. x) (λ x y z. refl) c b.value d.value a.key b.key d.key i;
-  value = join_value-assoc c law keeps a.value b.value d.value ha hb hd i;
-  seq = picked-assoc max max_assoc c b.value d.value a.seq b.seq d.seq i;
-  create_ts = picked-assoc latest latest_assoc c b.value d.value a.create_ts b.create_ts d.create_ts i;
-  expire_ts = picked-assoc earliest earliest_assoc c b.value d.value a.expire_ts b.expire_ts d.expire_ts i;
+join_assoc : (c : Combine) → IsLawful c → KeepsShort c → (a b d : RowEntry) → IsShort (operand a) → IsShort (operand b) → IsShort (operand d) → join c (join c a b) d ≡ join c a (join c b d)
+join_assoc c law keeps a b d ha hb hd = λ i. record {
+  key = picked_assoc (λ x y. x) (λ x y z. refl) c b.value d.value a.key b.key d.key i;
+  value = join_value_assoc c law keeps a.value b.value d.value ha hb hd i;
+  seq = picked_assoc max max_assoc c b.value d.value a.seq b.seq d.seq i;
+  create_ts = picked_assoc latest latest_assoc c b.value d.value a.create_ts b.create_ts d.create_ts i;
+  expire_ts = picked_assoc earliest earliest_assoc c b.value d.value a.expire_ts b.expire_ts d.expire_ts i;
 }
 
-joins-append : (c : Combine) (r : RowEntry) (xs ys : List RowEntry) → joins c r (xs ++ ys) ≡ joins c (joins c r xs) ys
-joins-append c r [] ys = refl
-joins-append c r (x ∷ xs) ys = joins-append c (join c r x) xs ys
+joins_append : (c : Combine) (r : RowEntry) (xs ys : List RowEntry) → joins c r (xs ++ ys) ≡ joins c (joins c r xs) ys
+joins_append c r [] ys = refl
+joins_append c r (x ∷ xs) ys = joins_append c (join c r x) xs ys
 
-joins-join : (c : Combine) → IsLawful c → KeepsShort c → (a b : RowEntry) (ys : List RowEntry) → IsShort (operand a) → IsShort (operand b) → AreShort ys → joins c (join c a b) ys ≡ join c a (joins c b ys)
-joins-join c law keeps a b [] ha hb hs = refl
-joins-join c law keeps a b (y ∷ ys) ha hb hs =
-    ap (λ r. joins c r ys) (join-assoc c law keeps a b y ha hb hs.0)
-    ∙ joins-join c law keeps a (join c b y) ys ha (join_value-short c law keeps b.value y.value hb hs.0) hs.1
+joins_join : (c : Combine) → IsLawful c → KeepsShort c → (a b : RowEntry) (ys : List RowEntry) → IsShort (operand a) → IsShort (operand b) → AreShort ys → joins c (join c a b) ys ≡ join c a (joins c b ys)
+joins_join c law keeps a b [] ha hb hs = refl
+joins_join c law keeps a b (y ∷ ys) ha hb hs =
+    ap (λ r. joins c r ys) (join_assoc c law keeps a b y ha hb hs.0)
+    ∙ joins_join c law keeps a (join c b y) ys ha (join_value_short c law keeps b.value y.value hb hs.0) hs.1
 
 -- ---- the fold is the joins
 
 -- a value that is no operand hides what stood before it
-picked-base : {X : Type 0} (v : ValueDeletable) → not (is_merge v) ≡ true → (x y : X) → picked v x y ≡ y
-picked-base (Value v) h x y = refl
-picked-base Tombstone h x y = refl
-picked-base (Merge v) h x y = cc
+picked_base : {X : Type 0} (v : ValueDeletable) → not (is_merge v) ≡ true → (x y : X) → picked v x y ≡ y
+picked_base (Value v) h x y = refl
+picked_base Tombstone h x y = refl
+picked_base (Merge v) h x y = cc
 
-join_value-base : (c : Combine) (u v : ValueDeletable) → not (is_merge v) ≡ true → join_value c u v ≡ v
-join_value-base c u (Value v) h = refl
-join_value-base c u Tombstone h = refl
-join_value-base c u (Merge v) h = cc
+join_value_base : (c : Combine) (u v : ValueDeletable) → not (is_merge v) ≡ true → join_value c u v ≡ v
+join_value_base c u (Value v) h = refl
+join_value_base c u Tombstone h = refl
+join_value_base c u (Merge v) h = cc
 
-join-base : (c : Combine) (a b : RowEntry) → is_base b ≡ true → join c a b ≡ b
-join-base c a b h = λ i. record {
-  key = picked-base b.value h a.key b.key i;
-  value = join_value-base c a.value b.value h i;
-  seq = picked-base b.value h (max a.seq b.seq) b.seq i;
-  create_ts = picked-base b.value h (latest a.create_ts b.create_ts) b.create_ts i;
-  expire_ts = picked-base b.value h (earliest a.expire_ts b.expire_ts) b.expire_ts i;
+join_base : (c : Combine) (a b : RowEntry) → is_base b ≡ true → join c a b ≡ b
+join_base c a b h = λ i. record {
+  key = picked_base b.value h a.key b.key i;
+  value = join_value_base c a.value b.value h i;
+  seq = picked_base b.value h (max a.seq b.seq) b.seq i;
+  create_ts = picked_base b.value h (latest a.create_ts b.create_ts) b.create_ts i;
+  expire_ts = picked_base b.value h (earliest a.expire_ts b.expire_ts) b.expire_ts i;
 }
 
 -- and an operand takes on what stood before it
-picked-merge : {X : Type 0} (v : ValueDeletable) → is_merge v ≡ true → (x y : X) → picked v x y ≡ x
-picked-merge (Value v) h x y = cc
-picked-merge Tombstone h x y = cc
-picked-merge (Merge v) h x y = refl
+picked_merge : {X : Type 0} (v : ValueDeletable) → is_merge v ≡ true → (x y : X) → picked v x y ≡ x
+picked_merge (Value v) h x y = cc
+picked_merge Tombstone h x y = cc
+picked_merge (Merge v) h x y = refl
 
 -- the value of taken rows, from one row on, is that from the join of it and the next
-value-step : (c : Combine) → IsLawful c → KeepsShort c → (u w : ValueDeletable) (s : RowEntry) (rs : List RowEntry) → s.value ≡ w → is_merge w ≡ true → IsShort (bytes_of u) → IsShort (bytes_of w) →
+value_step : (c : Combine) → IsLawful c → KeepsShort c → (u w : ValueDeletable) (s : RowEntry) (rs : List RowEntry) → s.value ≡ w → is_merge w ≡ true → IsShort (bytes_of u) → IsShort (bytes_of w) →
     value_of_taken c (join_value c u w) rs ≡ value_of_taken c u (s ∷ rs)
-value-step c law keeps u (Value w) s rs e h hu hw = cc
-value-step c law keeps u Tombstone s rs e h hu hw = cc
-value-step c law keeps (Value u) (Merge w) s [] e h hu hw = sym (ap (λ x. Value (c (Some u) (bytes_of x))) e)
-value-step c law keeps (Value u) (Merge w) s (r ∷ rs) e h hu hw = sym (ap (λ x. Value (onto c (c (Some u) (bytes_of x)) (r ∷ rs))) e)
-value-step c law keeps Tombstone (Merge w) s [] e h hu hw = sym (ap (λ x. Value (c None (bytes_of x))) e)
-value-step c law keeps Tombstone (Merge w) s (r ∷ rs) e h hu hw = sym (ap (λ x. Value (onto c (c None (bytes_of x)) (r ∷ rs))) e)
-value-step c law keeps (Merge u) (Merge w) s [] e h hu hw =
+value_step c law keeps u (Value w) s rs e h hu hw = cc
+value_step c law keeps u Tombstone s rs e h hu hw = cc
+value_step c law keeps (Value u) (Merge w) s [] e h hu hw = sym (ap (λ x. Value (c (Some u) (bytes_of x))) e)
+value_step c law keeps (Value u) (Merge w) s (r ∷ rs) e h hu hw = sym (ap (λ x. Value (onto c (c (Some u) (bytes_of x)) (r ∷ rs))) e)
+value_step c law keeps Tombstone (Merge w) s [] e h hu hw = sym (ap (λ x. Value (c None (bytes_of x))) e)
+value_step c law keeps Tombstone (Merge w) s (r ∷ rs) e h hu hw = sym (ap (λ x. Value (onto c (c None (bytes_of x)) (r ∷ rs))) e)
+value_step c law keeps (Merge u) (Merge w) s [] e h hu hw =
     sym (ap (λ x. Merge (c (Some x) (operand s))) (law.first u hu) ∙ ap (λ x. Merge (c (Some u) (bytes_of x))) e)
-value-step c law keeps (Merge u) (Merge w) s (r ∷ rs) e h hu hw =
+value_step c law keeps (Merge u) (Merge w) s (r ∷ rs) e h hu hw =
     ap (λ x. Merge (onto c x (r ∷ rs))) (law.first (c (Some u) w) (keeps (Some u) w hu hw))
     ∙ sym (ap (λ x. Merge (onto c (c (Some x) (operand s)) (r ∷ rs))) (law.first u hu) ∙ ap (λ x. Merge (onto c (c (Some u) (bytes_of x)) (r ∷ rs))) e)
 
@@ -187,95 +188,91 @@ fold_of_taken c r rs = record {
   expire_ts = earliest_expiry r.expire_ts rs;
 }
 
-or-false-first : (a b : Bool) → (a || b) ≡ false → a ≡ false
-or-false-first true b h = h
-or-false-first false b h = refl
+or_false_first : (a b : Bool) → (a || b) ≡ false → a ≡ false
+or_false_first true b h = h
+or_false_first false b h = refl
 
-or-false-second : (a b : Bool) → (a || b) ≡ false → b ≡ false
-or-false-second true b h = cc
-or-false-second false b h = h
+or_false_second : (a b : Bool) → (a || b) ≡ false → b ≡ false
+or_false_second true b h = cc
+or_false_second false b h = h
 
-not-false : (a : Bool) → not a ≡ false → a ≡ true
-not-false true h = refl
-not-false false h = sym h
+not_false : (a : Bool) → not a ≡ false → a ≡ true
+not_false true h = refl
+not_false false h = sym h
 
-joins-operands : (c : Combine) → IsLawful c → KeepsShort c → (r : RowEntry) (rs : List RowEntry) → list_any is_base rs ≡ false → IsShort (operand r) → AreShort rs → joins c r rs ≡ fold_of_taken c r rs
+joins_operands : (c : Combine) → IsLawful c → KeepsShort c → (r : RowEntry) (rs : List RowEntry) → list_any is_base rs ≡ false → IsShort (operand r) → AreShort rs → joins c r rs ≡ fold_of_taken c r rs
 unfolding fold_of_taken
-joins-operands c law keeps r [] none h hs = refl
-joins-operands c law keeps r (s ∷ rs) none h hs =
-    joins-operands c law keeps (join c r s) rs (or-false-second (is_base s) (list_any is_base rs) none) (join_value-short c law keeps r.value s.value h hs.0) hs.1
+joins_operands c law keeps r [] none h hs = refl
+joins_operands c law keeps r (s ∷ rs) none h hs =
+    joins_operands c law keeps (join c r s) rs (or_false_second (is_base s) (list_any is_base rs) none) (join_value_short c law keeps r.value s.value h hs.0) hs.1
     ∙ λ i. record {
-      key = picked-merge s.value merge r.key s.key i;
-      value = value-step c law keeps r.value s.value s rs refl merge h hs.0 i;
-      seq = greatest_seq (picked-merge s.value merge (max r.seq s.seq) s.seq i) rs;
-      create_ts = latest_creation (picked-merge s.value merge (latest r.create_ts s.create_ts) s.create_ts i) rs;
-      expire_ts = earliest_expiry (picked-merge s.value merge (earliest r.expire_ts s.expire_ts) s.expire_ts i) rs;
+      key = picked_merge s.value merge r.key s.key i;
+      value = value_step c law keeps r.value s.value s rs refl merge h hs.0 i;
+      seq = greatest_seq (picked_merge s.value merge (max r.seq s.seq) s.seq i) rs;
+      create_ts = latest_creation (picked_merge s.value merge (latest r.create_ts s.create_ts) s.create_ts i) rs;
+      expire_ts = earliest_expiry (picked_merge s.value merge (earliest r.expire_ts s.expire_ts) s.expire_ts i) rs;
     }
   where
     merge : is_merge s.value ≡ true
-    merge = not-false (is_merge s.value) (or-false-first (is_base s) (list_any is_base rs) none)
-
-or-true : (a b : Bool) → (a || b) ≡ true → a ≡ false → b ≡ true
-or-true true b h e = cc
-or-true false b h e = h
+    merge = not_false (is_merge s.value) (or_false_first (is_base s) (list_any is_base rs) none)
 
 -- behind a row that is no operand, what stood first makes no difference
-joins-hidden : (c : Combine) (a b : RowEntry) (rs : List RowEntry) → list_any is_base rs ≡ true → joins c a rs ≡ joins c b rs
-joins-hidden c a b [] h = cc
-joins-hidden c a b (s ∷ rs) h = by (is_base s) refl (joins-hidden c (join c a s) (join c b s) rs)
+joins_hidden : (c : Combine) (a b : RowEntry) (rs : List RowEntry) → list_any is_base rs ≡ true → joins c a rs ≡ joins c b rs
+joins_hidden c a b [] h = cc
+joins_hidden c a b (s ∷ rs) h = by (is_base s) refl (joins_hidden c (join c a s) (join c b s) rs)
   where
     by : (t : Bool) → is_base s ≡ t → (list_any is_base rs ≡ true → joins c (join c a s) rs ≡ joins c (join c b s) rs) → joins c (join c a s) rs ≡ joins c (join c b s) rs
-    by true e later = ap (λ r. joins c r rs) (join-base c a s e ∙ sym (join-base c b s e))
-    by false e later = later (or-true (is_base s) (list_any is_base rs) h e)
+    by true e later = ap (λ r. joins c r rs) (join_base c a s e ∙ sym (join_base c b s e))
+    by false e later = later (or_second (is_base s) (list_any is_base rs) h e)
 
 -- the fold of one row and more
-pub fold-joins : (c : Combine) → IsLawful c → KeepsShort c → (r : RowEntry) (rs : List RowEntry) → IsShort (operand r) → AreShort rs → fold_rows c (r ∷ rs) ≡ Some (joins c r rs)
-fold-joins c law keeps r [] h hs = refl
-fold-joins c law keeps r (s ∷ rs) h hs = by (list_any is_base (s ∷ rs)) refl (fold-joins c law keeps s rs hs.0 hs.1)
+pub fold_joins : (c : Combine) → IsLawful c → KeepsShort c → (r : RowEntry) (rs : List RowEntry) → IsShort (operand r) → AreShort rs → fold_rows c (r ∷ rs) ≡ Some (joins c r rs)
+fold_joins c law keeps r [] h hs = refl
+fold_joins c law keeps r (s ∷ rs) h hs = by (list_any is_base (s ∷ rs)) refl (fold_joins c law keeps s rs hs.0 hs.1)
   where
     hides : (t : Bool) → is_base s ≡ t → list_any is_base (s ∷ rs) ≡ true → joins c s rs ≡ joins c (join c r s) rs
-    hides true e any = ap (λ x. joins c x rs) (sym (join-base c r s e))
-    hides false e any = joins-hidden c s (join c r s) rs (or-true (is_base s) (list_any is_base rs) any e)
+    hides true e any = ap (λ x. joins c x rs) (sym (join_base c r s e))
+    hides false e any = joins_hidden c s (join c r s) rs (or_second (is_base s) (list_any is_base rs) any e)
 
     by : (t : Bool) → list_any is_base (s ∷ rs) ≡ t → fold_rows c (s ∷ rs) ≡ Some (joins c s rs) → fold_taken c (cond t (taken (s ∷ rs)) (r ∷ s ∷ rs)) ≡ Some (joins c r (s ∷ rs))
     by true e later = later ∙ ap Some (hides (is_base s) refl e)
-    by false e later = ap Some (sym (unfold fold_of_taken in joins-operands c law keeps r (s ∷ rs) e h hs))
+    by false e later = ap Some (sym (unfold fold_of_taken in joins_operands c law keeps r (s ∷ rs) e h hs))
 
 -- ---- the laws
 
-AreShort-append : (xs ys : List RowEntry) → AreShort (xs ++ ys) → AreShort xs × AreShort ys
-AreShort-append [] ys h = (tt, h)
-AreShort-append (x ∷ xs) ys h = ((h.0, (AreShort-append xs ys h.1).0), (AreShort-append xs ys h.1).1)
+AreShort_append : (xs ys : List RowEntry) → AreShort (xs ++ ys) → AreShort xs × AreShort ys
+AreShort_append [] ys h = (tt, h)
+AreShort_append (x ∷ xs) ys h = ((h.0, (AreShort_append xs ys h.1).0), (AreShort_append xs ys h.1).1)
 
-AreShort-both : (xs ys : List RowEntry) → AreShort xs → AreShort ys → AreShort (xs ++ ys)
-AreShort-both [] ys h k = k
-AreShort-both (x ∷ xs) ys h k = (h.0, AreShort-both xs ys h.1 k)
+AreShort_both : (xs ys : List RowEntry) → AreShort xs → AreShort ys → AreShort (xs ++ ys)
+AreShort_both [] ys h k = k
+AreShort_both (x ∷ xs) ys h k = (h.0, AreShort_both xs ys h.1 k)
 
 -- Rows in the middle may be replaced by their fold.
-pub fold-middle : (c : Combine) → IsLawful c → KeepsShort c → (older middle newer : List RowEntry) → AreShort older → AreShort middle → AreShort newer →
+pub fold_middle : (c : Combine) → IsLawful c → KeepsShort c → (older middle newer : List RowEntry) → AreShort older → AreShort middle → AreShort newer →
     fold_rows c (older ++ (middle ++ newer)) ≡ fold_rows c (older ++ (option_to_list (fold_rows c middle) ++ newer))
-fold-middle c law keeps older [] newer ho hm hn = refl
-fold-middle c law keeps older (m ∷ ms) newer ho hm hn =
-    by older ho ∙ ap (λ o. fold_rows c (older ++ (option_to_list o ++ newer))) (sym (fold-joins c law keeps m ms hm.0 hm.1))
+fold_middle c law keeps older [] newer ho hm hn = refl
+fold_middle c law keeps older (m ∷ ms) newer ho hm hn =
+    by older ho ∙ ap (λ o. fold_rows c (older ++ (option_to_list o ++ newer))) (sym (fold_joins c law keeps m ms hm.0 hm.1))
   where
     one : RowEntry
     one = joins c m ms
 
     one_short : IsShort (operand one)
-    one_short = joins-short c law keeps m ms hm.0 hm.1
+    one_short = joins_short c law keeps m ms hm.0 hm.1
 
     rest_short : AreShort (ms ++ newer)
-    rest_short = AreShort-both ms newer hm.1 hn
+    rest_short = AreShort_both ms newer hm.1 hn
 
     by : (os : List RowEntry) → AreShort os → fold_rows c (os ++ (m ∷ (ms ++ newer))) ≡ fold_rows c (os ++ (one ∷ newer))
-    by [] h = fold-joins c law keeps m (ms ++ newer) hm.0 rest_short ∙ ap Some (joins-append c m ms newer) ∙ sym (fold-joins c law keeps one newer one_short hn)
+    by [] h = fold_joins c law keeps m (ms ++ newer) hm.0 rest_short ∙ ap Some (joins_append c m ms newer) ∙ sym (fold_joins c law keeps one newer one_short hn)
     by (o ∷ os) h =
-        fold-joins c law keeps o (os ++ (m ∷ (ms ++ newer))) h.0 (AreShort-both os (m ∷ (ms ++ newer)) h.1 (hm.0, rest_short))
-        ∙ ap Some (joins-append c o os (m ∷ (ms ++ newer))
-        ∙ joins-append c (join c (joins c o os) m) ms newer
-        ∙ ap (λ r. joins c r newer) (joins-join c law keeps (joins c o os) m ms (joins-short c law keeps o os h.0 h.1) hm.0 hm.1)
-        ∙ sym (joins-append c o os (one ∷ newer)))
-        ∙ sym (fold-joins c law keeps o (os ++ (one ∷ newer)) h.0 (AreShort-both os (one ∷ newer) h.1 (one_short, hn)))
+        fold_joins c law keeps o (os ++ (m ∷ (ms ++ newer))) h.0 (AreShort_both os (m ∷ (ms ++ newer)) h.1 (hm.0, rest_short))
+        ∙ ap Some (joins_append c o os (m ∷ (ms ++ newer))
+        ∙ joins_append c (join c (joins c o os) m) ms newer
+        ∙ ap (λ r. joins c r newer) (joins_join c law keeps (joins c o os) m ms (joins_short c law keeps o os h.0 h.1) hm.0 hm.1)
+        ∙ sym (joins_append c o os (one ∷ newer)))
+        ∙ sym (fold_joins c law keeps o (os ++ (one ∷ newer)) h.0 (AreShort_both os (one ∷ newer) h.1 (one_short, hn)))
 
 -- ---- batches of operands
 
@@ -283,80 +280,80 @@ merge_from : Combine → List ℕ → List (List ℕ) → List ℕ
 merge_from c v [] = v
 merge_from c v (w ∷ ws) = merge_from c (c (Some v) w) ws
 
-merge_all-some : (c : Combine) (v : List ℕ) (ws : List (List ℕ)) → merge_all c (Some v) ws ≡ Some (merge_from c v ws)
+merge_all_some : (c : Combine) (v : List ℕ) (ws : List (List ℕ)) → merge_all c (Some v) ws ≡ Some (merge_from c v ws)
 unfolding merge_from
-merge_all-some c v [] = refl
-merge_all-some c v (w ∷ ws) = merge_all-some c (c (Some v) w) ws
+merge_all_some c v [] = refl
+merge_all_some c v (w ∷ ws) = merge_all_some c (c (Some v) w) ws
 
-merge_from-short : (c : Combine) → IsLawful c → KeepsShort c → (v : List ℕ) (ws : List (List ℕ)) → IsShort v → AllByRecursion IsShort ws → IsShort (merge_from c v ws)
+merge_from_short : (c : Combine) → IsLawful c → KeepsShort c → (v : List ℕ) (ws : List (List ℕ)) → IsShort v → AllByRecursion IsShort ws → IsShort (merge_from c v ws)
 unfolding merge_from
-merge_from-short c law keeps v [] h hs = h
-merge_from-short c law keeps v (w ∷ ws) h hs = merge_from-short c law keeps (c (Some v) w) ws (keeps (Some v) w h hs.0) hs.1
+merge_from_short c law keeps v [] h hs = h
+merge_from_short c law keeps v (w ∷ ws) h hs = merge_from_short c law keeps (c (Some v) w) ws (keeps (Some v) w h hs.0) hs.1
 
-merge_from-assoc : (c : Combine) → IsLawful c → KeepsShort c → (u v : List ℕ) (ws : List (List ℕ)) → IsShort u → IsShort v → AllByRecursion IsShort ws → merge_from c (c (Some u) v) ws ≡ c (Some u) (merge_from c v ws)
+merge_from_assoc : (c : Combine) → IsLawful c → KeepsShort c → (u v : List ℕ) (ws : List (List ℕ)) → IsShort u → IsShort v → AllByRecursion IsShort ws → merge_from c (c (Some u) v) ws ≡ c (Some u) (merge_from c v ws)
 unfolding merge_from
-merge_from-assoc c law keeps u v [] hu hv hs = refl
-merge_from-assoc c law keeps u v (w ∷ ws) hu hv hs =
-    ap (λ x. merge_from c x ws) (law.assoc u v w hu hv hs.0) ∙ merge_from-assoc c law keeps u (c (Some v) w) ws hu (keeps (Some v) w hv hs.0) hs.1
+merge_from_assoc c law keeps u v [] hu hv hs = refl
+merge_from_assoc c law keeps u v (w ∷ ws) hu hv hs =
+    ap (λ x. merge_from c x ws) (law.assoc u v w hu hv hs.0) ∙ merge_from_assoc c law keeps u (c (Some v) w) ws hu (keeps (Some v) w hv hs.0) hs.1
 
-merge_all-append : (c : Combine) (e : Option (List ℕ)) (xs ys : List (List ℕ)) → merge_all c e (xs ++ ys) ≡ merge_all c (merge_all c e xs) ys
-merge_all-append c e [] ys = refl
-merge_all-append c e (x ∷ xs) ys = merge_all-append c (Some (c e x)) xs ys
+merge_all_append : (c : Combine) (e : Option (List ℕ)) (xs ys : List (List ℕ)) → merge_all c e (xs ++ ys) ≡ merge_all c (merge_all c e xs) ys
+merge_all_append c e [] ys = refl
+merge_all_append c e (x ∷ xs) ys = merge_all_append c (Some (c e x)) xs ys
 
 -- a value, or none, and a whole piece
 merge_piece : (c : Combine) → IsLawful c → KeepsShort c → (e : Option (List ℕ)) (v : List ℕ) (vs : List (List ℕ)) → IfSome e IsShort → IsShort v → AllByRecursion IsShort vs →
     merge_all c e (v ∷ vs) ≡ Some (c e (merge_from c v vs))
 merge_piece c law keeps None v vs he hv hs =
-    merge_all-some c (c None v) vs ∙ ap (λ x. Some (merge_from c x vs)) (law.first v hv) ∙ ap Some (sym (law.first (merge_from c v vs) (merge_from-short c law keeps v vs hv hs)))
-merge_piece c law keeps (Some u) v vs he hv hs = merge_all-some c (c (Some u) v) vs ∙ ap Some (merge_from-assoc c law keeps u v vs he hv hs)
+    merge_all_some c (c None v) vs ∙ ap (λ x. Some (merge_from c x vs)) (law.first v hv) ∙ ap Some (sym (law.first (merge_from c v vs) (merge_from_short c law keeps v vs hv hs)))
+merge_piece c law keeps (Some u) v vs he hv hs = merge_all_some c (c (Some u) v) vs ∙ ap Some (merge_from_assoc c law keeps u v vs he hv hs)
 
 -- Operands may be combined in pieces first, however they are cut.
-pub merge-pieces : (c : Combine) → IsLawful c → KeepsShort c → (e : Option (List ℕ)) (pieces : List (List (List ℕ))) → IfSome e IsShort → AllByRecursion (λ p. AllByRecursion IsShort p) pieces →
+pub merge_pieces : (c : Combine) → IsLawful c → KeepsShort c → (e : Option (List ℕ)) (pieces : List (List (List ℕ))) → IfSome e IsShort → AllByRecursion (λ p. AllByRecursion IsShort p) pieces →
     merge_all c e (flat_map (λ p. p) pieces) ≡ merge_all c e (filter_map (λ p. merge_all c None p) pieces)
-merge-pieces c law keeps e [] he hs = refl
-merge-pieces c law keeps e ([] ∷ ps) he hs = merge-pieces c law keeps e ps he hs.1
-merge-pieces c law keeps e ((v ∷ vs) ∷ ps) he hs =
-    merge_all-append c e (v ∷ vs) (flat_map (λ p. p) ps)
+merge_pieces c law keeps e [] he hs = refl
+merge_pieces c law keeps e ([] ∷ ps) he hs = merge_pieces c law keeps e ps he hs.1
+merge_pieces c law keeps e ((v ∷ vs) ∷ ps) he hs =
+    merge_all_append c e (v ∷ vs) (flat_map (λ p. p) ps)
     ∙ ap (λ x. merge_all c x (flat_map (λ p. p) ps)) (merge_piece c law keeps e v vs he hs.0.0 hs.0.1)
-    ∙ merge-pieces c law keeps (Some (c e one)) ps (keeps e one he one_short) hs.1
+    ∙ merge_pieces c law keeps (Some (c e one)) ps (keeps e one he one_short) hs.1
     ∙ sym (ap (λ o. merge_all c e (cons_option o (filter_map (λ p. merge_all c None p) ps))) piece)
   where
     one : List ℕ
     one = merge_from c v vs
 
     one_short : IsShort one
-    one_short = merge_from-short c law keeps v vs hs.0.0 hs.0.1
+    one_short = merge_from_short c law keeps v vs hs.0.0 hs.0.1
 
     piece : merge_all c None (v ∷ vs) ≡ Some one
     piece = merge_piece c law keeps None v vs tt hs.0.0 hs.0.1 ∙ ap Some (law.first one one_short)
 
 -- ---- a row that is no operand
 
-any-base : (os : List RowEntry) (r : RowEntry) (rs : List RowEntry) → is_base r ≡ true → list_any is_base (os ++ (r ∷ rs)) ≡ true
-any-base [] r rs h = ap (λ b. b || list_any is_base rs) h
-any-base (o ∷ os) r rs h = or_right (is_base o) (list_any is_base (os ++ (r ∷ rs))) (any-base os r rs h)
+any_base : (os : List RowEntry) (r : RowEntry) (rs : List RowEntry) → is_base r ≡ true → list_any is_base (os ++ (r ∷ rs)) ≡ true
+any_base [] r rs h = ap (λ b. b || list_any is_base rs) h
+any_base (o ∷ os) r rs h = or_right (is_base o) (list_any is_base (os ++ (r ∷ rs))) (any_base os r rs h)
 
-pub hides-older : (c : Combine) (older newer : List RowEntry) (r : RowEntry) → is_base r ≡ true → fold_rows c (older ++ (r ∷ newer)) ≡ fold_rows c (r ∷ newer)
-hides-older c [] newer r h = refl
-hides-older c (o ∷ os) newer r h =
-    ap (λ b. fold_taken c (cond b (taken (os ++ (r ∷ newer))) (o ∷ os ++ (r ∷ newer)))) (any-base os r newer h) ∙ hides-older c os newer r h
+pub hides_older : (c : Combine) (older newer : List RowEntry) (r : RowEntry) → is_base r ≡ true → fold_rows c (older ++ (r ∷ newer)) ≡ fold_rows c (r ∷ newer)
+hides_older c [] newer r h = refl
+hides_older c (o ∷ os) newer r h =
+    ap (λ b. fold_taken c (cond b (taken (os ++ (r ∷ newer))) (o ∷ os ++ (r ∷ newer)))) (any_base os r newer h) ∙ hides_older c os newer r h
 
 -- ---- one row more
 
-AreOf-short : (k : List ℕ) (rows : List RowEntry) → AreOf k rows → AreShort rows
-AreOf-short k [] h = tt
-AreOf-short k (r ∷ rs) h = (h.0.1, AreOf-short k rs h.1)
+AreOf_short : (k : List ℕ) (rows : List RowEntry) → AreOf k rows → AreShort rows
+AreOf_short k [] h = tt
+AreOf_short k (r ∷ rs) h = (h.0.1, AreOf_short k rs h.1)
 
 -- The join of the first two rows stands for both.
-pub fold-join : (k : List ℕ) (c : Combine) → IsLawful c → KeepsShort c → (a b : RowEntry) (rs : List RowEntry) → AreOf k (a ∷ b ∷ rs) → fold_rows c (join c a b ∷ rs) ≡ fold_rows c (a ∷ b ∷ rs)
-fold-join k c law keeps a b rs h =
-    fold-joins c law keeps (join c a b) rs (join_value-short c law keeps a.value b.value h.0.1 h.1.0.1) (AreOf-short k rs h.1.1)
-    ∙ sym (fold-joins c law keeps a (b ∷ rs) h.0.1 (h.1.0.1, AreOf-short k rs h.1.1))
+pub fold_join : (k : List ℕ) (c : Combine) → IsLawful c → KeepsShort c → (a b : RowEntry) (rs : List RowEntry) → AreOf k (a ∷ b ∷ rs) → fold_rows c (join c a b ∷ rs) ≡ fold_rows c (a ∷ b ∷ rs)
+fold_join k c law keeps a b rs h =
+    fold_joins c law keeps (join c a b) rs (join_value_short c law keeps a.value b.value h.0.1 h.1.0.1) (AreOf_short k rs h.1.1)
+    ∙ sym (fold_joins c law keeps a (b ∷ rs) h.0.1 (h.1.0.1, AreOf_short k rs h.1.1))
 
-picked-same : {X : Type 0} (v : ValueDeletable) (x y z : X) → x ≡ z → y ≡ z → picked v x y ≡ z
-picked-same (Value v) x y z h k = k
-picked-same Tombstone x y z h k = k
-picked-same (Merge v) x y z h k = h
+picked_same : {X : Type 0} (v : ValueDeletable) (x y z : X) → x ≡ z → y ≡ z → picked v x y ≡ z
+picked_same (Value v) x y z h k = k
+picked_same Tombstone x y z h k = k
+picked_same (Merge v) x y z h k = h
 
-pub AreOf-join : (k : List ℕ) (c : Combine) → IsLawful c → KeepsShort c → (a b : RowEntry) (rs : List RowEntry) → AreOf k (a ∷ b ∷ rs) → AreOf k (join c a b ∷ rs)
-AreOf-join k c law keeps a b rs h = ((picked-same b.value a.key b.key k h.0.0 h.1.0.0, join_value-short c law keeps a.value b.value h.0.1 h.1.0.1), h.1.1)
+pub AreOf_join : (k : List ℕ) (c : Combine) → IsLawful c → KeepsShort c → (a b : RowEntry) (rs : List RowEntry) → AreOf k (a ∷ b ∷ rs) → AreOf k (join c a b ∷ rs)
+AreOf_join k c law keeps a b rs h = ((picked_same b.value a.key b.key k h.0.0 h.1.0.0, join_value_short c law keeps a.value b.value h.0.1 h.1.0.1), h.1.1)

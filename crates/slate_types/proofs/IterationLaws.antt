@@ -4,13 +4,13 @@ use Rattle.slate_types.specs.declared.types.RowEntry.{RowEntry}
 use Rattle.slate_types.specs.declared.iter.IterationOrder.{IterationOrder}
 use Rattle.slate_types.specs.declared.iter.IterationOrder.TheVariants.{Ascending, Descending}
 use Rattle.slate_types.specs.Iteration.{comes_before, drop_before, begins_before, NoneBefore, IsInOrder, Steps, TakesRow}
-use Rattle.slate_types.proofs.KeyOrder.{not-lt-trans}
+use Rattle.slate_types.proofs.KeyOrder.{not_lt_trans}
 use Rattle.std.proofs.lemmas.Bool.{cases_Bool}
 
 -- what does not come before a key does not come before an earlier one
 pub not_before : (order : IterationOrder) (a b c : List ℕ) → comes_before order b a ≡ false → comes_before order c b ≡ false → comes_before order c a ≡ false
-not_before Ascending a b c p q = not-lt-trans c b a q p
-not_before Descending a b c p q = not-lt-trans a b c p q
+not_before Ascending a b c p q = not_lt_trans c b a q p
+not_before Descending a b c p q = not_lt_trans a b c p q
 
 pub none_before_earlier : (order : IterationOrder) (a b : List ℕ) (rows : List RowEntry) → comes_before order b a ≡ false → NoneBefore order b rows → NoneBefore order a rows
 none_before_earlier order a b [] p h = tt

@@ -2,7 +2,7 @@
 use Rattle.std.proofs.Common.{◌≡◌, List, [], ◌++◌, Option, Some, refl, sym, ap, ◌∙◌, append-nil, append_assoc, arith}
 use Rattle.slate_types.specs.Outside.{Act, Counts, IsFault, IsLater, Reach, PutsNothing, AddsReads, OnlyReads, Puts}
 use Rattle.slate_types.specs.declared.error.SlateDBError.{SlateDBError}
-use Rattle.slate_types.proofs.Lists.{AllByRecursion-append}
+use Rattle.slate_types.proofs.Lists.{AllByRecursion_append}
 use Rattle.slate_types.proofs.OutsideLaws.{later_trans, counted_earlier}
 
 pub adds_none : (acts : Option (List Act)) → AddsReads acts acts
@@ -12,7 +12,7 @@ pub adds_both : (first middle last : Option (List Act)) → AddsReads first midd
 adds_both first middle last f l known is =
     let some = f known is in
     let rest = l (known ++ some.0) some.1 in
-    (some.0 ++ rest.0, rest.1 ∙ ap (λ (a : List Act). Some a) (append_assoc known some.0 rest.0), AllByRecursion-append PutsNothing some.0 rest.0 some.2 rest.2)
+    (some.0 ++ rest.0, rest.1 ∙ ap (λ (a : List Act). Some a) (append_assoc known some.0 rest.0), AllByRecursion_append PutsNothing some.0 rest.0 some.2 rest.2)
 
 pub later_none : (a : Counts) → IsLater a a
 later_none a = record { store = omega arith; operator = omega arith; transformer = omega arith }

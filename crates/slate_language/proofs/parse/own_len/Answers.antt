@@ -1,15 +1,15 @@
 use Rattle.std.proofs.Common.{◌<◌, [], length, sym, ◌∙◌, arith}
-use Rattle.slate_language.proofs.OpLaws.{own-ends, own-more}
+use Rattle.slate_language.proofs.OpLaws.{own_ends, own_more}
 use Rattle.slate_language.proofs.parse.own_len.Goals as goal
 
 pub loop-i-preserved : goal.loop-i-preserved
 loop-i-preserved c =
     let within : c.loop-i.i < length c.args.tokens.now = omega arith in
-    let more = own-more c.args.tokens.now c.loop-i.i (record { ref_ptr = (0, 0); now = [] }) within (sym c.is_op_word.ensures ∙ c.if-is_op_word.false) in
+    let more = own_more c.args.tokens.now c.loop-i.i (record { ref_ptr = (0, 0); now = [] }) within (sym c.is_op_word.ensures ∙ c.if-is_op_word.false) in
     omega (arith, c.loop-i.invariant, more)
 
 pub returns-then-is_op_word-clause-len : goal.returns-then-is_op_word-clause-len
 returns-then-is_op_word-clause-len c =
     let within : c.loop-i.i < length c.args.tokens.now = omega arith in
-    let ends = own-ends c.args.tokens.now c.loop-i.i (record { ref_ptr = (0, 0); now = [] }) within (sym c.is_op_word.ensures ∙ c.if-is_op_word.true) in
+    let ends = own_ends c.args.tokens.now c.loop-i.i (record { ref_ptr = (0, 0); now = [] }) within (sym c.is_op_word.ensures ∙ c.if-is_op_word.true) in
     omega (arith, c.loop-i.invariant, ends)

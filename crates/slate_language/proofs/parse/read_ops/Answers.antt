@@ -2,12 +2,12 @@ use Rattle.std.proofs.Common.{◌+◌, ◌++◌, [], drop, option_map, Some, sym
 use Rattle.std.proofs.lemmas.List.{drop_all}
 use Rattle.std.proofs.lemmas.Result.{IfOk-from_err}
 use Rattle.slate_language.specs.Built.{texts, built_ops}
-use Rattle.slate_language.proofs.OpLaws.{own-within, ops-refused, ops-taken}
+use Rattle.slate_language.proofs.OpLaws.{own_within, ops_refused, ops_taken}
 use Rattle.slate_language.proofs.parse.read_ops.Goals as goal
 
 pub returns-in_default : goal.returns-in_default
 returns-in_default c = record {
-  ops = ops-refused c.args.tokens.now c.loop-at.at c.own_len.result (record { ref_ptr = (0, 0); now = [] }) c.loop-at.ops.items c.in_ok-op.field-0 c.loop-at-test.true c.loop-at.invariant.ops
+  ops = ops_refused c.args.tokens.now c.loop-at.at c.own_len.result (record { ref_ptr = (0, 0); now = [] }) c.loop-at.ops.items c.in_ok-op.field-0 c.loop-at-test.true c.loop-at.invariant.ops
       c.own_len.ensures.len c.in_ok-op.ensures.op c.in_default.is;
 }
 
@@ -15,10 +15,10 @@ pub loop-at-preserved : goal.loop-at-preserved
 loop-at-preserved c =
     let later = built_ops (texts (drop (c.loop-at.at + 1 + c.own_len.result) c.args.tokens.now)) in
     record {
-      within = own-within c.args.tokens.now c.loop-at.at c.own_len.result c.loop-at-test.true c.own_len.ensures.within;
+      within = own_within c.args.tokens.now c.loop-at.at c.own_len.result c.loop-at-test.true c.own_len.ensures.within;
       ops =
           ap (λ xs. option_map (λ os. xs ++ os) later) c.in_ok-push.ensures.items
-          ∙ ops-taken c.args.tokens.now c.loop-at.at c.own_len.result (record { ref_ptr = (0, 0); now = [] }) c.loop-at.ops.items c.in_ok-op.field-0 c.in-Some.op c.loop-at-test.true
+          ∙ ops_taken c.args.tokens.now c.loop-at.at c.own_len.result (record { ref_ptr = (0, 0); now = [] }) c.loop-at.ops.items c.in_ok-op.field-0 c.in-Some.op c.loop-at-test.true
           c.loop-at.invariant.ops c.own_len.ensures.len c.in_ok-op.ensures.op c.in-Some.is;
     }
 

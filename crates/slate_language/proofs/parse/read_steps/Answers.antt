@@ -2,12 +2,12 @@ use Rattle.std.proofs.Common.{◌+◌, ◌++◌, [], drop, option_map, ap, ◌�
 use Rattle.std.proofs.lemmas.Result.{IfOk-from_err}
 use Rattle.slate_language.specs.Parse.{read_all, read_step}
 use Rattle.slate_language.specs.Built.{texts}
-use Rattle.slate_language.proofs.OpLaws.{each-refused, each-taken}
+use Rattle.slate_language.proofs.OpLaws.{each_refused, each_taken}
 use Rattle.slate_language.proofs.parse.read_steps.Goals as goal
 
 pub returns-in_default : goal.returns-in_default
 returns-in_default c = record {
-  steps = each-refused read_step c.args.tokens.now c.loop-token.token-index (record { ref_ptr = (0, 0); now = [] }) c.loop-token.steps.items c.in_ok-step.field-0 c.loop-token-test.true c.loop-token.invariant
+  steps = each_refused read_step c.args.tokens.now c.loop-token.token-index (record { ref_ptr = (0, 0); now = [] }) c.loop-token.steps.items c.in_ok-step.field-0 c.loop-token-test.true c.loop-token.invariant
       c.in_ok-step.ensures.step c.in_default.is;
 }
 
@@ -15,7 +15,7 @@ pub loop-token-preserved : goal.loop-token-preserved
 loop-token-preserved c =
     let later = read_all read_step (texts (drop (c.loop-token.token-index + 1) c.args.tokens.now)) in
     ap (λ xs. option_map (λ sts. xs ++ sts) later) c.in_ok-push.ensures.items
-    ∙ each-taken read_step c.args.tokens.now c.loop-token.token-index (record { ref_ptr = (0, 0); now = [] }) c.loop-token.steps.items c.in_ok-step.field-0 c.in-Some.step c.loop-token-test.true c.loop-token.invariant
+    ∙ each_taken read_step c.args.tokens.now c.loop-token.token-index (record { ref_ptr = (0, 0); now = [] }) c.loop-token.steps.items c.in_ok-step.field-0 c.in-Some.step c.loop-token-test.true c.loop-token.invariant
     c.in_ok-step.ensures.step c.in-Some.is
 
 pub returns-in_err-step : goal.returns-in_err-step

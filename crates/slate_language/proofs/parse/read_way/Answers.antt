@@ -1,12 +1,12 @@
 use Rattle.std.proofs.Common.{sym, ◌∙◌}
 use Rattle.std.proofs.lemmas.Result.{IfOk-from_err}
-use Rattle.slate_language.proofs.OpLaws.{with_third, way-is}
+use Rattle.slate_language.proofs.OpLaws.{with_third, way_is}
 use Rattle.slate_language.proofs.parse.read_way.Goals as goal
 
 pub returns-in-Ok-Some : goal.returns-in-Ok-Some
 returns-in-Ok-Some c = record {
   way = (λ i. with_third (sym c.in-Ok-Some.field-0-is i) (sym c.in-Some.is i))
-      ∙ way-is c.args.tokens.now c.in-Ok-Some.field-0 c.in_ok-steps.field-0 c.in-len2-up.len_at_least c.in-Ok-Some.ensures.bounds c.in_ok-steps.ensures.steps;
+      ∙ way_is c.args.tokens.now c.in-Ok-Some.field-0 c.in_ok-steps.field-0 c.in-len2-up.len_at_least c.in-Ok-Some.ensures.bounds c.in_ok-steps.ensures.steps;
 }
 
 pub returns-in_err-steps : goal.returns-in_err-steps

@@ -1,5 +1,5 @@
-use Rattle.slate_language.proofs.PartsLaws.{concat-lawful}
+use Rattle.slate_language.proofs.PartsLaws.{concat_lawful}
 use Rattle.slate_language.proofs.script_laws.concat_is_lawful.Goals as goal
 
 pub returns : goal.returns
-returns c = concat-lawful
+returns c = concat_lawful

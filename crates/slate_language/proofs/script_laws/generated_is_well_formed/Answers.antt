@@ -1,5 +1,5 @@
-use Rattle.slate_language.proofs.RoundLaws.{generated-formed}
+use Rattle.slate_language.proofs.RoundLaws.{generated_formed}
 use Rattle.slate_language.proofs.script_laws.generated_is_well_formed.Goals as goal
 
 pub returns : goal.returns
-returns c = generated-formed
+returns c = generated_formed

@@ -1,5 +1,5 @@
-use Rattle.slate_language.proofs.PartsLaws.{named_extractor-lawful}
+use Rattle.slate_language.proofs.PartsLaws.{named_extractor_lawful}
 use Rattle.slate_language.proofs.script_laws.named_extractor_is_lawful.Goals as goal
 
 pub returns : goal.returns
-returns c = named_extractor-lawful
+returns c = named_extractor_lawful

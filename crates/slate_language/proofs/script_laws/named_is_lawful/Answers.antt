@@ -1,5 +1,5 @@
-use Rattle.slate_language.proofs.PartsLaws.{named-lawful}
+use Rattle.slate_language.proofs.PartsLaws.{named_lawful}
 use Rattle.slate_language.proofs.script_laws.named_is_lawful.Goals as goal
 
 pub returns : goal.returns
-returns c = named-lawful
+returns c = named_lawful

@@ -1,5 +1,5 @@
-use Rattle.slate_language.proofs.ParseLaws.{parse-is}
+use Rattle.slate_language.proofs.ParseLaws.{parse_is}
 use Rattle.slate_language.proofs.script_laws.reads_the_grammar.Goals as goal
 
 pub returns : goal.returns
-returns c = parse-is
+returns c = parse_is

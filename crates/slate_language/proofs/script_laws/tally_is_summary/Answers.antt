@@ -1,5 +1,5 @@
-use Rattle.slate_language.proofs.TallyLaws.{tally-summary}
+use Rattle.slate_language.proofs.TallyLaws.{tally_summary}
 use Rattle.slate_language.proofs.script_laws.tally_is_summary.Goals as goal
 
 pub returns : goal.returns
-returns c = tally-summary
+returns c = tally_summary

@@ -9,14 +9,14 @@ use Rattle.slate_types.specs.Iteration.{IsInOrder}
 use Rattle.slate_types.specs.Rows.{of_key}
 use Rattle.slate_mem.specs.BatchRows.{newest_rows}
 use Rattle.slate_types.proofs.KeyBounds.{forward_bounds}
-use Rattle.slate_mem.proofs.BatchRowLaws.{newest-between, newest-rise, no-batch-rows}
+use Rattle.slate_mem.proofs.BatchRowLaws.{newest_between, newest_rise, no_batch_rows}
 use Rattle.slate_types.proofs.Exits.{err_exit}
 use Rattle.slate_mem.proofs.batch_iterator.rows_in.Goals as goal
 
 pub returns-then-leaves_none-clause-rows : goal.returns-then-leaves_none-clause-rows
 returns-then-leaves_none-clause-rows c k =
     let s = c.args.stamps.now in
-    ap (of_key k) c.new.ensures.items ∙ sym (no-batch-rows c.args.range.now s.seq s.default_ttl_millis s.create_ts c.args.batch.now.ops k (sym c.leaves_none.ensures ∙ c.if-leaves_none.true))
+    ap (of_key k) c.new.ensures.items ∙ sym (no_batch_rows c.args.range.now s.seq s.default_ttl_millis s.create_ts c.args.batch.now.ops k (sym c.leaves_none.ensures ∙ c.if-leaves_none.true))
 
 pub range-requires : goal.range-requires
 range-requires c =
@@ -29,7 +29,7 @@ ordered-requires c =
     let r = c.args.range.now in
     let es = c.entries.result.now.entries in
     let walked = c.range.ensures.between tt ∙ ap (λ (t : BytesRange). entries_between key_cmp t.start t.end es) c.in_ok-start.ensures.copy in
-    subst (IsInOrder Ascending) (sym (c.in_ok-rows.ensures.rows ∙ ap (newest_rows s) walked)) (newest-rise r.start r.end s es c.entries.ensures.whole.rising)
+    subst (IsInOrder Ascending) (sym (c.in_ok-rows.ensures.rows ∙ ap (newest_rows s) walked)) (newest_rise r.start r.end s es c.entries.ensures.whole.rising)
 
 pub returns-clause-rows : goal.returns-clause-rows
 returns-clause-rows c k =
@@ -38,7 +38,7 @@ returns-clause-rows c k =
     let es = c.entries.result.now.entries in
     let walked = c.range.ensures.between tt ∙ ap (λ (t : BytesRange). entries_between key_cmp t.start t.end es) c.in_ok-start.ensures.copy in
     c.in_ok-ordered.ensures.keys k ∙ ap (of_key k) (c.in_ok-rows.ensures.rows ∙ ap (newest_rows s) walked)
-    ∙ newest-between c.args.range.now s es c.args.batch.now.ops e.whole.rising e.whole.kept e.ops k
+    ∙ newest_between c.args.range.now s es c.args.batch.now.ops e.whole.rising e.whole.kept e.ops k
 
 pub returns-in_err-start : goal.returns-in_err-start
 returns-in_err-start c =

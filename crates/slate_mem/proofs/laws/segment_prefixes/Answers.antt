@@ -1,9 +1,9 @@
-use Rattle.slate_mem.proofs.NestLaws.{refusals-of-sets, never-nest}
+use Rattle.slate_mem.proofs.NestLaws.{refusals_of_sets, never_nest}
 use Rattle.slate_mem.proofs.laws.segment_prefixes.Goals as goal
 
 pub returns : goal.returns
 returns c =
     record {
-      refuses_sets = λ recorded own others more f g. refusals-of-sets recorded own others more f g;
-      keeps_from_nesting = never-nest;
+      refuses_sets = λ recorded own others more f g. refusals_of_sets recorded own others more f g;
+      keeps_from_nesting = never_nest;
     }

@@ -4,7 +4,7 @@ use Rattle.std.specs.Map.{lookup}
 use Rattle.std.specs.BTreeMap.{insert_entry, is_at}
 use Rattle.std.proofs.lemmas.Result.{IfOk-from_err}
 use Rattle.slate_mem.specs.Tied.{AreTied, insert_row}
-use Rattle.slate_mem.proofs.TableLaws.{undo-put, tied-put}
+use Rattle.slate_mem.proofs.TableLaws.{undo_put, tied_put}
 use Rattle.slate_mem.proofs.mem_table.put_one.Goals as goal
 
 -- the row stands under its own key
@@ -19,14 +19,14 @@ returns-clause-undo c =
     let e = c.in_ok-before.ensures in
     let places = c.in-Ok.ensures in
     let own = places.second ∙ sym places.first in
-    undo-put c.in-Ok.places.0 c.args.row c.in_ok-before.before c.args.rows.now.entries c.insert.new.self.entries e.was_ordered
+    undo_put c.in-Ok.places.0 c.args.row c.in_ok-before.before c.args.rows.now.entries c.insert.new.self.entries e.was_ordered
     (e.old ∙ ap (λ k. lookup (is_at (sequenced_cmp k)) c.args.rows.now.entries) own)
     (e.entries ∙ ap (λ k. insert_entry sequenced_cmp c.args.rows.now.entries k c.args.row) own)
 
 pub returns-clause-kept : goal.returns-clause-kept
 returns-clause-kept c = λ h.
     let fits : c.args.row.seq < 2 ^ 64 = omega arith in
-    record { tied = subst AreTied (sym (put c)) (tied-put c.args.row c.args.rows.now.entries fits h.tied); rising = c.in_ok-before.ensures.ordered }
+    record { tied = subst AreTied (sym (put c)) (tied_put c.args.row c.args.rows.now.entries fits h.tied); rising = c.in_ok-before.ensures.ordered }
 
 pub returns-in_err-before-clause-put : goal.returns-in_err-before-clause-put
 returns-in_err-before-clause-put c = IfOk-from_err c.from_residual.result _ c.from_residual.ensures.0

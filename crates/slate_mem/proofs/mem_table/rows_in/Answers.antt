@@ -5,7 +5,7 @@ use Rattle.std.specs.Range.Bound.{IsForward}
 use Rattle.std.specs.Map.{values_of}
 use Rattle.slate_types.specs.Rows.{sequenced_cmp}
 use Rattle.slate_mem.specs.KeyRange.{first_place}
-use Rattle.slate_mem.proofs.PlaceLaws.{forward, between-is-ranged, none-ranged}
+use Rattle.slate_mem.proofs.PlaceLaws.{forward, between_is_ranged, none_ranged}
 use Rattle.slate_types.proofs.Exits.{err_exit}
 use Rattle.slate_mem.proofs.mem_table.rows_in.Goals as goal
 
@@ -20,12 +20,12 @@ rows_between-requires c =
 
 pub returns-then-leaves_none-clause-rows : goal.returns-then-leaves_none-clause-rows
 returns-then-leaves_none-clause-rows c =
-    c.new.ensures.items ∙ sym (none-ranged c.args.range.now (values_of c.args.rows.now.entries) (sym c.leaves_none.ensures ∙ c.if-leaves_none.true))
+    c.new.ensures.items ∙ sym (none_ranged c.args.range.now (values_of c.args.rows.now.entries) (sym c.leaves_none.ensures ∙ c.if-leaves_none.true))
 
 pub returns-clause-rows : goal.returns-clause-rows
 returns-clause-rows c =
     let e = c.in_ok-start.ensures in
-    let places = (λ i. values_of (entries_between sequenced_cmp (e.start i) (e.end i) c.args.rows.now.entries)) ∙ between-is-ranged c.args.range.now c.args.rows.now.entries c.requires.tied in
+    let places = (λ i. values_of (entries_between sequenced_cmp (e.start i) (e.end i) c.args.rows.now.entries)) ∙ between_is_ranged c.args.range.now c.args.rows.now.entries c.requires.tied in
     IfOk-weaker c.rows_between.result _ _ (λ v h. h ∙ places) c.rows_between.ensures.rows
 
 pub returns-in_err-start : goal.returns-in_err-start

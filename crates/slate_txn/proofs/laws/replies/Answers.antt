@@ -2,8 +2,8 @@ use Rattle.std.proofs.Common.{◌≡◌, List, [], ◌∷◌, ◌++◌, refl, ap
 use Rattle.slate_txn.specs.declared.line.Line.{Line}
 use Rattle.slate_txn.specs.State.{Rules, State}
 use Rattle.slate_txn.specs.Step.{step, answers, after}
-use Rattle.slate_txn.proofs.StorageLaws.{storage-is-silent}
-use Rattle.slate_txn.proofs.WriteLaws.{writes-what-is-kept}
+use Rattle.slate_txn.proofs.StorageLaws.{storage_is_silent}
+use Rattle.slate_txn.proofs.WriteLaws.{writes_what_is_kept}
 use Rattle.slate_txn.proofs.laws.replies.Goals as goal
 
 on : (r : Rules) (s : State) (ls more : List Line) → answers r s (ls ++ more) ≡ answers r s ls ++ answers r (after r s ls) more
@@ -14,7 +14,7 @@ pub returns-clause-goes_on : goal.returns-clause-goes_on
 returns-clause-goes_on c = on
 
 pub returns-clause-storage_is_silent : goal.returns-clause-storage_is_silent
-returns-clause-storage_is_silent c = storage-is-silent
+returns-clause-storage_is_silent c = storage_is_silent
 
 pub returns-clause-writes_what_is_kept : goal.returns-clause-writes_what_is_kept
-returns-clause-writes_what_is_kept c = writes-what-is-kept
+returns-clause-writes_what_is_kept c = writes_what_is_kept

@@ -1,12 +1,12 @@
 use Rattle.std.proofs.Common.{slice_set, refl, ap, ◌∙◌, arith}
 use Rattle.slate_txn.specs.Tracking.{farther}
-use Rattle.slate_txn.proofs.NamedLaws.{on_ok}
 use Rattle.slate_txn.proofs.UpdateLaws.{set_is, none_is}
 use Rattle.slate_txn.proofs.reading.seek_scan.Goals as goal
+use Rattle.slate_types.proofs.Exits.{on_ok_weaker}
 
 pub returns-in-Some-clause-ok : goal.returns-in-Some-clause-ok
 returns-in-Some-clause-ok c =
-    on_ok c.read_to.result (λ is. ap (slice_set c.args.scans.now.items c.args.scan) is
+    on_ok_weaker c.read_to.result (λ is. ap (slice_set c.args.scans.now.items c.args.scan) is
     ∙ set_is c.args.scan (λ s. record s { part = farther s.order s.part c.args.key.now }) c.args.scans.now.items c.in-Some.scan.now (omega (arith, c.in-Some.ensures.variant.0 refl, c.args.scans.now.ok.0)) c.in-Some.ensures.value)
     c.read_to.ensures.ok
 

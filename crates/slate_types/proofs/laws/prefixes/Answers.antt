@@ -1,12 +1,12 @@
-use Rattle.slate_types.proofs.PrefixLaws.{prefix-range, subrange-behind}
-use Rattle.slate_types.proofs.KeyLaws.{whole-subrange}
+use Rattle.slate_types.proofs.PrefixLaws.{range_of_prefix, subrange_behind}
+use Rattle.slate_types.proofs.KeyLaws.{whole_subrange}
 use Rattle.slate_types.proofs.laws.prefixes.Goals as goal
 
 pub returns-clause-prefix_range_begins : goal.returns-clause-prefix_range_begins
-returns-clause-prefix_range_begins c = prefix-range
+returns-clause-prefix_range_begins c = range_of_prefix
 
 pub returns-clause-subrange_is_behind : goal.returns-clause-subrange_is_behind
-returns-clause-subrange_is_behind c = subrange-behind
+returns-clause-subrange_is_behind c = subrange_behind
 
 pub returns-clause-whole_is_the_prefix : goal.returns-clause-whole_is_the_prefix
-returns-clause-whole_is_the_prefix c = whole-subrange
+returns-clause-whole_is_the_prefix c = whole_subrange

@@ -5,7 +5,7 @@ use Rattle.slate_types.specs.Keys.{keys_set}
 use Rattle.slate_mem.specs.KeyTests.{point_lengths}
 use Rattle.slate_mem.specs.Segments.{row_prefixes}
 use Rattle.slate_mem.specs.Table.{MemTableModel, after_seq, put_rows}
-use Rattle.slate_mem.proofs.LaterRows.{prefixes-alone, put-rising, rises-filtered, table-rises}
+use Rattle.slate_mem.proofs.LaterRows.{prefixes_alone, put_rising, rises_filtered, table_rises}
 use Rattle.slate_mem.proofs.mem_table.ImmutableMemtable.filter_after_seq.Goals as goal
 
 pub returns-clause-rows : goal.returns-clause-rows
@@ -14,7 +14,7 @@ returns-clause-rows g c =
     let es = c.self-inside.inside.0.0.rows.entries in
     c.in_ok-put_all.ensures.rows
     ∙ (λ i. put_rows (c.new-table.ensures i).rows (c.in_ok-rows.ensures.rows i))
-    ∙ put-rising (after_seq seq (values_of es)) [] (rises-filtered (λ r. nat_lt seq r.seq) (values_of es) (table-rises es c.self-inside.invariant.rows))
+    ∙ put_rising (after_seq seq (values_of es)) [] (rises_filtered (λ r. nat_lt seq r.seq) (values_of es) (table_rises es c.self-inside.invariant.rows))
     ∙ (λ i. after_seq seq (c.self-inside.view_is i).table.rows)
     ∙ ap (λ (t : MemTableModel). after_seq seq t.rows) c.self.view_is
 
@@ -24,5 +24,5 @@ returns-clause-segments g c =
     let segments = point_lengths (option_map g.X.PrefixExtractor.lengths (option_copied c.args.extractor)) in
     c.in_ok-put_all.ensures.segments
     ∙ (λ i. keys_set ((c.new-table.ensures i).segments ++ c.in_ok-segments.ensures.prefixes i))
-    ∙ prefixes-alone segments c.deref.result.now
+    ∙ prefixes_alone segments c.deref.result.now
     ∙ ap (row_prefixes segments) (c.deref.ensures.value ∙ c.in_ok-rows.ensures.rows ∙ (λ i. after_seq seq (c.self-inside.view_is i).table.rows) ∙ ap (λ (t : MemTableModel). after_seq seq t.rows) c.self.view_is)

@@ -6,7 +6,7 @@ use Rattle.slate_types.specs.Iteration.{IsInOrder, RowList}
 use Rattle.slate_types.specs.RowTurns.{AreInTurn, row_before}
 use Rattle.slate_types.specs.Rows.{of_key}
 use Rattle.slate_types.proofs.IterationLaws.{in_order_filtered}
-use Rattle.slate_mem.proofs.OrderLaws.{rows-ascend}
+use Rattle.slate_mem.proofs.OrderLaws.{rows_ascend}
 use Rattle.slate_mem.proofs.TurnLaws.{ranged_in_turn}
 use Rattle.slate_types.proofs.Exits.{err_exit}
 use Rattle.slate_mem.proofs.mem_table.MemTable.range.Goals as goal
@@ -14,7 +14,7 @@ use Rattle.slate_mem.proofs.mem_table.MemTable.range.Goals as goal
 pub ordered-requires : goal.ordered-requires
 ordered-requires c =
     subst (IsInOrder Ascending) (sym c.in_ok-rows.ensures.rows)
-    (in_order_filtered Ascending (λ r. in_range c.args.range.now r.key) _ (rows-ascend _ c.self.invariant.rows))
+    (in_order_filtered Ascending (λ r. in_range c.args.range.now r.key) _ (rows_ascend _ c.self.invariant.rows))
 
 pub returns-in_err-rows : goal.returns-in_err-rows
 returns-in_err-rows c =

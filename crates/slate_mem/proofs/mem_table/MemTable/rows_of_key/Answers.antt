@@ -6,14 +6,14 @@ use Rattle.std.specs.Map.{values_of}
 use Rattle.std.specs.BTreeMap.Range.{entries_between}
 use Rattle.std.specs.declared.ops.Bound.TheVariants.{Included}
 use Rattle.slate_mem.specs.Table.{MemTableModel, newest, to_base}
-use Rattle.slate_mem.proofs.TableLaws.{newest-first, newest-listed, tied-keyed}
+use Rattle.slate_mem.proofs.TableLaws.{newest_first, newest_listed, tied_keyed}
 use Rattle.slate_types.proofs.Exits.{err_exit}
 use Rattle.slate_mem.proofs.mem_table.MemTable.rows_of_key.Goals as goal
 
 pub rows_between-requires : goal.rows_between-requires
 rows_between-requires c =
     let e = c.in_ok-first.ensures in
-    (λ i. is_gt (sequenced_cmp (e.first i) (e.second i))) ∙ newest-first c.args.key.now c.args.max_seq
+    (λ i. is_gt (sequenced_cmp (e.first i) (e.second i))) ∙ newest_first c.args.key.now c.args.max_seq
 
 pub returns-clause-rows : goal.returns-clause-rows
 returns-clause-rows c =
@@ -21,7 +21,7 @@ returns-clause-rows c =
     let e = c.in_ok-first.ensures in
     let rows =
     (λ i. to_base (values_of (entries_between sequenced_cmp (Included (e.first i)) (Included (e.second i)) es)))
-    ∙ newest-listed c.args.key.now c.args.max_seq es (tied-keyed es c.self.invariant.rows.tied)
+    ∙ newest_listed c.args.key.now c.args.max_seq es (tied_keyed es c.self.invariant.rows.tied)
     ∙ ap (λ (t : MemTableModel). newest c.args.key.now c.args.max_seq t.rows) c.self.view_is
     in
     IfOk-weaker c.rows_between.result _ _ (λ v h. h ∙ rows) c.rows_between.ensures.rows

@@ -36,21 +36,21 @@ returns-in_err-make_piece-clause-bytes g c = λ left told. IfOk-from_err c.from_
 pub returns-in_err-make_piece-clause-err : goal.returns-in_err-make_piece-clause-err
 returns-in_err-make_piece-clause-err g c = on_err c.from_residual.result (c.requires.read, refl, refl)
 
-memory-no-fault : {T : Type 0} (r : Result T SlateDBError) (x : SlateDBError) → r ≡ Err x → x ≡ OutOfMemory → r ≡ Err ReadFault → ⊥
-memory-no-fault r x is memory e = cc
+memory_no_fault : {T : Type 0} (r : Result T SlateDBError) (x : SlateDBError) → r ≡ Err x → x ≡ OutOfMemory → r ≡ Err ReadFault → ⊥
+memory_no_fault r x is memory e = cc
 
-memory-no-length : {T : Type 0} (r : Result T SlateDBError) (x : SlateDBError) → r ≡ Err x → x ≡ OutOfMemory → r ≡ Err ScriptTooLong → ⊥
-memory-no-length r x is memory e = cc
+memory_no_length : {T : Type 0} (r : Result T SlateDBError) (x : SlateDBError) → r ≡ Err x → x ≡ OutOfMemory → r ≡ Err ScriptTooLong → ⊥
+memory_no_length r x is memory e = cc
 
 pub returns-in_err-make_piece-clause-read_fault : goal.returns-in_err-make_piece-clause-read_fault
 returns-in_err-make_piece-clause-read_fault g c = λ e.
     let p = err_from_is_err_and c.from_residual.result c.from_residual.ensures.1 in
-    absurd (memory-no-fault c.from_residual.result _ p.1 p.2 e)
+    absurd (memory_no_fault c.from_residual.result _ p.1 p.2 e)
 
 pub returns-in_err-make_piece-clause-too_long : goal.returns-in_err-make_piece-clause-too_long
 returns-in_err-make_piece-clause-too_long g c = λ e.
     let p = err_from_is_err_and c.from_residual.result c.from_residual.ensures.1 in
-    absurd (memory-no-length c.from_residual.result _ p.1 p.2 e)
+    absurd (memory_no_length c.from_residual.result _ p.1 p.2 e)
 
 pub returns-in_err-make_piece-clause-cause : goal.returns-in_err-make_piece-clause-cause
 returns-in_err-make_piece-clause-cause g c =

@@ -8,22 +8,22 @@ use Rattle.std.proofs.lemmas.Result.{err_from_is_err_and, IfOk-from_err}
 use Rattle.slate_store.proofs.Steps.{last_further, last_counted, held_line, err_is, refused, on_err, keeps_same, gives_cut, gives_last, keeps_taken, held_taken}
 use Rattle.slate_store.proofs.lines.Held.next.Goals as goal
 
-no-refusal : {T : Type 0} (x : T) (e : SlateDBError) → Ok x ≡ Err e → ⊥
-no-refusal x e h = cc
+no_refusal : {T : Type 0} (x : T) (e : SlateDBError) → Ok x ≡ Err e → ⊥
+no_refusal x e h = cc
 
-unless-fault : {P : Type 0} (n : ℕ) → (Ok n ≡ Err ReadFault) ⊎ P → P
-unless-fault n (inl is) = absurd (no-refusal n ReadFault is)
-unless-fault n (inr is) = is
+unless_fault : {P : Type 0} (n : ℕ) → (Ok n ≡ Err ReadFault) ⊎ P → P
+unless_fault n (inl is) = absurd (no_refusal n ReadFault is)
+unless_fault n (inr is) = is
 
-memory-no-fault : {T : Type 0} (r : Result T SlateDBError) → r ≡ Err OutOfMemory → r ≡ Err ReadFault → ⊥
-memory-no-fault r h k = cc
+memory_no_fault : {T : Type 0} (r : Result T SlateDBError) → r ≡ Err OutOfMemory → r ≡ Err ReadFault → ⊥
+memory_no_fault r h k = cc
 
-memory-no-length : {T : Type 0} (r : Result T SlateDBError) → r ≡ Err OutOfMemory → r ≡ Err ScriptTooLong → ⊥
-memory-no-length r h k = cc
+memory_no_length : {T : Type 0} (r : Result T SlateDBError) → r ≡ Err OutOfMemory → r ≡ Err ScriptTooLong → ⊥
+memory_no_length r h k = cc
 
-fault-or : {F : Type 0} (r : Result ℕ SlateDBError) (x : SlateDBError) (a b d : ℕ) → r ≡ Err x → (r ≡ Err ReadFault) ⊎ (a ≡ b) → (x ≡ ReadFault → F) → b ≡ d → F ⊎ (a ≡ d)
-fault-or r x a b d is (inl h) f e = inl (f (err_is r x ReadFault is h))
-fault-or r x a b d is (inr h) f e = inr (h ∙ e)
+fault_or : {F : Type 0} (r : Result ℕ SlateDBError) (x : SlateDBError) (a b d : ℕ) → r ≡ Err x → (r ≡ Err ReadFault) ⊎ (a ≡ b) → (x ≡ ReadFault → F) → b ≡ d → F ⊎ (a ≡ d)
+fault_or r x a b d is (inl h) f e = inl (f (err_is r x ReadFault is h))
+fault_or r x a b d is (inr h) f e = inr (h ∙ e)
 
 pub returns-in-Some-clause-told : goal.returns-in-Some-clause-told
 returns-in-Some-clause-told g c = λ left told.
@@ -65,7 +65,7 @@ loop-line-preserved g c =
           let held : held_bytes c.fill.new.self ≡ held_bytes c.loop-line.self ++ take n more = held_taken _ _ _ _ _ c.in_ok-fill.ensures.line none.0 bytes.0 in
           (drop n more, bytes.1, keeps_taken (model_of c.args.self.now) (model_of c.loop-line.self) (model_of c.fill.new.self) left more n keeps held given);
       first = λ some. absurd (some (subst HasNoEnd (none.0 ∙ (c.loop-line.invariant.first some).1) c.in_ok-line.ensures.whole.partial));
-      still = unless-fault c.in_ok-fill.field-0 c.in_ok-fill.ensures.still ∙ c.loop-line.invariant.still;
+      still = unless_fault c.in_ok-fill.field-0 c.in_ok-fill.ensures.still ∙ c.loop-line.invariant.still;
     }
 
 pub returns-in_err-line : goal.returns-in_err-line
@@ -83,10 +83,10 @@ returns-in_err-line g c =
       kept = on_err c.from_residual.result (omega (arith, ap length c.in_err-line.ensures.err.1));
       read_fault = (λ e.
           let p = err_from_is_err_and c.from_residual.result c.from_residual.ensures.1 in
-          absurd (memory-no-fault c.from_residual.result (p.1 ∙ ap Err (p.2 ∙ c.in_err-line.ensures.err.0)) e));
+          absurd (memory_no_fault c.from_residual.result (p.1 ∙ ap Err (p.2 ∙ c.in_err-line.ensures.err.0)) e));
       too_long = (λ e.
           let p = err_from_is_err_and c.from_residual.result c.from_residual.ensures.1 in
-          absurd (memory-no-length c.from_residual.result (p.1 ∙ ap Err (p.2 ∙ c.in_err-line.ensures.err.0)) e));
+          absurd (memory_no_length c.from_residual.result (p.1 ∙ ap Err (p.2 ∙ c.in_err-line.ensures.err.0)) e));
       cause = rw p.1 (inl (p.2 ∙ c.in_err-line.ensures.err.0));
       later = omega (arith, c.loop-line.invariant.still);
       still = inr c.loop-line.invariant.still;
@@ -109,10 +109,10 @@ returns-in-Some-clause-counted g c =
     omega (arith, ap length line.1, length-append c.in-Some.line.items (10 ∷ held_bytes c.cut.new.self))
 
 pub returns-in-Some-clause-read_fault : goal.returns-in-Some-clause-read_fault
-returns-in-Some-clause-read_fault g c = λ e. absurd (no-refusal _ _ e)
+returns-in-Some-clause-read_fault g c = λ e. absurd (no_refusal _ _ e)
 
 pub returns-in-Some-clause-too_long : goal.returns-in-Some-clause-too_long
-returns-in-Some-clause-too_long g c = λ e. absurd (no-refusal _ _ e)
+returns-in-Some-clause-too_long g c = λ e. absurd (no_refusal _ _ e)
 
 pub returns-in-Some-clause-later : goal.returns-in-Some-clause-later
 returns-in-Some-clause-later g c = omega (arith, c.loop-line.invariant.still)
@@ -158,7 +158,7 @@ returns-in_err-fill g c =
           ));
       cause = rw (p.1, p.2) c.in_err-fill.ensures.cause;
       later = omega (arith, c.loop-line.invariant.still, c.in_err-fill.ensures.later);
-      still = fault-or (Err c.in_err-fill.field-0.0) _ _ _ _ refl c.in_err-fill.ensures.still (λ h. p.1 ∙ ap Err (p.2 ∙ h)) c.loop-line.invariant.still;
+      still = fault_or (Err c.in_err-fill.field-0.0) _ _ _ _ refl c.in_err-fill.ensures.still (λ h. p.1 ∙ ap Err (p.2 ∙ h)) c.loop-line.invariant.still;
     }
 
 pub returns-then-branch-eq0-clause-at_once : goal.returns-then-branch-eq0-clause-at_once
@@ -167,16 +167,16 @@ returns-then-branch-eq0-clause-at_once g c = λ some.
     absurd (some (subst HasNoEnd (none.0 ∙ (c.loop-line.invariant.first some).1) c.in_ok-line.ensures.whole.partial))
 
 pub returns-then-branch-eq0-clause-read_fault : goal.returns-then-branch-eq0-clause-read_fault
-returns-then-branch-eq0-clause-read_fault g c = λ e. absurd (no-refusal _ _ e)
+returns-then-branch-eq0-clause-read_fault g c = λ e. absurd (no_refusal _ _ e)
 
 pub returns-then-branch-eq0-clause-too_long : goal.returns-then-branch-eq0-clause-too_long
-returns-then-branch-eq0-clause-too_long g c = λ e. absurd (no-refusal _ _ e)
+returns-then-branch-eq0-clause-too_long g c = λ e. absurd (no_refusal _ _ e)
 
 pub returns-then-branch-eq0-clause-later : goal.returns-then-branch-eq0-clause-later
 returns-then-branch-eq0-clause-later g c = omega (arith, c.loop-line.invariant.still, c.in_ok-fill.ensures.later)
 
 pub returns-then-branch-eq0-clause-still : goal.returns-then-branch-eq0-clause-still
-returns-then-branch-eq0-clause-still g c = inr (unless-fault c.in_ok-fill.field-0 c.in_ok-fill.ensures.still ∙ c.loop-line.invariant.still)
+returns-then-branch-eq0-clause-still g c = inr (unless_fault c.in_ok-fill.field-0 c.in_ok-fill.ensures.still ∙ c.loop-line.invariant.still)
 
 pub returns-then-branch-eq0-clause-further : goal.returns-then-branch-eq0-clause-further
 returns-then-branch-eq0-clause-further g c =

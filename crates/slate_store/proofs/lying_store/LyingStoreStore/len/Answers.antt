@@ -2,7 +2,7 @@ use Rattle.std.proofs.Common.{◌++◌, ◌∷◌, [], ap, sym, subst, ◌∙◌
 use Rattle.slate_store.specs.Store.{Act, len_of, object_at}
 use Rattle.slate_store.specs.Lying.{LyingStoreModel}
 use Rattle.slate_store.specs.Noted.{acts_of, IsConsistent}
-use Rattle.slate_store.proofs.LyingLaws.{acts-len, keeps_len, push_told}
+use Rattle.slate_store.proofs.LyingLaws.{acts_len, keeps_len, push_told}
 use Rattle.slate_store.proofs.lying_store.LyingStoreStore.len.Goals as goal
 
 pub invariant_of-self-2 : goal.invariant_of-self-2
@@ -15,6 +15,6 @@ pub returns-clause-act : goal.returns-clause-act
 returns-clause-act c = λ known is.
     push_told (acts_of c.push.new.self.items c.self.inside.reads.items) (acts_of c.self.inside.noted.items c.self.inside.reads.items) c.args.self.now.acts known (Act.len c.args.path.now c.in_ok-len.len)
     (ap (λ noted. acts_of noted c.self.inside.reads.items) c.in_ok-push.ensures.items
-    ∙ acts-len c.self.inside.noted.items c.self.inside.reads.items c.in_ok-path.path c.in_ok-len.len
+    ∙ acts_len c.self.inside.noted.items c.self.inside.reads.items c.in_ok-path.path c.in_ok-len.len
     ∙ ap (λ p. acts_of c.self.inside.noted.items c.self.inside.reads.items ++ (Act.len p c.in_ok-len.len ∷ [])) c.in_ok-path.ensures)
     (ap (λ (s : LyingStoreModel). s.acts) c.self.view_is) is

@@ -3,7 +3,7 @@ use Rattle.slate_store.specs.declared.lying_store.Noted.{Noted}
 use Rattle.slate_store.specs.Store.{Act}
 use Rattle.slate_store.specs.Lying.{LyingStoreModel}
 use Rattle.slate_store.specs.Noted.{acts_of, IsConsistent}
-use Rattle.slate_store.proofs.LyingLaws.{acts-put, keeps_put, push_told, not_err, on_ok}
+use Rattle.slate_store.proofs.LyingLaws.{acts_put, keeps_put, push_told, not_err, on_ok}
 use Rattle.slate_store.proofs.lying_store.LyingStoreStore.put.Goals as goal
 
 pub invariant_of-self-else-is_err : goal.invariant_of-self-else-is_err
@@ -18,5 +18,5 @@ returns-else-is_err-clause-act c =
     let pushed = c.in_ok-push.ensures.items ∙ ap (λ (noted : Noted). c.self.inside.noted.items ++ (noted ∷ [])) c.in_ok-noted.ensures in
     on_ok c.put_object-done.result (λ known is.
     push_told (acts_of c.push.new.self.items c.self.inside.reads.items) (acts_of c.self.inside.noted.items c.self.inside.reads.items) c.args.self.now.acts known (Act.put c.args.path.now c.args.bytes.now)
-    (ap (λ noted. acts_of noted c.self.inside.reads.items) pushed ∙ acts-put c.self.inside.noted.items c.self.inside.reads.items c.args.path.now c.args.bytes.now)
+    (ap (λ noted. acts_of noted c.self.inside.reads.items) pushed ∙ acts_put c.self.inside.noted.items c.self.inside.reads.items c.args.path.now c.args.bytes.now)
     (ap (λ (s : LyingStoreModel). s.acts) c.self.view_is) is)

@@ -1,9 +1,9 @@
 use Rattle.std.proofs.Common.{◌++◌, ◌∷◌, [], refl, ap, ◌∙◌}
 use Rattle.slate_txn.specs.declared.event.TranscriptStep.TheVariants as steps
 use Rattle.slate_txn.specs.OwnView.{own_view}
-use Rattle.slate_txn.proofs.NamedLaws.{on_ok, on_err}
 use Rattle.slate_txn.proofs.OwnLaws.{own_read_by, after_read, after_none}
 use Rattle.slate_txn.proofs.db_transaction.DbTransactionInner.note_get.Goals as goal
+use Rattle.slate_types.proofs.Exits.{on_ok_weaker, on_err_weaker}
 
 pub invariant_of-self : goal.invariant_of-self
 invariant_of-self c =
@@ -12,6 +12,6 @@ invariant_of-self c =
 
 pub returns-in-Ok : goal.returns-in-Ok
 returns-in-Ok c = record {
-  noted = on_ok c.note.result (λ added. after_read (own_view c.self.inside) c.args.self.now _ (steps.Get c.args.key c.args.answer.now) refl c.self.view_is refl (added ∙ ap (λ a. c.self.inside.transcript.items ++ (steps.Get c.args.key a ∷ [])) c.in-Ok.ensures)) c.note.ensures.noted;
-  same = on_err c.note.result (λ same. after_none (own_view c.self.inside) c.args.self.now _ c.self.view_is refl same) c.note.ensures.same_steps;
+  noted = on_ok_weaker c.note.result (λ added. after_read (own_view c.self.inside) c.args.self.now _ (steps.Get c.args.key c.args.answer.now) refl c.self.view_is refl (added ∙ ap (λ a. c.self.inside.transcript.items ++ (steps.Get c.args.key a ∷ [])) c.in-Ok.ensures)) c.note.ensures.noted;
+  same = on_err_weaker c.note.result (λ same. after_none (own_view c.self.inside) c.args.self.now _ c.self.view_is refl same) c.note.ensures.same_steps;
 }

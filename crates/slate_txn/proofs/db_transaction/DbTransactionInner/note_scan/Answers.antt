@@ -1,9 +1,9 @@
 use Rattle.std.proofs.Common.{refl}
 use Rattle.slate_txn.specs.declared.event.TranscriptStep.TheVariants as steps
 use Rattle.slate_txn.specs.OwnView.{own_view}
-use Rattle.slate_txn.proofs.NamedLaws.{on_ok, on_err}
 use Rattle.slate_txn.proofs.OwnLaws.{own_noted_by, after_read, after_none}
 use Rattle.slate_txn.proofs.db_transaction.DbTransactionInner.note_scan.Goals as goal
+use Rattle.slate_types.proofs.Exits.{on_ok_weaker, on_err_weaker}
 
 pub invariant_of-self : goal.invariant_of-self
 invariant_of-self c =
@@ -11,7 +11,7 @@ invariant_of-self c =
     own_noted_by c.note_scan.result c.self.inside.level c.self.inside.transcript.items _ c.self.inside.batch c.self.inside.reading _ c.self.inside.scans _ (steps.Scan c.args.order c.args.range.now) refl said.read said.noted said.counted said.same_reading said.same_steps said.same_count c.self.invariant
 
 pub returns-clause-noted : goal.returns-clause-noted
-returns-clause-noted c = on_ok c.note_scan.result (λ added. after_read (own_view c.self.inside) c.args.self.now _ (steps.Scan c.args.order c.args.range.now) refl c.self.view_is refl added) c.note_scan.ensures.noted
+returns-clause-noted c = on_ok_weaker c.note_scan.result (λ added. after_read (own_view c.self.inside) c.args.self.now _ (steps.Scan c.args.order c.args.range.now) refl c.self.view_is refl added) c.note_scan.ensures.noted
 
 pub returns-clause-same : goal.returns-clause-same
-returns-clause-same c = on_err c.note_scan.result (λ same. after_none (own_view c.self.inside) c.args.self.now _ c.self.view_is refl same) c.note_scan.ensures.same_steps
+returns-clause-same c = on_err_weaker c.note_scan.result (λ same. after_none (own_view c.self.inside) c.args.self.now _ c.self.view_is refl same) c.note_scan.ensures.same_steps

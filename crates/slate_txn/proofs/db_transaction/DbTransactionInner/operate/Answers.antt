@@ -1,8 +1,8 @@
 use Rattle.std.proofs.Common.{refl}
 use Rattle.slate_txn.specs.OwnView.{own_view}
-use Rattle.slate_txn.proofs.NamedLaws.{on_ok, on_err}
 use Rattle.slate_txn.proofs.OwnLaws.{own_operated_by, after_own, after_none}
 use Rattle.slate_txn.proofs.db_transaction.DbTransactionInner.operate.Goals as goal
+use Rattle.slate_types.proofs.Exits.{on_ok_weaker, on_err_weaker}
 
 pub invariant_of-self : goal.invariant_of-self
 invariant_of-self c =
@@ -11,7 +11,7 @@ invariant_of-self c =
 
 pub returns : goal.returns
 returns c = record {
-  taken = on_ok c.operate.result (λ added. after_own (own_view c.self.inside) c.args.self.now _ c.args.key.now c.args.op c.self.view_is refl added) c.operate.ensures.noted;
-  same = on_err c.operate.result (λ same. after_none (own_view c.self.inside) c.args.self.now _ c.self.view_is refl same) c.operate.ensures.same_steps;
+  taken = on_ok_weaker c.operate.result (λ added. after_own (own_view c.self.inside) c.args.self.now _ c.args.key.now c.args.op c.self.view_is refl added) c.operate.ensures.noted;
+  same = on_err_weaker c.operate.result (λ same. after_none (own_view c.self.inside) c.args.self.now _ c.self.view_is refl same) c.operate.ensures.same_steps;
   cause = c.operate.ensures.cause;
 }

@@ -3,7 +3,7 @@ use Rattle.std.specs.Prelude.{IfOk}
 use Rattle.slate_mem.specs.declared.WriteOp.{WriteOp}
 use Rattle.slate_mem.specs.Batch.{Ops, kept}
 use Rattle.slate_mem.specs.RowOf.{own_row}
-use Rattle.slate_mem.proofs.BatchLaws.{keeps-kept}
+use Rattle.slate_mem.proofs.BatchLaws.{keeps_what_is_kept}
 use Rattle.slate_txn.specs.State.{Tx}
 use Rattle.slate_txn.proofs.db_transaction.DbTransactionInner.own_rows.Goals as goal
 
@@ -11,7 +11,7 @@ use Rattle.slate_txn.proofs.db_transaction.DbTransactionInner.own_rows.Goals as 
 kept_is : (c : goal.After-own_rows) → kept c.self.inside.batch.ops c.args.key.now ≡ kept c.args.self.now.ops c.args.key.now
 kept_is c =
     ap (λ (os : Ops). kept os c.args.key.now) c.self.invariant.batch.0
-    ∙ keeps-kept _ c.args.key.now
+    ∙ keeps_what_is_kept _ c.args.key.now
     ∙ ap (λ (t : Tx). kept t.ops c.args.key.now) c.self.view_is
 
 pub returns-clause-rows : goal.returns-clause-rows

@@ -4,8 +4,8 @@ use Rattle.slate_txn.specs.Named.{update_named}
 use Rattle.slate_txn.specs.Open.{Transactions}
 use Rattle.slate_txn.specs.Step.{with_op}
 use Rattle.slate_txn.proofs.BeginLaws.{rise_updated, rise_either}
-use Rattle.slate_txn.proofs.NamedLaws.{on_ok, on_err}
 use Rattle.slate_txn.proofs.open.OpenTransactions.delete.Goals as goal
+use Rattle.slate_types.proofs.Exits.{on_ok_weaker, on_err_weaker}
 
 pub invariant_of-self : goal.invariant_of-self
 invariant_of-self c = rise_either c.delete.result _ c.self.inside.by_id.entries c.delete.new.items.entries c.delete.ensures.taken c.delete.ensures.same
@@ -13,7 +13,7 @@ invariant_of-self c = rise_either c.delete.result _ c.self.inside.by_id.entries 
     c.self.invariant
 
 pub returns-clause-taken : goal.returns-clause-taken
-returns-clause-taken c = on_ok c.delete.result (λ is. is ∙ ap (λ (ps : Transactions). update_named c.args.id.now (with_op c.args.key.now ops.Delete) ps) c.self.view_is) c.delete.ensures.taken
+returns-clause-taken c = on_ok_weaker c.delete.result (λ is. is ∙ ap (λ (ps : Transactions). update_named c.args.id.now (with_op c.args.key.now ops.Delete) ps) c.self.view_is) c.delete.ensures.taken
 
 pub returns-clause-same : goal.returns-clause-same
-returns-clause-same c = on_err c.delete.result (λ is. is ∙ c.self.view_is) c.delete.ensures.same
+returns-clause-same c = on_err_weaker c.delete.result (λ is. is ∙ c.self.view_is) c.delete.ensures.same

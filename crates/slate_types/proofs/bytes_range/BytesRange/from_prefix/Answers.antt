@@ -4,11 +4,11 @@ use Rattle.slate_types.specs.declared.bytes_range.BytesRange.{BytesRange}
 use Rattle.slate_types.specs.declared.error.SlateDBError.{SlateDBError}
 use Rattle.slate_types.specs.declared.error.SlateDBError.TheVariants.{InvalidRange, OutOfMemory}
 use Rattle.slate_types.specs.Keys.{prefix_range, prefix_subrange}
-use Rattle.slate_types.proofs.KeyLaws.{whole_is_not_refused, whole-subrange}
+use Rattle.slate_types.proofs.KeyLaws.{whole_is_not_refused, whole_subrange}
 use Rattle.slate_types.proofs.bytes_range.BytesRange.from_prefix.Goals as goal
 
 range : (p : List ℕ) (made : Result BytesRange SlateDBError) → IfOk made (λ r. prefix_subrange p Unbounded Unbounded ≡ Some r) → IfOk made (λ r. r ≡ prefix_range p)
-range p (Ok r) h = let whole : Some r ≡ Some (prefix_range p) = sym h ∙ whole-subrange p in cc
+range p (Ok r) h = let whole : Some r ≡ Some (prefix_range p) = sym h ∙ whole_subrange p in cc
 range p (Err e) h = tt
 
 pub returns-clause-range : goal.returns-clause-range

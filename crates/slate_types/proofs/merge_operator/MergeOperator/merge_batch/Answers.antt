@@ -11,14 +11,14 @@ use Rattle.slate_types.proofs.merge_operator.MergeOperator.merge_batch.Goals as 
 pub returns-in_err-merged-clause-value : goal.returns-in_err-merged-clause-value
 returns-in_err-merged-clause-value g c = IfOk-from_err c.from_residual.result _ c.from_residual.ensures.0
 
-not-empty : {T : Type 0} (r : Result T MergeOperatorError) (x : MergeOperatorError) → r ≡ Err x → x ≡ OutOfMemory → r ≡ Err EmptyBatch → ⊥
-not-empty r x h k e = cc
+not_empty : {T : Type 0} (r : Result T MergeOperatorError) (x : MergeOperatorError) → r ≡ Err x → x ≡ OutOfMemory → r ≡ Err EmptyBatch → ⊥
+not_empty r x h k e = cc
 
-no-callback : {T : Type 0} (r : Result T MergeOperatorError) (x : MergeOperatorError) (message : List ℕ) → r ≡ Err x → x ≡ OutOfMemory → r ≡ Err (Callback message) → ⊥
-no-callback r x message h k e = cc
+no_callback : {T : Type 0} (r : Result T MergeOperatorError) (x : MergeOperatorError) (message : List ℕ) → r ≡ Err x → x ≡ OutOfMemory → r ≡ Err (Callback message) → ⊥
+no_callback r x message h k e = cc
 
-some-value : {A : Type 0} (x : A) → Some x ≡ None → ⊥
-some-value x e = cc
+some_value : {A : Type 0} (x : A) → Some x ≡ None → ⊥
+some_value x e = cc
 
 absent : {A : Type 0} (o : Option (Bor (List ℕ))) (Q : Bor (List ℕ) → Type 0) → IsSomeAnd o Q → option_copied o ≡ None → A
 absent None Q h e = absurd h
@@ -27,7 +27,7 @@ absent (Some x) Q h e = cc
 pub returns-in_err-merged-clause-empty : goal.returns-in_err-merged-clause-empty
 returns-in_err-merged-clause-empty g c =
     let p = err_from_is_err_and c.from_residual.result c.from_residual.ensures.1 in
-    (λ e. absurd (not-empty c.from_residual.result _ p.1 p.2 e), λ none. absent c.args.existing_value _ c.in_err-merged.ensures none.0)
+    (λ e. absurd (not_empty c.from_residual.result _ p.1 p.2 e), λ none. absent c.args.existing_value _ c.in_err-merged.ensures none.0)
 
 pub returns-in_err-merged-clause-same : goal.returns-in_err-merged-clause-same
 returns-in_err-merged-clause-same g c = refl
@@ -41,7 +41,7 @@ returns-in_err-merged-clause-still g c = IfOk-from_err c.from_residual.result _ 
 pub returns-in_err-merged-clause-cause : goal.returns-in_err-merged-clause-cause
 returns-in_err-merged-clause-cause g c =
     let p = err_from_is_err_and c.from_residual.result c.from_residual.ensures.1 in
-    λ message e. absurd (no-callback c.from_residual.result _ message p.1 p.2 e)
+    λ message e. absurd (no_callback c.from_residual.result _ message p.1 p.2 e)
 
 pub returns-in_err-made-clause-value : goal.returns-in_err-made-clause-value
 returns-in_err-made-clause-value g c = IfOk-from_err c.from_residual-in_err-made.result _ c.from_residual-in_err-made.ensures.0
@@ -93,7 +93,7 @@ loop-operand-preserved g c = record {
   value = one_more (g.Self.MergeOperator.combine c.args.self.now c.args.key.now) c.loop-operand.merged c.args.operands.now c.loop-operand.operand-index c.operand-item.result c.in_ok-made.field-0 c.loop-operand-test.true c.operand-item.is
       (made_is g.Self.MergeOperator.combine c.loop-operand.self c.args.self.now c.args.key.now (option_copied c.as_ref.result) c.loop-operand.merged c.operand-item.result c.in_ok-made.field-0 c.in_ok-made.ensures.value c.loop-operand.invariant.same c.as_ref.ensures.value)
       ∙ c.loop-operand.invariant.value;
-  none = λ e. absurd (some-value _ e);
+  none = λ e. absurd (some_value _ e);
 }
 
 -- where all operands are combined, the value so far is the result
@@ -133,9 +133,9 @@ always (Err e) P h = tt
 pub returns-clause-still : goal.returns-clause-still
 returns-clause-still g c = always c.ok_or.result _ c.loop-operand.invariant.still
 
-no-call : (o : Option (List ℕ)) (message : List ℕ) → ok_or o EmptyBatch ≡ Err (Callback message) → ⊥
-no-call None message e = cc
-no-call (Some x) message e = cc
+no_call : (o : Option (List ℕ)) (message : List ℕ) → ok_or o EmptyBatch ≡ Err (Callback message) → ⊥
+no_call None message e = cc
+no_call (Some x) message e = cc
 
 pub returns-clause-cause : goal.returns-clause-cause
-returns-clause-cause g c = λ message e. absurd (no-call c.loop-operand.merged message (sym c.ok_or.ensures.value ∙ e))
+returns-clause-cause g c = λ message e. absurd (no_call c.loop-operand.merged message (sym c.ok_or.ensures.value ∙ e))
