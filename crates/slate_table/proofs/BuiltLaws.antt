@@ -26,7 +26,8 @@ use Rattle.slate_table.specs.TableEnd.{counted_bytes, parts_index, parts_stats, 
 use Rattle.slate_table.proofs.IndexLaws.{separators_count, separators_short}
 use Rattle.slate_table.proofs.CutLaws.{cut_keeps}
 use Rattle.slate_table.proofs.Cuttings.{Begun, cut_is, places_end, with_begun}
-use Rattle.slate_table.proofs.PartsLaws.{Sections, cutting_begun, begun_some, all_end, fits_block, flat_end, block_behind, block_added}
+use Rattle.slate_table.proofs.PartsLaws.{Sections, cutting_begun, begun_some, fits_block, flat_end, block_behind, block_added}
+use Rattle.slate_types.proofs.Lists.{AllByRecursion_push}
 
 -- ---- the last block has a row
 
@@ -70,7 +71,7 @@ are_ended encode p q s h e =
     let seps : p.separators.items ≡ separators (every p) = s.separators ∙ ap separators (every_all p h) in
     let count = ap length seps ∙ separators_count (every p) in
     record {
-      each = all_end (FitsBlock (version_of p.format)) c.ended c.filling s.each (fits_block c p s e.fits);
+      each = AllByRecursion_push (FitsBlock (version_of p.format)) c.ended c.filling s.each (fits_block c p s e.fits);
       seps = e.separators ∙ seps;
       few = omega (arith, count, s.blocks);
       stats = e.stats ∙ (λ i. s.stats i ++ s.counts i ∷ []) ∙ sym (map-append stats_of c.ended (c.filling ∷ []));

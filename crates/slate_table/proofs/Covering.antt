@@ -12,11 +12,12 @@ use Rattle.slate_types.specs.declared.types.RowEntry.{RowEntry}
 use Rattle.slate_types.specs.Keys.{key_cmp, key_lt, key_le}
 use Rattle.slate_types.specs.Partitions.{CanHold}
 use Rattle.slate_types.specs.Rows.{row_lt, of_key}
-use Rattle.slate_types.proofs.KeyOrder.{lt-le, le-lt-trans}
-use Rattle.slate_types.proofs.PartitionLaws.{le-trans}
+use Rattle.slate_types.proofs.KeyOrder.{lt_le, le_lt_trans}
+use Rattle.slate_types.proofs.PartitionLaws.{le_trans}
 use Rattle.slate_block.specs.BlockSpelling.{longest}
 use Rattle.slate_table.specs.Parts.{first_key, last_key, separator, later_separators, separators}
 use Rattle.slate_table.specs.Table.{AreInOrder}
+use Rattle.slate_types.proofs.Lists.{AllByRecursion_front}
 
 -- ---- fronts of keys
 
@@ -70,7 +71,7 @@ row_le : (r s : RowEntry) → IsTrue (row_lt r s) → key_le r.key s.key ≡ tru
 row_le r s h = by (key_lt r.key s.key) refl (bytes_eq r.key s.key) refl h
   where
     by : (a : Bool) → key_lt r.key s.key ≡ a → (b : Bool) → bytes_eq r.key s.key ≡ b → (a || (b && nat_lt s.seq r.seq)) ≡ true → key_le r.key s.key ≡ true
-    by true less b same h = lt-le r.key s.key less
+    by true less b same h = lt_le r.key s.key less
     by false less true same h = ap (λ k. key_le r.key k) (sym ((bytes_eq-Decides r.key s.key).0 same)) ∙ le_itself r.key
     by false less false same h = cc
 
@@ -92,7 +93,7 @@ from_first r rs h = (le_itself r.key, all_le r rs h.0)
 first_upto : (p : List ℕ) (rs : List RowEntry) → AllFrom p rs → AreInOrder rs → key_le p (last_key p rs) ≡ true
 unfolding AllFrom
 first_upto p [] h order = le_itself p
-first_upto p (s ∷ rs) h order = le-trans p s.key (last_key s.key rs) h.0 (first_upto s.key rs (all_le s rs order.0) order.1)
+first_upto p (s ∷ rs) h order = le_trans p s.key (last_key s.key rs) h.0 (first_upto s.key rs (all_le s rs order.0) order.1)
 
 pub upto_last : (p : List ℕ) (rs : List RowEntry) → AreInOrder rs → AllUpto (last_key p rs) rs
 unfolding AllUpto
@@ -101,13 +102,9 @@ upto_last p (r ∷ rs) order = (first_upto r.key rs (all_le r rs order.0) order.
 
 -- ---- rows in one list
 
-all_front : {X : Type 0} (P : X → Type 0) (xs ys : List X) → AllByRecursion P (xs ++ ys) → AllByRecursion P xs
-all_front P [] ys h = tt
-all_front P (x ∷ xs) ys h = (h.0, all_front P xs ys h.1)
-
 pub order_front : (xs ys : List RowEntry) → AreInOrder (xs ++ ys) → AreInOrder xs
 order_front [] ys h = tt
-order_front (x ∷ xs) ys h = (all_front (λ s. IsTrue (row_lt x s)) xs ys h.0, order_front xs ys h.1)
+order_front (x ∷ xs) ys h = (AllByRecursion_front (λ s. IsTrue (row_lt x s)) xs ys h.0, order_front xs ys h.1)
 
 pub order_back : (xs ys : List RowEntry) → AreInOrder (xs ++ ys) → AreInOrder ys
 order_back [] ys h = h
@@ -135,12 +132,12 @@ all_hold s ks (r ∷ rs) from none upto = (record { begins = from.0; ends = upto
 from_lower : (s k : List ℕ) (b : List RowEntry) → key_le s k ≡ true → AllFrom k b → AllFrom s b
 unfolding AllFrom
 from_lower s k [] h from = tt
-from_lower s k (r ∷ rs) h from = (le-trans s k r.key h from.0, from_lower s k rs h from.1)
+from_lower s k (r ∷ rs) h from = (le_trans s k r.key h from.0, from_lower s k rs h from.1)
 
 upto_higher : (k s : List ℕ) (b : List RowEntry) → key_le k s ≡ true → AllUpto k b → AllUpto s b
 unfolding AllUpto
 upto_higher k s [] h upto = tt
-upto_higher k s (r ∷ rs) h upto = (le-trans r.key k s upto.0 h, upto_higher k s rs h upto.1)
+upto_higher k s (r ∷ rs) h upto = (le_trans r.key k s upto.0 h, upto_higher k s rs h upto.1)
 
 from_separator : (s : List ℕ) (b : List RowEntry) → key_le s (first_key b) ≡ true → AreInOrder b → AllFrom s b
 unfolding AllFrom
@@ -251,7 +248,7 @@ pub not_above : (r s : RowEntry) → IsTrue (row_lt r s) → key_lt s.key r.key 
 not_above r s h = by (key_lt s.key r.key) refl
   where
     by : (t : Bool) → key_lt s.key r.key ≡ t → t ≡ false
-    by true e = sym (le-lt-trans r.key s.key r.key (row_le r s h) e) ∙ self
+    by true e = sym (le_lt_trans r.key s.key r.key (row_le r s h) e) ∙ self
       where
         self : key_lt r.key r.key ≡ false
         self = ap is_lt (tied_itself nat_list_cmp_total r.key)
@@ -266,7 +263,7 @@ Follow k (j ∷ ks) = (key_le k j ≡ true) × Follow j ks
 above_first : (s n : List ℕ) (b : List RowEntry) → 0 < length b → AllFrom s b → AllUpto n b → key_le s n ≡ true
 unfolding AllFrom AllUpto
 above_first s n [] some from upto = absurd (omega (arith, some))
-above_first s n (r ∷ rs) some from upto = le-trans s r.key n from.0 upto.0
+above_first s n (r ∷ rs) some from upto = le_trans s r.key n from.0 upto.0
 
 follow_from : (s previous : List ℕ) (b : List RowEntry) (bs : List (List RowEntry)) → key_le s (first_key b) ≡ true → AreSome (b ∷ bs) → AreInOrder (b ++ flat_map (λ x. x) bs) →
     Follow s (later_separators (last_key previous b) bs)

@@ -14,7 +14,8 @@ use Rattle.slate_block.specs.BlockReading.{Rise, AreOffsets}
 use Rattle.slate_block.specs.BlockSpelling.{IsBlockOf, IsKnown, is_known}
 use Rattle.slate_block.specs.Damage.{◌>>=◌}
 use Rattle.slate_block.specs.ReadingLaws.{EachIsAByte}
-use Rattle.slate_block.specs.Walks.{RowRead, all_ok, joined, block_reads, block_rows}
+use Rattle.slate_block.specs.Walks.{RowRead, all_ok, block_reads, block_rows}
+use Rattle.slate_block.proofs.GroupRows.{joined}
 use Rattle.slate_block.proofs.Versions.{known, is_known_of}
 use Rattle.slate_block.proofs.WalkedVersions.{walks_read}
 use Rattle.slate_table.specs.declared.info.SsTableHandle.{SsTableHandle}

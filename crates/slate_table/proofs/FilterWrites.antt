@@ -14,10 +14,6 @@ use Rattle.slate_table.specs.Parts.{Encode, section, filter_bytes}
 use Rattle.slate_table.specs.Table.{FitsFilter, filter_section}
 use Rattle.slate_table.specs.TableEnd.{HasShortNames}
 
-pub both_ok : {T E P Q R : Type 0} (r : Result T E) → (P → Q → R) → OnOk r P → OnOk r Q → OnOk r R
-both_ok (Ok x) f p q = f p q
-both_ok (Err e) f p q = tt
-
 -- ---- names are those of the policies
 
 abbrev built : {A : Type 0} → List A → (A → Policy) → List RowEntry → List (List ℕ × List ℕ)

@@ -68,7 +68,7 @@ record SameFront (a b : List ℕ) (m n : List ℕ) (v w : ℕ) : Type 0 where
   pub front : a ≡ b
   pub info : m ≡ n
 
-front_length : (b f i s : List ℕ) → length (b ++ f ++ i ++ s) ≡ length b + length f + length i + length s
+pub front_length : (b f i s : List ℕ) → length (b ++ f ++ i ++ s) ≡ length b + length f + length i + length s
 front_length b f i s =
     let l1 = length-append b f in
     let l2 = length-append (b ++ f) i in

@@ -49,6 +49,7 @@ use Rattle.slate_table.proofs.IndexOrder.{index_is, paired_count}
 use Rattle.slate_table.proofs.StatsReads.{stats_again}
 use Rattle.slate_table.proofs.Sections.{sections_count, section_placed}
 use Rattle.slate_table.proofs.FrameReads.{part_at, part_within, starts_at, starts_rise, upto_end, answered, part_is, sections_split, in_stats, in_index, block_split, stands}
+use Rattle.slate_types.proofs.Lists.{AllByRecursion_slice_get}
 
 -- ---- a table's bytes
 
@@ -230,11 +231,6 @@ index_found encode decode lawful objects before after path version id blocks fil
 
 -- ---- a block
 
-all_at : {A : Type 0} (P : A → Type 0) (xs : List A) (k : ℕ) (x : A) → AllByRecursion P xs → slice_get xs k ≡ Some x → P x
-all_at P [] k x f h = absurd cc
-all_at P (y ∷ ys) zero x f h = subst P (same_Some y x h) f.0
-all_at P (y ∷ ys) (suc k) x f h = all_at P ys k x f.1 h
-
 abbrev start_of : Encode → ℕ → ℕ → List (List RowEntry) → ℕ → ℕ
 start_of encode version id blocks block = block_start (blocks_end encode version id blocks) (table_entries encode version id blocks) block
 
@@ -297,7 +293,7 @@ piece_answer encode objects before after path version id blocks filters block wr
 
 is_block : (encode : Encode) (bytes : List ℕ) (version id : ℕ) (blocks : List (List RowEntry)) (filters : List (List ℕ × List ℕ)) (block : ℕ) (written : List RowEntry) → IsTableOf encode bytes version id blocks filters → slice_get blocks block ≡ Some written →
     IsBlock (block_bytes version written) version (map (as_read version) written)
-is_block encode bytes version id blocks filters block written t there = longest_fronts version written t.known (all_at (FitsBlock version) blocks block written t.each there)
+is_block encode bytes version id blocks filters block written t there = longest_fronts version written t.known (AllByRecursion_slice_get (FitsBlock version) blocks block written t.each there)
 
 block_held : (encode decode : Encode) → IsLawfulTransform encode decode → (objects : Option Objects) (before after : Option (List Act)) (path : List ℕ) (version id : ℕ) (blocks : List (List RowEntry)) (filters : List (List ℕ × List ℕ)) (block : ℕ) (written rows : List RowEntry) →
     HoldsTable encode objects path version id blocks filters → slice_get blocks block ≡ Some written → let end = blocks_end encode version id blocks in let entries = table_entries encode version id blocks in

@@ -13,8 +13,8 @@ use Rattle.std.proofs.lemmas.Slice.Eq.{bytes_eq-Decides}
 use Rattle.slate_types.specs.declared.types.RowEntry.{RowEntry}
 use Rattle.slate_types.specs.Keys.{key_cmp, key_le, key_lt}
 use Rattle.slate_types.specs.Rows.{row_lt}
-use Rattle.slate_types.proofs.KeyOrder.{same-key, lt-le}
-use Rattle.slate_types.proofs.PartitionLaws.{le-trans}
+use Rattle.slate_types.proofs.KeyOrder.{equal_keys, lt_le}
+use Rattle.slate_types.proofs.PartitionLaws.{le_trans}
 use Rattle.slate_block.specs.RowSpelling.{be16, be32, be64}
 use Rattle.slate_block.specs.BlockSpelling.{block_bytes, places, longest, FitsBlock}
 use Rattle.slate_block.proofs.Pieces.{same_head}
@@ -43,7 +43,7 @@ take_le (suc n) [] = refl
 take_le (suc n) (y ∷ b) = le_same y (take n b) b ∙ take_le n b
 
 tied : (x y : ℕ) → nat_cmp x y ≡ Equal → x ≡ y
-tied x y e = same_head x y [] [] (same-key (x ∷ []) (y ∷ []) (ap (λ (o : Ordering). ordering_then o Equal) e))
+tied x y e = same_head x y [] [] (equal_keys (x ∷ []) (y ∷ []) (ap (λ (o : Ordering). ordering_then o Equal) e))
 
 decided : (o p q : Ordering) → (o ≡ Equal → ⊥) → is_le (ordering_then o p) ≡ true → is_le (ordering_then o q) ≡ true
 decided Less p q apart h = refl
@@ -85,7 +85,7 @@ row_le : (r s : RowEntry) → row_lt r s ≡ true → key_le r.key s.key ≡ tru
 row_le r s h = by (key_lt r.key s.key) (bytes_eq r.key s.key) refl refl h
   where
     by : (t u : Bool) → key_lt r.key s.key ≡ t → bytes_eq r.key s.key ≡ u → (t || (u && nat_lt s.seq r.seq)) ≡ true → key_le r.key s.key ≡ true
-    by true u e f h = lt-le r.key s.key e
+    by true u e f h = lt_le r.key s.key e
     by false true e f h = subst (λ (k : List ℕ). key_le r.key k ≡ true) ((bytes_eq-Decides r.key s.key).0 f) (le_itself r.key)
     by false false e f h = absurd cc
 
@@ -106,7 +106,7 @@ cut_order : (r : RowEntry) (b rest : List RowEntry) → AreInOrder ((r ∷ b) ++
 cut_order r [] rest o = record { low = le_itself r.key; later = all_above r rest o.0; order = o.1 }
 cut_order r (q ∷ b) rest o =
     let next = cut_order q b rest o.1 in
-    record { low = le-trans r.key q.key (last_key q.key b) (row_le r q o.0.0) next.low; later = next.later; order = next.order }
+    record { low = le_trans r.key q.key (last_key q.key b) (row_le r q o.0.0) next.low; later = next.later; order = next.order }
 
 -- ---- the entries rise
 
@@ -125,8 +125,8 @@ later_rise version from at key previous ((r ∷ b) ∷ bs) (s ∷ ss) n lt le ab
     let sep = separator previous r.key in
     let more : 0 < length s = long.0 in (
       lt,
-      le-trans key previous sep le (separator_above previous r.key above.0),
-      later_rise version at (at + length s) sep (last_key r.key b) bs ss (omega (arith, n)) (omega (arith, more)) (le-trans sep r.key (last_key r.key b) (separator_below previous r.key) cut.low) cut.later cut.order fits.1 long.1,
+      le_trans key previous sep le (separator_above previous r.key above.0),
+      later_rise version at (at + length s) sep (last_key r.key b) bs ss (omega (arith, n)) (omega (arith, more)) (le_trans sep r.key (last_key r.key b) (separator_below previous r.key) cut.low) cut.later cut.order fits.1 long.1,
     )
 
 entries_rise : (version : ℕ) (bs : List (List RowEntry)) (ss : List (List ℕ)) → 0 < length bs → length ss ≡ length bs → AreInOrder (flat_map (λ b. b) bs) → AllByRecursion (FitsBlock version) bs → Longer ss → RisesFromZero (paired (places 0 ss) (separators bs))

@@ -11,7 +11,7 @@ use Rattle.slate_types.specs.declared.error.SlateDBError.{SlateDBError}
 use Rattle.slate_types.specs.declared.error.SlateDBError.TheVariants.{CorruptTable}
 use Rattle.std.specs.Ordering.{is_lt, is_le, ordering_reverse}
 use Rattle.slate_types.specs.Keys.{key_cmp, key_lt, key_le}
-use Rattle.slate_types.proofs.KeyOrder.{turned-key}
+use Rattle.slate_types.proofs.KeyOrder.{turned_key}
 use Rattle.slate_block.specs.RowSpelling.{be16, be32, be64}
 use Rattle.slate_block.specs.Damage.{◌>>=◌, Field, number_field, block_field}
 use Rattle.slate_block.proofs.Groups.{IsBytes}
@@ -19,6 +19,7 @@ use Rattle.slate_block.proofs.FieldLaws.{bind_ok, ok_is, Stands, behind, wide16,
 use Rattle.slate_block.proofs.ReadingLaws.{then}
 use Rattle.slate_table.specs.Decoded.{entry_bytes, FitsEntry, RisesFrom, RisesFromZero, IsIndex}
 use Rattle.slate_table.specs.IndexReading.{is_next_offset, is_next_key, offset_field, separator_field, entry_field, entries_from, counted, index_of, index_keys}
+use Rattle.slate_types.proofs.Plain.{both_true}
 
 abbrev pub Entry : Type 0
 Entry = ℕ × List ℕ
@@ -104,10 +105,6 @@ pub follow : (e : Entry) (es : List Entry) → RisesFrom e es → Follow (Some e
 follow e [] r = tt
 follow e (x ∷ es) r = ((r.0, r.1), follow x es r.2)
 
-both : (s t : Bool) → (s && t) ≡ true → (s ≡ true) × (t ≡ true)
-both true t h = (refl, h)
-both false t h = absurd cc
-
 if_ok : {A : Type 0} (s : Bool) (d : SlateDBError) (x y : A) → cond s (Ok x) (Err d) ≡ Ok y → (s ≡ true) × (x ≡ y)
 if_ok true d x y e = (refl, ok_is x y e)
 if_ok false d x y e = absurd cc
@@ -124,7 +121,7 @@ offset_takes end last bytes at n next fits e =
     let a = bind_ok (number_field w64 bytes at) (λ offset. cond (is_next_offset last offset.0 && leb offset.0 end) (Ok offset) (Err (CorruptTable at))) (n, next) e in
     let t = number_takes w64 (2 ^ 64) wide64 bytes at a.0.0 a.0.1 fits a.1 in
     let g = if_ok (is_next_offset last a.0.0 && leb a.0.0 end) (CorruptTable at) a.0 (n, next) a.2 in
-    let tests = both (is_next_offset last a.0.0) (leb a.0.0 end) g.0 in
+    let tests = both_true (is_next_offset last a.0.0) (leb a.0.0 end) g.0 in
     subst (λ (p : ℕ × ℕ). OffsetTakes end last bytes at p.0 p.1) g.1 (record { here = t.0; fits = t.1; within = leb-true a.0.0 end tests.1; rises = tests.0 })
 
 record SeparatorTakes (last : Option Entry) (bytes : List ℕ) (at start stop : ℕ) : Type 0 where
@@ -313,7 +310,7 @@ not_below Equal h = refl
 not_below Greater h = cc
 
 above : (a b : List ℕ) → IsTrue (key_le a b) → key_lt b a ≡ false
-above a b h = ap is_lt (turned-key b a) ∙ not_below (key_cmp a b) h
+above a b h = ap is_lt (turned_key b a) ∙ not_below (key_cmp a b) h
 
 same_place : (k : ℕ) → suc k + 1 ≡ suc (k + 1)
 same_place k = omega arith

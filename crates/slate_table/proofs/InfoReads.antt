@@ -10,7 +10,7 @@ use Rattle.slate_types.specs.declared.error.SlateDBError.TheVariants.{CorruptTab
 use Rattle.slate_block.specs.RowSpelling.{be16, be64}
 use Rattle.slate_block.specs.Damage.{◌>>=◌, Field, number_field, block_field}
 use Rattle.slate_block.proofs.Groups.{IsBytes}
-use Rattle.slate_block.proofs.FieldLaws.{bind_ok, guard_ok, ok_is, Stands, behind, wide16, wide64, number_takes, number_again, block_takes, block_again, block_text}
+use Rattle.slate_block.proofs.FieldLaws.{bind_ok, guard_ok, ok_is, Stands, behind, wide16, wide64, number_takes, number_again, block_takes, block_again, block_text, front_byte}
 use Rattle.slate_block.proofs.ReadingLaws.{then}
 use Rattle.slate_table.proofs.Results.{bind_again}
 use Rattle.slate_table.specs.Parts.{Place, key_bytes, place_bytes, info_bytes}
@@ -119,7 +119,7 @@ place_takes end bytes at p next fits h =
     subst (λ (q : (ℕ × ℕ) × ℕ). PlaceTakes end bytes at q.0 q.1) k.1
     (record { here = here; fits = (t0.1, t1.1); before = omega (arith, ltb-false end a.0.0 g.0, ltb-false (end - a.0.0) b.0.0 k.0) })
 
-drop_all : (bytes : List ℕ) (n : ℕ) → length bytes ≤ n → drop n bytes ≡ []
+pub drop_all : (bytes : List ℕ) (n : ℕ) → length bytes ≤ n → drop n bytes ≡ []
 drop_all bytes n le = nil_from_length (drop n bytes) (omega (arith, length-drop n bytes))
 
 ending_takes : (bytes : List ℕ) (at : ℕ) → ending bytes at ≡ Ok tt → drop at bytes ≡ 0 ∷ 1 ∷ []
@@ -194,12 +194,6 @@ info_reads version end bytes i fits h =
     })
 
 -- ---- what is spelled is read
-
-front_byte : (bytes : List ℕ) (at b : ℕ) (rest : List ℕ) → drop at bytes ≡ b ∷ rest → slice_get bytes at ≡ Some b
-front_byte [] zero b rest h = absurd cc
-front_byte [] (suc at) b rest h = absurd cc
-front_byte (x ∷ bytes) zero b rest h = ap Some (ap (λ (l : List ℕ). get_or l 0 0) h)
-front_byte (x ∷ bytes) (suc at) b rest h = front_byte bytes at b rest h
 
 byte_again : (bytes : List ℕ) (at b : ℕ) (rest : List ℕ) → drop at bytes ≡ b ∷ rest → byte_field bytes at ≡ Ok (b, at + 1)
 unfolding byte_field

@@ -15,7 +15,7 @@ use Rattle.slate_block.specs.BlockSpelling.{IsKnown}
 use Rattle.slate_block.proofs.Versions.{below_16, is_known_of}
 use Rattle.slate_block.proofs.Groups.{IsBytes}
 use Rattle.slate_block.proofs.Pieces.{same_ends, same_pieces, same_be64}
-use Rattle.slate_block.proofs.FieldLaws.{IsBytes-drop, ok_is, behind, wide16, wide64, number_again}
+use Rattle.slate_block.proofs.FieldLaws.{IsBytes_drop, ok_is, behind, wide16, wide64, number_again}
 use Rattle.slate_table.specs.Parts.{Encode, cover_of, info_kind, summed}
 use Rattle.slate_filter.specs.Policy.{Policy, filters_of}
 use Rattle.slate_table.specs.TableEnd.{HasInfo}
@@ -181,7 +181,7 @@ opened encode objects before after path version found id blocks filters info h o
 -- ---- nothing is refused, where each number of the object is a byte
 
 pub bytes_behind : (a b : List ℕ) → IsBytes (a ++ b) → IsBytes b
-bytes_behind a b fits = subst IsBytes (drop_at a b (length a) refl) (IsBytes-drop (length a) (a ++ b) fits)
+bytes_behind a b fits = subst IsBytes (drop_at a b (length a) refl) (IsBytes_drop (length a) (a ++ b) fits)
 
 pub sealed_bytes : (bytes a s b : List ℕ) → bytes ≡ a ++ (s ++ b) → IsBytes bytes → IsBytes s
 sealed_bytes bytes a s b is fits = front_bytes s b (bytes_behind a (s ++ b) (subst IsBytes is fits))

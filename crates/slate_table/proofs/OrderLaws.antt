@@ -7,7 +7,7 @@ use Rattle.std.specs.Ordering.{is_lt}
 use Rattle.std.proofs.lemmas.Option.{slice_get-get_or}
 use Rattle.slate_types.specs.declared.types.RowEntry.{RowEntry}
 use Rattle.slate_types.specs.Rows.{row_lt, sequenced, sequenced_cmp}
-use Rattle.slate_types.proofs.RowLaws.{sequenced-total, rows-by-sequenced}
+use Rattle.slate_types.proofs.RowLaws.{sequenced_total, rows_by_sequenced}
 use Rattle.slate_table.specs.Table.{AreInOrder}
 
 less : (o : Ordering) → is_lt o ≡ true → o ≡ Less
@@ -17,9 +17,9 @@ less Greater h = cc
 
 before_later : (a b c : RowEntry) → IsTrue (row_lt a b) → IsTrue (row_lt b c) → IsTrue (row_lt a c)
 before_later a b c h k =
-    let first : sequenced_cmp (sequenced a) (sequenced b) ≡ Less = less (sequenced_cmp (sequenced a) (sequenced b)) (sym (rows-by-sequenced a b) ∙ h) in
-    let second : sequenced_cmp (sequenced b) (sequenced c) ≡ Less = less (sequenced_cmp (sequenced b) (sequenced c)) (sym (rows-by-sequenced b c) ∙ k) in
-    rows-by-sequenced a c ∙ ap is_lt (sequenced-total.trans (sequenced a) (sequenced b) (sequenced c) first second)
+    let first : sequenced_cmp (sequenced a) (sequenced b) ≡ Less = less (sequenced_cmp (sequenced a) (sequenced b)) (sym (rows_by_sequenced a b) ∙ h) in
+    let second : sequenced_cmp (sequenced b) (sequenced c) ≡ Less = less (sequenced_cmp (sequenced b) (sequenced c)) (sym (rows_by_sequenced b c) ∙ k) in
+    rows_by_sequenced a c ∙ ap is_lt (sequenced_total.trans (sequenced a) (sequenced b) (sequenced c) first second)
 
 abbrev pub comes_last : List RowEntry → RowEntry → Bool
 comes_last [] row = true

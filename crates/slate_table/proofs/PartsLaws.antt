@@ -21,6 +21,7 @@ use Rattle.slate_table.specs.TableParts.{version_of, cover_behind, separator_beh
 use Rattle.slate_table.proofs.IndexLaws.{separators_count}
 use Rattle.slate_table.proofs.Sections.{sections_end}
 use Rattle.slate_table.proofs.Cuttings.{Begun, cut_is, cutting_more, cut_same, cut_next, cutting_rows, separators_next, separators_same, places_end}
+use Rattle.slate_types.proofs.Lists.{AllByRecursion_push}
 
 pub last_of : (k : List ℕ) (rows : List RowEntry) (q r : RowEntry) → slice_get (r ∷ rows) (length rows) ≡ Some q → last_key r.key rows ≡ q.key
 last_of k [] q r h = let same : r ≡ q = cc in ap (λ (x : RowEntry). x.key) same
@@ -129,10 +130,6 @@ behind_some : (rows : List RowEntry) (key : List ℕ) → Begun rows → separat
 behind_some [] key h = absurd h
 behind_some (r ∷ rs) key h = refl
 
-pub all_end : {X : Type 0} (P : X → Type 0) (xs : List X) (x : X) → AllByRecursion P xs → P x → AllByRecursion P (xs ++ x ∷ [])
-all_end P [] x a h = (h, tt)
-all_end P (y ∷ xs) x a h = (a.0, all_end P xs x a.1 h)
-
 -- ---- a row that fits
 
 next_same : (p q : TableParts) (r : RowEntry) → Stands p → fits_parts p r ≡ true → IsTaken p r q → cut_parts q ≡ record { ended = (cut_parts p).ended; filling = (cut_parts p).filling ++ r ∷ [] }
@@ -157,7 +154,7 @@ taken_stands p q r s fit t order lengths =
       blocks = subst (λ (l : List (List ℕ)). length l < 2 ^ 32) (sym seps) (sep_few c.ended c.filling p.rows.items p.separators.items r s.separators s.blocks begun);
       each = subst (λ (f : BlockFormat). AllByRecursion (FitsBlock (version_of f)) c.ended) (sym t.format) s.each;
       order = subst AreInOrder (sym t.rows) order;
-      lengths = subst (AllByRecursion CanTake) (sym t.rows) (all_end CanTake p.rows.items r s.lengths lengths);
+      lengths = subst (AllByRecursion CanTake) (sym t.rows) (AllByRecursion_push CanTake p.rows.items r s.lengths lengths);
       keys = t.keys ∙ ap (λ (n : ℕ). n + length r.key) s.keys ∙ key_sum p.rows.items r ∙ ap (λ (l : List RowEntry). sum_by (λ x. length x.key) l) (sym t.rows);
       values = t.values ∙ ap (λ (n : ℕ). n + length (operand r)) s.values ∙ value_sum p.rows.items r ∙ ap (λ (l : List RowEntry). sum_by (λ x. length (operand x)) l) (sym t.rows);
     })
@@ -196,9 +193,9 @@ behind_stands encode p q r s fit b order lengths room =
       begins = omega (arith, ap length b.offsets, length-append p.offsets.items (length p.bytes.items ∷ []), s.begins, length-append c.ended (c.filling ∷ []));
       blocks = omega (arith, count, room);
       each = subst (λ (f : BlockFormat). AllByRecursion (FitsBlock (version_of f)) (c.ended ++ c.filling ∷ [])) (sym b.format)
-          (all_end (FitsBlock (version_of p.format)) c.ended c.filling s.each (fits_block c p s b.fits));
+          (AllByRecursion_push (FitsBlock (version_of p.format)) c.ended c.filling s.each (fits_block c p s b.fits));
       order = subst AreInOrder (sym b.rows) order;
-      lengths = subst (AllByRecursion CanTake) (sym b.rows) (all_end CanTake p.rows.items r s.lengths lengths);
+      lengths = subst (AllByRecursion CanTake) (sym b.rows) (AllByRecursion_push CanTake p.rows.items r s.lengths lengths);
       keys = b.keys ∙ ap (λ (n : ℕ). n + length r.key) s.keys ∙ key_sum p.rows.items r ∙ ap (λ (l : List RowEntry). sum_by (λ x. length x.key) l) (sym b.rows);
       values = b.values ∙ ap (λ (n : ℕ). n + length (operand r)) s.values ∙ value_sum p.rows.items r ∙ ap (λ (l : List RowEntry). sum_by (λ x. length (operand x)) l) (sym b.rows);
     })

@@ -14,19 +14,19 @@ abbrev same_digits : ℕ → Bool
 same_digits zero = true
 same_digits (suc n) = (slice_index lower_digits n == hex_digit n) && same_digits n
 
-digit-below : (n k : ℕ) → same_digits n ≡ true → k < n → slice_index lower_digits k ≡ hex_digit k
-digit-below zero k h lt = absurd (omega arith)
-digit-below (suc n) k h lt =
+digit_below : (n k : ℕ) → same_digits n ≡ true → k < n → slice_index lower_digits k ≡ hex_digit k
+digit_below zero k h lt = absurd (omega arith)
+digit_below (suc n) k h lt =
     let parts = and_parts (slice_index lower_digits n == hex_digit n) (same_digits n) h in
     elim (cases_lt k n) [
-      | inl below ↦ digit-below n k parts.1 below
+      | inl below ↦ digit_below n k parts.1 below
       | inr top ↦
           let same : k ≡ n = omega arith in
           rw same (eqb-true (slice_index lower_digits n) (hex_digit n) parts.0)
     ]
 
 digit_is : (k : ℕ) → k < 16 → slice_index lower_digits k ≡ hex_digit k
-digit_is k lt = digit-below 16 k refl lt
+digit_is k lt = digit_below 16 k refl lt
 
 abbrev twice : ℕ → ℕ
 twice zero = zero

@@ -72,10 +72,6 @@ pub if_ok : {T E : Type 0} (r : Result T E) (P : T → Type 0) → ((x : T) → 
 if_ok (Ok x) P f = f x
 if_ok (Err e) P f = tt
 
-pub if_ok_both : {T E : Type 0} (r : Result T E) (P Q R : T → Type 0) → ((x : T) → P x → Q x → R x) → IfOk r P → IfOk r Q → IfOk r R
-if_ok_both (Ok x) P Q R f p q = f x p q
-if_ok_both (Err e) P Q R f p q = tt
-
 pub ok_is : {T E : Type 0} (r : Result T E) (t : Bool) → t ≡ is_ok r → OnOk r (t ≡ true)
 ok_is (Ok x) t is = is
 ok_is (Err e) t is = tt
@@ -128,8 +124,3 @@ transform_still (Ok x) m is p = inr (inr p)
 transform_still (Err e) (Ok x) is p = absurd is
 transform_still (Err TransformFailed) (Err d) is p = inl (ap (λ (x : SlateDBError). Err x) is)
 transform_still (Err TransformerWantsMemory) (Err d) is p = inr (inl (ap (λ (x : SlateDBError). Err x) is))
-
--- the exit of a `?`
-pub err_exit : {T E : Type 0} (r : Result T E) (e : E) → IsErrAnd r (λ d. d ≡ e) → (P : E → Type 0) → P e → IfErr r P
-err_exit (Ok x) e is P p = absurd is
-err_exit (Err d) e is P p = subst P (sym is) p

@@ -10,7 +10,7 @@ use Rattle.slate_types.specs.declared.error.SlateDBError.TheVariants.{CorruptTab
 use Rattle.slate_block.specs.RowSpelling.{be16, be32, be64}
 use Rattle.slate_block.specs.Damage.{number_field}
 use Rattle.slate_block.proofs.Groups.{IsBytes}
-use Rattle.slate_block.proofs.FieldLaws.{IsBytes-drop, ok_is, wide16, wide32, wide64, number_takes}
+use Rattle.slate_block.proofs.FieldLaws.{IsBytes_drop, ok_is, wide16, wide32, wide64, number_takes}
 use Rattle.slate_block.proofs.ReadingLaws.{then}
 use Rattle.slate_table.specs.Checksum.{crc_bit, crc_bits, crc_from, crc32}
 use Rattle.slate_table.specs.Parts.{cover_of, summed}
@@ -85,7 +85,7 @@ part_reads cover bytes part fits h =
     let long : 4 ≤ length bytes = ltb-false (length bytes) 4 g.0 in
     let tail = drop (length bytes - 4) bytes in
     let size : length tail ≡ 4 = omega (arith, length-drop (length bytes - 4) bytes) in
-    let back : be32 (stored_sum bytes) ≡ tail = wide32.back tail size (IsBytes-drop (length bytes - 4) bytes fits) in
+    let back : be32 (stored_sum bytes) ≡ tail = wide32.back tail size (IsBytes_drop (length bytes - 4) bytes fits) in
     let same : stored_sum bytes ≡ sum = eqb-true (stored_sum bytes) sum g.1 in
     sym (take-append-drop (length bytes - 4) bytes) ∙ ap (λ (l : List ℕ). part_of_sum bytes ++ l) (sym back ∙ ap be32 same) ∙ ap (summed cover) g.2
 

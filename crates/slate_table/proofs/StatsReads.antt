@@ -16,6 +16,7 @@ use Rattle.slate_block.proofs.ReadingLaws.{then}
 use Rattle.slate_table.proofs.Results.{bind_again}
 use Rattle.slate_table.specs.Decoded.{Counts, Stats, FitCounts, counts_bytes, IsStats}
 use Rattle.slate_table.specs.StatsReading.{counts_of, three_numbers, block_stats_field, block_stats_from, stats_in}
+use Rattle.slate_table.proofs.InfoReads.{drop_all}
 
 -- ---- counts that were read, and those that are still to be read
 
@@ -114,9 +115,6 @@ blocks_take (suc count) bytes at bs next fits h =
     let made : List BlockStats × ℕ = (a.0.0 ∷ b.0.0, b.0.1) in
     subst (λ (p : List BlockStats × ℕ). BlocksTake (suc count) bytes at p.0 p.1) (ok_is made (bs, next) b.2)
     (record { here = text; counted = ap suc t1.counted; fits = (t0.fits, t1.fits) })
-
-drop_all : (bytes : List ℕ) (n : ℕ) → length bytes ≤ n → drop n bytes ≡ []
-drop_all bytes n le = nil_from_length (drop n bytes) (omega (arith, length-drop n bytes))
 
 abbrev made_stats : ℕ × ℕ × ℕ → ℕ → ℕ → List BlockStats → Stats
 made_stats n keys values bs = record { all = record { puts = n.0; deletes = n.1; merges = n.2 }; key_bytes = keys; value_bytes = values; blocks = map counts_of bs }

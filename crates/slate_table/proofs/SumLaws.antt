@@ -19,7 +19,8 @@ use Rattle.slate_table.specs.declared.table_parts.TableParts.{TableParts}
 use Rattle.slate_table.specs.TableBuilding.{Cutting, cut_more, cutting}
 use Rattle.slate_table.specs.TableParts.{version_of, cut_parts, HasSums, Stands}
 use Rattle.slate_table.proofs.Cuttings.{cutting_rows}
-use Rattle.slate_table.proofs.PartsLaws.{all_end, few_ended}
+use Rattle.slate_table.proofs.PartsLaws.{few_ended}
+use Rattle.slate_types.proofs.Lists.{AllByRecursion_push}
 
 abbrev key_len : RowEntry → ℕ
 key_len r = length r.key
@@ -108,7 +109,7 @@ small_more size version (q ∷ qs) r few each can fits =
     let within : size_with version (q ∷ qs) r ≤ size = le_of (size_with version (q ∷ qs) r) size fits in
     let bytes : length (flat_map (λ b. b) (spelled version ((q ∷ qs) ++ r ∷ []))) ≤ size_with version (q ∷ qs) r =
     in_size (offsets_counted version (q ∷ qs) r) (length (flat_map (λ b. b) (spelled version ((q ∷ qs) ++ r ∷ [])))) in
-    let keys = keys_each ((q ∷ qs) ++ r ∷ []) (all_end CanTake (q ∷ qs) r each can) in
+    let keys = keys_each ((q ∷ qs) ++ r ∷ []) (AllByRecursion_push CanTake (q ∷ qs) r each can) in
     let count = bytes_each version ((q ∷ qs) ++ r ∷ []) in
     let values = values_each version ((q ∷ qs) ++ r ∷ []) in
     few_in (length ((q ∷ qs) ++ r ∷ [])) (size_with version (q ∷ qs) r) (length (flat_map (λ b. b) (spelled version ((q ∷ qs) ++ r ∷ [])))) (sum_by key_len ((q ∷ qs) ++ r ∷ [])) (sum_by value_len ((q ∷ qs) ++ r ∷ []))
@@ -128,8 +129,8 @@ more_small : (size version : ℕ) (c : Cutting) (r : RowEntry) → size ≤ 6553
 more_small size version c r few h can = by (fits_in size version c.filling r) refl
   where
     by : (t : Bool) → fits_in size version c.filling r ≡ t → AreSmall (cond {A = Cutting} t (record { ended = c.ended; filling = c.filling ++ r ∷ [] }) (record { ended = c.ended ++ c.filling ∷ []; filling = r ∷ [] }))
-    by true fits = record { ended = h.ended; filling = small_more size version c.filling r few h.lengths can fits; lengths = all_end CanTake c.filling r h.lengths can }
-    by false fits = record { ended = all_end IsSmall c.ended c.filling h.ended h.filling; filling = small_one r can; lengths = (can, tt) }
+    by true fits = record { ended = h.ended; filling = small_more size version c.filling r few h.lengths can fits; lengths = AllByRecursion_push CanTake c.filling r h.lengths can }
+    by false fits = record { ended = AllByRecursion_push IsSmall c.ended c.filling h.ended h.filling; filling = small_one r can; lengths = (can, tt) }
 
 fold_small : (size version : ℕ) (c : Cutting) (rows : List RowEntry) → size ≤ 65535 → AreSmall c → AllByRecursion CanTake rows → AreSmall (fold (cut_more size version) c rows)
 fold_small size version c [] few h each = h

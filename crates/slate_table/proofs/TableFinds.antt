@@ -42,6 +42,8 @@ use Rattle.slate_table.proofs.IndexReads.{index_again}
 use Rattle.slate_table.proofs.InfoReads.{info_again}
 use Rattle.slate_table.proofs.SectionReads.{cover_bytes, part_again}
 use Rattle.slate_table.proofs.Sections.{block_count, same_summed, section_length, section_placed}
+use Rattle.slate_types.proofs.Lists.{AllByRecursion_slice_get, AllByRecursion_append, slice_get_drop, slice_get_map}
+use Rattle.slate_table.proofs.FrameLaws.{front_length}
 
 -- ---- the info
 
@@ -54,13 +56,6 @@ made_info rows b f i s = record {
   stats = record { at = length b + length f + length i; len = length s };
 }
 
-fronts_length : (b f i s : List ℕ) → length (b ++ f ++ i ++ s) ≡ length b + length f + length i + length s
-fronts_length b f i s =
-    let l1 = length-append b f in
-    let l2 = length-append (b ++ f) i in
-    let l3 = length-append (b ++ f ++ i) s in
-    omega (arith, l1, l2, l3)
-
 info_is : (bytes : List ℕ) (v id : ℕ) (info : Info) (version : ℕ) (rows : List RowEntry) (b f i s : List ℕ) → version < 2 ^ 16 → length bytes < 2 ^ 64 → FitsShort (some_first rows) → FitsShort (some_last rows) →
     bytes ≡ sections_then_info version id rows b f i s → HasInfo bytes v id info → (v ≡ version) × (info ≡ made_info rows b f i s)
 unfolding made_info
@@ -68,7 +63,7 @@ info_is bytes v id info version rows b f i s known short first last is h =
     let x = b ++ f ++ i ++ s in
     let n = length b + length f + length i + length s in
     let part = info_of version rows (length b) f i s in
-    let front : length x ≡ n = fronts_length b f i s in
+    let front : length x ≡ n = front_length b f i s in
     let there = cover_of v id info_kind (length h.before) in
     let here = cover_of version id info_kind n in
     let e0 : ((h.before ++ summed there h.part) ++ be64 (length h.before)) ++ be16 v ≡ ((x ++ summed here part) ++ be64 n) ++ be16 version =
@@ -108,13 +103,9 @@ keys_short version b f = each b f.each
     each [] h = tt
     each (r ∷ rs) h = (h.0.key.1, each rs h.1)
 
-all_both : {X : Type 0} (P : X → Type 0) (xs ys : List X) → AllByRecursion P xs → AllByRecursion P ys → AllByRecursion P (xs ++ ys)
-all_both P [] ys h k = k
-all_both P (x ∷ xs) ys h k = (h.0, all_both P xs ys h.1 k)
-
 all_short : (version : ℕ) (bs : List (List RowEntry)) → AllByRecursion (FitsBlock version) bs → AllByRecursion (λ r. length r.key < 2 ^ 16) (flat_map (λ b. b) bs)
 all_short version [] f = tt
-all_short version (b ∷ bs) f = all_both (λ r. length r.key < 2 ^ 16) b (flat_map (λ x. x) bs) (keys_short version b f.0) (all_short version bs f.1)
+all_short version (b ∷ bs) f = AllByRecursion_append (λ r. length r.key < 2 ^ 16) b (flat_map (λ x. x) bs) (keys_short version b f.0) (all_short version bs f.1)
 
 first_short : (rows : List RowEntry) → AllByRecursion (λ r. length r.key < 2 ^ 16) rows → FitsShort (some_first rows)
 first_short [] h = tt
@@ -360,16 +351,6 @@ taken_get [] (suc n) i x h = cc
 taken_get (y ∷ xs) (suc n) zero x h = (h, omega arith)
 taken_get (y ∷ xs) (suc n) (suc i) x h = let rest = taken_get xs n i x h in (rest.0, omega (arith, rest.1))
 
-dropped_get : {X : Type 0} (xs : List X) (f i : ℕ) (x : X) → slice_get (drop f xs) i ≡ Some x → slice_get xs (f + i) ≡ Some x
-dropped_get xs zero i x h = ap (slice_get xs) (let e : 0 + i ≡ i = omega arith in e) ∙ h
-dropped_get [] (suc f) i x h = cc
-dropped_get (y ∷ xs) (suc f) i x h = ap (slice_get (y ∷ xs)) (let e : suc f + i ≡ suc (f + i) = omega arith in e) ∙ dropped_get xs f i x h
-
-mapped_get : {X Y : Type 0} (f : X → Y) (xs : List X) (i : ℕ) (x : X) → slice_get xs i ≡ Some x → slice_get (map f xs) i ≡ Some (f x)
-mapped_get f [] i x h = cc
-mapped_get f (y ∷ xs) zero x h = ap (λ z. Some (f z)) (same_Some y x h)
-mapped_get f (y ∷ xs) (suc i) x h = mapped_get f xs i x h
-
 begin_is : (end : ℕ) (es : List (ℕ × List ℕ)) (i at : ℕ) → slice_get (map (λ e. e.0) es) i ≡ Some at → block_start end es i ≡ at
 begin_is end [] i at h = cc
 begin_is end (e ∷ es) zero at h = same_Some e.0 at h
@@ -379,7 +360,7 @@ begin_is end (e ∷ es) (suc i) at h = begin_is end es i at h
 pub block_there : (encode : Encode) (version id end : ℕ) (bs : List (List RowEntry)) (es : List (ℕ × List ℕ)) (i : ℕ) (b : List RowEntry) → map (λ e. e.0) es ≡ places 0 (block_sections encode version id bs) → slice_get bs i ≡ Some b →
     slice_get (block_sections encode version id bs) i ≡ Some (section (cover_of version id block_kind (block_start end es i)) encode (block_bytes version b))
 block_there encode version id end bs es i b are here =
-    let at = section_placed version id encode 0 (map (λ c. block_bytes version c) bs) i (block_bytes version b) (mapped_get (λ c. block_bytes version c) bs i b here) in
+    let at = section_placed version id encode 0 (map (λ c. block_bytes version c) bs) i (block_bytes version b) (slice_get_map (λ c. block_bytes version c) bs i b here) in
     let begins_at : block_start end es i ≡ at.begin = begin_is end es i at.begin (ap (λ xs. slice_get xs i) are ∙ at.place) in
     at.there ∙ ap (λ n. Some (section (cover_of version id block_kind n) encode (block_bytes version b))) (sym begins_at)
 
@@ -414,11 +395,6 @@ all_dropped P (suc n) (x ∷ xs) h = all_dropped P n xs h.1
 flat_read : (version : ℕ) (xs : List (List RowEntry)) → flat_map (λ b. b) (map (map (as_read version)) xs) ≡ map (as_read version) (flat_map (λ b. b) xs)
 flat_read version [] = refl
 flat_read version (x ∷ xs) = ap (λ ys. map (as_read version) x ++ ys) (flat_read version xs) ∙ sym (Rattle.std.proofs.lemmas.List.map-append (as_read version) x (flat_map (λ b. b) xs))
-
-all_get : {X : Type 0} (P : X → Type 0) (xs : List X) (i : ℕ) (x : X) → AllByRecursion P xs → slice_get xs i ≡ Some x → P x
-all_get P [] i x h e = cc
-all_get P (y ∷ xs) zero x h e = subst P (same_Some y x e) h.0
-all_get P (y ∷ xs) (suc i) x h e = all_get P xs i x h.1 e
 
 all_some : (version : ℕ) (bs : List (List RowEntry)) → AllByRecursion (FitsBlock version) bs → AreSome bs
 unfolding AreSome
@@ -517,13 +493,13 @@ key_held encode decode lawful bytes version id info rows t es read k first stop 
     one : (i : ℕ) (block : Block) (b : List RowEntry) → slice_get blocks i ≡ Some block → slice_get xs i ≡ Some b → IsBlockOf block.body block.offsets.items t.written (map (as_read t.written) b)
     one i block b e f =
         let inside = taken_get (drop first t.is.0) (stop - first) i b f in
-        let place : slice_get t.is.0 (first + i) ≡ Some b = dropped_get t.is.0 first i b inside.0 in
+        let place : slice_get t.is.0 (first + i) ≡ Some b = slice_get_drop t.is.0 first i b inside.0 in
         let cover = cover_of t.written id block_kind (block_start info.filters.at es (first + i)) in
         let there : slice_get at.ss (first + i) ≡ Some (section cover encode (block_bytes t.written b)) =
         ap (λ ss. slice_get ss (first + i)) at.are ∙ block_there encode t.written id info.filters.at t.is.0 es (first + i) b (index.0 ∙ ap (places 0) at.are) place in
         let answer = answer_is bytes at.rest at.ss es info.filters.at first stop (first + i) (section cover encode (block_bytes t.written b)) at.is at.end index.0 (omega arith) (omega (arith, inside.1)) there in
         block_is encode decode lawful t.written b (block_read t.written id info es first (blocks_answer bytes info es first stop) (first + i)) block t.is.2.known
-        (all_get (FitsBlock t.written) t.is.0 (first + i) b t.is.2.each place) answer (blocks_read i block e)
+        (AllByRecursion_slice_get (FitsBlock t.written) t.is.0 (first + i) b t.is.2.each place) answer (blocks_read i block e)
 
     blocks_are : AreBlocksOf version blocks (map (map (as_read version)) xs)
     blocks_are = subst (λ v. AreBlocksOf v blocks (map (map (as_read v)) xs)) (sym same) (all_of t.written blocks xs xs_count one)
@@ -654,7 +630,7 @@ not_refused encode decode lawful bytes version id info rows fits t = (index_fine
               let there : slice_get at.ss refuses.0 ≡ Some piece =
               ap (λ ss. slice_get ss refuses.0) at.are ∙ block_there encode t.written id info.filters.at t.is.0 es refuses.0 b (index.0 ∙ ap (places 0) at.are) found.2 in
               let answer = answer_is bytes at.rest at.ss es info.filters.at first stop refuses.0 piece at.is at.end index.0 refuses.1 refuses.2 there in
-              let spelled = longest_fronts t.written b t.is.2.known (all_get (FitsBlock t.written) t.is.0 refuses.0 b t.is.2.each found.2) in
+              let spelled = longest_fronts t.written b t.is.2.known (AllByRecursion_slice_get (FitsBlock t.written) t.is.0 refuses.0 b t.is.2.each found.2) in
               let apart = block_apart spelled.0 spelled.1 (block_bytes t.written b) t.written (map (as_read t.written) b) spelled.2 spelled.3 in
               let again = block_again_apart spelled.0 spelled.1 (block_bytes t.written b) apart in
               nothing_refused encode decode lawful (λ part. refusal (offsets_of_block part)) (block_bytes t.written b) (block_read t.written id info es first (blocks_answer bytes info es first stop) refuses.0) e answer

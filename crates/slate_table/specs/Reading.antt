@@ -2,6 +2,7 @@
 --     whole_answer size answer      what a store answers to a read of so many bytes, and nothing where they aren't so many
 --     IsRead objects before after path start size answer      the store was asked once for a range of an object, and answered so, as a whole
 --     Reads objects before after path start size means      the same, and the answer means this
+--     ReadsIndex, ReadsFilters, ReadsStats, ReadsBlocks      the same of a table's sections
 --     IsStoreFault before after e      want of memory, or a failure that raised the store's count of faults
 --     SectionRead      what a store answered where a section lies, and what the section's checksum covers beside its bytes
 --     section_read version id kind at answer      the same, of a section of a table of this id
@@ -32,6 +33,7 @@ use Rattle.slate_block.specs.RowReading.{refusal}
 use Rattle.slate_block.specs.BlockReading.{IsApart, offsets_of_block}
 use Rattle.slate_table.specs.declared.info.SsTableHandle.{SsTableHandle}
 use Rattle.slate_table.specs.declared.section.SectionPlace.{SectionPlace}
+use Rattle.slate_table.specs.Paths.{path_of}
 use Rattle.slate_table.specs.Parts.{Encode, cover_of, block_kind, filters_kind, index_kind, stats_kind, summed}
 use Rattle.slate_table.specs.Decoded.{IsFilters, IsIndex, Stats, IsStats}
 use Rattle.slate_table.specs.SectionReading.{part_in}
@@ -51,6 +53,16 @@ IsRead objects before after path start size answer =
 
 abbrev pub Reads : Option Objects → Option (List Act) → Option (List Act) → List ℕ → ℕ → ℕ → (Option (List ℕ) → Type 0) → Type 0
 Reads objects before after path start size means = (answer : Option (List ℕ)) × IsRead objects before after path start size answer × means answer
+
+-- h: what is kept of a table
+abbrev pub ReadsIndex : Option Objects → Option (List Act) → Option (List Act) → List ℕ → SsTableHandle → (Option (List ℕ) → Type 0) → Type 0
+ReadsIndex objects before after root h means = Reads objects before after (path_of root h.id.0) h.info.index_offset h.info.index_len means
+
+abbrev pub ReadsFilters : Option Objects → Option (List Act) → Option (List Act) → List ℕ → SsTableHandle → (Option (List ℕ) → Type 0) → Type 0
+ReadsFilters objects before after root h means = Reads objects before after (path_of root h.id.0) h.info.filter_offset h.info.filter_len means
+
+abbrev pub ReadsStats : Option Objects → Option (List Act) → Option (List Act) → List ℕ → SsTableHandle → (Option (List ℕ) → Type 0) → Type 0
+ReadsStats objects before after root h means = Reads objects before after (path_of root h.id.0) h.info.stats_offset h.info.stats_len means
 
 abbrev pub IsStoreFault : ℕ → ℕ → SlateDBError → Type 0
 IsStoreFault before after e = (e ≡ OutOfMemory) ⊎ ((e ≡ StoreFault) × Rose before after)
@@ -139,6 +151,10 @@ block_start end entries block = offset_or end (slice_get entries block)
 
 abbrev pub blocks_size : ℕ → List (ℕ × List ℕ) → ℕ → ℕ → ℕ
 blocks_size end entries first stop = block_start end entries stop - block_start end entries first
+
+abbrev pub ReadsBlocks : Option Objects → Option (List Act) → Option (List Act) → List ℕ → SsTableHandle → List (ℕ × List ℕ) → ℕ → ℕ → (Option (List ℕ) → Type 0) → Type 0
+ReadsBlocks objects before after root h entries first stop means =
+    Reads objects before after (path_of root h.id.0) (block_start h.info.filter_offset entries first) (blocks_size h.info.filter_offset entries first stop) means
 
 abbrev pub block_answer : ℕ → List (ℕ × List ℕ) → ℕ → Option (List ℕ) → ℕ → Option (List ℕ)
 block_answer end entries first answer block = part_of answer (blocks_size end entries first block) (blocks_size end entries block (block + 1))

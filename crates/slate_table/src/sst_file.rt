@@ -8,7 +8,7 @@ ghost use Rattle.slate_table.specs.Paths.{path_of};
 ghost use Rattle.slate_table.specs.SectionReading.{changed_by};
 ghost use Rattle.slate_table.specs.IndexValue.{entries_of};
 ghost use Rattle.slate_table.specs.StatsReading.{stats_of};
-ghost use Rattle.slate_table.specs.Reading.{Reads, of_index, of_stats, IsStoreFault, FailsDecoding, IsIndexRead, RefusesIndex, IsStatsRead, RefusesStats};
+ghost use Rattle.slate_table.specs.Reading.{ReadsIndex, ReadsStats, of_index, of_stats, IsStoreFault, FailsDecoding, IsIndexRead, RefusesIndex, IsStatsRead, RefusesStats};
 ghost use Rattle.slate_table.specs.Opening.{IsMeasured};
 ghost use Rattle.slate_table.specs.FileReading.{rows_in, ReadsRows, RefusesReadRows, FailsReadRows, MayReadRows};
 
@@ -82,9 +82,15 @@ impl SstFile {
     ) -> Result<Option<SstStats>, SlateDBError>
         ensures none { (result ≡ Ok None) ↔ (self.now.handle.info.stats_len ≡ 0) }
         ensures unread { self.now.handle.info.stats_len ≡ 0 → S.acts reader.new.store ≡ S.acts reader.old.store }
-        ensures found { IfOk result (λ answer. IfSome answer (λ stats. Reads (S.objects reader.old.store) (S.acts reader.old.store) (S.acts reader.new.store) (path_of (string_bytes reader.old.root_path) self.now.handle.id.0) self.now.handle.info.stats_offset self.now.handle.info.stats_len (λ answer. IsStatsRead (changed_by T.decoded reader.old.transformer) (of_stats self.now.handle answer) (stats_of stats)))) }
-        ensures cause { IfErr result (λ e. IsStoreFault (S.faults reader.old.store) (S.faults reader.new.store) e ⊎ Reads (S.objects reader.old.store) (S.acts reader.old.store) (S.acts reader.new.store) (path_of (string_bytes reader.old.root_path) self.now.handle.id.0) self.now.handle.info.stats_offset self.now.handle.info.stats_len (λ answer. FailsDecoding (faults_of T.faults reader.old.transformer) (faults_of T.faults reader.new.transformer) (of_stats self.now.handle answer) e) ⊎ Reads (S.objects reader.old.store) (S.acts reader.old.store) (S.acts reader.new.store) (path_of (string_bytes reader.old.root_path) self.now.handle.id.0) self.now.handle.info.stats_offset self.now.handle.info.stats_len (λ answer. RefusesStats (changed_by T.decoded reader.old.transformer) (of_stats self.now.handle answer) e)) }
-        ensures once { OnErr result ((S.acts reader.new.store ≡ S.acts reader.old.store) ⊎ Reads (S.objects reader.old.store) (S.acts reader.old.store) (S.acts reader.new.store) (path_of (string_bytes reader.old.root_path) self.now.handle.id.0) self.now.handle.info.stats_offset self.now.handle.info.stats_len (λ _. Unit {0})) }
+        ensures found { let reads = ReadsStats (S.objects reader.old.store) (S.acts reader.old.store) (S.acts reader.new.store) (string_bytes reader.old.root_path) self.now.handle in
+            IfOk result (λ answer. IfSome answer (λ stats. reads (λ answer. IsStatsRead (changed_by T.decoded reader.old.transformer) (of_stats self.now.handle answer) (stats_of stats)))) }
+        ensures cause { let reads = ReadsStats (S.objects reader.old.store) (S.acts reader.old.store) (S.acts reader.new.store) (string_bytes reader.old.root_path) self.now.handle in
+            IfErr result (λ e. IsStoreFault (S.faults reader.old.store) (S.faults reader.new.store) e
+            ⊎ reads (λ answer. FailsDecoding (faults_of T.faults reader.old.transformer) (faults_of T.faults reader.new.transformer) (of_stats self.now.handle answer) e)
+            ⊎ reads (λ answer. RefusesStats (changed_by T.decoded reader.old.transformer) (of_stats self.now.handle answer) e)) }
+        ensures once { let reads = ReadsStats (S.objects reader.old.store) (S.acts reader.old.store) (S.acts reader.new.store) (string_bytes reader.old.root_path) self.now.handle in
+            OnErr result ((S.acts reader.new.store ≡ S.acts reader.old.store)
+            ⊎ reads (λ _. Unit {0})) }
         ensures objects { S.objects reader.new.store ≡ S.objects reader.old.store }
         ensures root { reader.new.root_path ≡ reader.old.root_path }
         ensures same_encoded { changed_by T.encoded reader.new.transformer ≡ changed_by T.encoded reader.old.transformer }
@@ -119,9 +125,15 @@ impl SstFile {
         alloc: Global,
         reader: &mut SstReader<S, T>,
     ) -> Result<SstIndex, SlateDBError>
-        ensures found { IfOk result (λ index. Reads (S.objects reader.old.store) (S.acts reader.old.store) (S.acts reader.new.store) (path_of (string_bytes reader.old.root_path) self.now.handle.id.0) self.now.handle.info.index_offset self.now.handle.info.index_len (λ answer. IsIndexRead (changed_by T.decoded reader.old.transformer) self.now.handle.info.filter_offset (of_index self.now.handle answer) (entries_of index))) }
-        ensures cause { IfErr result (λ e. IsStoreFault (S.faults reader.old.store) (S.faults reader.new.store) e ⊎ Reads (S.objects reader.old.store) (S.acts reader.old.store) (S.acts reader.new.store) (path_of (string_bytes reader.old.root_path) self.now.handle.id.0) self.now.handle.info.index_offset self.now.handle.info.index_len (λ answer. FailsDecoding (faults_of T.faults reader.old.transformer) (faults_of T.faults reader.new.transformer) (of_index self.now.handle answer) e) ⊎ Reads (S.objects reader.old.store) (S.acts reader.old.store) (S.acts reader.new.store) (path_of (string_bytes reader.old.root_path) self.now.handle.id.0) self.now.handle.info.index_offset self.now.handle.info.index_len (λ answer. RefusesIndex (changed_by T.decoded reader.old.transformer) self.now.handle.info.filter_offset (of_index self.now.handle answer) e)) }
-        ensures once { OnErr result ((S.acts reader.new.store ≡ S.acts reader.old.store) ⊎ Reads (S.objects reader.old.store) (S.acts reader.old.store) (S.acts reader.new.store) (path_of (string_bytes reader.old.root_path) self.now.handle.id.0) self.now.handle.info.index_offset self.now.handle.info.index_len (λ _. Unit {0})) }
+        ensures found { let reads = ReadsIndex (S.objects reader.old.store) (S.acts reader.old.store) (S.acts reader.new.store) (string_bytes reader.old.root_path) self.now.handle in
+            IfOk result (λ index. reads (λ answer. IsIndexRead (changed_by T.decoded reader.old.transformer) self.now.handle.info.filter_offset (of_index self.now.handle answer) (entries_of index))) }
+        ensures cause { let reads = ReadsIndex (S.objects reader.old.store) (S.acts reader.old.store) (S.acts reader.new.store) (string_bytes reader.old.root_path) self.now.handle in
+            IfErr result (λ e. IsStoreFault (S.faults reader.old.store) (S.faults reader.new.store) e
+            ⊎ reads (λ answer. FailsDecoding (faults_of T.faults reader.old.transformer) (faults_of T.faults reader.new.transformer) (of_index self.now.handle answer) e)
+            ⊎ reads (λ answer. RefusesIndex (changed_by T.decoded reader.old.transformer) self.now.handle.info.filter_offset (of_index self.now.handle answer) e)) }
+        ensures once { let reads = ReadsIndex (S.objects reader.old.store) (S.acts reader.old.store) (S.acts reader.new.store) (string_bytes reader.old.root_path) self.now.handle in
+            OnErr result ((S.acts reader.new.store ≡ S.acts reader.old.store)
+            ⊎ reads (λ _. Unit {0})) }
         ensures objects { S.objects reader.new.store ≡ S.objects reader.old.store }
         ensures root { reader.new.root_path ≡ reader.old.root_path }
         ensures same_encoded { changed_by T.encoded reader.new.transformer ≡ changed_by T.encoded reader.old.transformer }

@@ -1,5 +1,5 @@
 //! The tables of a store, read part by part.
-ghost use Rattle.std.specs.Prelude.{◌≡◌, ◌≤◌, ◌<◌, ◌+◌, ◌-◌, ◌⊎◌, ℕ, List, [], Some, Err, Ok, true, false, length, map, OnOk, OnErr, IfOk, IfErr, IfSome, IsOkUnless};
+ghost use Rattle.std.specs.Prelude.{◌≡◌, ◌≤◌, ◌<◌, ◌+◌, ◌-◌, ◌⊎◌, [], Some, Err, Ok, true, false, length, map, OnOk, OnErr, IfOk, IfErr, IfSome, IsOkUnless};
 ghost use Rattle.slate_types.specs.Faults.{faults_of};
 ghost use Rattle.slate_types.specs.Outside.{Objects};
 ghost use Rattle.slate_store.specs.Store.{Act, AddsAct, RefusesPut, TakesPut, part_of};
@@ -14,6 +14,9 @@ ghost use Rattle.slate_table.specs.IndexValue.{entries_of};
 ghost use Rattle.slate_table.specs.Reading.{
   IsRead,
   Reads,
+  ReadsBlocks,
+  ReadsFilters,
+  ReadsIndex,
   IsStoreFault,
   of_block,
   of_blocks,
@@ -104,9 +107,15 @@ impl TableStore {
         table: &SsTableHandle,
         transformer: &mut Option<T>,
     ) -> Result<SstIndex, SlateDBError>
-        ensures found { IfOk result (λ index. Reads (S.objects store.old) (S.acts store.old) (S.acts store.new) (path_of root.now table.now.id.0) table.now.info.index_offset table.now.info.index_len (λ answer. IsIndexRead (changed_by T.decoded transformer.old) table.now.info.filter_offset (of_index table.now answer) (entries_of index))) }
-        ensures cause { IfErr result (λ e. IsStoreFault (S.faults store.old) (S.faults store.new) e ⊎ Reads (S.objects store.old) (S.acts store.old) (S.acts store.new) (path_of root.now table.now.id.0) table.now.info.index_offset table.now.info.index_len (λ answer. FailsDecoding (faults_of T.faults transformer.old) (faults_of T.faults transformer.new) (of_index table.now answer) e) ⊎ Reads (S.objects store.old) (S.acts store.old) (S.acts store.new) (path_of root.now table.now.id.0) table.now.info.index_offset table.now.info.index_len (λ answer. RefusesIndex (changed_by T.decoded transformer.old) table.now.info.filter_offset (of_index table.now answer) e)) }
-        ensures once { OnErr result ((S.acts store.new ≡ S.acts store.old) ⊎ Reads (S.objects store.old) (S.acts store.old) (S.acts store.new) (path_of root.now table.now.id.0) table.now.info.index_offset table.now.info.index_len (λ _. Unit {0})) }
+        ensures found { let reads = ReadsIndex (S.objects store.old) (S.acts store.old) (S.acts store.new) root.now table.now in
+            IfOk result (λ index. reads (λ answer. IsIndexRead (changed_by T.decoded transformer.old) table.now.info.filter_offset (of_index table.now answer) (entries_of index))) }
+        ensures cause { let reads = ReadsIndex (S.objects store.old) (S.acts store.old) (S.acts store.new) root.now table.now in
+            IfErr result (λ e. IsStoreFault (S.faults store.old) (S.faults store.new) e
+            ⊎ reads (λ answer. FailsDecoding (faults_of T.faults transformer.old) (faults_of T.faults transformer.new) (of_index table.now answer) e)
+            ⊎ reads (λ answer. RefusesIndex (changed_by T.decoded transformer.old) table.now.info.filter_offset (of_index table.now answer) e)) }
+        ensures once { let reads = ReadsIndex (S.objects store.old) (S.acts store.old) (S.acts store.new) root.now table.now in
+            OnErr result ((S.acts store.new ≡ S.acts store.old)
+            ⊎ reads (λ _. Unit {0})) }
         ensures objects { S.objects store.new ≡ S.objects store.old }
         ensures same_encoded { changed_by T.encoded transformer.new ≡ changed_by T.encoded transformer.old }
         ensures same_decoded { changed_by T.decoded transformer.new ≡ changed_by T.decoded transformer.old }
@@ -132,9 +141,15 @@ impl TableStore {
         transformer: &mut Option<T>,
     ) -> Result<Vec<NamedFilter>, SlateDBError>
         ensures none { table.now.info.filter_len ≡ 0 → (store.new ≡ store.old) × (transformer.new ≡ transformer.old) × IfOk result (λ filters. filters.items ≡ []) × OnErr result ⊥ }
-        ensures found { 0 < table.now.info.filter_len → IfOk result (λ filters. Reads (S.objects store.old) (S.acts store.old) (S.acts store.new) (path_of root.now table.now.id.0) table.now.info.filter_offset table.now.info.filter_len (λ answer. AreFiltersRead (changed_by T.decoded transformer.old) (of_filters table.now answer) (map named_pair filters.items))) }
-        ensures cause { IfErr result (λ e. IsStoreFault (S.faults store.old) (S.faults store.new) e ⊎ Reads (S.objects store.old) (S.acts store.old) (S.acts store.new) (path_of root.now table.now.id.0) table.now.info.filter_offset table.now.info.filter_len (λ answer. FailsDecoding (faults_of T.faults transformer.old) (faults_of T.faults transformer.new) (of_filters table.now answer) e) ⊎ Reads (S.objects store.old) (S.acts store.old) (S.acts store.new) (path_of root.now table.now.id.0) table.now.info.filter_offset table.now.info.filter_len (λ answer. RefusesFilters (changed_by T.decoded transformer.old) (of_filters table.now answer) e)) }
-        ensures once { OnErr result ((S.acts store.new ≡ S.acts store.old) ⊎ Reads (S.objects store.old) (S.acts store.old) (S.acts store.new) (path_of root.now table.now.id.0) table.now.info.filter_offset table.now.info.filter_len (λ _. Unit {0})) }
+        ensures found { let reads = ReadsFilters (S.objects store.old) (S.acts store.old) (S.acts store.new) root.now table.now in
+            0 < table.now.info.filter_len → IfOk result (λ filters. reads (λ answer. AreFiltersRead (changed_by T.decoded transformer.old) (of_filters table.now answer) (map named_pair filters.items))) }
+        ensures cause { let reads = ReadsFilters (S.objects store.old) (S.acts store.old) (S.acts store.new) root.now table.now in
+            IfErr result (λ e. IsStoreFault (S.faults store.old) (S.faults store.new) e
+            ⊎ reads (λ answer. FailsDecoding (faults_of T.faults transformer.old) (faults_of T.faults transformer.new) (of_filters table.now answer) e)
+            ⊎ reads (λ answer. RefusesFilters (changed_by T.decoded transformer.old) (of_filters table.now answer) e)) }
+        ensures once { let reads = ReadsFilters (S.objects store.old) (S.acts store.old) (S.acts store.new) root.now table.now in
+            OnErr result ((S.acts store.new ≡ S.acts store.old)
+            ⊎ reads (λ _. Unit {0})) }
         ensures objects { S.objects store.new ≡ S.objects store.old }
         ensures same_encoded { changed_by T.encoded transformer.new ≡ changed_by T.encoded transformer.old }
         ensures same_decoded { changed_by T.decoded transformer.new ≡ changed_by T.decoded transformer.old }
@@ -163,9 +178,15 @@ impl TableStore {
         transformer: &mut Option<T>,
     ) -> Result<bool, SlateDBError>
         ensures none { asks_filters (map (λ p. meaning p) policies.now) table.now.info.filter_len ≡ false → (result ≡ Ok true) × (store.new ≡ store.old) × (transformer.new ≡ transformer.old) }
-        ensures asked { asks_filters (map (λ p. meaning p) policies.now) table.now.info.filter_len ≡ true → IfOk result (λ passes. Reads (S.objects store.old) (S.acts store.old) (S.acts store.new) (path_of root.now table.now.id.0) table.now.info.filter_offset table.now.info.filter_len (λ answer. IsAsked (changed_by T.decoded transformer.old) (map (λ p. meaning p) policies.now) query.now (of_filters table.now answer) passes)) }
-        ensures cause { IfErr result (λ e. IsStoreFault (S.faults store.old) (S.faults store.new) e ⊎ Reads (S.objects store.old) (S.acts store.old) (S.acts store.new) (path_of root.now table.now.id.0) table.now.info.filter_offset table.now.info.filter_len (λ answer. FailsDecoding (faults_of T.faults transformer.old) (faults_of T.faults transformer.new) (of_filters table.now answer) e) ⊎ Reads (S.objects store.old) (S.acts store.old) (S.acts store.new) (path_of root.now table.now.id.0) table.now.info.filter_offset table.now.info.filter_len (λ answer. RefusesQuery (changed_by T.decoded transformer.old) (map (λ p. meaning p) policies.now) query.now (of_filters table.now answer) e)) }
-        ensures once { OnErr result ((S.acts store.new ≡ S.acts store.old) ⊎ Reads (S.objects store.old) (S.acts store.old) (S.acts store.new) (path_of root.now table.now.id.0) table.now.info.filter_offset table.now.info.filter_len (λ _. Unit {0})) }
+        ensures asked { let reads = ReadsFilters (S.objects store.old) (S.acts store.old) (S.acts store.new) root.now table.now in
+            asks_filters (map (λ p. meaning p) policies.now) table.now.info.filter_len ≡ true → IfOk result (λ passes. reads (λ answer. IsAsked (changed_by T.decoded transformer.old) (map (λ p. meaning p) policies.now) query.now (of_filters table.now answer) passes)) }
+        ensures cause { let reads = ReadsFilters (S.objects store.old) (S.acts store.old) (S.acts store.new) root.now table.now in
+            IfErr result (λ e. IsStoreFault (S.faults store.old) (S.faults store.new) e
+            ⊎ reads (λ answer. FailsDecoding (faults_of T.faults transformer.old) (faults_of T.faults transformer.new) (of_filters table.now answer) e)
+            ⊎ reads (λ answer. RefusesQuery (changed_by T.decoded transformer.old) (map (λ p. meaning p) policies.now) query.now (of_filters table.now answer) e)) }
+        ensures once { let reads = ReadsFilters (S.objects store.old) (S.acts store.old) (S.acts store.new) root.now table.now in
+            OnErr result ((S.acts store.new ≡ S.acts store.old)
+            ⊎ reads (λ _. Unit {0})) }
         ensures objects { S.objects store.new ≡ S.objects store.old }
         ensures same_encoded { changed_by T.encoded transformer.new ≡ changed_by T.encoded transformer.old }
         ensures same_decoded { changed_by T.decoded transformer.new ≡ changed_by T.decoded transformer.old }
@@ -183,10 +204,11 @@ impl TableStore {
         passes
     }
 
-    /// Some neighbouring blocks of a table, by one read of their sections, which the index names. `StoreFault`, only where the
-    /// store's count of faults rose; then, of the first block that isn't read, `CorruptTable` at 0 where its section isn't
-    /// there in full or is shorter than a checksum, `ChecksumMismatch`, `BlockTransformError`, only where the transformer's count
-    /// rose, or `CorruptTable` where the part is no block; or `OutOfMemory`.
+    /// Some neighbouring blocks of a table, by one read of their sections, which the index names; and none, without a read, where
+    /// the range is empty. `StoreFault`, only where the store's count of faults rose; then, of the first block that isn't read,
+    /// `CorruptTable` at 0 where its section isn't there in full or is shorter than a checksum, `ChecksumMismatch`,
+    /// `BlockTransformError`, only where the transformer's count rose, or `CorruptTable` where the part is no block; or
+    /// `OutOfMemory`.
     pub fn read_blocks<S: Store, T: BlockTransformer>(
         alloc: Global,
         store: &mut S,
@@ -198,10 +220,17 @@ impl TableStore {
     ) -> Result<Vec<Block>, SlateDBError>
         requires order { blocks.start ≤ blocks.end }
         requires within { blocks.end ≤ length (entries_of index.now) }
-        ensures found { IfOk result (λ found. Reads (S.objects store.old) (S.acts store.old) (S.acts store.new) (path_of root.now table.now.id.0) (block_start table.now.info.filter_offset (entries_of index.now) blocks.start) (blocks_size table.now.info.filter_offset (entries_of index.now) blocks.start blocks.end) (λ answer. AreBlocksRead (changed_by T.decoded transformer.old) (of_blocks table.now (entries_of index.now) blocks.start answer) blocks.start found.items)) }
+        ensures none { blocks.start ≡ blocks.end → (store.new ≡ store.old) × (transformer.new ≡ transformer.old) × IfOk result (λ found. found.items ≡ []) × OnErr result ⊥ }
+        ensures found { let reads = ReadsBlocks (S.objects store.old) (S.acts store.old) (S.acts store.new) root.now table.now (entries_of index.now) blocks.start blocks.end in
+            blocks.start < blocks.end → IfOk result (λ found. reads (λ answer. AreBlocksRead (changed_by T.decoded transformer.old) (of_blocks table.now (entries_of index.now) blocks.start answer) blocks.start found.items)) }
         ensures count { IfOk result (λ found. length found.items ≡ blocks.end - blocks.start) }
-        ensures cause { IfErr result (λ e. IsStoreFault (S.faults store.old) (S.faults store.new) e ⊎ Reads (S.objects store.old) (S.acts store.old) (S.acts store.new) (path_of root.now table.now.id.0) (block_start table.now.info.filter_offset (entries_of index.now) blocks.start) (blocks_size table.now.info.filter_offset (entries_of index.now) blocks.start blocks.end) (λ answer. FailsBlocks (changed_by T.decoded transformer.old) (of_blocks table.now (entries_of index.now) blocks.start answer) blocks.start blocks.end (faults_of T.faults transformer.old) (faults_of T.faults transformer.new) e) ⊎ Reads (S.objects store.old) (S.acts store.old) (S.acts store.new) (path_of root.now table.now.id.0) (block_start table.now.info.filter_offset (entries_of index.now) blocks.start) (blocks_size table.now.info.filter_offset (entries_of index.now) blocks.start blocks.end) (λ answer. RefusesBlocks (changed_by T.decoded transformer.old) (of_blocks table.now (entries_of index.now) blocks.start answer) blocks.start blocks.end e)) }
-        ensures once { OnErr result ((S.acts store.new ≡ S.acts store.old) ⊎ Reads (S.objects store.old) (S.acts store.old) (S.acts store.new) (path_of root.now table.now.id.0) (block_start table.now.info.filter_offset (entries_of index.now) blocks.start) (blocks_size table.now.info.filter_offset (entries_of index.now) blocks.start blocks.end) (λ _. Unit {0})) }
+        ensures cause { let reads = ReadsBlocks (S.objects store.old) (S.acts store.old) (S.acts store.new) root.now table.now (entries_of index.now) blocks.start blocks.end in
+            IfErr result (λ e. IsStoreFault (S.faults store.old) (S.faults store.new) e
+            ⊎ reads (λ answer. FailsBlocks (changed_by T.decoded transformer.old) (of_blocks table.now (entries_of index.now) blocks.start answer) blocks.start blocks.end (faults_of T.faults transformer.old) (faults_of T.faults transformer.new) e)
+            ⊎ reads (λ answer. RefusesBlocks (changed_by T.decoded transformer.old) (of_blocks table.now (entries_of index.now) blocks.start answer) blocks.start blocks.end e)) }
+        ensures once { let reads = ReadsBlocks (S.objects store.old) (S.acts store.old) (S.acts store.new) root.now table.now (entries_of index.now) blocks.start blocks.end in
+            OnErr result ((S.acts store.new ≡ S.acts store.old)
+            ⊎ reads (λ _. Unit {0})) }
         ensures objects { S.objects store.new ≡ S.objects store.old }
         ensures same_encoded { changed_by T.encoded transformer.new ≡ changed_by T.encoded transformer.old }
         ensures same_decoded { changed_by T.decoded transformer.new ≡ changed_by T.decoded transformer.old }
@@ -210,6 +239,9 @@ impl TableStore {
         ensures later_transformer { faults_of T.faults transformer.old ≤ faults_of T.faults transformer.new }
         ensures still_transformer { (result ≡ Err SlateDBError.BlockTransformError) ⊎ (result ≡ Err SlateDBError.OutOfMemory) ⊎ (faults_of T.faults transformer.new ≡ faults_of T.faults transformer.old) }
     {
+        if blocks.start >= blocks.end {
+            return Ok(Vec::new(alloc));
+        }
         let end = table.info.filter_offset;
         let start = block_start(index, end, blocks.start);
         let size = block_start(index, end, blocks.end).saturating_sub(start);
@@ -287,9 +319,15 @@ pub(crate) fn read_part<S: Store, T: BlockTransformer>(
     place: (u64, u64),
     transformer: &mut Option<T>,
 ) -> Result<Bytes, SlateDBError>
-    ensures found { IfOk result (λ part. Reads (S.objects store.old) (S.acts store.old) (S.acts store.new) (path_of root.now table.now.id.0) place.0 place.1 (λ answer. IsPart (changed_by T.decoded transformer.old) (section_read table.now.format_version table.now.id.0 kind place.0 answer) part)) }
-    ensures cause { IfErr result (λ e. IsStoreFault (S.faults store.old) (S.faults store.new) e ⊎ Reads (S.objects store.old) (S.acts store.old) (S.acts store.new) (path_of root.now table.now.id.0) place.0 place.1 (λ answer. FailsDecoding (faults_of T.faults transformer.old) (faults_of T.faults transformer.new) (section_read table.now.format_version table.now.id.0 kind place.0 answer) e) ⊎ Reads (S.objects store.old) (S.acts store.old) (S.acts store.new) (path_of root.now table.now.id.0) place.0 place.1 (λ answer. refusal (stored_in (section_read table.now.format_version table.now.id.0 kind place.0 answer)) ≡ Some e)) }
-    ensures once { OnErr result ((S.acts store.new ≡ S.acts store.old) ⊎ Reads (S.objects store.old) (S.acts store.old) (S.acts store.new) (path_of root.now table.now.id.0) place.0 place.1 (λ _. Unit {0})) }
+    ensures found { let reads = Reads (S.objects store.old) (S.acts store.old) (S.acts store.new) (path_of root.now table.now.id.0) place.0 place.1 in
+        IfOk result (λ part. reads (λ answer. IsPart (changed_by T.decoded transformer.old) (section_read table.now.format_version table.now.id.0 kind place.0 answer) part)) }
+    ensures cause { let reads = Reads (S.objects store.old) (S.acts store.old) (S.acts store.new) (path_of root.now table.now.id.0) place.0 place.1 in
+        IfErr result (λ e. IsStoreFault (S.faults store.old) (S.faults store.new) e
+        ⊎ reads (λ answer. FailsDecoding (faults_of T.faults transformer.old) (faults_of T.faults transformer.new) (section_read table.now.format_version table.now.id.0 kind place.0 answer) e)
+        ⊎ reads (λ answer. refusal (stored_in (section_read table.now.format_version table.now.id.0 kind place.0 answer)) ≡ Some e)) }
+    ensures once { let reads = Reads (S.objects store.old) (S.acts store.old) (S.acts store.new) (path_of root.now table.now.id.0) place.0 place.1 in
+        OnErr result ((S.acts store.new ≡ S.acts store.old)
+        ⊎ reads (λ _. Unit {0})) }
     ensures reaches { Reaches S.objects S.faults store.old store.new result }
     ensures stays { Stays T.encoded T.decoded T.faults transformer.old transformer.new result }
 {
@@ -305,9 +343,15 @@ fn filters_of<S: Store, T: BlockTransformer>(
     table: &SsTableHandle,
     transformer: &mut Option<T>,
 ) -> Result<(Vec<NamedFilter>, u64), SlateDBError>
-    ensures found { IfOk result (λ found. Reads (S.objects store.old) (S.acts store.old) (S.acts store.new) (path_of root.now table.now.id.0) table.now.info.filter_offset table.now.info.filter_len (λ answer. AreFiltersIn (changed_by T.decoded transformer.old) (of_filters table.now answer) (map named_pair found.0.items) found.1)) }
-    ensures cause { IfErr result (λ e. IsStoreFault (S.faults store.old) (S.faults store.new) e ⊎ Reads (S.objects store.old) (S.acts store.old) (S.acts store.new) (path_of root.now table.now.id.0) table.now.info.filter_offset table.now.info.filter_len (λ answer. FailsDecoding (faults_of T.faults transformer.old) (faults_of T.faults transformer.new) (of_filters table.now answer) e) ⊎ Reads (S.objects store.old) (S.acts store.old) (S.acts store.new) (path_of root.now table.now.id.0) table.now.info.filter_offset table.now.info.filter_len (λ answer. RefusesFilters (changed_by T.decoded transformer.old) (of_filters table.now answer) e)) }
-    ensures once { OnErr result ((S.acts store.new ≡ S.acts store.old) ⊎ Reads (S.objects store.old) (S.acts store.old) (S.acts store.new) (path_of root.now table.now.id.0) table.now.info.filter_offset table.now.info.filter_len (λ _. Unit {0})) }
+    ensures found { let reads = ReadsFilters (S.objects store.old) (S.acts store.old) (S.acts store.new) root.now table.now in
+        IfOk result (λ found. reads (λ answer. AreFiltersIn (changed_by T.decoded transformer.old) (of_filters table.now answer) (map named_pair found.0.items) found.1)) }
+    ensures cause { let reads = ReadsFilters (S.objects store.old) (S.acts store.old) (S.acts store.new) root.now table.now in
+        IfErr result (λ e. IsStoreFault (S.faults store.old) (S.faults store.new) e
+        ⊎ reads (λ answer. FailsDecoding (faults_of T.faults transformer.old) (faults_of T.faults transformer.new) (of_filters table.now answer) e)
+        ⊎ reads (λ answer. RefusesFilters (changed_by T.decoded transformer.old) (of_filters table.now answer) e)) }
+    ensures once { let reads = ReadsFilters (S.objects store.old) (S.acts store.old) (S.acts store.new) root.now table.now in
+        OnErr result ((S.acts store.new ≡ S.acts store.old)
+        ⊎ reads (λ _. Unit {0})) }
     ensures reaches { Reaches S.objects S.faults store.old store.new result }
     ensures stays { Stays T.encoded T.decoded T.faults transformer.old transformer.new result }
 {
@@ -334,9 +378,15 @@ pub(crate) fn read_block<S: Store, T: BlockTransformer>(
     transformer: &mut Option<T>,
 ) -> Result<Block, SlateDBError>
     requires { block < length (entries_of index.now) }
-    ensures found { IfOk result (λ found. Reads (S.objects store.old) (S.acts store.old) (S.acts store.new) (path_of root.now table.now.id.0) (block_start table.now.info.filter_offset (entries_of index.now) block) (blocks_size table.now.info.filter_offset (entries_of index.now) block (block + 1)) (λ answer. IsBlockRead (changed_by T.decoded transformer.old) (of_block table.now (entries_of index.now) block answer) found)) }
-    ensures cause { IfErr result (λ e. IsStoreFault (S.faults store.old) (S.faults store.new) e ⊎ Reads (S.objects store.old) (S.acts store.old) (S.acts store.new) (path_of root.now table.now.id.0) (block_start table.now.info.filter_offset (entries_of index.now) block) (blocks_size table.now.info.filter_offset (entries_of index.now) block (block + 1)) (λ answer. FailsDecoding (faults_of T.faults transformer.old) (faults_of T.faults transformer.new) (of_block table.now (entries_of index.now) block answer) e) ⊎ Reads (S.objects store.old) (S.acts store.old) (S.acts store.new) (path_of root.now table.now.id.0) (block_start table.now.info.filter_offset (entries_of index.now) block) (blocks_size table.now.info.filter_offset (entries_of index.now) block (block + 1)) (λ answer. RefusesBlock (changed_by T.decoded transformer.old) (of_block table.now (entries_of index.now) block answer) e)) }
-    ensures once { OnErr result ((S.acts store.new ≡ S.acts store.old) ⊎ Reads (S.objects store.old) (S.acts store.old) (S.acts store.new) (path_of root.now table.now.id.0) (block_start table.now.info.filter_offset (entries_of index.now) block) (blocks_size table.now.info.filter_offset (entries_of index.now) block (block + 1)) (λ _. Unit {0})) }
+    ensures found { let reads = ReadsBlocks (S.objects store.old) (S.acts store.old) (S.acts store.new) root.now table.now (entries_of index.now) block (block + 1) in
+        IfOk result (λ found. reads (λ answer. IsBlockRead (changed_by T.decoded transformer.old) (of_block table.now (entries_of index.now) block answer) found)) }
+    ensures cause { let reads = ReadsBlocks (S.objects store.old) (S.acts store.old) (S.acts store.new) root.now table.now (entries_of index.now) block (block + 1) in
+        IfErr result (λ e. IsStoreFault (S.faults store.old) (S.faults store.new) e
+        ⊎ reads (λ answer. FailsDecoding (faults_of T.faults transformer.old) (faults_of T.faults transformer.new) (of_block table.now (entries_of index.now) block answer) e)
+        ⊎ reads (λ answer. RefusesBlock (changed_by T.decoded transformer.old) (of_block table.now (entries_of index.now) block answer) e)) }
+    ensures once { let reads = ReadsBlocks (S.objects store.old) (S.acts store.old) (S.acts store.new) root.now table.now (entries_of index.now) block (block + 1) in
+        OnErr result ((S.acts store.new ≡ S.acts store.old)
+        ⊎ reads (λ _. Unit {0})) }
     ensures reaches { Reaches S.objects S.faults store.old store.new result }
     ensures stays { Stays T.encoded T.decoded T.faults transformer.old transformer.new result }
 {

@@ -5,8 +5,9 @@ use Rattle.slate_filter.specs.declared.named_filter.NamedFilter.{NamedFilter}
 use Rattle.slate_filter.specs.Named.{named_pair}
 use Rattle.slate_table.specs.Parts.{filter_bytes}
 use Rattle.slate_table.specs.Table.{FitsFilter}
-use Rattle.slate_table.proofs.Grown.{one_grown, one_holds, all_grew, all_hold, holds_of_map}
+use Rattle.slate_table.proofs.Grown.{one_grown, one_holds, all_grew, all_hold}
 use Rattle.slate_table.proofs.filters_writing.append_each.Goals as goal
+use Rattle.slate_types.proofs.Lists.{AllByRecursion_map}
 
 pub returns-in_err-append_filter : goal.returns-in_err-append_filter
 returns-in_err-append_filter c =
@@ -34,6 +35,6 @@ returns c =
     record {
       appended = all_grew (λ (f : NamedFilter). filter_bytes (named_pair f)) filters c.loop-filter.filter-index c.args.out.now.items c.loop-filter.out.items c.loop-filter-test.false c.loop-filter.invariant.appended
           ∙ ap (λ (l : List ℕ). c.args.out.now.items ++ l) (sym (flat_map-map filter_bytes named_pair filters));
-      fit = holds_of_map named_pair FitsFilter filters (all_hold (λ (f : NamedFilter). FitsFilter (named_pair f)) filters c.loop-filter.filter-index c.loop-filter-test.false c.loop-filter.invariant.fit);
+      fit = AllByRecursion_map named_pair FitsFilter filters (all_hold (λ (f : NamedFilter). FitsFilter (named_pair f)) filters c.loop-filter.filter-index c.loop-filter-test.false c.loop-filter.invariant.fit);
       cause = tt;
     }

@@ -1,7 +1,7 @@
 use Rattle.std.proofs.Common.{refl, inl}
 use Rattle.std.proofs.lemmas.Result.{IfOk-from_err}
-use Rattle.slate_table.proofs.Results.{err_exit}
 use Rattle.slate_table.proofs.info.key_field.Goals as goal
+use Rattle.slate_types.proofs.Exits.{err_exit}
 
 pub returns-in_err-is_there-clause-found : goal.returns-in_err-is_there-clause-found
 returns-in_err-is_there-clause-found c = IfOk-from_err c.from_residual.result _ c.from_residual.ensures.0

@@ -1,7 +1,8 @@
 use Rattle.std.proofs.Common.{◌∙◌, Some, ap, refl, inr}
 use Rattle.std.proofs.lemmas.Result.{IfErr-weaker}
-use Rattle.slate_table.proofs.Results.{either, if_ok_both}
+use Rattle.slate_table.proofs.Results.{either}
 use Rattle.slate_table.proofs.opening.info_of.Goals as goal
+use Rattle.slate_types.proofs.Exits.{if_ok_both}
 
 pub returns-in_ok-part-in-Some : goal.returns-in_ok-part-in-Some
 returns-in_ok-part-in-Some c =

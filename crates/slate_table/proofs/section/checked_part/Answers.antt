@@ -6,9 +6,10 @@ use Rattle.slate_block.proofs.Groups.{IsBytes}
 use Rattle.slate_table.specs.declared.section.SectionPlace.{SectionPlace}
 use Rattle.slate_table.specs.Parts.{summed}
 use Rattle.slate_table.specs.SectionReading.{covered_by, part_in, part_of_sum}
-use Rattle.slate_table.proofs.Results.{mapped, err_exit}
+use Rattle.slate_table.proofs.Results.{mapped}
 use Rattle.slate_table.proofs.SectionReads.{cover_bytes, part_reads, part_is_front, refused_part}
 use Rattle.slate_table.proofs.section.checked_part.Goals as goal
+use Rattle.slate_types.proofs.Exits.{err_exit}
 
 covers : (p : SectionPlace) → p.kind < 256 → IsBytes (covered_by p)
 covers p small = cover_bytes p.version p.id.0 p.kind p.offset small

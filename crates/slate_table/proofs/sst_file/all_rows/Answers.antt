@@ -4,8 +4,8 @@ use Rattle.slate_types.specs.declared.error.SlateDBError.TheVariants.{OutOfMemor
 use Rattle.slate_block.specs.BlockWalks.{left}
 use Rattle.slate_block.specs.EitherVersion.{left_of}
 use Rattle.slate_table.proofs.FileReads.{rows_stop}
-use Rattle.slate_table.proofs.Results.{err_exit}
 use Rattle.slate_table.proofs.sst_file.all_rows.Goals as goal
+use Rattle.slate_types.proofs.Exits.{err_exit}
 
 pub returns-in_err-row : goal.returns-in_err-row
 returns-in_err-row c =

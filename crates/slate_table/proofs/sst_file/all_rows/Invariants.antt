@@ -1,5 +1,5 @@
 use Rattle.std.proofs.Common.{◌≡◌, Ok, length}
-use Rattle.slate_block.specs.Walks.{joined}
+use Rattle.slate_block.proofs.GroupRows.{joined}
 use Rattle.slate_block.specs.BlockWalks.{left}
 use Rattle.slate_block.specs.EitherVersion.{left_of}
 use Rattle.slate_table.proofs.sst_file.all_rows.Given as goal

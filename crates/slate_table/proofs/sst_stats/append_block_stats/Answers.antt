@@ -3,8 +3,9 @@ use Rattle.slate_block.specs.declared.block.BlockStats.{BlockStats}
 use Rattle.slate_block.specs.RowSpelling.{be16}
 use Rattle.slate_table.specs.Decoded.{counts_bytes, FitCounts}
 use Rattle.slate_table.specs.StatsReading.{counts_of}
-use Rattle.slate_table.proofs.Grown.{one_grown, one_holds, all_grew, all_hold, holds_of_map}
+use Rattle.slate_table.proofs.Grown.{one_grown, one_holds, all_grew, all_hold}
 use Rattle.slate_table.proofs.sst_stats.append_block_stats.Goals as goal
+use Rattle.slate_types.proofs.Lists.{AllByRecursion_map}
 
 pub returns-in_err-append_counts : goal.returns-in_err-append_counts
 returns-in_err-append_counts c =
@@ -29,6 +30,6 @@ pub returns : goal.returns
 returns c =
     record {
       appended = all_grew (λ (b : BlockStats). counts_bytes be16 (counts_of b)) c.args.blocks.now c.loop-block.block-index c.args.out.now.items c.loop-block.out.items c.loop-block-test.false c.loop-block.invariant.appended;
-      fit = holds_of_map counts_of (FitCounts 16) c.args.blocks.now (all_hold (λ (b : BlockStats). FitCounts 16 (counts_of b)) c.args.blocks.now c.loop-block.block-index c.loop-block-test.false c.loop-block.invariant.fit);
+      fit = AllByRecursion_map counts_of (FitCounts 16) c.args.blocks.now (all_hold (λ (b : BlockStats). FitCounts 16 (counts_of b)) c.args.blocks.now c.loop-block.block-index c.loop-block-test.false c.loop-block.invariant.fit);
       cause = tt;
     }

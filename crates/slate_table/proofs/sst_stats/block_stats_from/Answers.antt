@@ -2,8 +2,8 @@ use Rattle.std.proofs.Common.{sym, inr, refl, inl}
 use Rattle.std.proofs.lemmas.Result.{err_from_is_err_and, IfOk-from_err}
 use Rattle.slate_table.specs.StatsReading.{block_stats_from}
 use Rattle.slate_table.proofs.StatsReads.{goes_on, stops, is_done}
-use Rattle.slate_table.proofs.Results.{err_exit}
 use Rattle.slate_table.proofs.sst_stats.block_stats_from.Goals as goal
+use Rattle.slate_types.proofs.Exits.{err_exit}
 
 pub returns-in_err-block : goal.returns-in_err-block
 returns-in_err-block c =

@@ -5,8 +5,9 @@ use Rattle.slate_table.specs.SectionReading.{changed_by}
 use Rattle.slate_table.specs.Reading.{of_filters}
 use Rattle.slate_table.proofs.Asking.{stays_ok, stays_err, reaches_err, reaches_ok}
 use Rattle.slate_table.proofs.FiltersCalls.{section_refused}
-use Rattle.slate_table.proofs.Results.{on_err, spread, if_ok_both}
+use Rattle.slate_table.proofs.Results.{on_err, spread}
 use Rattle.slate_table.proofs.table_store.filters_of.Goals as goal
+use Rattle.slate_types.proofs.Exits.{if_ok_both}
 
 pub returns-in_err-part : goal.returns-in_err-part
 returns-in_err-part g c =

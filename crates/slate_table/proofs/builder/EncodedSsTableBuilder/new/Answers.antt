@@ -1,8 +1,8 @@
 use Rattle.std.proofs.Common.{refl, inl}
 use Rattle.std.proofs.lemmas.Result.{IfOk-from_err}
 use Rattle.slate_table.proofs.PartsLaws.{fresh_stands}
-use Rattle.slate_table.proofs.Results.{err_exit}
 use Rattle.slate_table.proofs.builder.EncodedSsTableBuilder.new.Goals as goal
+use Rattle.slate_types.proofs.Exits.{err_exit}
 
 pub invariant_of-result : goal.invariant_of-result
 invariant_of-result c =

@@ -4,8 +4,9 @@ use Rattle.slate_types.specs.declared.error.SlateDBError.TheVariants.{OutOfMemor
 use Rattle.slate_block.specs.RowReading.{refusal}
 use Rattle.slate_table.specs.InfoReading.{seen_info}
 use Rattle.slate_table.proofs.InfoReads.{info_reads, refused_info}
-use Rattle.slate_table.proofs.Results.{either, if_ok_both}
+use Rattle.slate_table.proofs.Results.{either}
 use Rattle.slate_table.proofs.info.SsTableInfo.decode.Goals as goal
+use Rattle.slate_types.proofs.Exits.{if_ok_both}
 
 pub returns : goal.returns
 returns c =

@@ -5,8 +5,9 @@ use Rattle.slate_block.specs.RowReading.{refusal}
 use Rattle.slate_table.specs.Decoded.{IsStats}
 use Rattle.slate_table.specs.StatsReading.{stats_of, stats_in}
 use Rattle.slate_table.proofs.StatsReads.{stats_reads, refused_stats}
-use Rattle.slate_table.proofs.Results.{either, if_ok_both}
+use Rattle.slate_table.proofs.Results.{either}
 use Rattle.slate_table.proofs.sst_stats.SstStats.decode.Goals as goal
+use Rattle.slate_types.proofs.Exits.{if_ok_both}
 
 pub returns : goal.returns
 returns c =

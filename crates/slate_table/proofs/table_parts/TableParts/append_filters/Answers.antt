@@ -10,8 +10,8 @@ use Rattle.slate_filter.specs.Policy.{filters_of}
 use Rattle.slate_table.specs.SectionReading.{changed_by, covered_by}
 use Rattle.slate_table.specs.Table.{FitsFilter, filter_section}
 use Rattle.slate_table.proofs.Asking.{unasked, memory_exit}
-use Rattle.slate_table.proofs.FilterWrites.{both_ok}
 use Rattle.slate_table.proofs.table_parts.TableParts.append_filters.Goals as goal
+use Rattle.slate_types.proofs.Exits.{on_ok_both}
 
 pub returns-in_err-filters : goal.returns-in_err-filters
 returns-in_err-filters g c =
@@ -30,7 +30,7 @@ returns g c =
     let same : map named_pair fs ≡ filters_of policies c.args.min p.rows.items = ap (λ (l : List NamedFilter). map named_pair l) held ∙ c.in_ok-filters.ensures.filters
     ∙ ap (λ (rows : List RowEntry). filters_of policies c.args.min rows) c.deref.ensures.value in
     record {
-      filtered = both_ok c.append_filter_section.result
+      filtered = on_ok_both c.append_filter_section.result
           (λ appended fit. record {
             bytes = appended ∙ (λ i. p.bytes.items ++ filter_section (covered_by (c.next_place-place.ensures i)) encode (same i));
             rows = refl;

@@ -1,8 +1,8 @@
 use Rattle.std.proofs.Common.{◌∙◌, ap, arith, length}
 use Rattle.std.proofs.lemmas.Result.{IfOk-weaker}
 use Rattle.slate_table.proofs.EndLaws.{ends_moved}
-use Rattle.slate_table.proofs.Results.{if_ok_both}
 use Rattle.slate_table.proofs.table_parts.TableParts.close.Goals as goal
+use Rattle.slate_types.proofs.Exits.{if_ok_both}
 
 pub returns : goal.returns
 returns c =

@@ -13,8 +13,8 @@ use Rattle.slate_table.specs.TableEnd.{filters_behind, index_behind, stats_behin
 use Rattle.slate_table.proofs.Asking.{asked_before, failed_asks, asks_again}
 use Rattle.slate_table.proofs.BuiltLaws.{last_has_row, ended_ready}
 use Rattle.slate_table.proofs.EndLaws.{closed, filtered_ready}
-use Rattle.slate_table.proofs.Results.{if_ok_both}
 use Rattle.slate_table.proofs.table_parts.TableParts.finish.Goals as goal
+use Rattle.slate_types.proofs.Exits.{if_ok_both}
 
 pub end_block-requires-clause-some : goal.end_block-requires-clause-some
 end_block-requires-clause-some g c = c.requires.stands.some

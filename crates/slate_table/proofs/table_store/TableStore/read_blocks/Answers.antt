@@ -9,6 +9,23 @@ use Rattle.slate_table.specs.Reading.{of_blocks, block_start, blocks_size, AreBl
 use Rattle.slate_table.proofs.BlockReads.{row_read, row_refused}
 use Rattle.slate_table.proofs.table_store.TableStore.read_blocks.Goals as goal
 
+pub returns-then-blocks : goal.returns-then-blocks
+returns-then-blocks g c =
+    record {
+      none = λ is. (refl, refl, c.new.ensures.items, tt);
+      found = λ some. absurd (omega (arith, some, c.if-blocks.true));
+      count = rw c.new.ensures.items (omega arith);
+      cause = tt;
+      once = tt;
+      objects = refl;
+      same_encoded = refl;
+      same_decoded = refl;
+      later = omega arith;
+      still = inr refl;
+      later_transformer = omega arith;
+      still_transformer = inr (inr refl);
+    }
+
 pub returns : goal.returns
 returns g c =
     let end = c.args.table.now.info.filter_offset in
@@ -16,7 +33,8 @@ returns g c =
     let decoded = changed_by g.T.BlockTransformer.decoded c.args.transformer.now in
     let size = c.saturating_sub-size.ensures ∙ (λ i. c.block_start.ensures i - c.block_start-start.ensures i) in
     record {
-      found = (IfOk-weaker c.each_block-found.result _ _
+      none = λ is. absurd (omega (arith, is, c.if-blocks.false));
+      found = λ some. (IfOk-weaker c.each_block-found.result _ _
           (λ blocks found. row_read (g.S.Store.objects c.args.store.now) (g.S.Store.acts c.args.store.now) (g.S.Store.acts c.read.new.store) (path_of c.args.root.now c.args.table.now.id.0)
           c.block_start-start.result c.saturating_sub-size.result (block_start end entries c.args.blocks.start) (blocks_size end entries c.args.blocks.start c.args.blocks.end) c.in_ok-answer.answer
           (λ (answer : Option (List ℕ)). AreBlocksRead decoded (of_blocks c.args.table.now entries c.args.blocks.start answer) c.args.blocks.start blocks.items)
@@ -49,7 +67,8 @@ pub returns-in_err-answer : goal.returns-in_err-answer
 returns-in_err-answer g c =
     let p = err_from_is_err_and c.from_residual.result c.from_residual.ensures.1 in
     record {
-      found = IfOk-from_err c.from_residual.result _ c.from_residual.ensures.0;
+      none = λ is. absurd (omega (arith, is, c.if-blocks.false));
+      found = λ some. IfOk-from_err c.from_residual.result _ c.from_residual.ensures.0;
       count = IfOk-from_err c.from_residual.result _ c.from_residual.ensures.0;
       cause = rw (p.1, p.2) (inl c.in_err-answer.ensures.cause);
       once = rw p.1 (inl c.in_err-answer.ensures.none);
