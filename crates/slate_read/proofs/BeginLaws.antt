@@ -13,10 +13,11 @@ use Rattle.slate_types.specs.RowTurns.{row_before, AreInTurn}
 use Rattle.slate_read.specs.Merge.{in_turn, put_all}
 use Rattle.slate_read.specs.Heads.{head_cmp}
 use Rattle.slate_read.specs.Merging.{placed, placed_all, placed_before, rows_in, left_rows, IsSoundHead, IsMerging, merging_bound}
-use Rattle.slate_read.specs.MergeSteps.{Gives, Falls, Joins}
+use Rattle.slate_read.specs.MergeSteps.{Falls, Joins}
 use Rattle.slate_read.specs.Turns.{put_all_append}
 use Rattle.slate_read.proofs.Shuffles.{gathered, Elsewhere, past, gathered_shuffled, one_place_more, one_place_shuffled}
 use Rattle.slate_read.proofs.HeadLaws.{each_shuffled, left_gathered, add, add_either}
+use Rattle.slate_read.proofs.StepLaws.{Gives}
 
 not_here : (n m : ℕ) → n + 1 ≤ m → (m == n) ≡ false
 not_here n m h = grind (arith, nat_tests)
@@ -110,7 +111,3 @@ module _ {S : Type 0} (bound : S → ℕ) where
       let falls = j.2 refl in
       let new_is = sum_by-IsPermutation weight (y ∷ heads) new j.3 ∙ sum_by-cons weight y heads in
       omega (arith, sum_by-cons bound source waiting, new_is, falls, less)
-
-pub empty_items : {X : Type 0} (xs : List X) → length xs ≡ 0 → xs ≡ []
-empty_items [] e = refl
-empty_items (x ∷ xs) e = absurd (omega (arith, e))

@@ -3,6 +3,7 @@ use Rattle.std.proofs.Common.{◌≡◌, ◌⊎◌, inl, inr, ◌≤◌, ◌+◌
 use Rattle.std.specs.Prelude.{Contains, IfSome, Ok, slice_get}
 use Rattle.std.proofs.lemmas.List.Elements.{Contains-append_left, Contains-append_right}
 use Rattle.slate_types.specs.declared.bytes_range.BytesRange.{BytesRange}
+use Rattle.slate_types.specs.declared.error.SlateDBError.{SlateDBError}
 use Rattle.slate_types.specs.declared.types.RowEntry.{RowEntry}
 use Rattle.slate_types.specs.declared.iter.IterationOrder.{IterationOrder}
 use Rattle.slate_types.specs.Iteration.{in_order}
@@ -21,13 +22,14 @@ use Rattle.slate_table.specs.Reading.{IsBlockRead}
 use Rattle.slate_read.specs.declared.table_state.Cursor.{Cursor}
 use Rattle.slate_read.specs.declared.table_state.TableState.{TableState}
 use Rattle.slate_read.specs.declared.table_state.TableState.TheVariants.{New, Walking, Refused}
-use Rattle.slate_read.specs.TableWalk.{AreOpened, Begins, BeginsAt, Fetches, IsIndexed, Jumps, Opens, RefusesLeft, SkipsOpen, TakesOpen, answer_at, passed_over, path_in, read_of, reads_in, refuses_at, refuses_behind}
-use Rattle.slate_read.specs.Bringing.{AddsNothing, BringsLeft, BringsReady, BringsSome, BringsUnread, HandsOut, HasRead, IsRowIn, NoMoreRows, brings_behind, brings_in}
+use Rattle.slate_read.specs.TableWalk.{AreOpened, Begins, BeginsAt, Fetches, IsIndexed, Jumps, Opens, RefusesLeft, SkipsOpen, TakesOpen, answer_at, passed_over, path_in, read_of, reads_in, refuses_behind}
+use Rattle.slate_read.specs.Bringing.{AddsNone, AddsNothing, BringsLeft, BringsReady, BringsSome, BringsUnread, HandsAway, HandsOut, HasRead, IsRowIn, NoMoreRows, brings_behind, brings_in}
 use Rattle.slate_read.proofs.Cursors.{fewer_after, opens_fewer, same_refused, took_no_more, took_none}
-use Rattle.slate_read.proofs.Jumps.{get_behind, passed_refused}
+use Rattle.slate_read.proofs.Jumps.{passed_refused}
 use Rattle.slate_read.proofs.ReadAhead.{Stands, block_read, fetches_fewer, get_both, next_within, stands}
 use Rattle.slate_read.proofs.Seeks.{skipped_no_more}
-use Rattle.slate_read.proofs.Walks.{begins_fewer}
+use Rattle.slate_read.proofs.Walks.{begins_fewer, refuses_at}
+use Rattle.slate_types.proofs.Lists.{slice_get_drop}
 
 -- ---- of any iterator
 
@@ -37,6 +39,46 @@ no_rows_both before middle after reads more f g later r k = subst (λ (acts : Li
 pub some_weaker : (P Q : RowEntry → Type 0) (o : Option RowEntry) → ((r : RowEntry) → P r → Q r) → IfSome o P → IfSome o Q
 some_weaker P Q None f h = h
 some_weaker P Q (Some r) f h = f r h
+
+module _ {A : Type 0} (brings : A → Meaning → List Act → RowEntry → Type 0) (refuses : A → Meaning → List Act → Option (List ℕ) → SlateDBError → Type 0) where
+  abbrev pub AddsBy : Reach → Reach → A → A → Type 0
+  AddsBy a b x y = Made a b (λ reads. AddsNone brings refuses a.meaning x reads y)
+
+  abbrev pub HandsBy : Reach → Reach → A → Option RowEntry → A → Type 0
+  HandsBy a b x answer y = Made a b (λ reads. HandsAway brings refuses a.meaning x reads answer y)
+
+  pub none_added : (t : Reach) (x : A) → AddsBy t t x x
+  none_added t x = ([], call_none t, (λ later at e k. k, λ later r k. k))
+
+  pub none_handed : (t : Reach) (x : A) → HandsBy t t x None x
+  none_handed t x = ([], call_none t, ((tt, λ later r k. k), λ later at e k. k))
+
+  pub both_added : (a b c : Reach) (x y z : A) → AddsBy a b x y → AddsBy b c y z → AddsBy a c x z
+  both_added a b c x y z m n = (m.0 ++ n.0, call_both a b c m.0 n.0 m.1 n.1, (no_more_both (refuses x a.meaning) (refuses y a.meaning) (refuses z a.meaning) m.0 n.0 m.2.0 last.0, no_rows_both (brings x a.meaning) (brings y a.meaning) (brings z a.meaning) m.0 n.0 m.2.1 last.1))
+    where
+      last : AddsNone brings refuses a.meaning y n.0 z
+      last = subst (λ (p : Meaning). AddsNone brings refuses p y n.0 z) m.1.meaning n.2
+
+  -- and then a row is handed out, or none is left
+  pub added_hands : (a b c : Reach) (x y z : A) (answer : Option RowEntry) → AddsBy a b x y → HandsBy b c y answer z → HandsBy a c x answer z
+  added_hands a b c x y z answer m n = (
+    m.0 ++ n.0,
+    call_both a b c m.0 n.0 m.1 n.1,
+    (
+      (
+        some_weaker (λ r. brings y a.meaning n.0 r) (λ r. brings x a.meaning (m.0 ++ n.0) r) answer (λ r k. m.2.1 n.0 r k) last.0.0,
+        no_rows_both (brings x a.meaning) (brings y a.meaning) (brings z a.meaning) m.0 n.0 m.2.1 last.0.1,
+      ),
+      no_more_both (refuses x a.meaning) (refuses y a.meaning) (refuses z a.meaning) m.0 n.0 m.2.0 last.1,
+    ),
+  )
+    where
+      last : HandsAway brings refuses a.meaning y n.0 answer z
+      last = subst (λ (p : Meaning). HandsAway brings refuses p y n.0 answer z) m.1.meaning n.2
+
+  -- none was left
+  pub ended_adds : (a b : Reach) (x y : A) → HandsBy a b x None y → AddsBy a b x y
+  ended_adds a b x y (reads, call, (hands, fewer)) = (reads, call, (fewer, hands.1))
 
 -- ---- the block that is open
 
@@ -76,8 +118,11 @@ opened_brings version order block (Some it) r bytes a k = (bytes, (left_of it, a
 
 -- ---- a cursor
 
-some_brings : (m : Meaning) (h : SsTableHandle) (entries : List (ℕ × List ℕ)) (order : IterationOrder) (done reads : List Act) (r : RowEntry) → BringsSome m h entries order reads r → BringsSome m h entries order (done ++ reads) r
-some_brings m h entries order done reads r s = record {
+abbrev pub Within : List Act → List Act → Type 0
+Within some all = (a : Act) → Contains some a → Contains all a
+
+some_grows : (m : Meaning) (h : SsTableHandle) (entries : List (ℕ × List ℕ)) (order : IterationOrder) (reads all : List Act) (r : RowEntry) → Within reads all → BringsSome m h entries order reads r → BringsSome m h entries order all r
+some_grows m h entries order reads all r more s = record {
   first = s.first;
   stop = s.stop;
   at = s.at;
@@ -85,11 +130,28 @@ some_brings m h entries order done reads r s = record {
   from = s.from;
   below = s.below;
   within = s.within;
-  among = Contains-append_right done reads _ s.among;
+  among = more _ s.among;
   block = s.block;
   read = s.read;
   row = s.row;
 }
+
+-- what some reads show of a table, more do
+pub behind_grows : (h : SsTableHandle) (order : IterationOrder) (cursor : Cursor) (m : Meaning) (reads all : List Act) (r : RowEntry) → Within reads all → brings_behind h order cursor m reads r → brings_behind h order cursor m all r
+behind_grows h order cursor m reads all r within (inl k) = inl k
+behind_grows h order cursor m reads all r within (inr (inl k)) = inr (inl k)
+behind_grows h order cursor m reads all r within (inr (inr k)) = inr (inr (some_grows m h (entries_of cursor.index) order reads all r within k))
+
+pub unread_grows : (m : Meaning) (h : SsTableHandle) (order : IterationOrder) (reads all : List Act) (r : RowEntry) → Within reads all → BringsUnread m h order reads r → BringsUnread m h order all r
+unread_grows m h order reads all r within (given, among, (entries, read, some)) = (given, within _ among, (entries, read, some_grows m h entries order reads all r within some))
+
+pub walk_grows : (s : TableState) (h : SsTableHandle) (order : IterationOrder) (m : Meaning) (reads all : List Act) (r : RowEntry) → Within reads all → brings_in s h order m reads r → brings_in s h order m all r
+walk_grows New h order m reads all r within k = unread_grows m h order reads all r within k
+walk_grows (Walking cursor) h order m reads all r within k = behind_grows h order cursor m reads all r within k
+walk_grows (Refused e) h order m reads all r within k = k
+
+some_brings : (m : Meaning) (h : SsTableHandle) (entries : List (ℕ × List ℕ)) (order : IterationOrder) (done reads : List Act) (r : RowEntry) → BringsSome m h entries order reads r → BringsSome m h entries order (done ++ reads) r
+some_brings m h entries order done reads r s = some_grows m h entries order reads (done ++ reads) r (λ a k. Contains-append_right done reads a k) s
 
 rows_after : (h : SsTableHandle) (order : IterationOrder) (m : Meaning) (x y : Cursor) → y.index ≡ x.index → ((r : RowEntry) → BringsLeft y.rows r → BringsLeft x.rows r) →
     ((r : RowEntry) → BringsReady h.format_version order y.ready.items r → BringsReady h.format_version order x.ready.items r) → NoMoreRows (brings_behind h order x m) [] (brings_behind h order y m)
@@ -104,33 +166,16 @@ abbrev pub Adds : SsTableHandle → IterationOrder → Reach → Reach → Curso
 Adds h order a b x y = Made a b (λ reads. AddsNothing h order a.meaning x reads y)
 
 abbrev pub Hands : SsTableHandle → IterationOrder → Reach → Reach → Cursor → Option RowEntry → Cursor → Type 0
-Hands h order a b x answer y = Made a b (λ reads. HandsOut (brings_behind h order x a.meaning) reads answer (brings_behind h order y a.meaning) × NoMore (refuses_behind h order x a.meaning) reads (refuses_behind h order y a.meaning))
+Hands h order a b x answer y = Made a b (λ reads. HandsAway (brings_behind h order) (refuses_behind h order) a.meaning x reads answer y)
 
 pub adds_none : (h : SsTableHandle) (order : IterationOrder) (t : Reach) (x : Cursor) → Adds h order t t x x
-adds_none h order t x = ([], call_none t, (λ later at e k. k, λ later r k. k))
+adds_none h order t x = none_added (brings_behind h order) (refuses_behind h order) t x
 
 pub adds_both : (h : SsTableHandle) (order : IterationOrder) (a b c : Reach) (x y z : Cursor) → Adds h order a b x y → Adds h order b c y z → Adds h order a c x z
-adds_both h order a b c x y z m n = (m.0 ++ n.0, call_both a b c m.0 n.0 m.1 n.1, (no_more_both (refuses_behind h order x a.meaning) (refuses_behind h order y a.meaning) (refuses_behind h order z a.meaning) m.0 n.0 m.2.0 last.0, no_rows_both (brings_behind h order x a.meaning) (brings_behind h order y a.meaning) (brings_behind h order z a.meaning) m.0 n.0 m.2.1 last.1))
-  where
-    last : AddsNothing h order a.meaning y n.0 z
-    last = subst (λ (p : Meaning). AddsNothing h order p y n.0 z) m.1.meaning n.2
+adds_both h order a b c x y z m n = both_added (brings_behind h order) (refuses_behind h order) a b c x y z m n
 
--- and then a row is taken, or none is left
 pub adds_hands : (h : SsTableHandle) (order : IterationOrder) (a b c : Reach) (x y z : Cursor) (answer : Option RowEntry) → Adds h order a b x y → Hands h order b c y answer z → Hands h order a c x answer z
-adds_hands h order a b c x y z answer m n = (
-  m.0 ++ n.0,
-  call_both a b c m.0 n.0 m.1 n.1,
-  (
-    (
-      some_weaker (λ r. brings_behind h order y a.meaning n.0 r) (λ r. brings_behind h order x a.meaning (m.0 ++ n.0) r) answer (λ r k. m.2.1 n.0 r k) last.0.0,
-      no_rows_both (brings_behind h order x a.meaning) (brings_behind h order y a.meaning) (brings_behind h order z a.meaning) m.0 n.0 m.2.1 last.0.1,
-    ),
-    no_more_both (refuses_behind h order x a.meaning) (refuses_behind h order y a.meaning) (refuses_behind h order z a.meaning) m.0 n.0 m.2.0 last.1,
-  ),
-)
-  where
-    last : HandsOut (brings_behind h order y a.meaning) n.0 answer (brings_behind h order z a.meaning) × NoMore (refuses_behind h order y a.meaning) n.0 (refuses_behind h order z a.meaning)
-    last = subst (λ (p : Meaning). HandsOut (brings_behind h order y p) n.0 answer (brings_behind h order z p) × NoMore (refuses_behind h order y p) n.0 (refuses_behind h order z p)) m.1.meaning n.2
+adds_hands h order a b c x y z answer m n = added_hands (brings_behind h order) (refuses_behind h order) a b c x y z answer m n
 
 row_adds : (h : SsTableHandle) (order : IterationOrder) (m : Meaning) (x y : Cursor) (answer : Option RowEntry) → TakesOpen x.rows answer y.rows → y.index ≡ x.index → y.ready ≡ x.ready → AddsNothing h order m x [] y
 row_adds h order m x y answer took index ready = (
@@ -147,7 +192,7 @@ row_hands h order t x y row took index ready =
     ([], call_none t, ((inl (took_first x.rows y.rows row took), k.1), k.0))
 
 pub end_hands : (h : SsTableHandle) (order : IterationOrder) (t : Reach) (x : Cursor) → Hands h order t t x None x
-end_hands h order t x = ([], call_none t, ((tt, λ later r k. k), λ later at e k. k))
+end_hands h order t x = none_handed (brings_behind h order) (refuses_behind h order) t x
 
 pub skip_adds : (h : SsTableHandle) (order : IterationOrder) (key : List ℕ) (t : Reach) (x y : Cursor) (some : Bool) → SkipsOpen key x.rows some y.rows → y.index ≡ x.index → y.ready ≡ x.ready → Adds h order t t x y
 skip_adds h order key t x y some skips index ready = (
@@ -160,7 +205,7 @@ skip_adds h order key t x y some skips index ready = (
 )
 
 passed_brings : (h : SsTableHandle) (order : IterationOrder) (key : List ℕ) (x y : Cursor) (r : RowEntry) → Jumps order key x y → BringsReady h.format_version order y.ready.items r → BringsReady h.format_version order x.ready.items r
-passed_brings h order key x y r jumps (n, block, at, row) = (passed_over order x y + n, block, get_behind x.ready.items (passed_over order x y) n block (ap (λ l. slice_get l n) (sym jumps.ready) ∙ at), row)
+passed_brings h order key x y r jumps (n, block, at, row) = (passed_over order x y + n, block, slice_get_drop x.ready.items (passed_over order x y) n block (ap (λ l. slice_get l n) (sym jumps.ready) ∙ at), row)
 
 pub jump_adds : (h : SsTableHandle) (order : IterationOrder) (key : List ℕ) (t : Reach) (x y : Cursor) → Jumps order key x y → Adds h order t t x y
 jump_adds h order key t x y jumps = (

@@ -30,7 +30,7 @@ use Rattle.slate_read.specs.declared.table_state.Cursor.{Cursor}
 use Rattle.slate_types.specs.World.{Kept, World, AnswersWorld, IsCall, IsSlip, Made, Checks}
 use Rattle.slate_types.specs.Outside.{Meaning, Reach}
 use Rattle.slate_types.specs.Refusing.{IsDamage, NoMore}
-use Rattle.slate_read.specs.TableWalk.{AreOpened, AreReadAhead, IsSoundCursor, IsWhole, Opens, RefusesLeft, RefusesReady, RefusesRows, RefusesSome, TakesOpen, left_in, max_reads, next_block, next_first, next_stop, no_words, nth_block, reads_in, refuses_behind, rest_after, rest_behind, rows_between}
+use Rattle.slate_read.specs.TableWalk.{AreOpened, AreReadAhead, IsSoundCursor, IsWhole, Opens, RefusesLeft, RefusesReady, RefusesRows, RefusesSome, TakesOpen, left_in, max_reads, next_first, next_stop, no_words, nth_block, reads_in, refuses_behind, rest_after, rest_behind, rows_between}
 use Rattle.slate_types.proofs.Calls.{call_none, checks_none, met}
 use Rattle.slate_types.proofs.Moves.{Moves}
 use Rattle.slate_types.specs.Steps.{Step}
@@ -109,6 +109,10 @@ cut_back (b ∷ bs) (suc i) n h =
     let r = cut_back bs i n (omega (arith, h)) in
     let next : suc i + n ≡ suc (i + n) = omega arith in
     (r.0, ap (slice_get (b ∷ bs)) next ∙ r.1, r.2)
+
+abbrev pub next_block : IterationOrder → Cursor → ℕ
+next_block Ascending cursor = cursor.first
+next_block Descending cursor = cursor.stop - 1
 
 pub record Next (order : IterationOrder) (kept : Kept) (cursor : Cursor) : Type 0 where
   pub rows : List RowEntry

@@ -1,6 +1,6 @@
 -- Steps over rows of which operands are folded.
 use Rattle.std.proofs.Common.{◌≡◌, ◌⊎◌, inl, inr, ℕ, ◌&&◌, Bool, true, false, List, [], ◌∷◌, ◌++◌, Option, Some, None, refl, sym, ap, subst, ◌∙◌, append_assoc, reverse}
-use Rattle.std.specs.Prelude.{is_some}
+use Rattle.std.specs.Prelude.{IfSome, is_some}
 use Rattle.slate_types.specs.declared.error.SlateDBError.{SlateDBError}
 use Rattle.slate_types.specs.declared.error.SlateDBError.TheVariants.{MergeOperatorMissing}
 use Rattle.slate_types.specs.declared.iter.IterationOrder.{IterationOrder}
@@ -10,14 +10,16 @@ use Rattle.slate_types.specs.Iteration.{IsInOrder, TakesRow}
 use Rattle.slate_types.specs.Outside.{Act, IsFault, IsLater, Meaning, Reach}
 use Rattle.slate_types.specs.Refusing.{NoMore}
 use Rattle.slate_types.specs.Steps.{Step}
-use Rattle.slate_types.specs.World.{World, IsCall, Sees}
+use Rattle.slate_types.specs.World.{World, IsCall, Made, Sees}
 use Rattle.slate_types.proofs.Calls.{call_both, call_none, checks_none, met, sees_first, sees_last}
 use Rattle.slate_types.proofs.Moves.{Moves}
 use Rattle.slate_types.proofs.Reaching.{fault_earlier}
+use Rattle.slate_read.specs.Calls.{BringsByCalls}
 use Rattle.slate_read.specs.Folding.{AreLinked, begins_linked, folded, follows, is_open, links}
-use Rattle.slate_read.specs.FoldedLaws.{folded_gathered}
-use Rattle.slate_read.specs.Folds.{Blames, Taken, hands_out, refuses_folds, refuses_taken, rest_folds, rest_taken, sound_taken, takes_ahead}
+use Rattle.slate_read.specs.FoldedLaws.{folded_gathered, folded_through}
+use Rattle.slate_read.specs.Folds.{Blames, BlamesNext, Taken, folds_held, hands_out, refuses_folds, refuses_taken, rest_folds, rest_taken, sound_taken, takes_ahead}
 use Rattle.slate_read.specs.Peeking.{TakesAhead, with_ahead}
+use Rattle.slate_read.proofs.FoldBringings.{Came, ahead_held, folds_less, held_less, open_brought}
 use Rattle.slate_read.proofs.Risings.{fault_blames, own_blames}
 
 -- rows behind others in order are in order
@@ -36,6 +38,13 @@ not_followed different barrier oldest row rows e = by (is_open barrier oldest) (
 -- and one that is
 pub is_linked : (different : Bool) (barrier : Option ℕ) (oldest row : RowEntry) → is_open barrier oldest ≡ true → follows different oldest row ≡ true → links different barrier oldest row ≡ true
 is_linked different barrier oldest row opened followed = (λ i. opened i && follows different oldest row) ∙ followed
+
+pub no_operator : (a b : Reach) (has : Bool) → b.meaning ≡ a.meaning → has ≡ is_some b.meaning.combine → has ≡ false → a.meaning.combine ≡ None
+no_operator a b has same is false_is = by a.meaning.combine (sym (ap (λ (p : Meaning). is_some p.combine) same) ∙ sym is ∙ false_is)
+  where
+    by : {A : Type 0} (o : Option A) → is_some o ≡ false → o ≡ None
+    by None h = refl
+    by (Some x) h = cc
 
 -- nothing was asked
 pub call_moves : {A : Type 0} (rest : A → World → List RowEntry) (sound : A → World → Type 0) (refuses : A → Meaning → List Act → Option (List ℕ) → SlateDBError → Type 0) (a b : Reach) (x : A) → IsCall a b [] → Moves rest sound refuses a b x x
@@ -126,32 +135,85 @@ module _ {S : Type 0} (rest : S → World → List RowEntry) (sound : S → Worl
 
   -- ---- a whole step
 
-  folds_less : (m : Meaning) (x y : Taken S) (reads : List Act) → NoMore (refuses_taken refuses x m) reads (refuses_taken refuses y m) → NoMore (refuses_folds refuses x m) reads (refuses_folds refuses y m)
-  folds_less m x y reads less later at e (inl h) = inl (less later at e h)
-  folds_less m x y reads less later at e (inr h) = inr h
+  module _ (begins : S → Meaning → List Act → S → Type 0) (takes : S → Meaning → List Act → Option RowEntry → S → Type 0) (seeks : S → Meaning → List Act → List ℕ → S → Type 0) where
+    -- what a call hands out, and that it adds nothing to what may be refused
+    abbrev pub HandsFolds : Option ℕ → Reach → Reach → S → Option RowEntry → Option RowEntry → S → Option RowEntry → Type 0
+    HandsFolds barrier a b x ahead answer y more =
+        Made a b (λ reads. hands_out {S = S} takes barrier (x, ahead, []) a.meaning reads answer (y, more, [])
+        × NoMore (refuses_folds {S = S} refuses (BringsByCalls begins takes seeks) (x, ahead, []) a.meaning) reads (refuses_folds {S = S} refuses (BringsByCalls begins takes seeks) (y, more, []) a.meaning))
 
-  pub folded_none : (takes : S → Meaning → List Act → Option RowEntry → S → Type 0) (different : Bool) (barrier : Option ℕ) (a b : Reach) (x y : Taken S) → Step (rest_taken rest) (sound_taken rest sound order_of) (refuses_taken refuses) (takes_ahead takes) a b x None y →
-      Step (rest_folds different barrier rest) (sound_taken rest sound order_of) (refuses_folds refuses) (hands_out takes barrier) a b x None y
-  folded_none takes different barrier a b x y s = record {
-    rows = λ w sees h. (ap (folded (operator_at w.meaning.combine) different barrier) (s.rows w sees h).0, ap (folded (operator_at w.meaning.combine) different barrier) (s.rows w sees h).1);
-    still = s.still;
-    checked = s.checked;
-    taken = (s.taken.0, s.taken.1, (λ none. (tt, s.taken.2.0), folds_less a.meaning x y s.taken.0 s.taken.2.1));
-  }
+    hands : (barrier : Option ℕ) (a b : Reach) (x y : S) (ahead answer more : Option RowEntry) (reads : List Act) → IsCall a b reads → (a.meaning.combine ≡ None → IfSome answer (λ row. is_open barrier row ≡ false) × takes_ahead {S = S} takes (x, ahead, []) a.meaning reads answer (y, more, [])) →
+        folds_held {S = S} takes (x, ahead, []) a.meaning reads (y, more, []) → NoMore (refuses x a.meaning) reads (refuses y a.meaning) → HandsFolds barrier a b x ahead answer y more
+    hands barrier a b x y ahead answer more reads call plain held less = (
+      reads,
+      call,
+      ((plain, held), folds_less (BringsByCalls begins takes seeks) refuses a.meaning (x, ahead, []) (y, more, []) reads less (held_less begins takes seeks a.meaning x y ahead more reads held)),
+    )
 
-  pub folded_step : (takes : S → Meaning → List Act → Option RowEntry → S → Type 0) (different : Bool) (barrier : Option ℕ) (a b : Reach) (x : Taken S) (y : S) (ahead : Option RowEntry) (newer : List RowEntry) (oldest row : RowEntry) →
-      Moves (rest_taken rest) (sound_taken rest sound order_of) (refuses_taken refuses) a b x (y, ahead, newer ++ (oldest ∷ [])) → AreLinked (links different barrier) newer oldest →
-      ((w : World) → Sees w a b → sound_taken rest sound order_of x w → begins_linked (links different barrier) oldest (with_ahead ahead (rest y w)) ≡ false) →
-      fold_rows (operator_at a.meaning.combine oldest.key) (oldest ∷ reverse newer) ≡ Some row → ((reads : List Act) → hands_out takes barrier x a.meaning reads (Some row) (y, ahead, [])) →
-      Step (rest_folds different barrier rest) (sound_taken rest sound order_of) (refuses_folds refuses) (hands_out takes barrier) a b x (Some row) (y, ahead, [])
-  folded_step takes different barrier a b x y ahead newer oldest row m linked ends fold plain = record {
-    rows = λ w sees h. ap (folded (operator_at w.meaning.combine) different barrier) (sym (m.rows w sees h))
-        ∙ folded_gathered (operator_at w.meaning.combine) different barrier newer oldest row (with_ahead ahead (rest y w)) linked (ends w sees h)
-        (subst (λ (p : Meaning). fold_rows (operator_at p.combine oldest.key) (oldest ∷ reverse newer) ≡ Some row) (sym sees.meaning) fold);
-    still = λ w sees h. ((m.still w sees h).0, in_order_behind (order_of y) (newer ++ (oldest ∷ [])) (with_ahead ahead (rest y w)) (m.still w sees h).1);
-    checked = m.checked;
-    taken = (m.made.0, m.made.1, (plain m.made.0, folds_less a.meaning x (y, ahead, []) m.made.0 m.made.2));
-  }
+    -- nothing is folded
+    alone : (barrier : Option ℕ) (a b : Reach) (x y : S) (ahead answer : Option RowEntry) → IfSome answer (λ row. is_open barrier row ≡ false) → Step (rest_taken rest) (sound_taken rest sound order_of) (refuses_taken refuses) (takes_ahead takes) a b (x, ahead, []) answer (y, None, []) → HandsFolds barrier a b x ahead answer y None
+    alone barrier a b x y ahead answer closed s = hands barrier a b x y ahead answer None s.taken.0 s.taken.1 (λ none. (closed, s.taken.2.0)) (ahead_held takes a.meaning x y ahead answer s.taken.0 s.taken.2.0) s.taken.2.1
+
+    pub folded_none : (different : Bool) (barrier : Option ℕ) (a b : Reach) (x y : S) (ahead more : Option RowEntry) → more ≡ None → Step (rest_taken rest) (sound_taken rest sound order_of) (refuses_taken refuses) (takes_ahead takes) a b (x, ahead, []) None (y, None, []) →
+        Step (rest_folds different barrier rest) (sound_taken rest sound order_of) (refuses_folds refuses (BringsByCalls begins takes seeks)) (hands_out takes barrier) a b (x, ahead, []) None (y, more, [])
+    folded_none different barrier a b x y ahead more none s =
+        subst (λ (o : Option RowEntry). Step (rest_folds different barrier rest) (sound_taken rest sound order_of) (refuses_folds refuses (BringsByCalls begins takes seeks)) (hands_out takes barrier) a b (x, ahead, []) None (y, o, [])) (sym none)
+        (record {
+          rows = λ w sees h. (ap (folded (operator_at w.meaning.combine) different barrier) (s.rows w sees h).0, ap (folded (operator_at w.meaning.combine) different barrier) (s.rows w sees h).1);
+          still = s.still;
+          checked = s.checked;
+          taken = alone barrier a b x y ahead None tt s;
+        })
+
+    pub through_step : (different : Bool) (barrier : Option ℕ) (a b : Reach) (x y : S) (ahead more : Option RowEntry) (row : RowEntry) → more ≡ None → is_open barrier row ≡ false → Step (rest_taken rest) (sound_taken rest sound order_of) (refuses_taken refuses) (takes_ahead takes) a b (x, ahead, []) (Some row) (y, None, []) →
+        Step (rest_folds different barrier rest) (sound_taken rest sound order_of) (refuses_folds refuses (BringsByCalls begins takes seeks)) (hands_out takes barrier) a b (x, ahead, []) (Some row) (y, more, [])
+    through_step different barrier a b x y ahead more row none closed s =
+        subst (λ (o : Option RowEntry). Step (rest_folds different barrier rest) (sound_taken rest sound order_of) (refuses_folds refuses (BringsByCalls begins takes seeks)) (hands_out takes barrier) a b (x, ahead, []) (Some row) (y, o, [])) (sym none)
+        (record {
+          rows = λ w sees h. ap (folded (operator_at w.meaning.combine) different barrier) (s.rows w sees h) ∙ folded_through (operator_at w.meaning.combine) different barrier row (rest y w) closed;
+          still = s.still;
+          checked = s.checked;
+          taken = alone barrier a b x y ahead (Some row) closed s;
+        })
+
+    pub folded_step : (different : Bool) (barrier : Option ℕ) (a b : Reach) (x y : S) (ahead more : Option RowEntry) (newer : List RowEntry) (oldest row : RowEntry) →
+        Moves (rest_taken rest) (sound_taken rest sound order_of) (refuses_taken refuses) a b (x, ahead, []) (y, more, newer ++ (oldest ∷ [])) → AreLinked (links different barrier) newer oldest →
+        ((w : World) → Sees w a b → sound_taken rest sound order_of (x, ahead, []) w → begins_linked (links different barrier) oldest (with_ahead more (rest y w)) ≡ false) →
+        fold_rows (operator_at a.meaning.combine oldest.key) (oldest ∷ reverse newer) ≡ Some row → (a.meaning.combine ≡ None → ⊥) → Came takes refuses a b x ahead y more →
+        Step (rest_folds different barrier rest) (sound_taken rest sound order_of) (refuses_folds refuses (BringsByCalls begins takes seeks)) (hands_out takes barrier) a b (x, ahead, []) (Some row) (y, more, [])
+    folded_step different barrier a b x y ahead more newer oldest row m linked ends fold some came = record {
+      rows = λ w sees h. ap (folded (operator_at w.meaning.combine) different barrier) (sym (m.rows w sees h))
+          ∙ folded_gathered (operator_at w.meaning.combine) different barrier newer oldest row (with_ahead more (rest y w)) linked (ends w sees h)
+          (subst (λ (p : Meaning). fold_rows (operator_at p.combine oldest.key) (oldest ∷ reverse newer) ≡ Some row) (sym sees.meaning) fold);
+      still = λ w sees h. ((m.still w sees h).0, in_order_behind (order_of y) (newer ++ (oldest ∷ [])) (with_ahead more (rest y w)) (m.still w sees h).1);
+      checked = m.checked;
+      taken = hands barrier a b x y ahead (Some row) more came.0 came.1 (λ none. absurd (some none)) came.2.0 came.2.1;
+    }
+
+    -- what a call refuses for
+    abbrev pub RefusesFolds : Bool → Option ℕ → Reach → Reach → S → Option RowEntry → SlateDBError → S → Type 0
+    RefusesFolds different barrier a b x ahead e y =
+        Made a b (λ reads. (IsFault a b e ⊎ refuses_folds {S = S} refuses (BringsByCalls begins takes seeks) (x, ahead, []) a.meaning reads None e) × BlamesNext refuses takes different barrier ahead a.meaning reads None e x y)
+
+    pub source_blames : (different : Bool) (barrier : Option ℕ) (a b : Reach) (x y : S) (ahead : Option RowEntry) (e : SlateDBError) → Made a b (λ reads. IsFault a b e ⊎ refuses x a.meaning reads None e) → RefusesFolds different barrier a b x ahead e y
+    source_blames different barrier a b x y ahead e (reads, call, why) = (reads, call, by why)
+      where
+        by : IsFault a b e ⊎ refuses x a.meaning reads None e → (IsFault a b e ⊎ refuses_folds {S = S} refuses (BringsByCalls begins takes seeks) (x, ahead, []) a.meaning reads None e) × BlamesNext refuses takes different barrier ahead a.meaning reads None e x y
+        by (inl k) = (inl k, fault_blames a b e k)
+        by (inr k) = (inr (inl k), own_blames e k)
+
+    -- an operand comes, and there is no operator
+    pub open_blames : (different : Bool) (barrier : Option ℕ) (a b : Reach) (x y : S) (ahead : Option RowEntry) (row : RowEntry) (has : Bool) → Step (rest_taken rest) (sound_taken rest sound order_of) (refuses_taken refuses) (takes_ahead takes) a b (x, ahead, []) (Some row) (y, None, []) →
+        is_open barrier row ≡ true → b.meaning ≡ a.meaning → has ≡ is_some b.meaning.combine → has ≡ false →
+        RefusesFolds different barrier a b x ahead MergeOperatorMissing y
+    open_blames different barrier a b x y ahead row has s opened same is false_is = (
+      s.taken.0,
+      s.taken.1,
+      (
+        inr (inr (open_brought begins takes seeks barrier a.meaning x y ahead s.taken.0 row s.taken.2.0 opened (no_operator a b has same is false_is))),
+        (λ missing. inr (row, opened, s.taken.2.0), λ current next never. cc),
+      ),
+    )
 
 -- what stands behind the rows that were gathered, in a call that took the first row before
 pub gathered_ends : {A B : Type 0} (sound : A → World → Type 0) (later : B → World → Type 0) (P : World → Type 0) (a b c d : Reach) (x : A) (y : B) (r s : List Act) → IsCall a b r → IsCall b c s → IsCall c d [] →
@@ -162,11 +224,6 @@ gathered_ends sound later P a b c d x y r s f g l still ends w sees h =
 
 -- ---- refusals
 
--- a refusal of the source
-pub source_blames : {own opens opened rising : Type 0} (a b : Reach) (e : SlateDBError) → IsFault a b e ⊎ own → (IsFault a b e ⊎ (own ⊎ opened)) × Blames e own opens rising
-source_blames a b e (inl k) = (inl k, fault_blames a b e k)
-source_blames a b e (inr k) = (inr (inl k), own_blames e k)
-
 -- a fault of the operator, since there is one
 pub operator_blames : {own opens opened rising : Type 0} (a b c : Reach) (e : SlateDBError) (has : Bool) → IsLater a.faults b.faults → b.meaning ≡ a.meaning → has ≡ is_some a.meaning.combine → has ≡ true → IsFault b c e ⊎ ((e ≡ MergeOperatorMissing) × (b.meaning.combine ≡ None)) →
     (IsFault a c e ⊎ (own ⊎ opened)) × Blames e own opens rising
@@ -175,13 +232,6 @@ operator_blames a b c e has later same is true_is (inr k) =
     let none : a.meaning.combine ≡ None = subst (λ (p : Meaning). p.combine ≡ None) same k.1 in
     let no : is_some a.meaning.combine ≡ false = ap is_some none in
     let yes : is_some a.meaning.combine ≡ true = sym is ∙ true_is in cc
-
-pub no_operator : (a b : Reach) (has : Bool) → b.meaning ≡ a.meaning → has ≡ is_some b.meaning.combine → has ≡ false → a.meaning.combine ≡ None
-no_operator a b has same is false_is = by a.meaning.combine (sym (ap (λ (p : Meaning). is_some p.combine) same) ∙ sym is ∙ false_is)
-  where
-    by : {A : Type 0} (o : Option A) → is_some o ≡ false → o ≡ None
-    by None h = refl
-    by (Some x) h = cc
 
 pub some_operator : (a b : Reach) (has : Bool) {A : Type 0} → b.meaning ≡ a.meaning → has ≡ is_some b.meaning.combine → has ≡ true → a.meaning.combine ≡ None → A
 some_operator a b has same is true_is none =

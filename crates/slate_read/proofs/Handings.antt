@@ -11,7 +11,7 @@ use Rattle.slate_types.specs.Refusing.{NoMore}
 use Rattle.slate_types.specs.Steps.{Takes}
 use Rattle.slate_types.specs.World.{Made}
 use Rattle.slate_types.proofs.Calls.{call_none, call_both, no_more_both}
-use Rattle.slate_types.proofs.Lists.{AllByRecursion-append, AllByRecursion-weaken}
+use Rattle.slate_types.proofs.Lists.{AllByRecursion_append, AllByRecursion_weaken}
 use Rattle.slate_read.specs.declared.groups.Groups.{Groups}
 use Rattle.slate_read.specs.declared.progress.Progress.{Progress}
 use Rattle.slate_read.specs.declared.progress.Progress.TheVariants.{Going}
@@ -38,7 +38,7 @@ among_same : (rows all : List RowEntry) → rows ≡ all → AreAmong rows all
 among_same rows all is = subst (AreAmong rows) is (own rows)
 
 among_more : (rows all more : List RowEntry) → ((r : RowEntry) → Contains all r → Contains more r) → AreAmong rows all → AreAmong rows more
-among_more rows all more f h = AllByRecursion-weaken (λ r. Contains all r) (λ r. Contains more r) f rows h
+among_more rows all more f h = AllByRecursion_weaken (λ r. Contains all r) (λ r. Contains more r) f rows h
 
 among_get : (rows all : List RowEntry) (r : RowEntry) → AreAmong rows all → Contains rows r → Contains all r
 among_get rows all r h k = All-contains (λ x. Contains all x) rows r (All-from_recursion (λ x. Contains all x) rows h) k
@@ -130,7 +130,7 @@ module _ {I : Type 0} (refuses : I → Meaning → List Act → Option (List ℕ
   taken_off : (g h : Groups) (row : RowEntry) → g.ready.items ≡ h.ready.items ++ (row ∷ []) → h.gathered.items ≡ g.gathered.items → Contains (held_of g) row × AreAmong (held_of h) (held_of g)
   taken_off g h row ready gathered = (
     Contains-append_left g.ready.items g.gathered.items row (subst (λ (l : List RowEntry). Contains l row) (sym ready) (Contains-append_right h.ready.items (row ∷ []) row (first_of row []))),
-    AllByRecursion-append (λ r. Contains (held_of g) r) h.ready.items h.gathered.items
+    AllByRecursion_append (λ r. Contains (held_of g) r) h.ready.items h.gathered.items
         (among_more h.ready.items h.ready.items (held_of g) (λ r k. Contains-append_left g.ready.items g.gathered.items r (subst (λ (l : List RowEntry). Contains l r) (sym ready) (Contains-append_left h.ready.items (row ∷ []) r k))) (own h.ready.items))
         (among_more h.gathered.items g.gathered.items (held_of g) (λ r k. Contains-append_right g.ready.items g.gathered.items r k) (among_same h.gathered.items g.gathered.items gathered)),
   )

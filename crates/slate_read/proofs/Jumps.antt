@@ -13,8 +13,8 @@ use Rattle.slate_types.specs.Outside.{Reach}
 use Rattle.slate_types.specs.Partitions.{CanHold}
 use Rattle.slate_types.specs.World.{Kept, World, Sees}
 use Rattle.slate_types.proofs.Calls.{call_none, checks_none, sees_first, sees_last, call_both, checks_both, no_more_both}
-use Rattle.slate_types.proofs.KeyOrder.{not-le}
-use Rattle.slate_types.proofs.Lists.{AllByRecursion-append}
+use Rattle.slate_types.proofs.KeyOrder.{not_le}
+use Rattle.slate_types.proofs.Lists.{AllByRecursion_append, slice_get_drop}
 use Rattle.slate_types.proofs.Moves.{Moves}
 use Rattle.slate_types.specs.Outside.{Meaning}
 use Rattle.slate_types.specs.Refusing.{NoMore}
@@ -24,10 +24,11 @@ use Rattle.slate_table.specs.declared.info.SsTableHandle.{SsTableHandle}
 use Rattle.slate_table.specs.IndexReading.{index_keys}
 use Rattle.slate_table.specs.IndexValue.{entries_of}
 use Rattle.slate_read.specs.declared.table_state.Cursor.{Cursor}
-use Rattle.slate_read.specs.TableWalk.{AreReadAhead, IsSoundCursor, IsSoundRising, IsWhole, Jumps, RefusesLeft, RefusesReady, Sought, left_in, nth_block, passed_over, reads_in, refuses_behind, rest_after, rest_behind, rest_sought, rows_between}
+use Rattle.slate_read.specs.TableWalk.{AreReadAhead, IsSoundCursor, IsSoundRising, IsWhole, Jumps, RefusesLeft, RefusesReady, Sought, left_in, nth_block, passed_over, reads_in, refuses_behind, rest_after, rest_behind, rows_between}
 use Rattle.slate_read.proofs.Cursors.{fewer_after, sound_after, spent_left}
 use Rattle.slate_read.proofs.Grouping.{all_back}
 use Rattle.slate_read.proofs.Ranges.{in_back}
+use Rattle.slate_read.proofs.Seeks.{rest_sought}
 use Rattle.slate_read.proofs.Turns.{dropped_front}
 
 -- ---- neighbouring blocks
@@ -72,13 +73,13 @@ all_between P [] (suc a) zero h = tt
 all_between P [] (suc a) (suc n) h = tt
 all_between P (x ∷ bs) zero zero h = tt
 all_between P (x ∷ bs) zero (suc n) h =
-    AllByRecursion-append P x (flat_map (λ y. y) (take n bs)) (h 0 x refl (omega arith) (omega arith)) (all_between P bs zero n (λ i b is le lt. h (suc i) b is (omega arith) (omega (arith, lt))))
+    AllByRecursion_append P x (flat_map (λ y. y) (take n bs)) (h 0 x refl (omega arith) (omega arith)) (all_between P bs zero n (λ i b is le lt. h (suc i) b is (omega arith) (omega (arith, lt))))
 all_between P (x ∷ bs) (suc a) n h = all_between P bs a n (λ i b is le lt. h (suc i) b is (omega (arith, le)) (omega (arith, lt)))
 
 -- ---- passing over
 
 pub not_in : (k key : List ℕ) → (key_le key k ≡ true → ⊥) → key_lt k key ≡ true
-not_in k key out = not-le key k (by (key_le key k) refl)
+not_in k key out = not_le key k (by (key_le key k) refl)
   where
     by : (t : Bool) → key_le key k ≡ t → t ≡ false
     by true e = absurd (out e)
@@ -114,11 +115,6 @@ jumped w h Descending key x y s jumps =
       ap reverse (rows_split s.kept.blocks x.first y.stop x.stop (omega (arith, within, same)) jumps.stop) ∙ reverse-append front back ∙ ap (λ (n : ℕ). reverse back ++ reverse (rows_between s.kept n y.stop)) (sym same),
     )
 
-pub get_behind : {X : Type 0} (xs : List X) (k n : ℕ) (x : X) → slice_get (drop k xs) n ≡ Some x → slice_get xs (k + n) ≡ Some x
-get_behind xs zero n x at = let same : 0 + n ≡ n = omega arith in ap (slice_get xs) same ∙ at
-get_behind [] (suc k) n x at = cc
-get_behind (y ∷ xs) (suc k) n x at = let same : suc k + n ≡ suc (k + n) = omega arith in ap (slice_get (y ∷ xs)) same ∙ get_behind xs k n x at
-
 passed_place : (order : IterationOrder) (key : List ℕ) (x y : Cursor) (n : ℕ) → Jumps order key x y → nth_block order y.first y.stop n ≡ nth_block order x.first x.stop (passed_over order x y + n)
 passed_place Ascending key x y n jumps = let a = jumps.first in omega (arith, a)
 passed_place Descending key x y n jumps = let a = jumps.stop in omega (arith, a)
@@ -126,10 +122,10 @@ passed_place Descending key x y n jumps = let a = jumps.stop in omega (arith, a)
 -- the blocks that were read ahead and aren't passed over
 passed_ready : (h : SsTableHandle) (order : IterationOrder) (key : List ℕ) (kept : Kept) (x y : Cursor) → Jumps order key x y → AreReadAhead h order kept x → AreReadAhead h order kept y
 passed_ready h order key kept x y jumps ahead n block rows at there bytes =
-    ahead (passed_over order x y + n) block rows (get_behind x.ready.items (passed_over order x y) n block (ap (λ l. slice_get l n) (sym jumps.ready) ∙ at)) (ap (slice_get kept.blocks) (sym (passed_place order key x y n jumps)) ∙ there) bytes
+    ahead (passed_over order x y + n) block rows (slice_get_drop x.ready.items (passed_over order x y) n block (ap (λ l. slice_get l n) (sym jumps.ready) ∙ at)) (ap (slice_get kept.blocks) (sym (passed_place order key x y n jumps)) ∙ there) bytes
 
 pub passed_refused : (h : SsTableHandle) (order : IterationOrder) (key : List ℕ) (x y : Cursor) (e : SlateDBError) → Jumps order key x y → RefusesReady h.format_version order y.ready.items e → RefusesReady h.format_version order x.ready.items e
-passed_refused h order key x y e jumps (n, block, at, bytes, rows) = (passed_over order x y + n, block, get_behind x.ready.items (passed_over order x y) n block (ap (λ l. slice_get l n) (sym jumps.ready) ∙ at), bytes, rows)
+passed_refused h order key x y e jumps (n, block, at, bytes, rows) = (passed_over order x y + n, block, slice_get_drop x.ready.items (passed_over order x y) n block (ap (λ l. slice_get l n) (sym jumps.ready) ∙ at), bytes, rows)
 
 pub jump_moves : (h : SsTableHandle) (order : IterationOrder) (key : List ℕ) (t : Reach) (x y : Cursor) → Jumps order key x y → reads_in x.rows ≡ 0 → Moves (rest_sought h order key) (IsSoundRising h order) (refuses_behind h order) t t x y
 jump_moves h order key t x y jumps spent = record {

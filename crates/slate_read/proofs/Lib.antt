@@ -27,6 +27,8 @@ pub mod Blames
 pub mod Bringings
 pub mod Handings
 pub mod Tellings
+pub mod Calling
+pub mod MergeBringings
 pub mod SstBringings
 pub mod Goings
 pub mod MergeLoops
@@ -38,8 +40,10 @@ pub mod RunOpen
 pub mod Runs
 pub mod RunSeeks
 pub mod RunCalls
+pub mod RunBringings
 pub mod RunRows
 pub mod FoldGroups
+pub mod FoldBringings
 pub mod FoldSteps
 pub mod Risings
 pub mod Operables
@@ -47,3 +51,4 @@ pub mod FoldedKeys
 pub mod FoldedTurns
 pub mod Operators
 pub mod SegmentRuns
+pub mod SourceBringings

@@ -1,5 +1,5 @@
 -- Loops over the steps of a merge.
-use Rattle.std.proofs.Common.{◌≡◌, ℕ, ◌+◌, ◌-◌, ◌^◌, ◌≤◌, ◌&&◌, min, Bool, true, false, List, [], ◌∷◌, ◌++◌, Option, Some, None, refl, sym, ap, subst, ◌∙◌, arith, IsPermutation}
+use Rattle.std.proofs.Common.{◌≡◌, ◌⊎◌, inl, inr, ℕ, ◌+◌, ◌-◌, ◌^◌, ◌≤◌, ◌&&◌, min, Bool, true, false, List, [], ◌∷◌, ◌++◌, Option, Some, None, refl, sym, ap, subst, ◌∙◌, arith, IsPermutation}
 use Rattle.std.specs.Prelude.{bytes_eq}
 use Rattle.std.specs.List.{AllByRecursion}
 use Rattle.std.specs.BinaryHeap.{IsHeap}
@@ -10,20 +10,25 @@ use Rattle.slate_types.specs.Outside.{Act, Meaning, Reach}
 use Rattle.slate_types.specs.Refusing.{NoMore, IsReady}
 use Rattle.slate_types.specs.Rows.{is_base}
 use Rattle.slate_types.specs.Steps.{Step}
-use Rattle.slate_types.specs.World.{World, Sees}
+use Rattle.slate_types.specs.World.{World, Made, Sees}
 use Rattle.slate_types.proofs.Calls.{call_both, sees_first, sees_last, checks_both, no_more_both}
-use Rattle.slate_types.proofs.Lists.{AllByRecursion-push}
+use Rattle.slate_types.proofs.Lists.{AllByRecursion_push}
 use Rattle.slate_types.proofs.Moves.{Moves, moves_both}
 use Rattle.slate_read.specs.declared.head.Head.{Head}
 use Rattle.slate_read.specs.Heads.{head_cmp}
 use Rattle.slate_read.specs.Merge.{begins_with, counted, past_key, row_bytes, shown_rows, with_key}
 use Rattle.slate_read.specs.Merging.{ArePlaced, left_rows, left_in, IsMergingIn, IsSoundHead, IsTop, has_key, blames, begun_sources, AreReady, IsFront}
-use Rattle.slate_read.specs.MergeSteps.{CountsKey, CountsTaken, Renewed, Renews, TakesMerged}
+use Rattle.slate_read.specs.CallLaws.{brings_behind_others}
+use Rattle.slate_read.specs.Calls.{BringsByCalls}
+use Rattle.slate_read.specs.MergeBringing.{AddNothing}
+use Rattle.slate_read.specs.MergeSteps.{CountsKey, CountsTaken, Renews, TakesMerged}
 use Rattle.slate_read.proofs.HeadLaws.{each_shuffled}
 use Rattle.slate_read.proofs.SeekLaws.{past_none, past_one, counted_one}
 use Rattle.slate_read.proofs.DecidedLaws.{shown_alone, takes_older, shown_older}
-use Rattle.slate_read.proofs.RenewLaws.{moved_out, moved_in, renewed_begun, renewed_placed, renewed_rows}
+use Rattle.slate_read.proofs.RenewLaws.{Renewed, moved_out, moved_in, renewed_begun, renewed_placed, renewed_rows}
 use Rattle.slate_read.proofs.Blames.{blamed_put}
+use Rattle.slate_read.proofs.Calling.{called_less}
+use Rattle.slate_read.proofs.MergeBringings.{brought_put}
 
 -- ---- rows of a key
 
@@ -50,7 +55,7 @@ counts_none key n = ([], tt, refl)
 pub counts_more : (key : List ℕ) (n m k : ℕ) (r : RowEntry) → CountsKey key n m → bytes_eq key r.key ≡ true → k ≡ min (m + min (row_bytes r) (2 ^ 64 - 1)) (2 ^ 64 - 1) → CountsKey key n k
 counts_more key n m k r c e is = (
   c.0 ++ (r ∷ []),
-  AllByRecursion-push (λ (x : RowEntry). bytes_eq key x.key ≡ true) c.0 r c.1 e,
+  AllByRecursion_push (λ (x : RowEntry). bytes_eq key x.key ≡ true) c.0 r c.1 e,
   plainly m k r is ∙ ap (λ (z : ℕ). min (z + row_bytes r) (2 ^ 64 - 1)) c.2 ∙ sym (counted_more n c.0 r),
 )
 
@@ -109,20 +114,21 @@ module _ {A : Type 0} (rest : A → World → List RowEntry) (sound : A → Worl
         let end = m.still w (last w sees) still in
         sym (past_none r.key (rest z w) (done w end)) ∙ m.rows w (last w sees) still
 
-    pub older_step : (dedup : Bool) → ((v : Meaning) (reads more : List Act) → T x v reads (Some r) y → T x v (reads ++ more) (Some r) z) → (dedup && is_base r) ≡ true → Step (λ u w. shown_rows dedup (rest u w)) sound refuses T a c x (Some r) z
-    older_step dedup goes_on e = record {
+    pub older_step : (dedup : Bool) (adds : A → Meaning → List Act → A → Type 0) → ((v : Meaning) (reads more : List Act) → T x v reads (Some r) y → adds y v more z → T x v (reads ++ more) (Some r) z) → Made b c (λ more. NoMore (refuses y b.meaning) more (refuses z b.meaning) × adds y b.meaning more z)
+        → (dedup && is_base r) ≡ true → Step (λ u w. shown_rows dedup (rest u w)) sound refuses T a c x (Some r) z
+    older_step dedup adds goes_on brought e = record {
       rows = λ w sees h. shown_older dedup r (rest x w) (rest y w) (rest z w) e (s.rows w (first w sees) h) (past w sees h);
       still = λ w sees h. m.still w (last w sees) (s.still w (first w sees) h);
       checked = λ w h. checks_both w a b c s.taken.0 m.made.0 s.taken.1 m.made.1 (s.checked w h) (λ sees. m.checked w (s.still w sees h));
       taken = (
-        s.taken.0 ++ m.made.0,
-        call_both a b c s.taken.0 m.made.0 s.taken.1 m.made.1,
-        (
-          goes_on a.meaning s.taken.0 m.made.0 s.taken.2.0,
-          no_more_both (refuses x a.meaning) (refuses y a.meaning) (refuses z a.meaning) s.taken.0 m.made.0 s.taken.2.1 (subst (λ (p : Meaning). NoMore (refuses y p) m.made.0 (refuses z p)) s.taken.1.meaning m.made.2),
-        ),
+        s.taken.0 ++ brought.0,
+        call_both a b c s.taken.0 brought.0 s.taken.1 brought.1,
+        (goes_on a.meaning s.taken.0 brought.0 s.taken.2.0 more.1, no_more_both (refuses x a.meaning) (refuses y a.meaning) (refuses z a.meaning) s.taken.0 brought.0 s.taken.2.1 more.0),
       );
     }
+      where
+        more : NoMore (refuses y a.meaning) brought.0 (refuses z a.meaning) × adds y a.meaning brought.0 z
+        more = subst (λ (p : Meaning). NoMore (refuses y p) brought.0 (refuses z p) × adds y p brought.0 z) s.taken.1.meaning brought.2
 
     pub older_takes : (dedup : Bool) (n k q : ℕ) → (dedup && is_base r) ≡ true → k ≡ min (n + min (row_bytes r) (2 ^ 64 - 1)) (2 ^ 64 - 1) → ((w : World) → Sees w b c → sound y w → q ≡ counted k (with_key r.key (rest y w)))
         → (w : World) → Sees w a c → sound x w → TakesMerged dedup (rest x w) (rest z w) n q
@@ -152,30 +158,48 @@ module _ {S : Type 0} (rest : S → World → List RowEntry) (sound : S → Worl
   abbrev pub heads_blame : List (Head S) → Meaning → List Act → Option (List ℕ) → SlateDBError → Type 0
   heads_blame heads = blames refuses (begun_sources heads)
 
-  module _ (more : (x : S) (m : Meaning) (done reads : List Act) (at : Option (List ℕ)) (e : SlateDBError) → refuses x m reads at e → refuses x m (done ++ reads) at e)
+  module _ (begins : S → Meaning → List Act → S → Type 0) (more : (x : S) (m : Meaning) (done reads : List Act) (at : Option (List ℕ)) (e : SlateDBError) → refuses x m reads at e → refuses x m (done ++ reads) at e)
       (a b : Reach) (done left others new : List (Head S)) (x : Head S) (source : S) (out : IsPermutation left (x ∷ others)) (within : IsPermutation (record { row = x.row; behind = x.behind; order = x.order; source = source } ∷ done) new)
-      (renews : Renews rest sound refuses bound order_of a b x.source source) where
+      (renews : Renews rest sound refuses begins bound order_of a b x.source source) where
     abbrev y : Head S
     y = record { row = x.row; behind = x.behind; order = x.order; source = source }
 
     renewed : (w : World) → Sees w a b → Renewed (rest_at w) (λ s. sound s w) order_of x.source source
-    renewed w sees = record { rows = renews.moves.rows w sees; still = renews.moves.still w sees; order = renews.order }
+    renewed w sees = record { rows = renews.rows w sees; still = renews.still w sees; order = renews.order }
 
     pub renew_moves : (o : IterationOrder) → Moves (heads_left o) (AreSoundHeads o) heads_blame a b (done ++ left) (new ++ others)
     renew_moves o = record {
       rows = λ w sees h. renewed_rows (rest_at w) (λ s. sound s w) order_of done left others new x y out within (renewed w sees) o refl refl refl [] h.1 h.0;
       still = λ w sees h. (renewed_begun (rest_at w) (λ s. sound s w) order_of done left others new x y out within (renewed w sees) o refl refl refl h.0, renewed_placed (rest_at w) (λ s. sound s w) order_of done left others new x y out within (renewed w sees) o refl refl refl h.1);
-      checked = λ w h. renews.moves.checked w (each_shuffled (IsSoundHead (rest_at w) (sound_at w o) o) (done ++ left) (x ∷ (done ++ others)) (moved_out done left others x out) h.0).0.0.0;
+      checked = λ w h. renews.checked w (each_shuffled (IsSoundHead (rest_at w) (sound_at w o) o) (done ++ left) (x ∷ (done ++ others)) (moved_out done left others x out) h.0).0.0.0;
       made = (
-        renews.moves.made.0,
-        renews.moves.made.1,
-        blamed_put refuses more a.meaning renews.moves.made.0 [] (done ++ left) (done ++ others) (new ++ others) x y (moved_out done left others x out) (moved_in done new others y within) renews.moves.made.2,
+        renews.begun.0,
+        renews.begun.1,
+        blamed_put refuses more a.meaning renews.begun.0 [] (done ++ left) (done ++ others) (new ++ others) x y (moved_out done left others x out) (moved_in done new others y within) renews.begun.2.1,
       );
     }
 
-  pub renew_ready : (a b : Reach) (done new : List (Head S)) (x : Head S) (source : S) (m : Meaning) → IsPermutation (record { row = x.row; behind = x.behind; order = x.order; source = source } ∷ done) new → Renews rest sound refuses bound order_of a b x.source source → a.meaning ≡ m
+    -- and bring no more
+    pub renew_made : (takes : S → Meaning → List Act → Option RowEntry → S → Type 0) (seeks : S → Meaning → List Act → List ℕ → S → Type 0) → Made a b (λ reads. AddNothing (BringsByCalls begins takes seeks) refuses (begun_sources (done ++ left)) a.meaning reads (begun_sources (new ++ others)))
+    renew_made takes seeks = (
+      reads,
+      renews.begun.1,
+      (
+        blamed_put refuses more a.meaning reads [] (done ++ left) (done ++ others) (new ++ others) x y (moved_out done left others x out) (moved_in done new others y within) renews.begun.2.1,
+        brought_put (BringsByCalls begins takes seeks) (λ s m d rs r k. brings_behind_others begins takes seeks s m d rs r k) a.meaning reads [] (done ++ left) (done ++ others) (new ++ others) x y (moved_out done left others x out) (moved_in done new others y within) less,
+      ),
+    )
+      where
+        reads : List Act
+        reads = renews.begun.0
+
+        less : (later : List Act) (r : RowEntry) → (x.row ≡ r) ⊎ BringsByCalls begins takes seeks source a.meaning later r → (x.row ≡ r) ⊎ BringsByCalls begins takes seeks x.source a.meaning (reads ++ later) r
+        less later r (inl is) = inl is
+        less later r (inr k) = inr (called_less begins takes seeks a.meaning x.source source reads (inl renews.begun.2.0) later r k)
+
+  pub renew_ready : (begins : S → Meaning → List Act → S → Type 0) (a b : Reach) (done new : List (Head S)) (x : Head S) (source : S) (m : Meaning) → IsPermutation (record { row = x.row; behind = x.behind; order = x.order; source = source } ∷ done) new → Renews rest sound refuses begins bound order_of a b x.source source → a.meaning ≡ m
       → AreReady refuses m done → AreReady refuses m new
-  renew_ready a b done new x source m within renews same h =
+  renew_ready begins a b done new x source m within renews same h =
       let y : Head S = record { row = x.row; behind = x.behind; order = x.order; source = source } in
       each_shuffled (λ (z : Head S). IsReady (refuses z.source m)) (y ∷ done) new within (subst (λ (p : Meaning). IsReady (refuses source p)) same renews.ready, h)
 

@@ -9,7 +9,7 @@ use Rattle.slate_types.specs.declared.iter.IterationOrder.{IterationOrder}
 use Rattle.slate_types.specs.declared.types.RowEntry.{RowEntry}
 use Rattle.slate_types.specs.Iteration.{begins_before, drop_before}
 use Rattle.slate_types.specs.Outside.{Act, Counts, IsCounted, IsFault, Meaning, Reach}
-use Rattle.slate_types.specs.Refusing.{IsDamage, IsReady, NoMore, NoMoreBut}
+use Rattle.slate_types.specs.Refusing.{IsDamage, IsReady, NoMoreBut}
 use Rattle.slate_types.specs.Steps.{Step}
 use Rattle.slate_types.specs.World.{World, AnswersWorld, Checks, Made, Sees}
 use Rattle.slate_types.proofs.Calls.{call_none, seen}
@@ -19,15 +19,18 @@ use Rattle.slate_read.specs.declared.head.Head.{Head}
 use Rattle.slate_read.specs.declared.merge_iterator.MergeIterator.{MergeIterator}
 use Rattle.slate_read.specs.declared.merge_iterator.MergeState.{MergeState}
 use Rattle.slate_read.specs.declared.merge_iterator.MergeState.TheVariants.{New, Begun, Refused}
+use Rattle.slate_read.specs.Bringing.{HandsOut}
 use Rattle.slate_read.specs.Heads.{head_cmp}
 use Rattle.slate_read.specs.Kept.{Copies, IsKept}
 use Rattle.slate_read.specs.Merge.{shown_rows}
 use Rattle.slate_read.specs.MergeLaws.{fresh_merge}
 use Rattle.slate_read.specs.Merging.{AnyByRecursion, AreReady, IsMergingIn, begun_sources, blames, either_refusal, left_in, waiting_sources}
-use Rattle.slate_read.specs.MergeSteps.{TakesMerged, takes_front}
-use Rattle.slate_read.specs.MergeStates.{IsUnrefused, CopiedIn, HasBegun, IsFrontIn, IsSoundIn, IsWaiting, Keeps, Stays, bound_in, heads_in, left_of, waiting_in, refuses_in, rest_in}
+use Rattle.slate_read.specs.MergeBringing.{MergeAddsNothing, merge_brings, takes_front}
+use Rattle.slate_read.specs.MergeSteps.{TakesMerged}
+use Rattle.slate_read.specs.MergeStates.{IsUnrefused, CopiedIn, HasBegun, IsFrontIn, IsSoundIn, IsWaiting, Keeps, Stays, bound_in, left_of, refuses_in, rest_in}
 use Rattle.slate_read.specs.MergeStateLaws.{refuses_whole}
 use Rattle.slate_read.proofs.DecidedLaws.{shown_dropped}
+use Rattle.slate_read.proofs.MergeBringings.{SourcesAdd, front_brought}
 
 empty_heap : (S : Type 0) → IsHeap {X = Head S} head_cmp []
 unfolding IsHeap
@@ -53,23 +56,52 @@ counted_undamaged i j (Callback m) h = λ d. d
 counted_undamaged i j BlockTransformError h = λ d. d
 counted_undamaged i j _ h = absurd h
 
+module _ {S : Type 0} where
+  abbrev pub heads_in : MergeState S → List (Head S)
+  heads_in (Begun heads) = heap_items heads
+  heads_in _ = []
+
+  abbrev pub waiting_in : MergeState S → List S
+  waiting_in (New sources) = sources.items
+  waiting_in _ = []
+
 module _ {S : Type 0} (rest : S → World → List RowEntry) (sound : S → World → Type 0) (refuses : S → Meaning → List Act → Option (List ℕ) → SlateDBError → Type 0) (order_of : S → IterationOrder) where
   abbrev sound_in : IterationOrder → MergeState S → World → Type 0
   sound_in o s w = IsSoundIn rest sound order_of o s w
 
-  abbrev front_in : MergeState S → Meaning → List Act → Option RowEntry → MergeState S → Type 0
-  front_in x m reads answer y = IsFrontIn answer x
-
   -- a step of the heads is one of the merge
-  pub state_step : (o : IterationOrder) (dedup : Bool) (a b : Reach) (x z y : MergeState S) (answer : Option RowEntry) → x ≡ z → HasBegun z → HasBegun y
-      → Step (λ u w. shown_rows dedup (left_in rest o u w)) (λ u w. IsMergingIn rest sound order_of o u w) (blames refuses) takes_front a b (begun_sources (heads_in z)) answer (begun_sources (heads_in y))
-      → Step (rest_in rest o dedup) (sound_in o) (refuses_in refuses) front_in a b x answer y
-  state_step o dedup a b x (Begun h) (Begun k) answer is p q s =
-      subst (λ (u : MergeState S). Step (rest_in rest o dedup) (sound_in o) (refuses_in refuses) front_in a b u answer (Begun k)) (sym is) (record { rows = s.rows; still = s.still; checked = s.checked; taken = s.taken })
-  state_step o dedup a b x (Begun h) (New q) answer is p never s = absurd never
-  state_step o dedup a b x (Begun h) (Refused q) answer is p never s = absurd never
-  state_step o dedup a b x (New q) y answer is never p s = absurd never
-  state_step o dedup a b x (Refused q) y answer is never p s = absurd never
+  module _ (brings : S → Meaning → List Act → RowEntry → Type 0) where
+    abbrev front_in : MergeState S → Meaning → List Act → Option RowEntry → MergeState S → Type 0
+    front_in x m reads answer y = IsFrontIn answer x × HandsOut (merge_brings brings x m) reads answer (merge_brings brings y m)
+
+    pub state_step : (o : IterationOrder) (dedup : Bool) (a b : Reach) (x z y : MergeState S) (answer : Option RowEntry) → x ≡ z → HasBegun z → HasBegun y
+        → Step (λ u w. shown_rows dedup (left_in rest o u w)) (λ u w. IsMergingIn rest sound order_of o u w) (blames refuses) (takes_front brings) a b (begun_sources (heads_in z)) answer (begun_sources (heads_in y))
+        → Step (rest_in rest o dedup) (sound_in o) (refuses_in refuses) front_in a b x answer y
+    state_step o dedup a b x (Begun h) (Begun k) answer is p q s =
+        subst (λ (u : MergeState S). Step (rest_in rest o dedup) (sound_in o) (refuses_in refuses) front_in a b u answer (Begun k)) (sym is)
+        (record { rows = s.rows; still = s.still; checked = s.checked; taken = (s.taken.0, s.taken.1, ((s.taken.2.0.0, (front_brought brings refuses a.meaning s.taken.0 answer (heap_items h) s.taken.2.0.0, s.taken.2.0.1)), s.taken.2.1)) })
+    state_step o dedup a b x (Begun h) (New q) answer is p never s = absurd never
+    state_step o dedup a b x (Begun h) (Refused q) answer is p never s = absurd never
+    state_step o dedup a b x (New q) y answer is never p s = absurd never
+    state_step o dedup a b x (Refused q) y answer is never p s = absurd never
+
+    abbrev adds_in : Reach → Reach → MergeState S → MergeState S → Type 0
+    adds_in a b x y = Made a b (λ reads. MergeAddsNothing brings refuses x a.meaning reads y)
+
+    -- what the sources don't add, the merge doesn't
+    pub begun_adds : (a b : Reach) (x z y : MergeState S) → x ≡ z → HasBegun z → HasBegun y → SourcesAdd brings refuses a b (begun_sources (heads_in z)) (begun_sources (heads_in y)) → adds_in a b x y
+    begun_adds a b x (Begun h) (Begun k) is p q m = subst (λ (u : MergeState S). adds_in a b u (Begun k)) (sym is) m
+    begun_adds a b x (Begun h) (New k) is p never m = absurd never
+    begun_adds a b x (Begun h) (Refused k) is p never m = absurd never
+    begun_adds a b x (New h) y is never q m = absurd never
+    begun_adds a b x (Refused h) y is never q m = absurd never
+
+    pub waiting_adds : (a b : Reach) (x z y : MergeState S) → x ≡ z → IsWaiting z → HasBegun y → SourcesAdd brings refuses a b (waiting_sources (waiting_in z)) (begun_sources (heads_in y)) → adds_in a b x y
+    waiting_adds a b x (New h) (Begun k) is p q m = subst (λ (u : MergeState S). adds_in a b u (Begun k)) (sym is) (m.0, m.1, (λ later at e r. inr (m.2.0 later at e r), m.2.1))
+    waiting_adds a b x (New h) (New k) is p never m = absurd never
+    waiting_adds a b x (New h) (Refused k) is p never m = absurd never
+    waiting_adds a b x (Begun h) y is never q m = absurd never
+    waiting_adds a b x (Refused h) y is never q m = absurd never
 
   -- and takes what it took
   pub state_takes : (o : IterationOrder) (dedup : Bool) (a b : Reach) (x z y : MergeState S) (n m : ℕ) → x ≡ z → HasBegun z → HasBegun y
@@ -86,14 +118,13 @@ module _ {S : Type 0} (rest : S → World → List RowEntry) (sound : S → Worl
     pub rows : (w : World) → Sees w a b → sound_in o x w → rest_in rest o dedup y w ≡ drop_before o key (rest_in rest o dedup x w)
     pub still : (w : World) → Sees w a b → sound_in o x w → sound_in o y w
     pub checked : (w : World) → sound_in o x w → Checks w a b
-    pub made : Made a b (λ reads. NoMore (refuses_in refuses x a.meaning) reads (refuses_in refuses y a.meaning))
 
   -- a seek of the heads is one of the merge
   pub state_seek : (o : IterationOrder) (dedup : Bool) (key : List ℕ) (a b : Reach) (x z y : MergeState S) → x ≡ z → HasBegun z → HasBegun y
       → Moves (λ u w. drop_before o key (left_in rest o u w)) (λ u w. IsMergingIn rest sound order_of o u w) (blames refuses) a b (begun_sources (heads_in z)) (begun_sources (heads_in y))
       → ((w : World) → IsMergingIn rest sound order_of o (begun_sources (heads_in y)) w → begins_before o key (left_in rest o (begun_sources (heads_in y)) w) ≡ false) → SoughtIn o dedup key a b x y
   state_seek o dedup key a b x (Begun h) (Begun k) is p q m done =
-      subst (λ (u : MergeState S). SoughtIn o dedup key a b u (Begun k)) (sym is) (record { rows = rows; still = m.still; checked = m.checked; made = m.made })
+      subst (λ (u : MergeState S). SoughtIn o dedup key a b u (Begun k)) (sym is) (record { rows = rows; still = m.still; checked = m.checked })
     where
       rows : (w : World) → Sees w a b → sound_in o (Begun h) w → rest_in rest o dedup (Begun k) w ≡ drop_before o key (rest_in rest o dedup (Begun h) w)
       rows w sees g =

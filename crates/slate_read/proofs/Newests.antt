@@ -12,7 +12,7 @@ use Rattle.slate_types.specs.Refusing.{IsDamage, IsReady, NoMore, NoMoreBut}
 use Rattle.slate_types.specs.RowTurns.{AreInTurn, row_before}
 use Rattle.slate_types.specs.World.{World, AnswersWorld, Checks, Made, Sees}
 use Rattle.slate_types.proofs.Calls.{call_none, seen}
-use Rattle.slate_types.proofs.KeyOrder.{le-lt-trans, lt-irreflexive, not-lt}
+use Rattle.slate_types.proofs.KeyOrder.{le_lt_trans, lt_irreflexive, not_lt}
 use Rattle.slate_types.specs.Keys.{key_le, key_lt}
 use Rattle.slate_read.specs.declared.groups.Groups.{Groups}
 use Rattle.slate_read.specs.declared.newest_first.NewestFirst.{NewestFirst}
@@ -55,9 +55,9 @@ below_included key start = by (key_lt key start) refl
         above a k lt = least (key_le a k) refl
           where
             least : (u : Bool) → key_le a k ≡ u → u ≡ false
-            least true le = lt-irreflexive a (le-lt-trans a k a le lt)
+            least true le = lt_irreflexive a (le_lt_trans a k a le lt)
             least false le = refl
-    by false e = ap not (sym (not-lt key start e))
+    by false e = ap not (sym (not_lt key start e))
 
 module _ {I : Type 0} (refuses : I → Meaning → List Act → Option (List ℕ) → SlateDBError → Type 0) where
   -- what goes on is ready

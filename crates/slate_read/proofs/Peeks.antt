@@ -10,8 +10,8 @@ use Rattle.slate_types.specs.Steps.{Step}
 use Rattle.slate_types.specs.World.{World, Sees}
 use Rattle.slate_types.proofs.Moves.{Moves}
 use Rattle.slate_read.specs.declared.peeking_iterator.PeekingIterator.{PeekingIterator}
-use Rattle.slate_read.specs.MergeSteps.{no_words}
 use Rattle.slate_read.specs.Peeking.{TakesAhead, ahead_bound, head_of, is_kept, IsSoundPeeked, refuses_peeked, rest_peeked, with_ahead}
+use Rattle.slate_read.specs.TableWalk.{no_words}
 
 pub none_of : (a : Option RowEntry) → is_some a ≡ false → a ≡ None
 none_of None e = refl

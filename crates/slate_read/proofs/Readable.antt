@@ -13,8 +13,8 @@ use Rattle.slate_types.specs.declared.iter.IterationOrder.TheVariants.{Ascending
 use Rattle.slate_types.specs.Iteration.{IsInOrder, NoneBefore}
 use Rattle.slate_types.specs.Keys.{key_cmp, key_lt}
 use Rattle.slate_types.specs.RowTurns.{AreInTurn, NoneEarlier, row_before}
-use Rattle.slate_types.proofs.KeyOrder.{bytes_eq-same, is-less, turned-key}
-use Rattle.slate_types.proofs.Lists.{AllByRecursion-append}
+use Rattle.slate_types.proofs.KeyOrder.{bytes_eq_same, is_less, turned_key}
+use Rattle.slate_types.proofs.Lists.{AllByRecursion_append, Contains_at}
 use Rattle.slate_types.specs.Lawful.{IsLawfulTransform}
 use Rattle.slate_types.specs.Outside.{Objects}
 use Rattle.slate_types.specs.Partitions.{CanHold}
@@ -95,7 +95,7 @@ all_enclosed info (r ∷ rows) none = (inside (encloses info r.key) refl, all_en
     inside true e = refl
     inside false e =
         let clash : cond (bytes_eq r.key r.key) (r ∷ of_key r.key rows) (of_key r.key rows) ≡ [] = none r.key e in
-        absurd (found (bytes_eq r.key r.key) (bytes_eq-same r.key) clash)
+        absurd (found (bytes_eq r.key r.key) (bytes_eq_same r.key) clash)
       where
         found : (t : Bool) → t ≡ true → cond t (r ∷ of_key r.key rows) (of_key r.key rows) ≡ [] → ⊥
         found true same h = cc
@@ -116,7 +116,7 @@ row_later r s h = by (key_lt r.key s.key) (bytes_eq r.key s.key) refl refl h
     then_equal o p e k = rw e k
 
     by : (t u : Bool) → key_lt r.key s.key ≡ t → bytes_eq r.key s.key ≡ u → (t || (u && nat_lt s.seq r.seq)) ≡ true → row_before Ascending s r ≡ false
-    by true u e f k = then_ordered (key_cmp s.key r.key) (nat_cmp r.seq s.seq) (turned-key s.key r.key ∙ ap ordering_reverse (is-less (key_cmp r.key s.key) e))
+    by true u e f k = then_ordered (key_cmp s.key r.key) (nat_cmp r.seq s.seq) (turned_key s.key r.key ∙ ap ordering_reverse (is_less (key_cmp r.key s.key) e))
     by false true e f k =
         let same = (bytes_eq-Decides r.key s.key).0 f in
         then_equal (key_cmp s.key r.key) (nat_cmp r.seq s.seq) (ap (λ (x : List ℕ). key_cmp x r.key) (sym same) ∙ tied_itself nat_list_cmp_total r.key) (not_newer r.seq s.seq k)
@@ -194,11 +194,6 @@ holds_read version bs each order i rows at =
 
 -- ---- where sections lie
 
-contains_at : {X : Type 0} (xs : List X) (i : ℕ) (x : X) → slice_get xs i ≡ Some x → Contains xs x
-contains_at [] i x h = cc
-contains_at (y ∷ xs) zero x h = (0, omega arith, same_Some y x h)
-contains_at (y ∷ xs) (suc i) x h = let r = contains_at xs i x h in (suc r.0, (let lt = r.1 in omega (arith, lt)), r.2)
-
 begins_at : (at end : ℕ) (ss : List (List ℕ)) (ks : List (List ℕ)) → length ks ≡ length ss → at + length (flat_map (λ x. x) ss) ≡ end → block_start end (paired (places at ss) ks) 0 ≡ at
 begins_at at end [] ks n h = omega (arith, h)
 begins_at at end (s ∷ ss) [] n h = absurd (omega (arith, n))
@@ -260,12 +255,12 @@ readable same_end index_held index_found blocks_held encode decode lawful w h by
       block_again h.format_version block.body block.offsets.items rows fits (subst (IsBlockOf block.body block.offsets.items h.format_version) (sym m.2) is);
   block_fine = λ i e within refused. fine i e (omega (arith, within)) refused;
   index_place =
-      let there = Contains-append_right (block_places encode h.format_version h.id.0 bs) (later_places encode h.format_version h.id.0 bs fs) _ (contains_at (later_places encode h.format_version h.id.0 bs fs) 1 _ refl) in
+      let there = Contains-append_right (block_places encode h.format_version h.id.0 bs) (later_places encode h.format_version h.id.0 bs fs) _ (Contains_at (later_places encode h.format_version h.id.0 bs fs) 1 _ refl) in
       subst (λ (i : Info). Contains kept.sections (record { at = i.index.at; len = i.index.len; cover = cover_of h.format_version h.id.0 index_kind i.index.at })) (sym same) there;
   block_place = λ i within.
       let few : i < length ss = (let n = paired_count (places 0 ss) (separators bs) count in let k = separators_count bs in let m = sections in omega (arith, within, n, k, m)) in
       let at = block_at h.format_version h.id.0 0 end ss (separators bs) i (sym count ∙ places_count 0 ss) (omega arith) few in
-      let there = Contains-append_left (block_places encode h.format_version h.id.0 bs) (later_places encode h.format_version h.id.0 bs fs) _ (contains_at (block_places encode h.format_version h.id.0 bs) i _ at) in
+      let there = Contains-append_left (block_places encode h.format_version h.id.0 bs) (later_places encode h.format_version h.id.0 bs fs) _ (Contains_at (block_places encode h.format_version h.id.0 bs) i _ at) in
       subst (λ (n : ℕ). Contains kept.sections (record { at = block_start n entries i; len = blocks_size n entries i (i + 1); cover = cover_of h.format_version h.id.0 block_kind (block_start n entries i) })) (sym end_is) there;
   inside = λ p among. All-contains (λ (q : Section). q.at + q.len ≤ length bytes) kept.sections p (All-from_recursion (λ (q : Section). q.at + q.len ≤ length bytes) kept.sections all_inside) among;
   sums = λ cover stored. ap (λ (f : List ℕ → List ℕ → Bool). f cover (summed cover stored)) sums ∙ sum_passes cover stored;
@@ -327,7 +322,7 @@ readable same_end index_held index_found blocks_held encode decode lawful w h by
     all_inside : AllByRecursion (λ (q : Section). q.at + q.len ≤ length bytes) kept.sections
     all_inside =
         let blocks = upto_end h.format_version h.id.0 0 ss in
-        AllByRecursion-append (λ (q : Section). q.at + q.len ≤ length bytes) (block_places encode h.format_version h.id.0 bs) (later_places encode h.format_version h.id.0 bs fs)
+        AllByRecursion_append (λ (q : Section). q.at + q.len ≤ length bytes) (block_places encode h.format_version h.id.0 bs) (later_places encode h.format_version h.id.0 bs fs)
         (weaker (0 + length (flat_map (λ x. x) ss)) (length bytes) (omega (arith, total)) (block_places encode h.format_version h.id.0 bs) blocks)
         (omega (arith, total), (omega (arith, total), (omega (arith, total), (omega (arith, total), tt))))
 

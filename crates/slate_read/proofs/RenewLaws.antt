@@ -9,7 +9,6 @@ use Rattle.slate_read.specs.declared.head.Head.{Head}
 use Rattle.slate_types.specs.RowTurns.{row_before, AreInTurn}
 use Rattle.slate_read.specs.Merge.{put_all, in_turn}
 use Rattle.slate_read.specs.Merging.{ArePlaced, placed, placed_all, placed_before, rows_in, left_rows, IsSoundHead, merging_bound}
-use Rattle.slate_read.specs.MergeSteps.{Renewed}
 use Rattle.slate_read.proofs.Shuffles.{gathered, one_place_shuffled, one_place_instead}
 use Rattle.slate_read.proofs.HeadLaws.{each_shuffled, left_gathered, left_shuffled, add}
 
@@ -19,6 +18,12 @@ moved_out done left others x p = IsPermutation-trans _ _ _ (IsPermutation-append
 
 pub moved_in : {X : Type 0} (done new others : List X) (y : X) → IsPermutation (y ∷ done) new → IsPermutation (y ∷ (done ++ others)) (new ++ others)
 moved_in done new others y p = IsPermutation-append_left others _ _ p
+
+-- a source was begun again, in one world
+pub record Renewed {S : Type 0} (rest : S → List RowEntry) (sound : S → Type 0) (order_of : S → IterationOrder) (before after : S) : Type 0 where
+  pub rows : sound before → rest after ≡ rest before
+  pub still : sound before → sound after
+  pub order : order_of after ≡ order_of before
 
 module _ {S : Type 0} (rest : S → List RowEntry) (sound : S → Type 0) (order_of : S → IterationOrder)
     (done left others new : List (Head S)) (x y : Head S) (out : IsPermutation left (x ∷ others)) (within : IsPermutation (y ∷ done) new) (renews : Renewed rest sound order_of x.source y.source) where

@@ -2,24 +2,28 @@
 use Rattle.std.proofs.Common.{◌≡◌, ◌⊎◌, inl, inr, ℕ, ◌<◌, ◌&&◌, Bool, true, false, List, [], ◌∷◌, ◌++◌, Option, Some, None, refl, sym, ap, subst, ◌∙◌, append_assoc, arith}
 use Rattle.std.specs.Prelude.{nat_lt}
 use Rattle.std.proofs.lemmas.Bool.Decides.{nat_tests}
+use Rattle.std.proofs.lemmas.List.Elements.{Contains-append_right}
 use Rattle.slate_types.specs.declared.error.SlateDBError.{SlateDBError}
 use Rattle.slate_types.specs.declared.error.SlateDBError.TheVariants.{InvalidSequenceOrder, MergeOperatorMissing}
 use Rattle.slate_types.specs.declared.iter.IterationOrder.{IterationOrder}
 use Rattle.slate_types.specs.declared.types.RowEntry.{RowEntry}
 use Rattle.slate_types.specs.Iteration.{comes_before, drop_before}
 use Rattle.slate_types.specs.Outside.{Act, Counts, IsCounted, IsFault, IsLater, Meaning, OnlyReads, Reach}
+use Rattle.slate_types.specs.Refusing.{NoMore}
 use Rattle.slate_types.specs.Steps.{Step, Takes}
 use Rattle.slate_types.specs.World.{World, Made, Sees}
-use Rattle.slate_types.proofs.Calls.{call_both, sees_first, sees_last}
+use Rattle.slate_types.proofs.Calls.{call_both, no_more_both, sees_first, sees_last}
 use Rattle.slate_types.proofs.Moves.{Moves}
 use Rattle.slate_types.proofs.Reaching.{fault_earlier}
 use Rattle.slate_types.proofs.Walked.{Walked, walked_none, walked_on}
+use Rattle.slate_read.specs.Calls.{BringsByCalls}
 use Rattle.slate_read.specs.Folding.{AreLinked, FoldFalls, NoneRises, begins_linked, is_open, links, rises}
 use Rattle.slate_read.specs.FoldedLaws.{and_right, unlinked}
-use Rattle.slate_read.specs.Folds.{Blames, BlamesNext, EndsByRise, IsRise, MeetsRise, RefusesFold, RefusesRise, Taken, refuses_taken, rest_taken, sound_taken, takes_ahead}
+use Rattle.slate_read.specs.Folds.{Blames, BlamesNext, EndsByRise, IsRise, MeetsRise, RefusesRise, Taken, refuses_folds, refuses_taken, rest_taken, sound_taken, takes_ahead}
 use Rattle.slate_read.specs.OperatorIterators.{IsOwn}
 use Rattle.slate_read.specs.Peeking.{TakesAhead, with_ahead}
 use Rattle.slate_read.specs.Turns.{both}
+use Rattle.slate_read.proofs.FoldBringings.{Came, rise_brought}
 
 pub not_risen : (different : Bool) (barrier : Option ℕ) (r s : RowEntry) → nat_lt r.seq s.seq ≡ false → rises different barrier r s ≡ false
 not_risen different barrier r s e = by (links different barrier r s) (nat_lt r.seq s.seq) e
@@ -91,6 +95,28 @@ module _ {S : Type 0} (rest : S → World → List RowEntry) (sound : S → Worl
     are = ap (λ (l : List RowEntry). l ++ (row ∷ [])) g.are;
     walked = walked_on rest sound refuses takes a b c x y z g.given row g.walked s reads;
   }
+
+  -- what came
+  pub gathering_came : (a b : Reach) (x y : S) (first : RowEntry) (rows : List RowEntry) (more : Option RowEntry) → more ≡ None → Gathering rest sound refuses takes a b x y first rows → Came takes refuses a b x None y more
+  gathering_came a b x y first rows more none g = subst (λ (o : Option RowEntry). Came takes refuses a b x None y o) (sym none) (g.walked.made.0, g.walked.made.1, ((g.given, inl g.walked.made.2.1, tt), g.walked.made.2.0))
+
+  pub gathering_ahead : (a b c : Reach) (x y z : S) (first row : RowEntry) (rows : List RowEntry) → Gathering rest sound refuses takes a b x y first rows → Step rest sound refuses takes b c y (Some row) z → OnlyReads b c → Came takes refuses a c x None z (Some row)
+  gathering_ahead a b c x y z first row rows g s reads =
+      let on = walked_on rest sound refuses takes a b c x y z g.given row g.walked s reads in
+      (on.made.0, on.made.1, ((g.given ++ (row ∷ []), inl on.made.2.1, (Contains-append_right g.given (row ∷ []) row (0, omega arith, refl), tt)), on.made.2.0))
+
+  pub gathering_spent : (a b c : Reach) (x y z : S) (first : RowEntry) (rows : List RowEntry) (more : Option RowEntry) → more ≡ None → Gathering rest sound refuses takes a b x y first rows → Step rest sound refuses takes b c y None z → OnlyReads b c → Came takes refuses a c x None z more
+  gathering_spent a b c x y z first rows more none g s reads =
+      let m = g.walked.made in
+      let meaning = m.1.meaning in
+      subst (λ (o : Option RowEntry). Came takes refuses a c x None z o) (sym none) (
+        m.0 ++ s.taken.0,
+        call_both a b c m.0 s.taken.0 m.1 s.taken.1,
+        (
+          (g.given, inr (y, m.0, s.taken.0, refl, m.2.1, subst (λ (p : Meaning). takes y p s.taken.0 None z) meaning s.taken.2.0), tt),
+          no_more_both (refuses x a.meaning) (refuses y a.meaning) (refuses z a.meaning) m.0 s.taken.0 m.2.0 (subst (λ (p : Meaning). NoMore (refuses y p) s.taken.0 (refuses z p)) meaning s.taken.2.1),
+        ),
+      )
 
   -- the next row rises
   pub gathering_rises : (different : Bool) (barrier : Option ℕ) (a b c : Reach) (x y z : S) (first oldest row : RowEntry) (newer : List RowEntry) → Gathering rest sound refuses takes a b x y first (newer ++ (oldest ∷ [])) → AreLinked (links different barrier) newer oldest →
@@ -181,20 +207,25 @@ or_rising (inl h) = inl h
 or_rising (inr h) = inr (inl h)
 
 -- what comes behind the first row is refused
-pub gathered_blames : {S : Type 0} (rest : S → World → List RowEntry) (sound : S → World → Type 0) (refuses : S → Meaning → List Act → Option (List ℕ) → SlateDBError → Type 0) (order_of : S → IterationOrder) (takes : S → Meaning → List Act → Option RowEntry → S → Type 0)
+pub gathered_blames : {S : Type 0} (rest : S → World → List RowEntry) (sound : S → World → Type 0) (refuses : S → Meaning → List Act → Option (List ℕ) → SlateDBError → Type 0) (order_of : S → IterationOrder)
+    (begins : S → Meaning → List Act → S → Type 0) (takes : S → Meaning → List Act → Option RowEntry → S → Type 0) (seeks : S → Meaning → List Act → List ℕ → S → Type 0)
     (different : Bool) (barrier : Option ℕ) (a b c : Reach) (x y z : S) (ahead : Option RowEntry) (first : RowEntry) (e : SlateDBError) →
     Step (rest_taken rest) (sound_taken rest sound order_of) (refuses_taken refuses) (takes_ahead takes) a b (x, ahead, []) (Some first) (y, None, []) → IsLater a.faults b.faults → (a.meaning.combine ≡ None → ⊥) →
     Made b c (λ reads. IsFault b c e ⊎ (refuses y b.meaning reads None e ⊎ MeetsRise (λ u rs o v. takes u b.meaning rs o v) different barrier (Some first) reads y z e)) →
-    Made a c (λ reads. (IsFault a c e ⊎ (refuses x a.meaning reads None e ⊎ RefusesFold a.meaning None e))
+    Made a c (λ reads. (IsFault a c e ⊎ refuses_folds {S = S} refuses (BringsByCalls begins takes seeks) (x, ahead, []) a.meaning reads None e)
     × BlamesNext refuses takes different barrier ahead a.meaning reads None e x z)
-gathered_blames {S} rest sound refuses order_of takes different barrier a b c x y z ahead first e s later some made = (s.taken.0 ++ made.0, call_both a b c s.taken.0 made.0 s.taken.1 made.1, by made.2)
+gathered_blames {S} rest sound refuses order_of begins takes seeks different barrier a b c x y z ahead first e s later some made = (s.taken.0 ++ made.0, call_both a b c s.taken.0 made.0 s.taken.1 made.1, by made.2)
   where
+    all : List Act
+    all = s.taken.0 ++ made.0
+
     by : IsFault b c e ⊎ (refuses y b.meaning made.0 None e ⊎ MeetsRise (λ u rs o v. takes u b.meaning rs o v) different barrier (Some first) made.0 y z e) →
-        (IsFault a c e ⊎ (refuses x a.meaning (s.taken.0 ++ made.0) None e ⊎ RefusesFold a.meaning None e))
-        × BlamesNext refuses takes different barrier ahead a.meaning (s.taken.0 ++ made.0) None e x z
+        (IsFault a c e ⊎ refuses_folds {S = S} refuses (BringsByCalls begins takes seeks) (x, ahead, []) a.meaning all None e)
+        × BlamesNext refuses takes different barrier ahead a.meaning all None e x z
     by (inl k) = let here = fault_earlier a b c e later k in (inl here, fault_blames a c e here)
     by (inr (inl k)) = let here = s.taken.2.1 made.0 None e (subst (λ (p : Meaning). refuses y p made.0 None e) s.taken.1.meaning k) in (inr (inl here), own_blames e here)
     by (inr (inr k)) =
         let takes_now : S → List Act → Option RowEntry → S → Type 0 = λ u rs o v. takes u a.meaning rs o v in
         let met = rise_behind takes_now different barrier ahead first s.taken.0 made.0 x y z e s.taken.2.0 (subst (λ (p : Meaning). MeetsRise (λ u rs o v. takes u p rs o v) different barrier (Some first) made.0 y z e) s.taken.1.meaning k) in
-        (inr (inr (inr (rise_refused takes_now different barrier a.meaning ahead (s.taken.0 ++ made.0) x z e some met))), rise_blames takes_now different barrier ahead (s.taken.0 ++ made.0) x z e met)
+        let why = rise_refused takes_now different barrier a.meaning ahead all x z e some met in
+        (inr (inr (rise_brought begins takes seeks different barrier a.meaning x z ahead all e why met)), rise_blames takes_now different barrier ahead all x z e met)

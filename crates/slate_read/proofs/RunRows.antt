@@ -18,8 +18,8 @@ use Rattle.slate_types.specs.Keys.{in_range, is_before_end, is_past_start, is_re
 use Rattle.slate_types.specs.Partitions.{covering_end, covering_start}
 use Rattle.slate_types.specs.RowTurns.{AreInTurn, NoneEarlier, row_before}
 use Rattle.slate_types.specs.World.{Kept, World}
-use Rattle.slate_types.proofs.KeyOrder.{is-less, le-lt-trans, lt-irreflexive, lt-le-trans, lt-trans, not-le, turned-key}
-use Rattle.slate_types.proofs.Lists.{AllByRecursion-append, AllByRecursion-behind, AllByRecursion-filter, AllByRecursion-front, AllByRecursion-reverse, AllByRecursion-weaken}
+use Rattle.slate_types.proofs.KeyOrder.{is_less, le_lt_trans, lt_irreflexive, lt_le_trans, lt_trans, not_le, turned_key}
+use Rattle.slate_types.proofs.Lists.{AllByRecursion_append, AllByRecursion_behind, AllByRecursion_filter, AllByRecursion_front, AllByRecursion_reverse, AllByRecursion_weaken}
 use Rattle.slate_table.specs.declared.info.SsTableHandle.{SsTableHandle}
 use Rattle.slate_table.specs.declared.info.SsTableInfo.{SsTableInfo}
 use Rattle.slate_table.specs.Finding.{encloses, is_from, is_upto}
@@ -40,8 +40,9 @@ use Rattle.slate_read.specs.RunWalk.{AreHeld, IsNewRun, IsSoundOpen, IsSoundRunW
 use Rattle.slate_read.specs.TableWalk.{IsReadable, is_in, path_in, rest_covered}
 use Rattle.slate_read.proofs.Ranges.{either_order, filter_order, range_rows, unbegun}
 use Rattle.slate_read.proofs.Runs.{rest_parts}
-use Rattle.slate_read.proofs.RunSeeks.{all_part, both_true, waiting_both}
+use Rattle.slate_read.proofs.RunSeeks.{all_part, waiting_both}
 use Rattle.slate_read.proofs.Turns.{either_turn, turn_filtered}
+use Rattle.slate_types.proofs.Plain.{both_true, and_both}
 
 -- ---- tables that can't hold a key of the range
 
@@ -50,24 +51,21 @@ le_trans a b c h k = by (key_le a c) refl
   where
     by : (t : Bool) → key_le a c ≡ t → t ≡ true
     by true e = refl
-    by false e = lt-irreflexive a (le-lt-trans a b a h (le-lt-trans b c a k (not-le a c e)))
+    by false e = lt_irreflexive a (le_lt_trans a b a h (le_lt_trans b c a k (not_le a c e)))
 
 past_later : (start : Bound (List ℕ)) (k l : List ℕ) → is_past_start start k ≡ true → key_le k l ≡ true → is_past_start start l ≡ true
 past_later (Included a) k l h le = le_trans a k l h le
-past_later (Excluded a) k l h le = lt-le-trans a k l h le
+past_later (Excluded a) k l h le = lt_le_trans a k l h le
 past_later Unbounded k l h le = refl
 
 before_earlier : (end : Bound (List ℕ)) (k f : List ℕ) → is_before_end end k ≡ true → key_le f k ≡ true → is_before_end end f ≡ true
 before_earlier (Included b) k f h le = le_trans f k b le h
-before_earlier (Excluded b) k f h le = le-lt-trans f k b le h
+before_earlier (Excluded b) k f h le = le_lt_trans f k b le h
 before_earlier Unbounded k f h le = refl
-
-two_true : (s t : Bool) → s ≡ true → t ≡ true → (s && t) ≡ true
-two_true s t h k = rw (h, k) refl
 
 reach_of : (range : BytesRange) (info : SsTableInfo) (k : List ℕ) → in_range range k ≡ true → encloses (seen_info info) k ≡ true → can_reach range info ≡ true
 reach_of range info k inside enclosed =
-    two_true (reaches_start range info.last_entry) (reaches_end range info.first_entry) (from_start info.last_entry within.1) (from_end info.first_entry within.0)
+    and_both (reaches_start range info.last_entry) (reaches_end range info.first_entry) (from_start info.last_entry within.1) (from_end info.first_entry within.0)
   where
     both : (is_past_start range.start k ≡ true) × (is_before_end range.end k ≡ true)
     both = both_true (is_past_start range.start k) (is_before_end range.end k) inside
@@ -124,17 +122,17 @@ left_all : (P : RowEntry → Type 0) (range : BytesRange) (w : World) (tables : 
 left_all P range w [] [] each all = tt
 left_all P range w [] (kept ∷ kepts) each all = absurd each
 left_all P range w (h ∷ tables) [] each all = absurd each
-left_all P range w (h ∷ tables) (kept ∷ kepts) each all = by (can_reach range h.info) (left_all P range w tables kepts each.1 (AllByRecursion-behind P (all_rows kept) (run_rows kepts) all))
+left_all P range w (h ∷ tables) (kept ∷ kepts) each all = by (can_reach range h.info) (left_all P range w tables kepts each.1 (AllByRecursion_behind P (all_rows kept) (run_rows kepts) all))
   where
     by : (t : Bool) → AllByRecursion P (rest_waiting range Ascending (reaching range tables) w) → AllByRecursion P (rest_waiting range Ascending (cond t (h ∷ reaching range tables) (reaching range tables)) w)
-    by true later = AllByRecursion-append P (rest_covered range Ascending (w.holds (path_in h))) (rest_waiting range Ascending (reaching range tables) w) (covered_all P range w h kept each.0 (AllByRecursion-front P (all_rows kept) (run_rows kepts) all)) later
+    by true later = AllByRecursion_append P (rest_covered range Ascending (w.holds (path_in h))) (rest_waiting range Ascending (reaching range tables) w) (covered_all P range w h kept each.0 (AllByRecursion_front P (all_rows kept) (run_rows kepts) all)) later
     by false later = later
 
 not_back : (a b : List ℕ) → key_lt a b ≡ true → key_lt b a ≡ false
 not_back a b h = by (key_lt b a) refl
   where
     by : (t : Bool) → key_lt b a ≡ t → t ≡ false
-    by true e = lt-irreflexive a (lt-trans a b a h e)
+    by true e = lt_irreflexive a (lt_trans a b a h e)
     by false e = refl
 
 none_back : (r : RowEntry) (rows : List RowEntry) → AllByRecursion (λ s. key_lt r.key s.key ≡ true) rows → NoneBefore Ascending r.key rows
@@ -161,7 +159,7 @@ left_rising range w (h ∷ tables) (kept ∷ kepts) each rising = by (can_reach 
     below : AllByRecursion (λ r. NoneBefore Ascending r.key behind) (rest_covered range Ascending (w.holds (path_in h)))
     below =
         covered_all (λ r. NoneBefore Ascending r.key behind) range w h kept each.0
-        (AllByRecursion-weaken (λ (r : RowEntry). AllByRecursion (λ s. key_lt r.key s.key ≡ true) (run_rows kepts)) (λ (r : RowEntry). NoneBefore Ascending r.key behind)
+        (AllByRecursion_weaken (λ (r : RowEntry). AllByRecursion (λ s. key_lt r.key s.key ≡ true) (run_rows kepts)) (λ (r : RowEntry). NoneBefore Ascending r.key behind)
         (λ r all. none_back r behind (left_all (λ s. key_lt r.key s.key ≡ true) range w tables kepts each.1 all)) (all_rows kept) rising.0)
 
     by : (t : Bool) → IsInOrder Ascending behind → IsInOrder Ascending (rest_waiting range Ascending (cond t (h ∷ reaching range tables) (reaching range tables)) w)
@@ -197,7 +195,7 @@ waiting_order range Descending tables w = waiting_back range tables w
 
 held_order : (order : IterationOrder) (w : World) (tables : List SsTableHandle) → AreHeld w tables → AreHeld w (in_order order tables)
 held_order Ascending w tables held = held
-held_order Descending w tables held = AllByRecursion-reverse (λ h. (kept : Kept) × IsReadable w h kept) tables held
+held_order Descending w tables held = AllByRecursion_reverse (λ h. (kept : Kept) × IsReadable w h kept) tables held
 
 pub is_run : (range kept_range : BytesRange) (tables : List SsTableHandle) (order : IterationOrder) (fits : is_refused range.start range.end ≡ false) (cursor : RunCursor) (it : FilterIterator RunWalk InRange) →
     it.iterator ≡ record { range = range; order = order; cursor = cursor; state = New; fits = fits } → it.predicate ≡ record { range = kept_range } → kept_range ≡ range → cursor.ahead ≡ None → cursor.current ≡ None → cursor.tables.items ≡ reached range order tables →
@@ -206,10 +204,11 @@ is_run range kept_range tables order fits cursor it is keeps same none closed op
   same_order = ap (λ (x : RunWalk). x.order) is;
   unopened = subst (λ (x : RunWalk). IsNewRun x.state) (sym is) refl;
   closed = ap (λ (x : RunWalk). x.cursor.current) is ∙ closed;
+  none_ahead = ap (λ (x : RunWalk). x.cursor.ahead) is ∙ none;
   opens = ap (λ (x : RunWalk). waiting x.cursor) is ∙ opens;
   sound = λ w kepts readable. subst (λ (x : RunWalk). IsSoundRunWalk x w) (sym is) (record {
     open_table = subst (λ o. IsSoundOpen order o w) (sym closed) tt;
-    held = subst (AreHeld w) (sym opens) (held_order order w (reaching range tables) (AllByRecursion-filter (λ h. (kept : Kept) × IsReadable w h kept) (λ h. can_reach range h.info) tables (each_held w tables kepts readable.each)));
+    held = subst (AreHeld w) (sym opens) (held_order order w (reaching range tables) (AllByRecursion_filter (λ h. (kept : Kept) × IsReadable w h kept) (λ h. can_reach range h.info) tables (each_held w tables kepts readable.each)));
     rising = subst (IsInOrder order) (sym (left w)) (either_order order (rest_waiting range Ascending (reaching range tables) w) (left_rising range w tables kepts readable.each readable.rising));
   });
   brings = λ w kepts readable.
@@ -225,7 +224,7 @@ is_run range kept_range tables order fits cursor it is keeps same none closed op
 -- ---- in turn
 
 above_first : (z y : RowEntry) → key_lt y.key z.key ≡ true → row_before Ascending z y ≡ false
-above_first z y h = by (key_cmp z.key y.key) (turned-key z.key y.key ∙ ap ordering_reverse (is-less (key_cmp y.key z.key) h))
+above_first z y h = by (key_cmp z.key y.key) (turned_key z.key y.key ∙ ap ordering_reverse (is_less (key_cmp y.key z.key) h))
   where
     by : (o : Ordering) → o ≡ Greater → is_lt (ordering_then o (nat_cmp y.seq z.seq)) ≡ false
     by o e = rw e refl
@@ -258,6 +257,7 @@ is_run_iterator range run order source it of within from new = record {
   fresh = new;
   unopened = subst (λ (s : FilterIterator RunWalk InRange). IsNewRun s.iterator.state) (sym from) of.unopened;
   closed = ap (λ (s : FilterIterator RunWalk InRange). s.iterator.cursor.current) from ∙ of.closed;
+  none_ahead = ap (λ (s : FilterIterator RunWalk InRange). s.iterator.cursor.ahead) from ∙ of.none_ahead;
   opens = ap (λ (s : FilterIterator RunWalk InRange). waiting s.iterator.cursor) from ∙ of.opens;
   brings = brings;
 }

@@ -16,8 +16,8 @@ use Rattle.slate_types.specs.Refusing.{NoMore}
 use Rattle.slate_types.specs.World.{World, Kept, Made, Sees}
 use Rattle.slate_types.proofs.Calls.{call_both, call_none, checks_both, checks_none, no_more_both, sees_first, sees_last}
 use Rattle.slate_types.proofs.IterationLaws.{in_order_dropped}
-use Rattle.slate_types.proofs.KeyOrder.{le-lt-trans, lt-le-trans}
-use Rattle.slate_types.proofs.Lists.{AllByRecursion-append, AllByRecursion-behind, AllByRecursion-front, AllByRecursion-push, AllByRecursion-reverse, AllByRecursion-weaken}
+use Rattle.slate_types.proofs.KeyOrder.{le_lt_trans, lt_le_trans}
+use Rattle.slate_types.proofs.Lists.{AllByRecursion_append, AllByRecursion_behind, AllByRecursion_front, AllByRecursion_push, AllByRecursion_reverse, AllByRecursion_weaken}
 use Rattle.slate_types.proofs.Moves.{Moves}
 use Rattle.slate_table.specs.declared.info.SsTableHandle.{SsTableHandle}
 use Rattle.slate_table.specs.declared.info.SsTableInfo.{SsTableInfo}
@@ -26,12 +26,17 @@ use Rattle.slate_table.specs.InfoReading.{seen_info}
 use Rattle.slate_read.specs.declared.run_state.OpenTable.{OpenTable}
 use Rattle.slate_read.specs.declared.run_state.RunCursor.{RunCursor}
 use Rattle.slate_read.specs.Peeking.{is_kept}
-use Rattle.slate_read.specs.RunWalk.{AreHeld, FindsRow, IsSoundOpen, IsSoundRun, OpensNext, PassesOver, RefusesOpen, RefusesWaiting, is_end_passed, is_passed, refuses_open, refuses_run, rest_open, rest_run, rest_run_sought, rest_waiting, rows_ahead, bound_open, bound_run, is_next_passed}
+use Rattle.slate_read.specs.RunWalk.{AreHeld, FindsRow, IsSoundOpen, IsSoundRun, OpensNext, PassesOver, RefusesOpen, RefusesWaiting, is_end_passed, is_passed, refuses_open, refuses_run, rest_open, rest_run, rest_waiting, rows_ahead, bound_open, bound_run, is_next_passed}
 use Rattle.slate_read.specs.TableWalk.{IsReadable, Sought, path_in, rest_covered, rows_between}
 use Rattle.slate_read.proofs.Ranges.{blocks_split, in_back}
 use Rattle.slate_read.proofs.Runs.{end_run, fewer_of, open_rising, rest_parts, sound_of}
 use Rattle.slate_read.proofs.Seeks.{drop_done, drop_twice}
 use Rattle.slate_read.proofs.Turns.{dropped_front}
+use Rattle.slate_types.proofs.Plain.{both_true}
+
+-- behind a seek that goes on
+abbrev pub rest_run_sought : BytesRange → IterationOrder → List ℕ → RunCursor → World → List RowEntry
+rest_run_sought range order key x w = drop_before order key (rest_run range order x w)
 
 pub run_lifted : (range : BytesRange) (order : IterationOrder) (key : List ℕ) (a b : Reach) (x y : RunCursor) → Moves (rest_run range order) (IsSoundRun range order) (refuses_run order) a b x y → Moves (rest_run_sought range order key) (IsSoundRun range order) (refuses_run order) a b x y
 run_lifted range order key a b x y m = record {
@@ -43,53 +48,53 @@ run_lifted range order key a b x y m = record {
 
 -- ---- tables that are passed over
 
-pub both_true : (s t : Bool) → (s && t) ≡ true → (s ≡ true) × (t ≡ true)
-both_true true t h = (refl, h)
-both_true false t h = cc
-
 pub passed_key : (order : IterationOrder) (key : List ℕ) (info : SsTableInfo) (k : List ℕ) → is_passed order key info ≡ true → encloses (seen_info info) k ≡ true → comes_before order k key ≡ true
 passed_key Ascending key info k passed inside = by info.last_entry passed (both_true (is_from info.first_entry k) (is_upto info.last_entry k) inside).1
   where
     by : (o : Option (List ℕ)) → is_end_passed Ascending key o ≡ true → is_upto o k ≡ true → comes_before Ascending k key ≡ true
     by None h le = cc
-    by (Some last) h le = le-lt-trans k last key le h
+    by (Some last) h le = le_lt_trans k last key le h
 passed_key Descending key info k passed inside = by info.first_entry passed (both_true (is_from info.first_entry k) (is_upto info.last_entry k) inside).0
   where
     by : (o : Option (List ℕ)) → is_end_passed Descending key o ≡ true → is_from o k ≡ true → comes_before Descending k key ≡ true
     by None h le = cc
-    by (Some first) h le = lt-le-trans key first k h le
+    by (Some first) h le = lt_le_trans key first k h le
 
 -- rows of neighbouring blocks, in an order
 pub all_part : (P : RowEntry → Type 0) (order : IterationOrder) (kept : Kept) (first stop : ℕ) → AllByRecursion P (flat_map (λ b. b) kept.blocks) → AllByRecursion P (in_order order (rows_between kept first stop))
 all_part P order kept first stop all = turned order
   where
     behind : AllByRecursion P (flat_map (λ b. b) (drop first kept.blocks))
-    behind = AllByRecursion-behind P (flat_map (λ b. b) (take first kept.blocks)) (flat_map (λ b. b) (drop first kept.blocks)) (subst (AllByRecursion P) (blocks_split kept.blocks first) all)
+    behind = AllByRecursion_behind P (flat_map (λ b. b) (take first kept.blocks)) (flat_map (λ b. b) (drop first kept.blocks)) (subst (AllByRecursion P) (blocks_split kept.blocks first) all)
 
     part : AllByRecursion P (rows_between kept first stop)
-    part = AllByRecursion-front P (rows_between kept first stop) (flat_map (λ b. b) (drop (stop - first) (drop first kept.blocks))) (subst (AllByRecursion P) (blocks_split (drop first kept.blocks) (stop - first)) behind)
+    part = AllByRecursion_front P (rows_between kept first stop) (flat_map (λ b. b) (drop (stop - first) (drop first kept.blocks))) (subst (AllByRecursion P) (blocks_split (drop first kept.blocks) (stop - first)) behind)
 
     turned : (o : IterationOrder) → AllByRecursion P (in_order o (rows_between kept first stop))
     turned Ascending = part
-    turned Descending = AllByRecursion-reverse P (rows_between kept first stop) part
+    turned Descending = AllByRecursion_reverse P (rows_between kept first stop) part
 
 passed_table : (range : BytesRange) (order : IterationOrder) (key : List ℕ) (w : World) (h : SsTableHandle) (kept : Kept) → IsReadable w h kept → is_passed order key h.info ≡ true → AllByRecursion (λ r. comes_before order r.key key ≡ true) (rest_covered range order (w.holds (path_in h)))
 passed_table range order key w h kept table passed =
     let first = covering_start kept.keys range.start in
     subst (λ (o : Option Kept). AllByRecursion (λ r. comes_before order r.key key ≡ true) (rest_covered range order o)) (sym table.held)
     (all_part (λ r. comes_before order r.key key ≡ true) order kept first (covering_end kept.keys first range.end)
-    (AllByRecursion-weaken (λ (r : RowEntry). encloses (seen_info h.info) r.key ≡ true) (λ (r : RowEntry). comes_before order r.key key ≡ true) (λ r inside. passed_key order key h.info r.key passed inside) (flat_map (λ b. b) kept.blocks) table.enclosed))
+    (AllByRecursion_weaken (λ (r : RowEntry). encloses (seen_info h.info) r.key ≡ true) (λ (r : RowEntry). comes_before order r.key key ≡ true) (λ r inside. passed_key order key h.info r.key passed inside) (flat_map (λ b. b) kept.blocks) table.enclosed))
 
 passed_rows : (range : BytesRange) (order : IterationOrder) (key : List ℕ) (w : World) (tables : List SsTableHandle) → AreHeld w tables → AllByRecursion (λ h. is_passed order key h.info ≡ true) tables → AllByRecursion (λ r. comes_before order r.key key ≡ true) (rest_waiting range order tables w)
 passed_rows range order key w [] held passed = tt
 passed_rows range order key w (h ∷ tables) held passed =
-    AllByRecursion-append (λ r. comes_before order r.key key ≡ true) (rest_covered range order (w.holds (path_in h))) (rest_waiting range order tables w) (passed_table range order key w h held.0.0 held.0.1 passed.0) (passed_rows range order key w tables held.1 passed.1)
+    AllByRecursion_append (λ r. comes_before order r.key key ≡ true) (rest_covered range order (w.holds (path_in h))) (rest_waiting range order tables w) (passed_table range order key w h held.0.0 held.0.1 passed.0) (passed_rows range order key w tables held.1 passed.1)
 
 pub waiting_both : (range : BytesRange) (order : IterationOrder) (first last : List SsTableHandle) (w : World) → rest_waiting range order (first ++ last) w ≡ rest_waiting range order first w ++ rest_waiting range order last w
 waiting_both range order [] last w = refl
 waiting_both range order (h ∷ first) last w =
     ap (λ (l : List RowEntry). rest_covered range order (w.holds (path_in h)) ++ l) (waiting_both range order first last w)
     ∙ sym (append_assoc (rest_covered range order (w.holds (path_in h))) (rest_waiting range order first w) (rest_waiting range order last w))
+
+pub passed_no_more : (order : IterationOrder) (key : List ℕ) (m : Meaning) (x y : RunCursor) → PassesOver order key x y → NoMore (refuses_run order x m) [] (refuses_run order y m)
+passed_no_more order key m x y p later at e (inl k) = inl (subst (λ (o : Option OpenTable). RefusesOpen order o m later e) p.open_table k)
+passed_no_more order key m x y p later at e (inr k) = inr (k.0, subst (λ (l : List SsTableHandle). RefusesWaiting m order l later e) (sym p.are) (k.1.0, Contains-append_right p.passed y.tables.items k.1.0 k.1.1, k.1.2))
 
 pub passes_moves : (range : BytesRange) (order : IterationOrder) (key : List ℕ) (t : Reach) (x y : RunCursor) → PassesOver order key x y → x.ahead ≡ None → x.current ≡ None → Moves (rest_run_sought range order key) (IsSoundRun range order) (refuses_run order) t t x y
 passes_moves range order key t x y p none closed = record {
@@ -100,7 +105,7 @@ passes_moves range order key t x y p none closed = record {
     rising = subst (IsInOrder order) (sym (after w)) (in_back order (rest_waiting range order p.passed w) (rest_waiting range order y.tables.items w) (subst (IsInOrder order) (before w) k.rising));
   };
   checked = λ w k. checks_none w t;
-  made = ([], call_none t, fewer);
+  made = ([], call_none t, passed_no_more order key t.meaning x y p);
 }
   where
     before : (w : World) → rest_run range order x w ≡ rest_waiting range order p.passed w ++ rest_waiting range order y.tables.items w
@@ -112,11 +117,7 @@ passes_moves range order key t x y p none closed = record {
     held : (w : World) → IsSoundRun range order x w → AreHeld w p.passed × AreHeld w y.tables.items
     held w k =
         let all = subst (AreHeld w) p.are k.held in
-        (AllByRecursion-front (λ h. (kept : Kept) × IsReadable w h kept) p.passed y.tables.items all, AllByRecursion-behind (λ h. (kept : Kept) × IsReadable w h kept) p.passed y.tables.items all)
-
-    fewer : NoMore (refuses_run order x t.meaning) [] (refuses_run order y t.meaning)
-    fewer later at e (inl k) = inl (subst (λ (o : Option OpenTable). RefusesOpen order o t.meaning later e) p.open_table k)
-    fewer later at e (inr k) = inr (k.0, subst (λ (l : List SsTableHandle). RefusesWaiting t.meaning order l later e) (sym p.are) (k.1.0, Contains-append_right p.passed y.tables.items k.1.0 k.1.1, k.1.2))
+        (AllByRecursion_front (λ h. (kept : Kept) × IsReadable w h kept) p.passed y.tables.items all, AllByRecursion_behind (λ h. (kept : Kept) × IsReadable w h kept) p.passed y.tables.items all)
 
 -- ---- the table that is open
 
@@ -277,7 +278,7 @@ pass_one order key all [] after passed next is = cc
 pass_one order key all (h ∷ left) after (front, are, each) next is = (
   front ++ (h ∷ []),
   are ∙ sym (append_assoc front (h ∷ []) left) ∙ ap (λ (l : List SsTableHandle). (front ++ (h ∷ [])) ++ l) (sym is),
-  AllByRecursion-push (λ t. is_passed order key t.info ≡ true) front h each next,
+  AllByRecursion_push (λ t. is_passed order key t.info ≡ true) front h each next,
 )
 
 pub pass_fewer : (order : IterationOrder) (key : List ℕ) (left after : List SsTableHandle) → is_next_passed order key left ≡ true → after ≡ drop 1 left → length after < length left

@@ -20,9 +20,9 @@ use Rattle.slate_read.specs.declared.run_state.RunCursor.{RunCursor}
 use Rattle.slate_read.specs.declared.table_state.TableState.TheVariants.{New, Walking}
 use Rattle.slate_read.specs.RunLaws.{open_more, waiting_more}
 use Rattle.slate_read.specs.RunWalk.{AreHeld, IsOpenRising, IsSoundOpen, IsSoundRun, OpensNext, OpensTable, RefusesOpen, RefusesWaiting, refuses_open, refuses_run, rest_open, rest_run, rest_waiting, rows_ahead}
-use Rattle.slate_read.specs.TableWalk.{IsSoundAt, RefusesUnread, no_words, refuses_at, rest_at}
+use Rattle.slate_read.specs.TableWalk.{IsSoundAt, RefusesUnread, no_words, rest_at}
 use Rattle.slate_read.proofs.Ranges.{in_back, in_front}
-use Rattle.slate_read.proofs.Walks.{begins_moves}
+use Rattle.slate_read.proofs.Walks.{begins_moves, refuses_at}
 
 -- ---- parts
 
@@ -99,6 +99,15 @@ opened_reads order m h o reads later e same fewer k = (k.0, by (fewer later None
     by (inl new) = absurd (subst IsDamage new k.0)
     by (inr why) = why.1
 
+pub opened_no_more : (order : IterationOrder) (m : Meaning) (x y : RunCursor) (h : SsTableHandle) (o : OpenTable) (reads : List Act) → x.tables.items ≡ h ∷ y.tables.items → y.current ≡ Some o → o.table ≡ h → NoMore (refuses_at h order New m) reads (refuses_at h order (Walking o.cursor) m) →
+    NoMore (refuses_run order x m) reads (refuses_run order y m)
+opened_no_more order m x y h o reads tables is same fewer later at e (inl k) =
+    let r = opened_reads order m h o reads later e same fewer (subst (λ (c : Option OpenTable). RefusesOpen order c m later e) is k) in
+    inr (r.0, subst (λ (l : List SsTableHandle). RefusesWaiting m order l (reads ++ later) e) (sym tables) (h, (0, omega arith, refl), r.1))
+opened_no_more order m x y h o reads tables is same fewer later at e (inr k) =
+    let r = waiting_more order y.tables.items m reads later e k.1 in
+    inr (k.0, subst (λ (l : List SsTableHandle). RefusesWaiting m order l (reads ++ later) e) (sym tables) (r.0, Contains-append_right (h ∷ []) y.tables.items r.0 r.1, r.2))
+
 opens_here : (range : BytesRange) (order : IterationOrder) (a b : Reach) (x y : RunCursor) (h : SsTableHandle) (reads : List Act) (current : Option OpenTable) → IsCall a b reads → x.current ≡ None → x.tables.items ≡ h ∷ y.tables.items → y.ahead ≡ x.ahead → y.current ≡ current →
     OpensTable range a.meaning h reads current → Moves (rest_run range order) (IsSoundRun range order) (refuses_run order) a b x y
 opens_here range order a b x y h reads None call closed tables ahead is opens = absurd opens
@@ -110,7 +119,7 @@ opens_here range order a b x y h reads (Some o) call closed tables ahead is open
     rising = subst (IsInOrder order) (sym (rows w sees k)) k.rising;
   };
   checked = λ w k. m.checked w (fresh w k);
-  made = (m.made.0, m.made.1, fewer);
+  made = (m.made.0, m.made.1, opened_no_more order a.meaning x y h o m.made.0 tables is opens.same m.made.2);
 }
   where
     m : Moves (rest_at range h order) (IsSoundAt range h order) (refuses_at h order) a b New (Walking o.cursor)
@@ -131,14 +140,6 @@ opens_here range order a b x y h reads (Some o) call closed tables ahead is open
         ∙ ap (λ (t : SsTableHandle). rows_ahead x.ahead ++ (rest_at range t order (Walking o.cursor) w ++ rest_waiting range order y.tables.items w)) opens.same
         ∙ ap (λ (l : List RowEntry). rows_ahead x.ahead ++ (l ++ rest_waiting range order y.tables.items w)) (m.rows w sees (fresh w k))
         ∙ sym (before w)
-
-    fewer : NoMore (refuses_run order x a.meaning) m.made.0 (refuses_run order y a.meaning)
-    fewer later at e (inl k) =
-        let r = opened_reads order a.meaning h o m.made.0 later e opens.same m.made.2 (subst (λ (c : Option OpenTable). RefusesOpen order c a.meaning later e) is k) in
-        inr (r.0, subst (λ (l : List SsTableHandle). RefusesWaiting a.meaning order l (m.made.0 ++ later) e) (sym tables) (h, (0, omega arith, refl), r.1))
-    fewer later at e (inr k) =
-        let r = waiting_more order y.tables.items a.meaning m.made.0 later e k.1 in
-        inr (k.0, subst (λ (l : List SsTableHandle). RefusesWaiting a.meaning order l (m.made.0 ++ later) e) (sym tables) (r.0, Contains-append_right (h ∷ []) y.tables.items r.0 r.1, r.2))
 
 pub opens_run : (range : BytesRange) (order : IterationOrder) (a b : Reach) (x y : RunCursor) → x.current ≡ None → Made a b (λ reads. OpensNext range a.meaning reads x true y) → Moves (rest_run range order) (IsSoundRun range order) (refuses_run order) a b x y
 opens_run range order a b x y closed (reads, call, (h, tables, opens, ahead)) = opens_here range order a b x y h reads y.current call closed tables ahead refl opens

@@ -14,13 +14,13 @@ use Rattle.slate_types.specs.RowTurns.{row_before, AreInTurn}
 use Rattle.slate_read.specs.Merge.{in_turn, with_key, past_key, begins_with, rows_bytes, row_bytes, counted}
 use Rattle.slate_read.specs.Heads.{head_cmp}
 use Rattle.slate_read.specs.Merging.{Placed, placed, placed_before, rows_in, head_placed, left_placed, left_rows, IsSoundHead, IsMerging, IsTop, has_key, is_before}
-use Rattle.slate_read.specs.MergeSteps.{Gives, Joins}
+use Rattle.slate_read.specs.MergeSteps.{Joins}
 use Rattle.slate_read.specs.Turns.{both, filter_in_turn}
 use Rattle.slate_read.specs.Rising.{left_in_turn}
 use Rattle.slate_read.proofs.Shuffles.{one_place_shuffled, one_place_instead}
 use Rattle.slate_read.specs.RowOrder.{placed_ranked, in_order_turn, dropped_in_turn, dropped_again}
 use Rattle.slate_read.proofs.HeadLaws.{each_shuffled, left_behind, takes_first, left_shuffled}
-use Rattle.slate_read.proofs.StepLaws.{without_first}
+use Rattle.slate_read.proofs.StepLaws.{Gives, without_first}
 
 pub top_found : {S : Type 0} (heads : List (Head S)) (x : Head S) → 0 < length heads → x ≡ slice_index_or heads 0 x → (IsHeap head_cmp heads → IsUpperBound head_cmp x heads) → IsTop heads (Some x)
 top_found [] x l e top = absurd (omega (arith, l))

@@ -15,7 +15,7 @@ use Rattle.slate_table.specs.declared.info.SsTableHandle.{SsTableHandle}
 use Rattle.slate_read.specs.declared.table_state.Cursor.{Cursor}
 use Rattle.slate_types.specs.World.{World, Sees}
 use Rattle.slate_types.specs.Outside.{Reach}
-use Rattle.slate_read.specs.TableWalk.{IsSoundCursor, IsSoundRising, IsWhole, RefusesLeft, SkipsOpen, Sought, left_in, reads_in, refuses_behind, rest_after, rest_behind, rest_sought, rows_between}
+use Rattle.slate_read.specs.TableWalk.{IsSoundCursor, IsSoundRising, IsWhole, RefusesLeft, SkipsOpen, Sought, left_in, reads_in, refuses_behind, rest_after, rest_behind, rows_between}
 use Rattle.slate_types.proofs.Calls.{call_none, checks_none}
 use Rattle.slate_read.proofs.Cursors.{fewer_after, nothing_left, same_ready, same_refused, sound_after}
 use Rattle.slate_read.proofs.Few.{ok_count}
@@ -106,6 +106,10 @@ whole_count order (Some it) w = by (left (left_of it)) refl w.0
     by (Err e) is k = cc
 
 -- ---- parts of a seek
+
+-- what is left of a table behind a seek that goes on
+abbrev pub rest_sought : SsTableHandle → IterationOrder → List ℕ → Cursor → World → List RowEntry
+rest_sought h order key cursor w = drop_before order key (rest_after h order cursor w)
 
 pub lifted : (h : SsTableHandle) (order : IterationOrder) (key : List ℕ) (a b : Reach) (x y : Cursor) → Moves (rest_after h order) (IsSoundCursor h order) (refuses_behind h order) a b x y → Moves (rest_sought h order key) (IsSoundRising h order) (refuses_behind h order) a b x y
 lifted h order key a b x y m = record {

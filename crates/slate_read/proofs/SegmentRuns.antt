@@ -12,8 +12,8 @@ use Rattle.slate_types.specs.Keys.{key_lt, key_le, in_range, is_past_start, is_b
 use Rattle.slate_types.specs.Iteration.{in_order}
 use Rattle.slate_types.specs.RowTurns.{AreInTurn, row_before}
 use Rattle.slate_types.specs.World.{Kept, World}
-use Rattle.slate_types.proofs.KeyOrder.{lt-le, not-lt, not-le, lt-le-trans, lt-irreflexive}
-use Rattle.slate_mem.proofs.NestLaws.{begins-le, begins-between, le-trans}
+use Rattle.slate_types.proofs.KeyOrder.{lt_le, not_lt, not_le, lt_le_trans, lt_irreflexive}
+use Rattle.slate_mem.proofs.NestLaws.{begins_le, begins_between, le_trans}
 use Rattle.slate_read.specs.declared.segment_merge_iterator.SegmentMergeIterator.{SegmentMergeIterator}
 use Rattle.slate_read.specs.declared.sorted_run.SortedRun.{SortedRun}
 use Rattle.slate_read.specs.declared.sorted_run_iterator.SortedRunIterator.{SortedRunIterator}
@@ -26,6 +26,7 @@ use Rattle.slate_read.specs.Merging.{CanMerge}
 use Rattle.slate_read.specs.RunIterators.{IsRunIterator, rows_in_run, run_rows}
 use Rattle.slate_read.specs.SegmentIterators.{AreRuns, AreSegmentsReadable, BeginWith, IsSegmentMerge, can_begin, meets, met_runs, source_order, source_rest, source_sound}
 use Rattle.slate_read.specs.TableWalk.{is_in}
+use Rattle.slate_types.proofs.Plain.{neither}
 
 -- ---- prefixes that begin no key of a range
 
@@ -33,68 +34,64 @@ pub not_twice : (t : Bool) → not (not t) ≡ t
 not_twice true = refl
 not_twice false = refl
 
-neither : (s t : Bool) → (s || t) ≡ false → (s ≡ false) × (t ≡ false)
-neither true t h = cc
-neither false t h = (refl, h)
+one_not : (s t : Bool) → (s && t) ≡ false → (s ≡ false) ⊎ (t ≡ false)
+one_not true t h = inr h
+one_not false t h = inl refl
 
-one-not : (s t : Bool) → (s && t) ≡ false → (s ≡ false) ⊎ (t ≡ false)
-one-not true t h = inr h
-one-not false t h = inl refl
-
-before-start : (a p k : List ℕ) → (starts_with nat_eq a p || key_le a p) ≡ false → starts_with nat_eq k p ≡ true → key_le a k ≡ false
-before-start a p k out begun = by (key_le a k) refl
+before_start : (a p k : List ℕ) → (starts_with nat_eq a p || key_le a p) ≡ false → starts_with nat_eq k p ≡ true → key_le a k ≡ false
+before_start a p k out begun = by (key_le a k) refl
   where
     by : (t : Bool) → key_le a k ≡ t → t ≡ false
     by true e =
         let parts = neither (starts_with nat_eq a p) (key_le a p) out in
-        let there : starts_with nat_eq a p ≡ true = begins-between p a k (lt-le p a (not-le a p parts.1)) e begun in
+        let there : starts_with nat_eq a p ≡ true = begins_between p a k (lt_le p a (not_le a p parts.1)) e begun in
         sym there ∙ parts.0
     by false e = refl
 
-lt-none : (a k : List ℕ) → key_le a k ≡ false → key_lt a k ≡ false
-lt-none a k h = by (key_lt a k) refl
+lt_none : (a k : List ℕ) → key_le a k ≡ false → key_lt a k ≡ false
+lt_none a k h = by (key_lt a k) refl
   where
     by : (t : Bool) → key_lt a k ≡ t → t ≡ false
-    by true e = sym (lt-le a k e) ∙ h
+    by true e = sym (lt_le a k e) ∙ h
     by false e = refl
 
-start-out : (b : Bound (List ℕ)) (p k : List ℕ) → can_begin b p ≡ false → starts_with nat_eq k p ≡ true → is_past_start b k ≡ false
-start-out (Included a) p k out begun = before-start a p k out begun
-start-out (Excluded a) p k out begun = lt-none a k (before-start a p k out begun)
-start-out Unbounded p k out begun = out
+start_out : (b : Bound (List ℕ)) (p k : List ℕ) → can_begin b p ≡ false → starts_with nat_eq k p ≡ true → is_past_start b k ≡ false
+start_out (Included a) p k out begun = before_start a p k out begun
+start_out (Excluded a) p k out begun = lt_none a k (before_start a p k out begun)
+start_out Unbounded p k out begun = out
 
-end-out : (b : Bound (List ℕ)) (p k : List ℕ) → is_before_end b p ≡ false → starts_with nat_eq k p ≡ true → is_before_end b k ≡ false
-end-out (Included b) p k out begun = by (key_le k b) refl
+end_out : (b : Bound (List ℕ)) (p k : List ℕ) → is_before_end b p ≡ false → starts_with nat_eq k p ≡ true → is_before_end b k ≡ false
+end_out (Included b) p k out begun = by (key_le k b) refl
   where
     by : (t : Bool) → key_le k b ≡ t → t ≡ false
-    by true e = lt-irreflexive b (lt-le-trans b p b (not-le p b out) (le-trans p k b (begins-le p k begun) e))
+    by true e = lt_irreflexive b (lt_le_trans b p b (not_le p b out) (le_trans p k b (begins_le p k begun) e))
     by false e = refl
-end-out (Excluded b) p k out begun = by (key_lt k b) refl
+end_out (Excluded b) p k out begun = by (key_lt k b) refl
   where
     by : (t : Bool) → key_lt k b ≡ t → t ≡ false
-    by true e = lt-irreflexive k (lt-le-trans k b k e (le-trans b p k (not-lt p b out) (begins-le p k begun)))
+    by true e = lt_irreflexive k (lt_le_trans k b k e (le_trans b p k (not_lt p b out) (begins_le p k begun)))
     by false e = refl
-end-out Unbounded p k out begun = out
+end_out Unbounded p k out begun = out
 
-pub out-of-range : (range : BytesRange) (p k : List ℕ) → meets range p ≡ false → starts_with nat_eq k p ≡ true → in_range range k ≡ false
-out-of-range range p k out begun = by (one-not (can_begin range.start p) (is_before_end range.end p) out)
+pub out_of_range : (range : BytesRange) (p k : List ℕ) → meets range p ≡ false → starts_with nat_eq k p ≡ true → in_range range k ≡ false
+out_of_range range p k out begun = by (one_not (can_begin range.start p) (is_before_end range.end p) out)
   where
-    and-false : (b : Bool) → (b && false) ≡ false
-    and-false true = refl
-    and-false false = refl
+    and_false : (b : Bool) → (b && false) ≡ false
+    and_false true = refl
+    and_false false = refl
 
     by : (can_begin range.start p ≡ false) ⊎ (is_before_end range.end p ≡ false) → (is_past_start range.start k && is_before_end range.end k) ≡ false
-    by (inl h) = ap (λ t. t && is_before_end range.end k) (start-out range.start p k h begun)
-    by (inr h) = ap (λ t. is_past_start range.start k && t) (end-out range.end p k h begun) ∙ and-false (is_past_start range.start k)
+    by (inl h) = ap (λ t. t && is_before_end range.end k) (start_out range.start p k h begun)
+    by (inr h) = ap (λ t. is_past_start range.start k && t) (end_out range.end p k h begun) ∙ and_false (is_past_start range.start k)
 
-none-in : (range : BytesRange) (p : List ℕ) (rows : List RowEntry) → meets range p ≡ false → BeginWith p rows → filter (is_in range) rows ≡ []
-none-in range p [] out begun = refl
-none-in range p (r ∷ rows) out begun =
-    ap (λ t. cond t (r ∷ filter (is_in range) rows) (filter (is_in range) rows)) (out-of-range range p r.key out begun.0) ∙ none-in range p rows out begun.1
+none_in : (range : BytesRange) (p : List ℕ) (rows : List RowEntry) → meets range p ≡ false → BeginWith p rows → filter (is_in range) rows ≡ []
+none_in range p [] out begun = refl
+none_in range p (r ∷ rows) out begun =
+    ap (λ t. cond t (r ∷ filter (is_in range) rows) (filter (is_in range) rows)) (out_of_range range p r.key out begun.0) ∙ none_in range p rows out begun.1
 
-no-turn : (order : IterationOrder) (rows : List RowEntry) → rows ≡ [] → in_turn order (in_order order rows) ≡ []
-no-turn Ascending rows h = ap (λ rs. in_turn Ascending (in_order Ascending rs)) h
-no-turn Descending rows h = ap (λ rs. in_turn Descending (in_order Descending rs)) h
+no_turn : (order : IterationOrder) (rows : List RowEntry) → rows ≡ [] → in_turn order (in_order order rows) ≡ []
+no_turn Ascending rows h = ap (λ rs. in_turn Ascending (in_order Ascending rs)) h
+no_turn Descending rows h = ap (λ rs. in_turn Descending (in_order Descending rs)) h
 
 -- ---- a merge of the runs that are not left out
 
@@ -126,7 +123,7 @@ segments_bring range order w (run ∷ runs) (kept ∷ kepts) its h r = by (λ js
         ((((b.sound, b.same_order), subst (AreInTurn (row_before order)) (sym b.rest) b.turn), more.0), λ i. b.rest i ++ more.1 i)
     by later false e js k =
         let more = later js k in
-        let none : here ≡ [] = no-turn order (filter (is_in range) (run_rows kept)) (none-in range run.prefix (run_rows kept) e r.0.1) in
+        let none : here ≡ [] = no_turn order (filter (is_in range) (run_rows kept)) (none_in range run.prefix (run_rows kept) e r.0.1) in
         (more.0, more.1 ∙ ap (λ rows. rows ++ turns range order kepts) (sym none))
 
 pub segment_merge : (range : BytesRange) (order : IterationOrder) (runs : List SortedRun) (its : List SortedRunIterator) (it : SegmentMergeIterator) →
@@ -146,19 +143,19 @@ segment_merge range order runs its it m h = record {
 abbrev pub AddsRuns : BytesRange → IterationOrder → List SortedRun → List SortedRunIterator → List SortedRun → Type 0
 AddsRuns range order left made runs = (more : List SortedRunIterator) → AreRuns range order (met_runs range left) more → AreRuns range order (met_runs range runs) (made ++ more)
 
-pub run-made : (range : BytesRange) (order : IterationOrder) (left rest runs : List SortedRun) (run : SortedRun) (made next : List SortedRunIterator) (it : SortedRunIterator) → left ≡ run ∷ rest → meets range run.prefix ≡ true →
+pub run_made : (range : BytesRange) (order : IterationOrder) (left rest runs : List SortedRun) (run : SortedRun) (made next : List SortedRunIterator) (it : SortedRunIterator) → left ≡ run ∷ rest → meets range run.prefix ≡ true →
     next ≡ made ++ (it ∷ []) → IsRunIterator range run order it.rows → AddsRuns range order left made runs → AddsRuns range order rest next runs
-run-made range order left rest runs run made next it is met grown source was more h =
+run_made range order left rest runs run made next it is met grown source was more h =
     let whole : met_runs range left ≡ run ∷ met_runs range rest = ap (met_runs range) is ∙ ap (λ t. cond t (run ∷ met_runs range rest) (met_runs range rest)) met in
     let here : AreRuns range order (met_runs range left) (it ∷ more) = subst (λ rs. AreRuns range order rs (it ∷ more)) (sym whole) (source, h) in
     subst (AreRuns range order (met_runs range runs)) (sym (append_assoc made (it ∷ []) more) ∙ ap (λ its. its ++ more) (sym grown)) (was (it ∷ more) here)
 
-pub run-left-out : (range : BytesRange) (order : IterationOrder) (left rest runs : List SortedRun) (run : SortedRun) (made : List SortedRunIterator) → left ≡ run ∷ rest → meets range run.prefix ≡ false →
+pub run_left_out : (range : BytesRange) (order : IterationOrder) (left rest runs : List SortedRun) (run : SortedRun) (made : List SortedRunIterator) → left ≡ run ∷ rest → meets range run.prefix ≡ false →
     AddsRuns range order left made runs → AddsRuns range order rest made runs
-run-left-out range order left rest runs run made is out was more h =
+run_left_out range order left rest runs run made is out was more h =
     let whole : met_runs range left ≡ met_runs range rest = ap (met_runs range) is ∙ ap (λ t. cond t (run ∷ met_runs range rest) (met_runs range rest)) out in
     was more (subst (λ rs. AreRuns range order rs more) (sym whole) h)
 
-pub runs-made : (range : BytesRange) (order : IterationOrder) (left runs : List SortedRun) (made : List SortedRunIterator) → left ≡ [] → AddsRuns range order left made runs → AreRuns range order (met_runs range runs) made
-runs-made range order left runs made is was =
+pub runs_made : (range : BytesRange) (order : IterationOrder) (left runs : List SortedRun) (made : List SortedRunIterator) → left ≡ [] → AddsRuns range order left made runs → AreRuns range order (met_runs range runs) made
+runs_made range order left runs made is was =
     subst (AreRuns range order (met_runs range runs)) (append-nil made) (was [] (subst (λ rs. AreRuns range order (met_runs range rs) []) (sym is) tt))

@@ -11,7 +11,7 @@ use Rattle.slate_types.specs.declared.iter.IterationOrder.TheVariants.{Ascending
 use Rattle.slate_types.specs.Outside.{Act, Meaning}
 use Rattle.slate_types.specs.Iteration.{in_order}
 use Rattle.slate_types.specs.Refusing.{IsDamage}
-use Rattle.slate_types.proofs.Lists.{AllByRecursion-reverse}
+use Rattle.slate_types.proofs.Lists.{AllByRecursion_reverse}
 use Rattle.slate_table.specs.declared.info.SsTableHandle.{SsTableHandle}
 use Rattle.slate_table.specs.Reading.{SectionRead}
 use Rattle.slate_read.specs.Showing.{RefusesBlockOf, ShowsBlock, ShowsByReads, SomeShows, UnopenedRunsShow, UnopenedWalksShow}
@@ -62,13 +62,13 @@ new_walk_shows m h order s reads at e new r = by (subst (λ (x : TableState). re
     by (inl k) = inl k
     by (inr k) = inr (k.0, unread_shows m h order reads e k.1)
 
-among_reached : (range : BytesRange) (order : IterationOrder) (tables : List SsTableHandle) (h : SsTableHandle) → Contains (reached range order tables) h → Contains tables h
+pub among_reached : (range : BytesRange) (order : IterationOrder) (tables : List SsTableHandle) (h : SsTableHandle) → Contains (reached range order tables) h → Contains tables h
 among_reached range order tables h among =
     All-contains (Contains tables) (reached range order tables) h (All-from_recursion (Contains tables) (reached range order tables) (turned order (recursion_from_All (Contains tables) (filter (λ t. can_reach range t.info) tables) (All-filter (λ t. can_reach range t.info) (Contains tables) tables (All-contains_itself tables))))) among
   where
     turned : (o : IterationOrder) → AllByRecursion (Contains tables) (filter (λ t. can_reach range t.info) tables) → AllByRecursion (Contains tables) (in_order o (filter (λ t. can_reach range t.info) tables))
     turned Ascending all = all
-    turned Descending all = AllByRecursion-reverse (Contains tables) (filter (λ t. can_reach range t.info) tables) all
+    turned Descending all = AllByRecursion_reverse (Contains tables) (filter (λ t. can_reach range t.info) tables) all
 
 pub new_run_shows : (m : Meaning) (order : IterationOrder) (s : RunState) (x : RunCursor) (tables : List SsTableHandle) (reads : List Act) (at : Option (List ℕ)) (e : SlateDBError) → s ≡ RunNew → x.current ≡ None → ((h : SsTableHandle) → Contains (waiting x) h → Contains tables h) →
     refuses_run_in s order x m reads at e → (e ≡ IteratorNotInitialized) ⊎ (IsDamage e × SomeShows m.decode tables reads e)

@@ -6,13 +6,19 @@ use Rattle.std.proofs.lemmas.List.Sorted.{sum_by-IsPermutation}
 use Rattle.std.proofs.lemmas.List.Sums.{sum_by-cons}
 use Rattle.slate_types.specs.declared.types.RowEntry.{RowEntry}
 use Rattle.slate_types.specs.declared.iter.IterationOrder.{IterationOrder}
+use Rattle.slate_types.specs.Iteration.{TakesRow}
 use Rattle.slate_read.specs.declared.head.Head.{Head}
 use Rattle.slate_types.specs.RowTurns.{row_before, AreInTurn}
 use Rattle.slate_read.specs.Heads.{head_cmp}
 use Rattle.slate_read.specs.Merging.{AnyByRecursion, left_rows, IsSoundHead, IsMerging, merging_bound}
-use Rattle.slate_read.specs.MergeSteps.{Gives, Falls, Joins}
+use Rattle.slate_read.specs.MergeSteps.{Falls, Joins}
 use Rattle.slate_read.proofs.Shuffles.{one_place_tail, one_place_shuffled, one_place_instead}
 use Rattle.slate_read.proofs.HeadLaws.{each_shuffled, takes_first, left_ended, left_more}
+
+-- `next` of a source answered, in one world
+pub record Gives {S : Type 0} (rest : S → List RowEntry) (sound : S → Type 0) (before : S) (answer : Option RowEntry) (after : S) : Type 0 where
+  pub rows : sound before → TakesRow (rest before) answer (rest after)
+  pub still : sound before → sound after
 
 module _ {X : Type 0} (P : X → Type 0) where
   any_among : (xs : List X) → AllByRecursion (λ x. P x → AnyByRecursion P xs) xs

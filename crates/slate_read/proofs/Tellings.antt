@@ -5,13 +5,20 @@ use Rattle.std.proofs.lemmas.List.Elements.{All-contains, All-from_recursion, Co
 use Rattle.slate_types.specs.declared.types.RowEntry.{RowEntry}
 use Rattle.slate_types.specs.Outside.{Act, Meaning}
 use Rattle.slate_types.specs.Steps.{Takes}
+use Rattle.slate_read.specs.declared.progress.Progress.{Progress}
+use Rattle.slate_read.specs.declared.progress.Progress.TheVariants.{New, Going, Refused}
 use Rattle.slate_read.specs.Bringing.{HandsOut, NoMoreRows}
 use Rattle.slate_read.specs.Filtering.{Skips, TakesKept}
-use Rattle.slate_read.specs.Handing.{Gives, HandsHeld, Held, SeeksHeld, brings_held}
+use Rattle.slate_read.specs.Handing.{Gives, HandsHeld, Held, SeeksHeld, brings_held, held_in}
+use Rattle.slate_read.specs.NewestFirst.{Begins}
 use Rattle.slate_read.proofs.Bringings.{no_rows_both, some_weaker}
 
-none_of : (r : RowEntry) → Contains [] r → ⊥
+pub none_of : (r : RowEntry) → Contains [] r → ⊥
 none_of r k = let lt = k.1 in omega (arith, lt)
+
+pub one_of : (row r : RowEntry) → Contains (row ∷ []) r → row ≡ r
+one_of row r (zero, lt, is) = is
+one_of row r (suc i, lt, is) = absurd (omega (arith, lt))
 
 module _ {S : Type 0} (brings : S → List Act → RowEntry → Type 0) where
   -- rows that are brought by some reads are by more
@@ -46,12 +53,8 @@ module _ {S : Type 0} (brings : S → List Act → RowEntry → Type 0) where
       NoMoreRows (brings next) behind (brings y) × ((r : RowEntry) → Contains rows r → brings next behind r) → NoMoreRows (brings x) (first ++ behind) (brings y) × ((r : RowEntry) → Contains (row ∷ rows) r → brings x (first ++ behind) r)
   one_more x next y first behind row rows stays h more = (no_rows_both (brings x) (brings next) (brings y) first behind h.1 more.0, λ r k. by r (Contains-append_cases (row ∷ []) rows r k))
     where
-      one : (r : RowEntry) → Contains (row ∷ []) r → row ≡ r
-      one r (zero, lt, is) = is
-      one r (suc i, lt, is) = absurd (omega (arith, lt))
-
       by : (r : RowEntry) → Contains (row ∷ []) r ⊎ Contains rows r → brings x (first ++ behind) r
-      by r (inl k) = stays x first behind r (subst (λ (q : RowEntry). brings x first q) (one r k) h.0)
+      by r (inl k) = stays x first behind r (subst (λ (q : RowEntry). brings x first q) (one_of row r k) h.0)
       by r (inr k) = h.1 behind r (more.1 r k)
 
   takes_tell : (step : S → List Act → Option RowEntry → S → Type 0) → Tells step → StaysBrought → (x y : S) (reads : List Act) (rows : List RowEntry) → Takes step x reads rows y → NoMoreRows (brings x) reads (brings y) × ((r : RowEntry) → Contains rows r → brings x reads r)
@@ -60,7 +63,7 @@ module _ {S : Type 0} (brings : S → List Act → RowEntry → Type 0) where
       subst (λ (acts : List Act). NoMoreRows (brings x) acts (brings y) × ((r : RowEntry) → Contains (row ∷ rows) r → brings x acts r)) (sym t.3)
       (one_more x t.0 y t.1 t.2 row rows stays (tells x t.0 t.1 (Some row) t.4) (takes_tell step tells stays t.0 y t.2 rows t.5))
 
-  gives_tell : (step : S → List Act → Option RowEntry → S → Type 0) → Tells step → StaysBrought → (x y : S) (reads : List Act) (rows : List RowEntry) → Gives step x reads rows y → NoMoreRows (brings x) reads (brings y) × ((r : RowEntry) → Contains rows r → brings x reads r)
+  pub gives_tell : (step : S → List Act → Option RowEntry → S → Type 0) → Tells step → StaysBrought → (x y : S) (reads : List Act) (rows : List RowEntry) → Gives step x reads rows y → NoMoreRows (brings x) reads (brings y) × ((r : RowEntry) → Contains rows r → brings x reads r)
   gives_tell step tells stays x y reads rows (inl t) = takes_tell step tells stays x y reads rows t
   gives_tell step tells stays x y reads rows (inr (last, first, end, is, t, none)) =
       let k = takes_tell step tells stays x last first rows t in (
@@ -98,3 +101,22 @@ module _ {S : Type 0} (brings : S → List Act → RowEntry → Type 0) where
   sought_tells seeks m tells x y reads key (why, among) later r (inl k) = inl (All-contains (λ z. Contains x.1 z) y.1 r (All-from_recursion (λ z. Contains x.1 z) y.1 among) k)
   sought_tells seeks m tells x y reads key (inl same, among) later r (inr k) = inr (subst (λ (acts : List Act). brings x.0 (acts ++ later) r) (sym same.0) (subst (λ (z : S). brings z later r) same.1 k))
   sought_tells seeks m tells x y reads key (inr sought, among) later r (inr k) = inr (tells x.0 y.0 reads key sought later r k)
+
+  -- nothing is held yet, or what was held is
+  pub begun_tells : (x y : S) (s p : Progress) (reads : List Act) → Begins s p → NoMoreRows (brings x) reads (brings y) → NoMoreRows (brings_held brings (x, held_in s)) reads (brings_held brings (y, held_in p))
+  begun_tells x y s p reads b less later r (inr k) = inr (less later r k)
+  begun_tells x y New (Going groups) reads b less later r (inl k) = absurd (none_of r (subst (λ (l : List RowEntry). Contains l r) (λ i. b.0 i ++ b.1 i) k))
+  begun_tells x y New New reads b less later r (inl k) = absurd b
+  begun_tells x y New (Refused e) reads b less later r (inl k) = absurd b
+  begun_tells x y (Going groups) p reads b less later r (inl k) = inl (subst (λ (q : Progress). Contains (held_in q) r) b k)
+  begun_tells x y (Refused e) p reads b less later r (inl k) = inl (subst (λ (q : Progress). Contains (held_in q) r) b k)
+
+  -- what is held by one that is new
+  pub held_new : (x : S) (s : Progress) (reads : List Act) (r : RowEntry) → s ≡ New → brings_held brings (x, held_in s) reads r → brings x reads r
+  held_new x s reads r new (inl k) = absurd (none_of r (subst (λ (q : Progress). Contains (held_in q) r) new k))
+  held_new x s reads r new (inr k) = k
+
+  -- what some reads bring, more do
+  pub held_grows : (x : Held S) (reads all : List Act) (r : RowEntry) → (brings x.0 reads r → brings x.0 all r) → brings_held brings x reads r → brings_held brings x all r
+  held_grows x reads all r grows (inl k) = inl k
+  held_grows x reads all r grows (inr k) = inr (grows k)

@@ -14,7 +14,7 @@ use Rattle.slate_types.specs.declared.iter.IterationOrder.TheVariants.{Ascending
 use Rattle.slate_types.specs.Iteration.{TakesRow, comes_before, drop_before, in_order}
 use Rattle.slate_types.specs.Keys.{key_cmp, key_lt, key_le}
 use Rattle.slate_types.specs.RowTurns.{AreInTurn, NoneEarlier, row_before}
-use Rattle.slate_types.proofs.KeyOrder.{bytes_eq-same, is-less, le-lt-trans, not-lt, same-key, turned-key}
+use Rattle.slate_types.proofs.KeyOrder.{bytes_eq_same, is_less, le_lt_trans, not_lt, equal_keys, turned_key}
 use Rattle.slate_read.specs.Groups.{IsOneKey, StandsApart, in_turn, newest_first, put_behind}
 use Rattle.slate_read.specs.NewestLaws.{key_not_before}
 
@@ -72,17 +72,17 @@ turn_back before (x ∷ xs) h = subst (AreInTurn (λ a b. before b a)) (sym (rev
 -- ---- two rows
 
 below_first : (z y : RowEntry) → key_lt z.key y.key ≡ true → row_before Descending z y ≡ false
-below_first z y h = by (key_cmp y.key z.key) (turned-key y.key z.key ∙ ap ordering_reverse (is-less (key_cmp z.key y.key) h))
+below_first z y h = by (key_cmp y.key z.key) (turned_key y.key z.key ∙ ap ordering_reverse (is_less (key_cmp z.key y.key) h))
   where
     by : (o : Ordering) → o ≡ Greater → is_lt (ordering_then o (nat_cmp y.seq z.seq)) ≡ false
     by o e = rw e refl
 
 apart_below : (y s : RowEntry) → row_before Ascending y s ≡ false → bytes_eq s.key y.key ≡ false → key_lt s.key y.key ≡ true
-apart_below y s h apart = by (key_cmp s.key y.key) refl (not-lt y.key s.key (key_not_before Ascending y s h))
+apart_below y s h apart = by (key_cmp s.key y.key) refl (not_lt y.key s.key (key_not_before Ascending y s h))
   where
     by : (o : Ordering) → key_cmp s.key y.key ≡ o → is_le o ≡ true → is_lt o ≡ true
     by Less e k = refl
-    by Equal e k = let clash : true ≡ false = sym (ap (bytes_eq s.key) (sym (same-key s.key y.key e)) ∙ bytes_eq-same s.key) ∙ apart in cc
+    by Equal e k = let clash : true ≡ false = sym (ap (bytes_eq s.key) (sym (equal_keys s.key y.key e)) ∙ bytes_eq_same s.key) ∙ apart in cc
     by Greater e k = absurd cc
 
 newer_later : (y s : RowEntry) → row_before Ascending y s ≡ false → s.key ≡ y.key → row_before Descending y s ≡ false
@@ -108,7 +108,7 @@ none_newest before x (y ∷ rows) h = none_put before x y (newest_first rows) h.
 none_below : (y s : RowEntry) (rows : List RowEntry) → key_lt s.key y.key ≡ true → NoneEarlier (row_before Descending) s rows → NoneEarlier (row_before Descending) y rows
 none_below y s [] lt h = tt
 none_below y s (z ∷ rows) lt h =
-    (below_first z y (le-lt-trans z.key s.key y.key (not-lt s.key z.key (key_not_before Descending z s h.0)) lt), none_below y s rows lt h.1)
+    (below_first z y (le_lt_trans z.key s.key y.key (not_lt s.key z.key (key_not_before Descending z s h.0)) lt), none_below y s rows lt h.1)
 
 put_turn : (y : RowEntry) (rows : List RowEntry) → NoneEarlier (λ a b. row_before Ascending b a) y rows → AreInTurn (row_before Descending) rows → AreInTurn (row_before Descending) (put_behind y rows)
 put_turn y [] h t = (tt, tt)
@@ -181,7 +181,7 @@ dropped_front order key (r ∷ front) rows h = rw h.0 (dropped_front order key f
 behind_all : (r : RowEntry) (xs more : List RowEntry) → AllByRecursion (λ s. s.key ≡ r.key) xs → put_behind r (xs ++ more) ≡ xs ++ put_behind r more
 behind_all r [] more h = refl
 behind_all r (x ∷ xs) more h =
-    let e : bytes_eq x.key r.key ≡ true = ap (λ (k : List ℕ). bytes_eq k r.key) h.0 ∙ bytes_eq-same r.key in
+    let e : bytes_eq x.key r.key ≡ true = ap (λ (k : List ℕ). bytes_eq k r.key) h.0 ∙ bytes_eq_same r.key in
     rw e (ap (λ (l : List RowEntry). x ∷ l) (behind_all r xs more h.1))
 
 pub Apart : List ℕ → List RowEntry → Type 0

@@ -25,7 +25,7 @@ use Rattle.slate_types.specs.World.{IsSlip, Kept, World, AnswersWorld, Made, See
 use Rattle.slate_types.specs.Outside.{Meaning, Reach}
 use Rattle.slate_types.specs.Refusing.{IsDamage, NoMoreBut}
 use Rattle.slate_types.specs.Steps.{Step}
-use Rattle.slate_read.specs.TableWalk.{AreReadAhead, BeginsIn, IsSoundRising, IsWalking, StaysIn, Sought, Begins, BeginsAt, IsIndexed, RefusesIndexed, left_in, rest_behind, rest_covered, rows_between, IsReadable, IsSoundAt, IsSoundCursor, IsWhole, Keeps, RefusesLeft, RefusesReady, RefusesSome, RefusesUnread, index_lies, index_part, no_words, path_in, refuses_at, refuses_behind, refuses_in, rest_after, rest_at}
+use Rattle.slate_read.specs.TableWalk.{AreReadAhead, BeginsIn, IsSoundRising, IsWalking, StaysIn, Sought, Begins, BeginsAt, IsIndexed, RefusesIndexed, left_in, rest_behind, rest_covered, rows_between, IsReadable, IsSoundAt, IsSoundCursor, IsWhole, Keeps, RefusesLeft, RefusesReady, RefusesSome, RefusesUnread, index_lies, index_part, no_words, path_in, refuses_behind, refuses_in, rest_after, rest_at}
 use Rattle.slate_types.proofs.Calls.{call_none, seen}
 use Rattle.slate_read.specs.WalkLaws.{known_answer, refuses_whole, some_more, whole_part}
 use Rattle.slate_read.proofs.Cursors.{AllOrSlip, call_checked, section_checked}
@@ -39,6 +39,10 @@ outer_undamaged i j StoreFault h = λ d. d
 outer_undamaged i j (Callback m) h = λ d. d
 outer_undamaged i j BlockTransformError h = λ d. d
 outer_undamaged i j _ h = absurd h
+
+-- of a table, as of a cursor
+abbrev pub refuses_at : SsTableHandle → IterationOrder → TableState → Meaning → List Act → Option (List ℕ) → SlateDBError → Type 0
+refuses_at h order s p reads at e = refuses_in s h order p reads at e
 
 -- ---- a step
 

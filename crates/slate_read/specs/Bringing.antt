@@ -9,9 +9,12 @@
 --     brings_in s h order m reads r      of a table that wasn't opened, or is walked; one that was refused brings none
 --     NoMoreRows before reads after      behind these reads no row is brought that wasn't before
 --     HandsOut before reads answer after      the answer is such a row, or none, and then no other rows are brought
+--     AddsNone brings refuses m x reads y      behind these reads it neither refuses nor brings more
+--     HandsAway brings refuses m x reads answer y      the answer is a row that it brings, or none, and then it neither refuses nor brings more
 --     AddsNothing h order m x reads y      behind these reads a cursor neither refuses nor brings more
 --     brings_of it m reads r      what a walk over a table brings
 use Rattle.std.specs.Prelude.{◌≡◌, ◌⊎◌, ℕ, ◌<◌, ◌≤◌, List, ◌++◌, length, slice_get, Contains, Option, Some, None, Ok, IfSome}
+use Rattle.slate_types.specs.declared.error.SlateDBError.{SlateDBError}
 use Rattle.slate_types.specs.declared.types.RowEntry.{RowEntry}
 use Rattle.slate_types.specs.declared.iter.IterationOrder.{IterationOrder}
 use Rattle.slate_types.specs.Outside.{Act, Meaning}
@@ -85,5 +88,11 @@ NoMoreRows before reads after = (later : List Act) (r : RowEntry) → after late
 abbrev pub HandsOut : (List Act → RowEntry → Type 0) → List Act → Option RowEntry → (List Act → RowEntry → Type 0) → Type 0
 HandsOut before reads answer after = IfSome answer (λ r. before reads r) × NoMoreRows before reads after
 
+abbrev pub AddsNone : {A : Type 0} → (A → Meaning → List Act → RowEntry → Type 0) → (A → Meaning → List Act → Option (List ℕ) → SlateDBError → Type 0) → Meaning → A → List Act → A → Type 0
+AddsNone {A} brings refuses m x reads y = NoMore (refuses x m) reads (refuses y m) × NoMoreRows (brings x m) reads (brings y m)
+
+abbrev pub HandsAway : {A : Type 0} → (A → Meaning → List Act → RowEntry → Type 0) → (A → Meaning → List Act → Option (List ℕ) → SlateDBError → Type 0) → Meaning → A → List Act → Option RowEntry → A → Type 0
+HandsAway {A} brings refuses m x reads answer y = HandsOut (brings x m) reads answer (brings y m) × NoMore (refuses x m) reads (refuses y m)
+
 abbrev pub AddsNothing : SsTableHandle → IterationOrder → Meaning → Cursor → List Act → Cursor → Type 0
-AddsNothing h order m x reads y = NoMore (refuses_behind h order x m) reads (refuses_behind h order y m) × NoMoreRows (brings_behind h order x m) reads (brings_behind h order y m)
+AddsNothing h order m x reads y = AddsNone (brings_behind h order) (refuses_behind h order) m x reads y

@@ -1,6 +1,6 @@
 -- Rows that come from a source, and are held before they are handed out.
 --     Gives step x reads rows y      steps that bring these rows, one by one, and then perhaps one that brings none
---     AreAmong rows all      each of the rows is one of these
+--     AreAmong some all      each of some elements is one of these
 --     Held I      a source and the rows that are held of it
 --     HandsHeld takes x m reads answer y      the answer, and all that is held then, was held before, or the source brought it
 --     SeeksHeld seeks x m reads key y      all that is held then was held before, and the source sought the key, or wasn't called
@@ -18,8 +18,8 @@ use Rattle.slate_read.specs.declared.progress.Progress.TheVariants.{New, Going, 
 abbrev pub Gives : {I : Type 0} → (I → List Act → Option RowEntry → I → Type 0) → I → List Act → List RowEntry → I → Type 0
 Gives {I} step x reads rows y = Takes step x reads rows y ⊎ TakesAll step x reads rows y
 
-abbrev pub AreAmong : List RowEntry → List RowEntry → Type 0
-AreAmong rows all = AllByRecursion (λ r. Contains all r) rows
+abbrev pub AreAmong : {A : Type 0} → List A → List A → Type 0
+AreAmong {A} some all = AllByRecursion (λ x. Contains all x) some
 
 abbrev pub Held : Type 0 → Type 0
 Held I = I × List RowEntry

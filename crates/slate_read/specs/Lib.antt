@@ -25,12 +25,16 @@ pub mod Merging
 pub mod MergeSteps
 pub mod Kept
 pub mod MergeStates
+pub mod Calls
+pub mod CallLaws
+pub mod MergeBringing
 pub mod MergeStateLaws
 pub mod MergedLaws
 pub mod Required
 pub mod Peeking
 pub mod RunWalk
 pub mod RunIterators
+pub mod RunBringing
 pub mod Showing
 pub mod RunLaws
 pub mod ReadSources
@@ -42,3 +46,4 @@ pub mod OperatorIterators
 pub mod OperatorLaws
 pub mod SegmentIterators
 pub mod SegmentLaws
+pub mod SourceBringing

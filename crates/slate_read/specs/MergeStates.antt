@@ -22,7 +22,6 @@ use Rattle.slate_types.specs.declared.types.RowEntry.{RowEntry}
 use Rattle.slate_types.specs.Outside.{Act, Meaning}
 use Rattle.slate_types.specs.Refusing.{IsDamage}
 use Rattle.slate_types.specs.World.{World}
-use Rattle.slate_read.specs.declared.head.Head.{Head}
 use Rattle.slate_read.specs.declared.merge_iterator.MergeIterator.{MergeIterator}
 use Rattle.slate_read.specs.declared.merge_iterator.MergeState.{MergeState}
 use Rattle.slate_read.specs.declared.merge_iterator.MergeState.TheVariants.{New, Begun, Refused}
@@ -81,14 +80,6 @@ module _ {S : Type 0} where
   abbrev pub IsFrontIn : Option RowEntry → MergeState S → Type 0
   IsFrontIn answer (Begun heads) = IsFront answer (heap_items heads)
   IsFrontIn answer _ = ⊥
-
-  abbrev pub heads_in : MergeState S → List (Head S)
-  heads_in (Begun heads) = heap_items heads
-  heads_in _ = []
-
-  abbrev pub waiting_in : MergeState S → List S
-  waiting_in (New sources) = sources.items
-  waiting_in _ = []
 
   abbrev pub CopiedIn : SlateDBError → MergeState S → Type 0
   CopiedIn e (Refused k) = Copies e k

@@ -62,8 +62,8 @@ module _ {S : Type 0} where
   abbrev pub bound_folding : (S → ℕ) → MergeOperatorIterator S → ℕ
   bound_folding bound it = bound_unless it.refusal (ahead_bound it.ahead + bound it.iterator)
 
-  abbrev pub refuses_folding : (S → Meaning → List Act → Option (List ℕ) → SlateDBError → Type 0) → MergeOperatorIterator S → Meaning → List Act → Option (List ℕ) → SlateDBError → Type 0
-  refuses_folding refuses it m reads at e = RefusesBy it.refusal it.begun (λ d. refuses_folds refuses (it.iterator, it.ahead, []) m reads at d) e
+  abbrev pub refuses_folding : (S → Meaning → List Act → Option (List ℕ) → SlateDBError → Type 0) → (S → Meaning → List Act → RowEntry → Type 0) → MergeOperatorIterator S → Meaning → List Act → Option (List ℕ) → SlateDBError → Type 0
+  refuses_folding refuses brings it m reads at e = RefusesBy it.refusal it.begun (λ d. refuses_folds refuses brings (it.iterator, it.ahead, []) m reads at d) e
 
   pub record IsFolding (iterator : S) (folding : Folding) (it : MergeOperatorIterator S) : Type 0 where
     pub rows : it.iterator ≡ iterator

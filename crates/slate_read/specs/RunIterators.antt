@@ -101,6 +101,7 @@ pub record IsRunOf (range : BytesRange) (tables : List SsTableHandle) (order : I
   pub same_order : it.iterator.order ≡ order
   pub unopened : IsNewRun it.iterator.state
   pub closed : it.iterator.cursor.current ≡ None
+  pub none_ahead : it.iterator.cursor.ahead ≡ None
   pub opens : waiting it.iterator.cursor ≡ reached range order tables
   pub sound : (w : World) (kepts : List Kept) → AreReadable w tables kepts → IsSoundRunWalk it.iterator w
   pub brings : (w : World) (kepts : List Kept) → AreReadable w tables kepts → run_source_rest it w ≡ rows_in_run range order kepts
@@ -110,5 +111,6 @@ pub record IsRunIterator (range : BytesRange) (run : SortedRun) (order : Iterati
   pub fresh : IsNew it.progress
   pub unopened : IsNewRun it.iterator.iterator.state
   pub closed : it.iterator.iterator.cursor.current ≡ None
+  pub none_ahead : it.iterator.iterator.cursor.ahead ≡ None
   pub opens : waiting it.iterator.iterator.cursor ≡ reached range order run.tables.items
   pub brings : (w : World) (kepts : List Kept) → AreReadable w run.tables.items kepts → BringsRun w order it (in_turn order (rows_in_run range order kepts))

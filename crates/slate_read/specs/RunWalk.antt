@@ -118,10 +118,6 @@ refuses_run order x m reads at e = refuses_open order x.current m reads at e ⊎
 abbrev pub bound_run : RunCursor → ℕ
 bound_run x = length (rows_ahead x.ahead) + bound_open x.current + length x.tables.items * (max_blocks * max_reads)
 
--- behind a seek that goes on
-abbrev pub rest_run_sought : BytesRange → IterationOrder → List ℕ → RunCursor → World → List RowEntry
-rest_run_sought range order key x w = drop_before order key (rest_run range order x w)
-
 -- ---- parts of a call
 
 -- a table is opened, by one read of its index

@@ -1,6 +1,5 @@
 -- Rows that an iterator over one stored table may hand out, by the reads that it makes from now on.
 --     walk_begins, walk_takes, walk_seeks      what the calls of a walk over a table may read, and what becomes of it then
---     source_begins, source_takes, source_seeks      of one that brings the rows in a range alone
 --     brings_sst it m reads r      one of the rows that it holds, or that its walk brings
 --     UnopenedWalksBring      of one that wasn't opened, the index was read, and a read of neighbouring blocks shows one that has the row
 use Rattle.std.specs.Prelude.{◌≡◌, ℕ, List, Option}
@@ -14,10 +13,9 @@ use Rattle.slate_read.specs.declared.newest_first.NewestFirst.{NewestFirst}
 use Rattle.slate_read.specs.declared.range_rows.InRange.{InRange}
 use Rattle.slate_read.specs.declared.table_state.TableWalk.{TableWalk}
 use Rattle.slate_read.specs.Bringing.{BringsUnread, HandsOut, NoMoreRows, brings_of}
-use Rattle.slate_read.specs.Filtering.{TakesKept}
 use Rattle.slate_read.specs.Handing.{brings_held, held_in}
 use Rattle.slate_read.specs.SstIterators.{IsTableIterator}
-use Rattle.slate_read.specs.TableWalk.{BeginsIn, IsSameWalk, IsWalking, is_in}
+use Rattle.slate_read.specs.TableWalk.{BeginsIn, IsSameWalk, IsWalking}
 
 abbrev pub walk_begins : TableWalk → Meaning → List Act → TableWalk → Type 0
 walk_begins before m reads after = BeginsIn before.range before.state after.state × IsSameWalk before after × NoMoreRows (brings_of before m) reads (brings_of after m)
@@ -27,15 +25,6 @@ walk_takes before m reads answer after = IsWalking before.state × IsWalking aft
 
 abbrev pub walk_seeks : TableWalk → Meaning → List Act → List ℕ → TableWalk → Type 0
 walk_seeks before m reads key after = IsWalking before.state × IsWalking after.state × IsSameWalk before after × NoMoreRows (brings_of before m) reads (brings_of after m)
-
-abbrev pub source_begins : FilterIterator TableWalk InRange → Meaning → List Act → FilterIterator TableWalk InRange → Type 0
-source_begins before m reads after = walk_begins before.iterator m reads after.iterator × (after.predicate ≡ before.predicate)
-
-abbrev pub source_takes : FilterIterator TableWalk InRange → Meaning → List Act → Option RowEntry → FilterIterator TableWalk InRange → Type 0
-source_takes before m reads answer after = TakesKept (λ x rs a y. walk_takes x m rs a y) (is_in before.predicate.range) before.iterator reads answer after.iterator × (after.predicate ≡ before.predicate)
-
-abbrev pub source_seeks : FilterIterator TableWalk InRange → Meaning → List Act → List ℕ → FilterIterator TableWalk InRange → Type 0
-source_seeks before m reads key after = walk_seeks before.iterator m reads key after.iterator × (after.predicate ≡ before.predicate)
 
 abbrev pub brings_source : Meaning → FilterIterator TableWalk InRange → List Act → RowEntry → Type 0
 brings_source m source reads r = brings_of source.iterator m reads r

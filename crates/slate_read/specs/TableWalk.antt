@@ -172,9 +172,6 @@ refuses_in New h order p reads at e = (e ≡ IteratorNotInitialized) ⊎ (IsDama
 refuses_in (Walking cursor) h order p reads at e = refuses_behind h order cursor p reads at e
 refuses_in (Refused kept) h order p reads at e = (kept ≢ OutOfMemory) × (e ≡ kept)
 
-abbrev pub refuses_at : SsTableHandle → IterationOrder → TableState → Meaning → List Act → Option (List ℕ) → SlateDBError → Type 0
-refuses_at h order s p reads at e = refuses_in s h order p reads at e
-
 -- ---- what a walk rests on
 
 abbrev pub index_part : SsTableHandle → Kept → SectionRead
@@ -250,10 +247,6 @@ IsFetched p h entries first stop reads blocks =
     (given : Option (List ℕ)) × (reads ≡ read_of h entries first stop given ∷ []) × AreBlocksRead p.decode (answer_at h entries first stop given) first blocks × (length blocks ≡ stop - first)
 
 -- ---- what a cursor does
-
-abbrev pub next_block : IterationOrder → Cursor → ℕ
-next_block Ascending cursor = cursor.first
-next_block Descending cursor = cursor.stop - 1
 
 abbrev pub next_first : IterationOrder → Cursor → ℕ
 next_first Ascending cursor = cursor.first + 1
@@ -416,10 +409,6 @@ SkipsOpen key (Some it) some (Some next) =
     ((front : List RowRead) × ((left_of it).reads ≡ front ++ (left_of next).reads))
     × (IsRising (left_of it).order (left (left_of it)) → left (left_of next) ≡ Ok (drop_before (left_of it).order key (rows_of (left (left_of it)))))
     × ((left_of next).order ≡ (left_of it).order) × (some ≡ true → 0 < length (left_of next).reads) × (some ≡ false → length (left_of next).reads ≡ 0)
-
--- what is left of a table behind a seek that goes on
-abbrev pub rest_sought : SsTableHandle → IterationOrder → List ℕ → Cursor → World → List RowEntry
-rest_sought h order key cursor w = drop_before order key (rest_after h order cursor w)
 
 abbrev pub IsSoundRising : SsTableHandle → IterationOrder → Cursor → World → Type 0
 IsSoundRising h order cursor w = IsSoundCursor h order cursor w × IsInOrder order (rest_after h order cursor w)

@@ -10,6 +10,7 @@ ghost use Rattle.slate_read.specs.MergedLaws.{CountIsTheSum, DedupDecides, Merge
 ghost use Rattle.slate_read.specs.MergeStates.{IsMergeOf, IsSoundMerge, rest_of_merge};
 ghost use Rattle.slate_read.specs.Merging.{CanMerge};
 ghost use Rattle.slate_read.specs.OperatorIterators.{IsFolding, KeepsRefusals, rest_folding, sound_folding};
+ghost use Rattle.slate_read.specs.RunBringing.{UnopenedRunsBring};
 ghost use Rattle.slate_read.specs.Showing.{UnopenedRunsShow, UnopenedWalksShow};
 ghost use Rattle.slate_read.specs.SstBringing.{UnopenedWalksBring};
 
@@ -63,6 +64,12 @@ pub fn unopened_refusals()
 /// read, and a block that the index names, in which the row stands.
 pub fn unopened_rows()
     ensures walks { UnopenedWalksBring }
+{}
+
+/// Of the rows that an iterator over a run of stored tables hands out, which wasn't opened. Its reads show each: the index of a table
+/// that can hold a key of the range was read, and a block that the index names, in which the row stands.
+pub fn unopened_run_rows()
+    ensures runs { UnopenedRunsBring }
 {}
 
 /// Of folded rows. They come in the order, folding and seeks change places, and of each key they fold to what all its rows fold

@@ -5,6 +5,7 @@ ghost use Rattle.slate_types.specs.Iteration.{TakesRow, drop_before};
 ghost use Rattle.slate_types.specs.Outside.{IsFault, OnlyReads};
 ghost use Rattle.slate_types.specs.Refusing.{IsReady, NoMore, NoMoreBut};
 ghost use Rattle.slate_types.specs.World.{World, Checks, Made, Sees};
+ghost use Rattle.slate_read.specs.Calls.{BringsByCalls};
 ghost use Rattle.slate_read.specs.OperatorIterators.{Begins, FallsAtFirst, IsFolding, IsGoing, IsOperable, IsOwn, Keeps, Seeks, Stays, Takes, bound_folding, refuses_folding, rest_folding, sound_folding};
 ghost use Rattle.slate_read.specs.OperatorLaws.{folding_more, folding_rises, folding_whole};
 
@@ -30,6 +31,9 @@ use std::mem;
 /// Without an operator nothing is folded: each row that it hands out is the source's, or the one that was read ahead, unchanged, and
 /// is no operand that isn't above the barrier. `MergeOperatorMissing` comes only there: it is the source's own refusal, or such an
 /// operand comes next. `next_row` says where it never comes of itself.
+///
+/// Each of the two comes of itself only where rows show it: the row that was read ahead, and those that calls of the source hand
+/// out by the reads from then on, have an operand, or an operand and a row of its key with a greater sequence.
 ///
 /// Each refusal is kept and answered again, or want of memory in its place, but for the `IteratorNotInitialized` that it answers of
 /// itself, only before `init`, and which leaves it as it is. A seek before `init` answers nothing else.
@@ -85,8 +89,8 @@ impl<I: Drop> MergeOperatorIterator<I> {
         ensures rows { (w : World) → Sees w (E.reach env.old) (E.reach env.new) → sound_folding I.rest I.sound I.order self.old w → IfOk result (λ answer. TakesRow (rest_folding I.rest self.old w) answer (rest_folding I.rest self.new w)) }
         ensures still { (w : World) → Sees w (E.reach env.old) (E.reach env.new) → sound_folding I.rest I.sound I.order self.old w → sound_folding I.rest I.sound I.order self.new w }
         ensures checked { (w : World) → sound_folding I.rest I.sound I.order self.old w → OnOk result (Checks w (E.reach env.old) (E.reach env.new)) }
-        ensures taken { IfOk result (λ answer. Made (E.reach env.old) (E.reach env.new) (λ reads. Takes I.takes self.old (E.reach env.old).meaning reads answer self.new × NoMore (refuses_folding I.refuses self.old (E.reach env.old).meaning) reads (refuses_folding I.refuses self.new (E.reach env.old).meaning))) }
-        ensures cause { IfErr result (λ e. Made (E.reach env.old) (E.reach env.new) (λ reads. (IsFault (E.reach env.old) (E.reach env.new) e ⊎ refuses_folding I.refuses self.old (E.reach env.old).meaning reads None e) × Stays I.refuses I.takes self.old (E.reach env.old).meaning reads None e self.new × NoMoreBut e (refuses_folding I.refuses self.old (E.reach env.old).meaning) reads (refuses_folding I.refuses self.new (E.reach env.old).meaning))) }
+        ensures taken { IfOk result (λ answer. Made (E.reach env.old) (E.reach env.new) (λ reads. Takes I.takes self.old (E.reach env.old).meaning reads answer self.new × NoMore (refuses_folding I.refuses (BringsByCalls I.begins I.takes I.seeks) self.old (E.reach env.old).meaning) reads (refuses_folding I.refuses (BringsByCalls I.begins I.takes I.seeks) self.new (E.reach env.old).meaning))) }
+        ensures cause { IfErr result (λ e. Made (E.reach env.old) (E.reach env.new) (λ reads. (IsFault (E.reach env.old) (E.reach env.new) e ⊎ refuses_folding I.refuses (BringsByCalls I.begins I.takes I.seeks) self.old (E.reach env.old).meaning reads None e) × Stays I.refuses I.takes self.old (E.reach env.old).meaning reads None e self.new × NoMoreBut e (refuses_folding I.refuses (BringsByCalls I.begins I.takes I.seeks) self.old (E.reach env.old).meaning) reads (refuses_folding I.refuses (BringsByCalls I.begins I.takes I.seeks) self.new (E.reach env.old).meaning))) }
         ensures smaller { IfOk result (λ answer. IsSome answer → bound_folding I.bound self.new < bound_folding I.bound self.old) }
         ensures no_larger { bound_folding I.bound self.new ≤ bound_folding I.bound self.old }
         ensures order { I.order self.new.iterator ≡ I.order self.old.iterator }
@@ -132,7 +136,7 @@ impl<E: Operates, I: RowEntryIterator<E>> RowEntryIterator<E> for MergeOperatorI
 
     ghost bound = { λ it. bound_folding I.bound it };
 
-    ghost refuses = { λ it m reads at e. refuses_folding I.refuses it m reads at e };
+    ghost refuses = { λ it m reads at e. refuses_folding I.refuses (BringsByCalls I.begins I.takes I.seeks) it m reads at e };
 
     ghost begins = { λ before m reads after. Begins I.begins before m reads after };
 
@@ -144,9 +148,9 @@ impl<E: Operates, I: RowEntryIterator<E>> RowEntryIterator<E> for MergeOperatorI
 
     ghost rising = { λ it w h. folding_rises I.rest I.sound I.order it w h };
 
-    ghost more = { λ it m done reads at e h. folding_more I.refuses I.more it m done reads at e h };
+    ghost more = { λ it m done reads at e h. folding_more I.refuses I.more I.begins I.takes I.seeks it m done reads at e h };
 
-    ghost whole = { λ it w reads at e h k r. folding_whole I.rest I.sound I.order I.refuses I.whole it w reads at e h k r };
+    ghost whole = { λ it w reads at e h k r. folding_whole I.rest I.sound I.order I.refuses I.whole (BringsByCalls I.begins I.takes I.seeks) it w reads at e h k r };
 
     fn iteration_order(&self) -> IterationOrder {
         self.iterator.iteration_order()
@@ -157,9 +161,9 @@ impl<E: Operates, I: RowEntryIterator<E>> RowEntryIterator<E> for MergeOperatorI
         ensures rows { (w : World) → Sees w (E.reach env.old) (E.reach env.new) → sound_folding I.rest I.sound I.order self.old w → OnOk result (rest_folding I.rest self.new w ≡ rest_folding I.rest self.old w) }
         ensures still { (w : World) → Sees w (E.reach env.old) (E.reach env.new) → sound_folding I.rest I.sound I.order self.old w → sound_folding I.rest I.sound I.order self.new w }
         ensures checked { (w : World) → sound_folding I.rest I.sound I.order self.old w → OnOk result (Checks w (E.reach env.old) (E.reach env.new)) }
-        ensures ready { OnOk result (IsReady (refuses_folding I.refuses self.new (E.reach env.old).meaning)) }
-        ensures begun { OnOk result (Made (E.reach env.old) (E.reach env.new) (λ reads. Begins I.begins self.old (E.reach env.old).meaning reads self.new × NoMore (refuses_folding I.refuses self.old (E.reach env.old).meaning) reads (refuses_folding I.refuses self.new (E.reach env.old).meaning))) }
-        ensures cause { IfErr result (λ e. Made (E.reach env.old) (E.reach env.new) (λ reads. (IsFault (E.reach env.old) (E.reach env.new) e ⊎ refuses_folding I.refuses self.old (E.reach env.old).meaning reads None e) × Stays I.refuses I.takes self.old (E.reach env.old).meaning reads None e self.new × NoMoreBut e (refuses_folding I.refuses self.old (E.reach env.old).meaning) reads (refuses_folding I.refuses self.new (E.reach env.old).meaning))) }
+        ensures ready { OnOk result (IsReady (refuses_folding I.refuses (BringsByCalls I.begins I.takes I.seeks) self.new (E.reach env.old).meaning)) }
+        ensures begun { OnOk result (Made (E.reach env.old) (E.reach env.new) (λ reads. Begins I.begins self.old (E.reach env.old).meaning reads self.new × NoMore (refuses_folding I.refuses (BringsByCalls I.begins I.takes I.seeks) self.old (E.reach env.old).meaning) reads (refuses_folding I.refuses (BringsByCalls I.begins I.takes I.seeks) self.new (E.reach env.old).meaning))) }
+        ensures cause { IfErr result (λ e. Made (E.reach env.old) (E.reach env.new) (λ reads. (IsFault (E.reach env.old) (E.reach env.new) e ⊎ refuses_folding I.refuses (BringsByCalls I.begins I.takes I.seeks) self.old (E.reach env.old).meaning reads None e) × Stays I.refuses I.takes self.old (E.reach env.old).meaning reads None e self.new × NoMoreBut e (refuses_folding I.refuses (BringsByCalls I.begins I.takes I.seeks) self.old (E.reach env.old).meaning) reads (refuses_folding I.refuses (BringsByCalls I.begins I.takes I.seeks) self.new (E.reach env.old).meaning))) }
         ensures no_larger { bound_folding I.bound self.new ≤ bound_folding I.bound self.old }
         ensures order { I.order self.new.iterator ≡ I.order self.old.iterator }
         ensures reads { OnlyReads (E.reach env.old) (E.reach env.new) }
@@ -187,8 +191,8 @@ impl<E: Operates, I: RowEntryIterator<E>> RowEntryIterator<E> for MergeOperatorI
         ensures rows { (w : World) → Sees w (E.reach env.old) (E.reach env.new) → sound_folding I.rest I.sound I.order self.old w → OnOk result (rest_folding I.rest self.new w ≡ drop_before (I.order self.old.iterator) key.now (rest_folding I.rest self.old w)) }
         ensures still { (w : World) → Sees w (E.reach env.old) (E.reach env.new) → sound_folding I.rest I.sound I.order self.old w → sound_folding I.rest I.sound I.order self.new w }
         ensures checked { (w : World) → sound_folding I.rest I.sound I.order self.old w → OnOk result (Checks w (E.reach env.old) (E.reach env.new)) }
-        ensures sought { OnOk result (Made (E.reach env.old) (E.reach env.new) (λ reads. Seeks I.seeks self.old (E.reach env.old).meaning reads key.now self.new × NoMore (refuses_folding I.refuses self.old (E.reach env.old).meaning) reads (refuses_folding I.refuses self.new (E.reach env.old).meaning))) }
-        ensures cause { IfErr result (λ e. Made (E.reach env.old) (E.reach env.new) (λ reads. (IsFault (E.reach env.old) (E.reach env.new) e ⊎ refuses_folding I.refuses self.old (E.reach env.old).meaning reads (Some key.now) e) × Stays I.refuses I.takes self.old (E.reach env.old).meaning reads (Some key.now) e self.new × NoMoreBut e (refuses_folding I.refuses self.old (E.reach env.old).meaning) reads (refuses_folding I.refuses self.new (E.reach env.old).meaning))) }
+        ensures sought { OnOk result (Made (E.reach env.old) (E.reach env.new) (λ reads. Seeks I.seeks self.old (E.reach env.old).meaning reads key.now self.new × NoMore (refuses_folding I.refuses (BringsByCalls I.begins I.takes I.seeks) self.old (E.reach env.old).meaning) reads (refuses_folding I.refuses (BringsByCalls I.begins I.takes I.seeks) self.new (E.reach env.old).meaning))) }
+        ensures cause { IfErr result (λ e. Made (E.reach env.old) (E.reach env.new) (λ reads. (IsFault (E.reach env.old) (E.reach env.new) e ⊎ refuses_folding I.refuses (BringsByCalls I.begins I.takes I.seeks) self.old (E.reach env.old).meaning reads (Some key.now) e) × Stays I.refuses I.takes self.old (E.reach env.old).meaning reads (Some key.now) e self.new × NoMoreBut e (refuses_folding I.refuses (BringsByCalls I.begins I.takes I.seeks) self.old (E.reach env.old).meaning) reads (refuses_folding I.refuses (BringsByCalls I.begins I.takes I.seeks) self.new (E.reach env.old).meaning))) }
         ensures no_larger { bound_folding I.bound self.new ≤ bound_folding I.bound self.old }
         ensures order { I.order self.new.iterator ≡ I.order self.old.iterator }
         ensures reads { OnlyReads (E.reach env.old) (E.reach env.new) }

@@ -1,4 +1,5 @@
 //! What a read of many sources takes its rows from.
+ghost use Rattle.slate_read.specs.SourceBringing.{source_begins, source_seeks, source_takes};
 ghost use Rattle.slate_read.specs.ReadSources.{IsSoundSource, order_of, rest_of, source_bound, source_more, source_refuses, source_rising, source_whole};
 
 use crate::empty_iterator::EmptyIterator;
@@ -37,11 +38,11 @@ impl<S: Store, M: MergeOperator, T: BlockTransformer> RowEntryIterator<Env<'_, S
 
     ghost refuses = { source_refuses };
 
-    ghost begins = { λ _ _ _ _. Unit {0} };
+    ghost begins = { source_begins };
 
-    ghost takes = { λ _ _ _ _ _. Unit {0} };
+    ghost takes = { source_takes };
 
-    ghost seeks = { λ _ _ _ _ _. Unit {0} };
+    ghost seeks = { source_seeks };
 
     ghost stays = { λ _ _ _ _ _ _. Unit {0} };
 

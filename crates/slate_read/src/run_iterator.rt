@@ -1,5 +1,6 @@
 //! The rows of a run of stored tables, as an iterator.
-ghost use Rattle.slate_read.specs.RunWalk.{IsGoingRun, IsSameRun, IsSoundRunWalk, IsUnrefusedRun, StaysRun, bound_run_in, refuses_of_run, rest_of_run};
+ghost use Rattle.slate_read.specs.RunBringing.{run_walk_begins, run_walk_seeks, run_walk_takes};
+ghost use Rattle.slate_read.specs.RunWalk.{IsSoundRunWalk, StaysRun, bound_run_in, refuses_of_run, rest_of_run};
 ghost use Rattle.slate_read.specs.RunLaws.{run_more, run_rising, run_whole};
 
 use crate::kept::copy_of;
@@ -23,11 +24,11 @@ impl<S: Store, M: MergeOperator, T: BlockTransformer> RowEntryIterator<Env<'_, S
 
     ghost refuses = { λ it m reads at e. refuses_of_run it m reads at e };
 
-    ghost begins = { λ before _ _ after. IsUnrefusedRun before.state × IsGoingRun after.state × IsSameRun before after };
+    ghost begins = { run_walk_begins };
 
-    ghost takes = { λ before _ _ _ after. IsGoingRun before.state × IsGoingRun after.state × IsSameRun before after };
+    ghost takes = { run_walk_takes };
 
-    ghost seeks = { λ before _ _ _ after. IsGoingRun before.state × IsGoingRun after.state × IsSameRun before after };
+    ghost seeks = { run_walk_seeks };
 
     ghost stays = { λ before _ _ at e after. StaysRun before at e after };
 

@@ -9,6 +9,8 @@ ghost use Rattle.slate_types.specs.World.{Made};
 ghost use Rattle.slate_types.proofs.Moves.{Moves};
 ghost use Rattle.slate_table.specs.IndexValue.{entries_of};
 ghost use Rattle.slate_read.specs.TableWalk.{BeginsAt, IsSoundCursor, IsSoundRising, RefusesIndexed, Sought, bound_behind, max_blocks, max_reads, no_words, refuses_behind, rest_after};
+ghost use Rattle.slate_read.specs.Bringing.{AddsNone, HandsAway, brings_behind};
+ghost use Rattle.slate_read.specs.RunBringing.{BringsOpen, brings_run};
 ghost use Rattle.slate_read.specs.RunWalk.{FindsRow, IsSoundOpen, IsOpenRising, IsSoundRun, IsTableOpened, KeepsRun, OpensNext, PassesOver, bound_open, bound_run, can_reach, end_key, is_next_passed, is_passed, reaches_end, reaches_start, refuses_open, refuses_run, rest_open, rest_run};
 
 use crate::fetch_limits::FetchLimits;
@@ -134,6 +136,7 @@ impl OpenTable {
         ensures cause { let reach = ⟦<EnvOf<S, M, T> as Outside>⟧.reach in IfErr result (λ e. Made (reach env.old) (reach env.new) (λ reads. IsFault (reach env.old) (reach env.new) e ⊎ refuses_behind self.old.table order self.old.cursor (reach env.old).meaning reads None e)) }
         ensures smaller { IfOk result (λ answer. IsSome answer → bound_behind self.new.cursor < bound_behind self.old.cursor) }
         ensures no_larger { OnOk result (bound_behind self.new.cursor ≤ bound_behind self.old.cursor) }
+        ensures hands { let reach = ⟦<EnvOf<S, M, T> as Outside>⟧.reach in IfOk result (λ answer. Made (reach env.old) (reach env.new) (λ reads. HandsAway (brings_behind self.old.table order) (refuses_behind self.old.table order) (reach env.old).meaning self.old.cursor reads answer self.new.cursor)) }
         ensures reads { let reach = ⟦<EnvOf<S, M, T> as Outside>⟧.reach in OnlyReads (reach env.old) (reach env.new) }
     {
         self.cursor
@@ -152,6 +155,7 @@ impl OpenTable {
         ensures sought { let reach = ⟦<EnvOf<S, M, T> as Outside>⟧.reach in OnOk result (Sought (rest_after self.old.table order) (IsSoundRising self.old.table order) (refuses_behind self.old.table order) order key.now (reach env.old) (reach env.new) self.old.cursor self.new.cursor) }
         ensures cause { let reach = ⟦<EnvOf<S, M, T> as Outside>⟧.reach in IfErr result (λ e. Made (reach env.old) (reach env.new) (λ reads. IsFault (reach env.old) (reach env.new) e ⊎ refuses_behind self.old.table order self.old.cursor (reach env.old).meaning reads None e)) }
         ensures no_larger { OnOk result (bound_behind self.new.cursor ≤ bound_behind self.old.cursor) }
+        ensures adds { let reach = ⟦<EnvOf<S, M, T> as Outside>⟧.reach in OnOk result (Made (reach env.old) (reach env.new) (λ reads. AddsNone (brings_behind self.old.table order) (refuses_behind self.old.table order) (reach env.old).meaning self.old.cursor reads self.new.cursor)) }
         ensures reads { let reach = ⟦<EnvOf<S, M, T> as Outside>⟧.reach in OnlyReads (reach env.old) (reach env.new) }
     {
         self.cursor
@@ -171,6 +175,7 @@ fn take_row<S: Store, M: MergeOperator, T: BlockTransformer>(
     ensures cause { let reach = ⟦<EnvOf<S, M, T> as Outside>⟧.reach in IfErr result (λ e. Made (reach env.old) (reach env.new) (λ reads. IsFault (reach env.old) (reach env.new) e ⊎ refuses_open order current.old (reach env.old).meaning reads None e)) }
     ensures smaller { IfOk result (λ answer. IsSome answer → bound_open current.new < bound_open current.old) }
     ensures no_larger { OnOk result (bound_open current.new ≤ bound_open current.old) }
+    ensures hands { let reach = ⟦<EnvOf<S, M, T> as Outside>⟧.reach in IfOk result (λ answer. Made (reach env.old) (reach env.new) (λ reads. HandsAway (BringsOpen order) (refuses_open order) (reach env.old).meaning current.old reads answer current.new)) }
     ensures reads { let reach = ⟦<EnvOf<S, M, T> as Outside>⟧.reach in OnlyReads (reach env.old) (reach env.new) }
 {
     let Some(table) = current else {
@@ -197,6 +202,7 @@ fn skip_rows<S: Store, M: MergeOperator, T: BlockTransformer>(
     ensures sought { let reach = ⟦<EnvOf<S, M, T> as Outside>⟧.reach in OnOk result (Sought (rest_open order) (IsOpenRising order) (refuses_open order) order key.now (reach env.old) (reach env.new) current.old current.new) }
     ensures cause { let reach = ⟦<EnvOf<S, M, T> as Outside>⟧.reach in IfErr result (λ e. Made (reach env.old) (reach env.new) (λ reads. IsFault (reach env.old) (reach env.new) e ⊎ refuses_open order current.old (reach env.old).meaning reads None e)) }
     ensures no_larger { OnOk result (bound_open current.new ≤ bound_open current.old) }
+    ensures adds { let reach = ⟦<EnvOf<S, M, T> as Outside>⟧.reach in OnOk result (Made (reach env.old) (reach env.new) (λ reads. AddsNone (BringsOpen order) (refuses_open order) (reach env.old).meaning current.old reads current.new)) }
     ensures reads { let reach = ⟦<EnvOf<S, M, T> as Outside>⟧.reach in OnlyReads (reach env.old) (reach env.new) }
 {
     match current {
@@ -218,6 +224,7 @@ fn find_row<S: Store, M: MergeOperator, T: BlockTransformer>(
     ensures cause { let reach = ⟦<EnvOf<S, M, T> as Outside>⟧.reach in IfErr result (λ e. Made (reach env.old) (reach env.new) (λ reads. IsFault (reach env.old) (reach env.new) e ⊎ refuses_open order current.old (reach env.old).meaning reads None e)) }
     ensures smaller { IfOk result (λ answer. IsSome answer → bound_open current.new < bound_open current.old) }
     ensures no_larger { OnOk result (bound_open current.new ≤ bound_open current.old) }
+    ensures hands { let reach = ⟦<EnvOf<S, M, T> as Outside>⟧.reach in IfOk result (λ answer. Made (reach env.old) (reach env.new) (λ reads. HandsAway (BringsOpen order) (refuses_open order) (reach env.old).meaning current.old reads answer current.new)) }
     ensures reads { let reach = ⟦<EnvOf<S, M, T> as Outside>⟧.reach in OnlyReads (reach env.old) (reach env.new) }
 {
     match skip_rows(alloc, env, current, order, key) {
@@ -265,6 +272,7 @@ impl RunCursor {
         ensures moved { let reach = ⟦<EnvOf<S, M, T> as Outside>⟧.reach in OnOk result (Moves (rest_run range.now order) (IsSoundRun range.now order) (refuses_run order) (reach env.old) (reach env.new) self.old self.new) }
         ensures cause { let reach = ⟦<EnvOf<S, M, T> as Outside>⟧.reach in IfErr result (λ e. Made (reach env.old) (reach env.new) (λ reads. IsFault (reach env.old) (reach env.new) e ⊎ refuses_run order self.old (reach env.old).meaning reads None e)) }
         ensures no_larger { OnOk result (bound_run self.new ≤ bound_run self.old) }
+        ensures adds { let reach = ⟦<EnvOf<S, M, T> as Outside>⟧.reach in OnOk result (Made (reach env.old) (reach env.new) (λ reads. AddsNone (brings_run order) (refuses_run order) (reach env.old).meaning self.old reads self.new)) }
         ensures reads { let reach = ⟦<EnvOf<S, M, T> as Outside>⟧.reach in OnlyReads (reach env.old) (reach env.new) }
     {
         if self.current.is_some() {
@@ -289,6 +297,7 @@ impl RunCursor {
         ensures cause { let reach = ⟦<EnvOf<S, M, T> as Outside>⟧.reach in IfErr result (λ e. Made (reach env.old) (reach env.new) (λ reads. IsFault (reach env.old) (reach env.new) e ⊎ refuses_run order self.old (reach env.old).meaning reads None e)) }
         ensures smaller { IfOk result (λ answer. IsSome answer → bound_run self.new < bound_run self.old) }
         ensures no_larger { OnOk result (bound_run self.new ≤ bound_run self.old) }
+        ensures hands { let reach = ⟦<EnvOf<S, M, T> as Outside>⟧.reach in IfOk result (λ answer. Made (reach env.old) (reach env.new) (λ reads. HandsAway (brings_run order) (refuses_run order) (reach env.old).meaning self.old reads answer self.new)) }
         ensures reads { let reach = ⟦<EnvOf<S, M, T> as Outside>⟧.reach in OnlyReads (reach env.old) (reach env.new) }
     {
         if self.ahead.is_some() {
@@ -337,6 +346,7 @@ impl RunCursor {
         ensures sought { let reach = ⟦<EnvOf<S, M, T> as Outside>⟧.reach in OnOk result (Sought (rest_run range.now order) (IsSoundRun range.now order) (refuses_run order) order key.now (reach env.old) (reach env.new) self.old self.new) }
         ensures cause { let reach = ⟦<EnvOf<S, M, T> as Outside>⟧.reach in IfErr result (λ e. Made (reach env.old) (reach env.new) (λ reads. IsFault (reach env.old) (reach env.new) e ⊎ refuses_run order self.old (reach env.old).meaning reads None e)) }
         ensures no_larger { OnOk result (bound_run self.new ≤ bound_run self.old) }
+        ensures adds { let reach = ⟦<EnvOf<S, M, T> as Outside>⟧.reach in OnOk result (Made (reach env.old) (reach env.new) (λ reads. AddsNone (brings_run order) (refuses_run order) (reach env.old).meaning self.old reads self.new)) }
         ensures reads { let reach = ⟦<EnvOf<S, M, T> as Outside>⟧.reach in OnlyReads (reach env.old) (reach env.new) }
     {
         loop {
@@ -364,6 +374,7 @@ impl RunCursor {
         ensures sought { let reach = ⟦<EnvOf<S, M, T> as Outside>⟧.reach in OnOk result (Sought (rest_run range.now order) (IsSoundRun range.now order) (refuses_run order) order key.now (reach env.old) (reach env.new) self.old self.new) }
         ensures cause { let reach = ⟦<EnvOf<S, M, T> as Outside>⟧.reach in IfErr result (λ e. Made (reach env.old) (reach env.new) (λ reads. IsFault (reach env.old) (reach env.new) e ⊎ refuses_run order self.old (reach env.old).meaning reads None e)) }
         ensures no_larger { OnOk result (bound_run self.new ≤ bound_run self.old) }
+        ensures adds { let reach = ⟦<EnvOf<S, M, T> as Outside>⟧.reach in OnOk result (Made (reach env.old) (reach env.new) (λ reads. AddsNone (brings_run order) (refuses_run order) (reach env.old).meaning self.old reads self.new)) }
         ensures reads { let reach = ⟦<EnvOf<S, M, T> as Outside>⟧.reach in OnlyReads (reach env.old) (reach env.new) }
     {
         if is_ahead_kept(&self.ahead, order, key) {

@@ -4,9 +4,10 @@ ghost use Rattle.std.specs.List.{starts_with};
 ghost use Rattle.slate_types.specs.declared.error.SlateDBError.{SlateDBError};
 ghost use Rattle.slate_types.specs.Keys.{is_before_end, is_refused, key_le};
 ghost use Rattle.slate_read.specs.RunIterators.{IsRunIterator};
-ghost use Rattle.slate_read.specs.MergeStates.{HasBegun, IsSameMerge, IsUnrefused, Stays, Takes};
+ghost use Rattle.slate_read.specs.MergeStates.{Stays};
 ghost use Rattle.slate_read.specs.SegmentIterators.{AreRuns, IsSegmentMerge, can_begin, meets, met_runs, segment_bound, segment_order, segment_refuses, segment_rest, segment_sound};
 ghost use Rattle.slate_read.specs.SegmentLaws.{segment_more, segment_rising, segment_whole};
+ghost use Rattle.slate_read.specs.SourceBringing.{segments_begin, segments_seek, segments_take};
 ghost use Rattle.slate_read.specs.SstOptions.{CanFetch};
 
 use crate::merge_iterator::MergeIterator;
@@ -167,11 +168,11 @@ impl<S: Store, M: MergeOperator, T: BlockTransformer> RowEntryIterator<Env<'_, S
 
     ghost refuses = { segment_refuses };
 
-    ghost begins = { λ before _ _ after. IsUnrefused before.rows.state × HasBegun after.rows.state × IsSameMerge before.rows after.rows };
+    ghost begins = { segments_begin };
 
-    ghost takes = { λ before _ _ answer after. Takes before.rows answer after.rows };
+    ghost takes = { segments_take };
 
-    ghost seeks = { λ before _ _ _ after. HasBegun before.rows.state × HasBegun after.rows.state × IsSameMerge before.rows after.rows };
+    ghost seeks = { segments_seek };
 
     ghost stays = { λ before _ _ at e after. Stays before.rows at e after.rows };
 

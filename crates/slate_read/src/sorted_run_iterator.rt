@@ -2,9 +2,10 @@
 ghost use Rattle.std.specs.Prelude.{◌≡◌, IfOk, IfErr, false};
 ghost use Rattle.slate_types.specs.declared.error.SlateDBError.{SlateDBError};
 ghost use Rattle.slate_types.specs.Keys.{is_refused};
+ghost use Rattle.slate_read.specs.RunBringing.{run_begins, run_seeks, run_takes};
 ghost use Rattle.slate_read.specs.RunIterators.{IsRunIterator, run_iterator_bound, run_refuses, run_rest, run_sound};
 ghost use Rattle.slate_read.specs.RunLaws.{run_iterator_more, run_iterator_rising, run_iterator_whole};
-ghost use Rattle.slate_read.specs.NewestFirst.{Begins, IsGoing, IsUnrefused, Stays, is_below};
+ghost use Rattle.slate_read.specs.NewestFirst.{Stays};
 ghost use Rattle.slate_read.specs.SstOptions.{CanFetch};
 
 use crate::fetch_limits::FetchLimits;
@@ -74,11 +75,11 @@ impl<S: Store, M: MergeOperator, T: BlockTransformer> RowEntryIterator<Env<'_, S
 
     ghost refuses = { λ it m reads at e. run_refuses it.rows m reads at e };
 
-    ghost begins = { λ before _ _ after. IsUnrefused before.rows.progress × Begins before.rows.progress after.rows.progress × (after.rows.range ≡ before.rows.range) };
+    ghost begins = { λ before m reads after. run_begins before.rows m reads after.rows };
 
-    ghost takes = { λ before _ _ _ after. IsGoing before.rows.progress × IsGoing after.rows.progress × (after.rows.range ≡ before.rows.range) };
+    ghost takes = { λ before m reads answer after. run_takes before.rows m reads answer after.rows };
 
-    ghost seeks = { λ before _ _ key after. (is_below before.rows.range key ≡ false) × IsGoing before.rows.progress × IsGoing after.rows.progress × (after.rows.range ≡ before.rows.range) };
+    ghost seeks = { λ before m reads key after. run_seeks before.rows m reads key after.rows };
 
     ghost stays = { λ before _ _ at e after. Stays before.rows at e after.rows };
 

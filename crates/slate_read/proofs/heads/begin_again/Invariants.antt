@@ -4,7 +4,9 @@ use Rattle.slate_types.specs.declared.iter.IterationOrder.{IterationOrder}
 use Rattle.slate_types.specs.Outside.{OnlyReads}
 use Rattle.slate_types.proofs.Moves.{Moves}
 use Rattle.slate_read.specs.Heads.{head_cmp}
-use Rattle.slate_read.specs.Merging.{merging_bound, AreReady}
+use Rattle.slate_read.specs.Calls.{BringsByCalls}
+use Rattle.slate_read.specs.Merging.{AreReady, begun_sources, merging_bound}
+use Rattle.slate_read.proofs.MergeBringings.{SourcesAdd}
 use Rattle.slate_read.proofs.MergeLoops.{heads_left, AreSoundHeads, heads_blame}
 use Rattle.slate_read.proofs.heads.begin_again.Given as goal
 
@@ -21,6 +23,7 @@ invariant-heads g l =
     let now = heap_items l.done ++ heap_items l.heads in
     record {
       moves : (o : IterationOrder) → Moves (heads_left rest sound refuses bound order_of o) (AreSoundHeads rest sound refuses bound order_of o) (heads_blame rest sound refuses bound order_of) a b before now;
+      brought : SourcesAdd (BringsByCalls g.I.RowEntryIterator.begins g.I.RowEntryIterator.takes g.I.RowEntryIterator.seeks) refuses a b (begun_sources before) (begun_sources now);
       heap : IsHeap head_cmp (heap_items l.done);
       ready : AreReady refuses a.meaning (heap_items l.done);
       no_larger : merging_bound bound [] now ≤ merging_bound bound [] before;

@@ -2,7 +2,10 @@ use Rattle.std.proofs.Common.{◌∙◌, sym, None}
 use Rattle.std.specs.BinaryHeap.{heap_items}
 use Rattle.slate_types.specs.declared.iter.IterationOrder.TheVariants.{Ascending}
 use Rattle.slate_read.specs.Merging.{left_in, IsMergingIn, blames, begun_sources}
-use Rattle.slate_read.specs.MergeSteps.{takes_front}
+use Rattle.slate_read.specs.Bringing.{NoMoreRows}
+use Rattle.slate_read.specs.Calls.{BringsByCalls}
+use Rattle.slate_read.specs.MergeBringing.{sources_bring, takes_front}
+use Rattle.slate_read.proofs.Bringings.{no_rows_both}
 use Rattle.slate_read.proofs.DecidedLaws.{takes_alone}
 use Rattle.slate_read.proofs.Goings.{then_fails}
 use Rattle.slate_read.proofs.MergeLoops.{alone_step, ended_step, ended_takes, older_step, older_takes, counts_alone, counts_older}
@@ -11,7 +14,7 @@ use Rattle.slate_read.proofs.heads.take_row.Goals as goal
 pub returns-then-not-decides-clause-step : goal.returns-then-not-decides-clause-step
 returns-then-not-decides-clause-step g c = λ order.
     let n = rw c.in-Ok-Some.field-0-is at c.in-Ok-Some.ensures in
-    alone_step (left_in g.I.RowEntryIterator.rest order) (IsMergingIn g.I.RowEntryIterator.rest g.I.RowEntryIterator.sound g.I.RowEntryIterator.order order) (blames g.I.RowEntryIterator.refuses) takes_front c.args.dedup (g.E.Outside.reach c.args.env.now) (g.E.Outside.reach c.take_first.new.env) (begun_sources (heap_items c.args.heads.now)) (begun_sources (heap_items c.take_first.new.heads)) c.in-Ok-Some.row (sym c.decides.ensures ∙ c.if-not-decides.true) (n.step order)
+    alone_step (left_in g.I.RowEntryIterator.rest order) (IsMergingIn g.I.RowEntryIterator.rest g.I.RowEntryIterator.sound g.I.RowEntryIterator.order order) (blames g.I.RowEntryIterator.refuses) (takes_front (BringsByCalls g.I.RowEntryIterator.begins g.I.RowEntryIterator.takes g.I.RowEntryIterator.seeks)) c.args.dedup (g.E.Outside.reach c.args.env.now) (g.E.Outside.reach c.take_first.new.env) (begun_sources (heap_items c.args.heads.now)) (begun_sources (heap_items c.take_first.new.heads)) c.in-Ok-Some.row (sym c.decides.ensures ∙ c.if-not-decides.true) (n.step order)
 
 pub returns-then-not-decides-clause-count : goal.returns-then-not-decides-clause-count
 returns-then-not-decides-clause-count g c = λ order w s m.
@@ -23,15 +26,19 @@ returns-then-not-decides-clause-counted g c = counts_alone c.args.dedup c.args.p
 
 pub returns-in-Ok-clause-step : goal.returns-in-Ok-clause-step
 returns-in-Ok-clause-step g c = λ order.
+    let brings = BringsByCalls g.I.RowEntryIterator.begins g.I.RowEntryIterator.takes g.I.RowEntryIterator.seeks in
+    let before = begun_sources (heap_items c.args.heads.now) in
+    let first = begun_sources (heap_items c.take_first.new.heads) in
+    let last = begun_sources (heap_items c.drop_older.new.heads) in
     let n = rw c.in-Ok-Some.field-0-is at c.in-Ok-Some.ensures in
     let d = rw c.as_slice.ensures at c.in-Ok.ensures in
-    older_step (left_in g.I.RowEntryIterator.rest order) (IsMergingIn g.I.RowEntryIterator.rest g.I.RowEntryIterator.sound g.I.RowEntryIterator.order order) (blames g.I.RowEntryIterator.refuses) takes_front (g.E.Outside.reach c.args.env.now) (g.E.Outside.reach c.take_first.new.env) (g.E.Outside.reach c.drop_older.new.env) (begun_sources (heap_items c.args.heads.now)) (begun_sources (heap_items c.take_first.new.heads)) (begun_sources (heap_items c.drop_older.new.heads)) c.in-Ok-Some.row (n.step order) (d.moved order) (d.done order) c.args.dedup (λ v reads more h. h) (sym c.decides.ensures ∙ c.if-not-decides.false)
+    older_step (left_in g.I.RowEntryIterator.rest order) (IsMergingIn g.I.RowEntryIterator.rest g.I.RowEntryIterator.sound g.I.RowEntryIterator.order order) (blames g.I.RowEntryIterator.refuses) (takes_front (BringsByCalls g.I.RowEntryIterator.begins g.I.RowEntryIterator.takes g.I.RowEntryIterator.seeks)) (g.E.Outside.reach c.args.env.now) (g.E.Outside.reach c.take_first.new.env) (g.E.Outside.reach c.drop_older.new.env) (begun_sources (heap_items c.args.heads.now)) (begun_sources (heap_items c.take_first.new.heads)) (begun_sources (heap_items c.drop_older.new.heads)) c.in-Ok-Some.row (n.step order) (d.moved order) (d.done order) c.args.dedup (λ u v more w. NoMoreRows (sources_bring brings u v) more (sources_bring brings w v)) (λ v reads more h k. (h.0, no_rows_both (sources_bring brings before v) (sources_bring brings first v) (sources_bring brings last v) reads more h.1 k)) d.brought (sym c.decides.ensures ∙ c.if-not-decides.false)
 
 pub returns-in-Ok-clause-count : goal.returns-in-Ok-clause-count
 returns-in-Ok-clause-count g c = λ order.
     let n = rw c.in-Ok-Some.field-0-is at c.in-Ok-Some.ensures in
     let d = rw c.as_slice.ensures at c.in-Ok.ensures in
-    older_takes (left_in g.I.RowEntryIterator.rest order) (IsMergingIn g.I.RowEntryIterator.rest g.I.RowEntryIterator.sound g.I.RowEntryIterator.order order) (blames g.I.RowEntryIterator.refuses) takes_front (g.E.Outside.reach c.args.env.now) (g.E.Outside.reach c.take_first.new.env) (g.E.Outside.reach c.drop_older.new.env) (begun_sources (heap_items c.args.heads.now)) (begun_sources (heap_items c.take_first.new.heads)) (begun_sources (heap_items c.drop_older.new.heads)) c.in-Ok-Some.row (n.step order) (d.moved order) (d.done order) c.args.dedup c.args.processed.now c.saturating_add.result _ (sym c.decides.ensures ∙ c.if-not-decides.false) (rw c.row_bytes.ensures at c.saturating_add.ensures) (d.count order)
+    older_takes (left_in g.I.RowEntryIterator.rest order) (IsMergingIn g.I.RowEntryIterator.rest g.I.RowEntryIterator.sound g.I.RowEntryIterator.order order) (blames g.I.RowEntryIterator.refuses) (takes_front (BringsByCalls g.I.RowEntryIterator.begins g.I.RowEntryIterator.takes g.I.RowEntryIterator.seeks)) (g.E.Outside.reach c.args.env.now) (g.E.Outside.reach c.take_first.new.env) (g.E.Outside.reach c.drop_older.new.env) (begun_sources (heap_items c.args.heads.now)) (begun_sources (heap_items c.take_first.new.heads)) (begun_sources (heap_items c.drop_older.new.heads)) c.in-Ok-Some.row (n.step order) (d.moved order) (d.done order) c.args.dedup c.args.processed.now c.saturating_add.result _ (sym c.decides.ensures ∙ c.if-not-decides.false) (rw c.row_bytes.ensures at c.saturating_add.ensures) (d.count order)
 
 pub returns-in-Ok-clause-counted : goal.returns-in-Ok-clause-counted
 returns-in-Ok-clause-counted g c =
@@ -47,9 +54,9 @@ returns-in-Err-drop_older-clause-cause g c =
 pub returns-in-Ok-None-clause-step : goal.returns-in-Ok-None-clause-step
 returns-in-Ok-None-clause-step g c = λ order.
     let n = rw c.in-Ok-None.field-0-is at c.in-Ok-None.ensures in
-    ended_step (left_in g.I.RowEntryIterator.rest order) (IsMergingIn g.I.RowEntryIterator.rest g.I.RowEntryIterator.sound g.I.RowEntryIterator.order order) (blames g.I.RowEntryIterator.refuses) takes_front c.args.dedup (g.E.Outside.reach c.args.env.now) (g.E.Outside.reach c.take_first.new.env) (begun_sources (heap_items c.args.heads.now)) (begun_sources (heap_items c.take_first.new.heads)) (n.step order)
+    ended_step (left_in g.I.RowEntryIterator.rest order) (IsMergingIn g.I.RowEntryIterator.rest g.I.RowEntryIterator.sound g.I.RowEntryIterator.order order) (blames g.I.RowEntryIterator.refuses) (takes_front (BringsByCalls g.I.RowEntryIterator.begins g.I.RowEntryIterator.takes g.I.RowEntryIterator.seeks)) c.args.dedup (g.E.Outside.reach c.args.env.now) (g.E.Outside.reach c.take_first.new.env) (begun_sources (heap_items c.args.heads.now)) (begun_sources (heap_items c.take_first.new.heads)) (n.step order)
 
 pub returns-in-Ok-None-clause-count : goal.returns-in-Ok-None-clause-count
 returns-in-Ok-None-clause-count g c = λ order.
     let n = rw c.in-Ok-None.field-0-is at c.in-Ok-None.ensures in
-    ended_takes (left_in g.I.RowEntryIterator.rest order) (IsMergingIn g.I.RowEntryIterator.rest g.I.RowEntryIterator.sound g.I.RowEntryIterator.order order) (blames g.I.RowEntryIterator.refuses) takes_front c.args.dedup c.args.processed.now (g.E.Outside.reach c.args.env.now) (g.E.Outside.reach c.take_first.new.env) (begun_sources (heap_items c.args.heads.now)) (begun_sources (heap_items c.take_first.new.heads)) (n.step order)
+    ended_takes (left_in g.I.RowEntryIterator.rest order) (IsMergingIn g.I.RowEntryIterator.rest g.I.RowEntryIterator.sound g.I.RowEntryIterator.order order) (blames g.I.RowEntryIterator.refuses) (takes_front (BringsByCalls g.I.RowEntryIterator.begins g.I.RowEntryIterator.takes g.I.RowEntryIterator.seeks)) c.args.dedup c.args.processed.now (g.E.Outside.reach c.args.env.now) (g.E.Outside.reach c.take_first.new.env) (begun_sources (heap_items c.args.heads.now)) (begun_sources (heap_items c.take_first.new.heads)) (n.step order)

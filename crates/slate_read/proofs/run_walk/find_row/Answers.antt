@@ -1,6 +1,9 @@
 use Rattle.std.proofs.Common.{arith}
 use Rattle.std.proofs.lemmas.Result.{IfErr-weaker, IfOk-weaker, on_ok_weaker}
 use Rattle.slate_types.proofs.Reaching.{reads_then}
+use Rattle.slate_read.specs.RunBringing.{BringsOpen}
+use Rattle.slate_read.specs.RunWalk.{refuses_open}
+use Rattle.slate_read.proofs.Bringings.{added_hands}
 use Rattle.slate_read.proofs.RunOpen.{find_fails, finds}
 use Rattle.slate_read.proofs.run_walk.find_row.Goals as goal
 
@@ -14,6 +17,7 @@ returns-in-Ok g c =
       cause = IfErr-weaker c.take_row.result _ _ (λ e k. find_fails c.args.order c.args.key.now _ _ _ c.args.current.now c.skip_rows.new.current e s.sought s.reads.later k) t.cause;
       smaller = IfOk-weaker c.take_row.result _ _ (λ answer k some. (let less = k some in let first = s.no_larger in omega (arith, less, first))) t.smaller;
       no_larger = on_ok_weaker c.take_row.result (λ k. (let first = s.no_larger in omega (arith, k, first))) t.no_larger;
+      hands = IfOk-weaker c.take_row.result _ _ (λ answer k. added_hands (BringsOpen c.args.order) (refuses_open c.args.order) _ _ _ c.args.current.now c.skip_rows.new.current c.take_row.new.current answer s.adds k) t.hands;
       reads = reads_then _ _ _ s.reads t.reads;
     }
 
@@ -24,5 +28,6 @@ returns-in-Err g c = record {
   cause = c.in-Err.ensures.cause;
   smaller = tt;
   no_larger = tt;
+  hands = tt;
   reads = c.in-Err.ensures.reads;
 }

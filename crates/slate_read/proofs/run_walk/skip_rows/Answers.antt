@@ -1,5 +1,9 @@
 use Rattle.std.proofs.Common.{refl}
 use Rattle.std.proofs.lemmas.Result.{on_ok_weaker}
+use Rattle.slate_read.specs.RunBringing.{BringsOpen}
+use Rattle.slate_read.specs.RunWalk.{refuses_open}
+use Rattle.slate_read.proofs.Bringings.{none_added}
+use Rattle.slate_read.proofs.RunBringings.{open_adds}
 use Rattle.slate_read.proofs.RunOpen.{open_sought}
 use Rattle.slate_read.proofs.run_walk.skip_rows.Goals as goal
 
@@ -9,3 +13,10 @@ returns-in-Some-clause-sought g c =
 
 pub returns-in-Some-clause-cause : goal.returns-in-Some-clause-cause
 returns-in-Some-clause-cause g c = rw c.in-Some.is c.seek.ensures.cause
+
+pub returns-in-Some-clause-adds : goal.returns-in-Some-clause-adds
+returns-in-Some-clause-adds g c =
+    on_ok_weaker c.seek.result (λ k. open_adds c.args.order _ _ c.args.current.now _ c.in-Some.table c.seek.new.self c.in-Some.is refl c.seek.ensures.table k) c.seek.ensures.adds
+
+pub returns-in-None-clause-adds : goal.returns-in-None-clause-adds
+returns-in-None-clause-adds g c = none_added (BringsOpen c.args.order) (refuses_open c.args.order) _ c.args.current.now

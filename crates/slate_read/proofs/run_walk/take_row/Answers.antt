@@ -1,4 +1,8 @@
-use Rattle.std.proofs.Common.{refl}
+use Rattle.std.proofs.Common.{Some, refl}
+use Rattle.slate_read.specs.RunBringing.{BringsOpen}
+use Rattle.slate_read.specs.RunWalk.{refuses_open}
+use Rattle.slate_read.proofs.Bringings.{none_handed}
+use Rattle.slate_read.proofs.RunBringings.{open_hands, spent_hands}
 use Rattle.slate_read.proofs.RunOpen.{open_spent, open_step}
 use Rattle.slate_read.proofs.run_walk.take_row.Goals as goal
 
@@ -11,3 +15,16 @@ pub returns-in-Ok-None-clause-step : goal.returns-in-Ok-None-clause-step
 returns-in-Ok-None-clause-step g c =
     let s = rw c.in-Ok-None.field-0-is at c.in-Ok-None.ensures.step in
     open_spent c.args.order _ _ c.args.current.now _ c.in-Some.table c.advance.new.self c.in-Some.is c.take.ensures.after s
+
+pub returns-in-Ok-Some-clause-hands : goal.returns-in-Ok-Some-clause-hands
+returns-in-Ok-Some-clause-hands g c =
+    let h = rw c.in-Ok-Some.field-0-is at c.in-Ok-Some.ensures.hands in
+    open_hands c.args.order _ _ c.args.current.now _ c.in-Some.table c.advance.new.self (Some c.in-Ok-Some.row) c.in-Some.is refl c.in-Ok-Some.ensures.table h
+
+pub returns-in-Ok-None-clause-hands : goal.returns-in-Ok-None-clause-hands
+returns-in-Ok-None-clause-hands g c =
+    let h = rw c.in-Ok-None.field-0-is at c.in-Ok-None.ensures.hands in
+    spent_hands c.args.order _ _ c.args.current.now _ c.in-Some.table c.advance.new.self c.in-Some.is c.take.ensures.after h
+
+pub returns-in_default-clause-hands : goal.returns-in_default-clause-hands
+returns-in_default-clause-hands g c = none_handed (BringsOpen c.args.order) (refuses_open c.args.order) _ c.args.current.now

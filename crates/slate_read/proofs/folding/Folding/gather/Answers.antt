@@ -10,7 +10,7 @@ use Rattle.slate_read.specs.Folds.{refuses_taken, rest_taken, sound_taken}
 use Rattle.slate_read.specs.Peeking.{with_ahead}
 use Rattle.slate_read.proofs.FoldSteps.{ahead_moves, is_linked, row_moves, spent_moves}
 use Rattle.slate_read.proofs.Operables.{own_of}
-use Rattle.slate_read.proofs.Risings.{Gathering, gathering_on, gathering_rises, never_rises, none_rises_more, not_risen, or_rising, spent_rest}
+use Rattle.slate_read.proofs.Risings.{Gathering, gathering_ahead, gathering_came, gathering_on, gathering_rises, gathering_spent, never_rises, none_rises_more, not_risen, or_rising, spent_rest}
 use Rattle.slate_read.proofs.folding.Folding.gather.Goals as goal
 
 pub returns-then-not-follows-clause-moved : goal.returns-then-not-follows-clause-moved
@@ -101,3 +101,21 @@ returns-in-Err-clause-own g c = λ w sees h falls.
 
 pub returns-in-Err-clause-reads : goal.returns-in-Err-clause-reads
 returns-in-Err-clause-reads g c = reads_then _ _ _ c.linked.invariant.reads c.in-Err.ensures.reads
+
+pub returns-then-not-follows-clause-came : goal.returns-then-not-follows-clause-came
+returns-then-not-follows-clause-came g c =
+    let n = rw c.in-Ok-Some.field-0-is at c.in-Ok-Some.ensures in
+    gathering_ahead g.I.RowEntryIterator.rest g.I.RowEntryIterator.sound g.I.RowEntryIterator.refuses g.I.RowEntryIterator.takes _ _ _ _ c.linked.iterator' c.next.new.self _ c.in-Ok-Some.row _ c.linked.invariant.gathered
+    (record { rows = n.rows; still = n.still; checked = n.checked; taken = n.taken }) n.reads
+
+pub returns-in-Ok-None-clause-came : goal.returns-in-Ok-None-clause-came
+returns-in-Ok-None-clause-came g c =
+    let i = c.linked.invariant in
+    let n = rw c.in-Ok-None.field-0-is at c.in-Ok-None.ensures in
+    gathering_spent g.I.RowEntryIterator.rest g.I.RowEntryIterator.sound g.I.RowEntryIterator.refuses g.I.RowEntryIterator.takes _ _ _ _ c.linked.iterator' c.next.new.self _ _ _ i.empty i.gathered
+    (record { rows = n.rows; still = n.still; checked = n.checked; taken = n.taken }) n.reads
+
+pub returns-clause-came : goal.returns-clause-came
+returns-clause-came g c =
+    let i = c.linked.invariant in
+    gathering_came g.I.RowEntryIterator.rest g.I.RowEntryIterator.sound g.I.RowEntryIterator.refuses g.I.RowEntryIterator.takes _ _ _ c.linked.iterator' _ _ _ i.empty i.gathered

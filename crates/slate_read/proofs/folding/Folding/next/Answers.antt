@@ -10,10 +10,24 @@ use Rattle.slate_read.specs.FoldedLaws.{linked_operands}
 use Rattle.slate_read.specs.Folding.{FoldFalls, NoneRises, begins_linked, links}
 use Rattle.slate_read.specs.Folds.{operable_taken, sound_taken, takes_ahead}
 use Rattle.slate_read.specs.Peeking.{with_ahead}
-use Rattle.slate_read.proofs.FoldSteps.{call_moves, first_moves, folded_step, gathered_ends, operator_blames, some_operator}
+use Rattle.slate_read.proofs.FoldSteps.{call_moves, first_moves, folded_none, folded_step, gathered_ends, open_blames, operator_blames, some_operator, source_blames, through_step}
+use Rattle.slate_read.proofs.FoldBringings.{first_came, still_came}
 use Rattle.slate_read.proofs.Operables.{moved_operable, not_operable, operator_own, own_of, step_operable}
 use Rattle.slate_read.proofs.Risings.{gathered_blames, gathered_falls, own_behind, through_falls}
 use Rattle.slate_read.proofs.folding.Folding.next.Goals as goal
+
+pub returns-in-Ok-None-clause-step : goal.returns-in-Ok-None-clause-step
+returns-in-Ok-None-clause-step g c =
+    let i = g.I.RowEntryIterator in
+    let t = rw c.in-Ok-None.field-0-is at c.in-Ok-None.ensures in
+    folded_none i.rest i.sound i.refuses i.order i.begins i.takes i.seeks c.args.self.merge_different_expire_ts c.args.self.snapshot_barrier_seq _ _ c.args.iterator.now c.take_ahead.new.iterator c.args.ahead.now c.take_ahead.new.ahead t.empty t.step
+
+pub returns-then-not-is_open-clause-step : goal.returns-then-not-is_open-clause-step
+returns-then-not-is_open-clause-step g c =
+    let i = g.I.RowEntryIterator in
+    let t = rw c.in-Ok-Some.field-0-is at c.in-Ok-Some.ensures in
+    through_step i.rest i.sound i.refuses i.order i.begins i.takes i.seeks c.args.self.merge_different_expire_ts c.args.self.snapshot_barrier_seq _ _ c.args.iterator.now c.take_ahead.new.iterator c.args.ahead.now c.take_ahead.new.ahead c.in-Ok-Some.first t.empty
+    (sym c.is_open.ensures ∙ c.if-not-is_open.true) t.step
 
 pub returns-in-Ok-fold_group-clause-step : goal.returns-in-Ok-fold_group-clause-step
 returns-in-Ok-fold_group-clause-step g c =
@@ -21,6 +35,7 @@ returns-in-Ok-fold_group-clause-step g c =
     let sound = g.I.RowEntryIterator.sound in
     let refuses = g.I.RowEntryIterator.refuses in
     let order = g.I.RowEntryIterator.order in
+    let takes = g.I.RowEntryIterator.takes in
     let different = c.args.self.merge_different_expire_ts in
     let barrier = c.args.self.snapshot_barrier_seq in
     let t = rw c.in-Ok-Some.field-0-is at c.in-Ok-Some.ensures in
@@ -30,17 +45,31 @@ returns-in-Ok-fold_group-clause-step g c =
     let reach = g.E.Outside.reach in
     let first = first_moves rest sound refuses order _ _ _ c.args.iterator.now c.take_ahead.new.iterator c.args.ahead.now c.in-Ok-Some.first t.order t.step in
     let gathered = moves_both _ _ _ _ _ _ _ _ _ first n.moved in
-    folded_step rest sound refuses order g.I.RowEntryIterator.takes different barrier (reach c.args.env.now) (reach c.fold_group.new.env) (c.args.iterator.now, c.args.ahead.now, []) c.gather.new.iterator c.gather.new.ahead group.newer.items group.oldest c.in-Ok-fold_group.row
+    folded_step rest sound refuses order g.I.RowEntryIterator.begins takes g.I.RowEntryIterator.seeks different barrier (reach c.args.env.now) (reach c.fold_group.new.env) c.args.iterator.now c.gather.new.iterator c.args.ahead.now c.gather.new.ahead group.newer.items group.oldest c.in-Ok-fold_group.row
     (moves_both _ _ _ _ _ _ _ _ _ gathered (call_moves _ _ _ (reach c.gather.new.env) (reach c.fold_group.new.env) _ f.call)) n.linked
     (gathered_ends (sound_taken rest sound order) (sound_taken rest sound order) (λ w. begins_linked (links different barrier) group.oldest (with_ahead c.gather.new.ahead (rest c.gather.new.iterator w)) ≡ false)
     (reach c.args.env.now) (reach c.take_ahead.new.env) (reach c.gather.new.env) (reach c.fold_group.new.env) (c.args.iterator.now, c.args.ahead.now, []) (c.take_ahead.new.iterator, None, c.in-Ok-Some.first ∷ []) _ _ first.made.1 n.moved.made.1 f.call first.still n.ends)
     (subst (λ (p : Meaning). fold_rows (operator_at p.combine group.oldest.key) (group.oldest ∷ reverse group.newer.items) ≡ Some c.in-Ok-fold_group.row) gathered.made.1.meaning (f.value (linked_operands different barrier group.newer.items group.oldest n.linked)))
-    (λ reads. some_operator (reach c.args.env.now) (reach c.take_ahead.new.env) c.has_operator.result first.made.1.meaning c.has_operator.ensures c.if-not-has_operator.false)
+    (some_operator (reach c.args.env.now) (reach c.take_ahead.new.env) c.has_operator.result first.made.1.meaning c.has_operator.ensures c.if-not-has_operator.false)
+    (still_came takes refuses (reach c.args.env.now) (reach c.gather.new.env) (reach c.fold_group.new.env) c.args.iterator.now c.gather.new.iterator c.args.ahead.now c.gather.new.ahead
+    (first_came takes refuses (reach c.args.env.now) (reach c.take_ahead.new.env) (reach c.gather.new.env) c.args.iterator.now c.take_ahead.new.iterator c.gather.new.iterator c.args.ahead.now c.gather.new.ahead c.in-Ok-Some.first t.step.taken n.came) f.call)
 
 pub returns-in-Ok-fold_group-clause-reads : goal.returns-in-Ok-fold_group-clause-reads
 returns-in-Ok-fold_group-clause-reads g c =
     let t = rw c.in-Ok-Some.field-0-is at c.in-Ok-Some.ensures in
     reads_then _ _ _ (reads_then _ _ _ t.reads c.in-Ok.ensures.reads) c.in-Ok-fold_group.ensures.reads
+
+pub returns-in-Err-clause-cause : goal.returns-in-Err-clause-cause
+returns-in-Err-clause-cause g c =
+    let i = g.I.RowEntryIterator in
+    source_blames i.rest i.sound i.refuses i.order i.begins i.takes i.seeks c.args.self.merge_different_expire_ts c.args.self.snapshot_barrier_seq (g.E.Outside.reach c.args.env.now) (g.E.Outside.reach c.take_ahead.new.env) c.args.iterator.now c.take_ahead.new.iterator c.args.ahead.now c.in-Err.error c.in-Err.ensures.cause
+
+pub returns-then-not-has_operator-clause-cause : goal.returns-then-not-has_operator-clause-cause
+returns-then-not-has_operator-clause-cause g c =
+    let i = g.I.RowEntryIterator in
+    let t = rw c.in-Ok-Some.field-0-is at c.in-Ok-Some.ensures in
+    open_blames i.rest i.sound i.refuses i.order i.begins i.takes i.seeks c.args.self.merge_different_expire_ts c.args.self.snapshot_barrier_seq (g.E.Outside.reach c.args.env.now) (g.E.Outside.reach c.take_ahead.new.env) c.args.iterator.now c.take_ahead.new.iterator c.args.ahead.now c.in-Ok-Some.first c.has_operator.result t.step
+    (sym c.is_open.ensures ∙ c.if-not-is_open.false) t.reads.meaning c.has_operator.ensures c.if-not-has_operator.true
 
 pub returns-in-Err-fold_group-clause-cause : goal.returns-in-Err-fold_group-clause-cause
 returns-in-Err-fold_group-clause-cause g c =
@@ -61,7 +90,7 @@ pub returns-in-Err-gather-clause-cause : goal.returns-in-Err-gather-clause-cause
 returns-in-Err-gather-clause-cause g c =
     let t = rw c.in-Ok-Some.field-0-is at c.in-Ok-Some.ensures in
     let reach = g.E.Outside.reach in
-    gathered_blames g.I.RowEntryIterator.rest g.I.RowEntryIterator.sound g.I.RowEntryIterator.refuses g.I.RowEntryIterator.order g.I.RowEntryIterator.takes c.args.self.merge_different_expire_ts c.args.self.snapshot_barrier_seq (reach c.args.env.now) (reach c.take_ahead.new.env) (reach c.gather.new.env)
+    gathered_blames g.I.RowEntryIterator.rest g.I.RowEntryIterator.sound g.I.RowEntryIterator.refuses g.I.RowEntryIterator.order g.I.RowEntryIterator.begins g.I.RowEntryIterator.takes g.I.RowEntryIterator.seeks c.args.self.merge_different_expire_ts c.args.self.snapshot_barrier_seq (reach c.args.env.now) (reach c.take_ahead.new.env) (reach c.gather.new.env)
     c.args.iterator.now c.take_ahead.new.iterator c.gather.new.iterator c.args.ahead.now c.in-Ok-Some.first c.in-Err-gather.error t.step t.reads.later
     (some_operator (reach c.args.env.now) (reach c.take_ahead.new.env) c.has_operator.result t.reads.meaning c.has_operator.ensures c.if-not-has_operator.false) c.in-Err-gather.ensures.cause
 

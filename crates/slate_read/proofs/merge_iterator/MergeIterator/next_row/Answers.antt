@@ -3,6 +3,7 @@ use Rattle.std.specs.BinaryHeap.{heap_items}
 use Rattle.slate_types.proofs.Reaching.{reads_none}
 use Rattle.slate_read.specs.declared.merge_iterator.MergeState.{MergeState}
 use Rattle.slate_read.specs.declared.merge_iterator.MergeState.TheVariants.{Begun, Refused}
+use Rattle.slate_read.specs.Calls.{BringsByCalls}
 use Rattle.slate_read.specs.Merging.{merging_bound}
 use Rattle.slate_read.specs.MergeStates.{bound_in}
 use Rattle.slate_read.proofs.MergeStateSteps.{again_stays, begun_fails, copied_bound, fails_still, not_waiting, refused_stays, state_step, state_takes, unbegun_stays}
@@ -39,13 +40,13 @@ returns-in-Refused g c = record {
 pub returns-in-Ok : goal.returns-in-Ok
 returns-in-Ok g c =
     let n = c.in-Ok.ensures in
-    let s = state_step g.I.RowEntryIterator.rest g.I.RowEntryIterator.sound g.I.RowEntryIterator.refuses g.I.RowEntryIterator.order c.args.self.now.order c.args.self.now.dedup (g.E.Outside.reach c.args.env.now) (g.E.Outside.reach c.take_row-answer.new.env) c.args.self.now.state (Begun c.in-Begun.heads) (Begun c.take_row-answer.new.heads) c.in-Ok.row c.in-Begun.is tt tt (n.step c.args.self.now.order) in
+    let s = state_step g.I.RowEntryIterator.rest g.I.RowEntryIterator.sound g.I.RowEntryIterator.refuses g.I.RowEntryIterator.order (BringsByCalls g.I.RowEntryIterator.begins g.I.RowEntryIterator.takes g.I.RowEntryIterator.seeks) c.args.self.now.order c.args.self.now.dedup (g.E.Outside.reach c.args.env.now) (g.E.Outside.reach c.take_row-answer.new.env) c.args.self.now.state (Begun c.in-Begun.heads) (Begun c.take_row-answer.new.heads) c.in-Ok.row c.in-Begun.is tt tt (n.step c.args.self.now.order) in
     let bound = g.I.RowEntryIterator.bound in
     record {
       rows = s.rows;
       still = s.still;
       checked = s.checked;
-      taken = (s.taken.0, s.taken.1, ((s.taken.2.0, tt, record { order = refl; dedup = refl }, n.counted), s.taken.2.1));
+      taken = (s.taken.0, s.taken.1, (((s.taken.2.0.0, tt, record { order = refl; dedup = refl }, n.counted), s.taken.2.0.1), s.taken.2.1));
       takes = λ w sees h. state_takes g.I.RowEntryIterator.rest g.I.RowEntryIterator.sound g.I.RowEntryIterator.refuses g.I.RowEntryIterator.order c.args.self.now.order c.args.self.now.dedup (g.E.Outside.reach c.args.env.now) (g.E.Outside.reach c.take_row-answer.new.env) c.args.self.now.state (Begun c.in-Begun.heads) (Begun c.take_row-answer.new.heads) c.args.self.now.processed c.take_row-answer.new.processed c.in-Begun.is tt tt (n.count c.args.self.now.order) w sees h;
       cause = tt;
       smaller = λ some. subst (λ (x : MergeState g.row.I.Denot). merging_bound bound [] (heap_items c.take_row-answer.new.heads) < bound_in bound x) (sym c.in-Begun.is) (n.smaller some);

@@ -23,12 +23,13 @@ returns-in-Ok g c =
     let n = c.in-Ok.ensures in
     let b = c.begin.ensures in
     let m = n.moved c.args.self.now.dedup in
+    let k = n.brought in
     record {
       rows = λ w sees h. rw (b.state, b.merge.order, b.merge.dedup) (m.rows w sees h);
       still = λ w sees h. rw (b.state, b.merge.order) (m.still w sees h);
       checked = m.checked;
       ready = rw b.state (state_ready g.I.RowEntryIterator.refuses (g.E.Outside.reach c.args.env.now).meaning (Begun c.in-Ok.heads) tt n.ready);
-      begun = (m.made.0, m.made.1, ((unrefused_of c.args.self.now.state c.in_default.not-Refused, rw b.state tt, record { order = b.merge.order; dedup = b.merge.dedup }, b.processed), rw b.state (m.made.2)));
+      begun = (k.0, k.1, ((unrefused_of c.args.self.now.state c.in_default.not-Refused, rw b.state tt, record { order = b.merge.order; dedup = b.merge.dedup }, b.processed, rw b.state k.2.1), rw b.state k.2.0));
       cause = tt;
       no_larger = rw b.state n.no_larger;
       order = b.merge.order;

@@ -11,6 +11,9 @@ use Rattle.slate_read.specs.Peeking.{with_ahead}
 use Rattle.slate_read.proofs.Peeks.{kept_rows, sought_rows}
 use Rattle.slate_read.proofs.Operables.{none_open_dropped}
 use Rattle.slate_read.proofs.Risings.{none_rises_dropped}
+use Rattle.slate_read.specs.Calls.{BringsByCalls}
+use Rattle.slate_read.proofs.Calling.{called_less}
+use Rattle.slate_read.proofs.FoldBringings.{ahead_goes}
 use Rattle.slate_read.proofs.Operators.{again_refused, by_begun, kept_no_larger, kept_still, new_refused, sound_of, sound_unless, source_less, source_refused, unless_drops, unless_no_larger}
 use Rattle.slate_read.proofs.operator_iterator.MergeOperatorIteratorRowEntryIterator.seek.Goals as goal
 
@@ -20,7 +23,7 @@ returns-in-Some g c = record {
   still = λ w sees h. h;
   checked = λ w h. tt;
   sought = tt;
-  cause = again_refused g.I.RowEntryIterator.refuses g.I.RowEntryIterator.takes _ c.args.self.now (Some c.args.key.now) c.in-Some.refusal c.copy_of.result c.in-Some.is c.copy_of.ensures;
+  cause = again_refused g.I.RowEntryIterator.refuses (BringsByCalls g.I.RowEntryIterator.begins g.I.RowEntryIterator.takes g.I.RowEntryIterator.seeks) g.I.RowEntryIterator.takes _ c.args.self.now (Some c.args.key.now) c.in-Some.refusal c.copy_of.result c.in-Some.is c.copy_of.ensures;
   no_larger = omega arith;
   order = refl;
   reads = reads_none _;
@@ -34,7 +37,7 @@ returns-then-not-self g c = record {
   still = λ w sees h. h;
   checked = λ w h. tt;
   sought = tt;
-  cause = new_refused g.I.RowEntryIterator.refuses g.I.RowEntryIterator.takes _ c.args.self.now (Some c.args.key.now) c.in_default.is c.if-not-self.true;
+  cause = new_refused g.I.RowEntryIterator.refuses (BringsByCalls g.I.RowEntryIterator.begins g.I.RowEntryIterator.takes g.I.RowEntryIterator.seeks) g.I.RowEntryIterator.takes _ c.args.self.now (Some c.args.key.now) c.in_default.is c.if-not-self.true;
   no_larger = omega arith;
   order = refl;
   reads = reads_none _;
@@ -79,7 +82,15 @@ returns-in-Ok g c =
       still = λ w sees h. (let s = n.still w sees (sound_of it.refusal _ none h).0 in
           sound_unless it.refusal _ none (s, subst (λ (o : Option RowEntry). IsInOrder (g.I.RowEntryIterator.order c.seek.new.self) (with_ahead o (g.I.RowEntryIterator.rest c.seek.new.self w))) (sym after) (g.met.I.RowEntryIterator.rising c.seek.new.self w s)));
       checked = λ w h. n.checked w (sound_of it.refusal _ none h).0;
-      sought = (n.sought.0, n.sought.1, (((c.if-not-self.false, none), (c.if-not-self.false, none), refl, inr (after, n.sought.2.0)), source_less g.I.RowEntryIterator.refuses it y (g.E.Outside.reach c.args.env.now).meaning n.sought.0 none refl c.if-not-self.false n.sought.2.1));
+      sought = (
+        n.sought.0,
+        n.sought.1,
+        (
+          ((c.if-not-self.false, none), (c.if-not-self.false, none), refl, inr (after, n.sought.2.0)),
+          source_less g.I.RowEntryIterator.refuses (BringsByCalls g.I.RowEntryIterator.begins g.I.RowEntryIterator.takes g.I.RowEntryIterator.seeks) it y (g.E.Outside.reach c.args.env.now).meaning n.sought.0 none refl c.if-not-self.false n.sought.2.1
+              (ahead_goes (BringsByCalls g.I.RowEntryIterator.begins g.I.RowEntryIterator.takes g.I.RowEntryIterator.seeks) (g.E.Outside.reach c.args.env.now).meaning it.iterator c.seek.new.self it.ahead c.take.new.self n.sought.0 after (called_less g.I.RowEntryIterator.begins g.I.RowEntryIterator.takes g.I.RowEntryIterator.seeks (g.E.Outside.reach c.args.env.now).meaning it.iterator c.seek.new.self n.sought.0 (inr (inr (c.args.key.now, n.sought.2.0))))),
+        ),
+      );
       cause = tt;
       no_larger = unless_no_larger it.refusal _ _ none (rw after (omega (arith, n.no_larger)));
       order = n.order;
@@ -96,10 +107,10 @@ returns-in-Err g c =
     let it = c.args.self.now in
     let n = c.in-Err.ensures in
     let r = c.refuse.ensures in
-    let refused = source_refused g.I.RowEntryIterator.refuses g.I.RowEntryIterator.takes (g.E.Outside.reach c.args.env.now) (g.E.Outside.reach c.seek.new.env) it c.refuse.new.self (Some c.args.key.now) c.in-Err.error c.in_default.is (λ new. by_begun new c.if-not-self.false) r.keeps (n.cause.0, n.cause.1, n.cause.2.0) in
+    let refused = source_refused g.I.RowEntryIterator.refuses (BringsByCalls g.I.RowEntryIterator.begins g.I.RowEntryIterator.takes g.I.RowEntryIterator.seeks) g.I.RowEntryIterator.takes (g.E.Outside.reach c.args.env.now) (g.E.Outside.reach c.seek.new.env) it c.refuse.new.self (Some c.args.key.now) c.in-Err.error c.in_default.is (λ new. by_begun new c.if-not-self.false) r.keeps (n.cause.0, n.cause.1, n.cause.2.0) in
     record {
       rows = λ w sees h. tt;
-      still = kept_still g.I.RowEntryIterator.refuses g.I.RowEntryIterator.takes g.I.RowEntryIterator.rest g.I.RowEntryIterator.sound g.I.RowEntryIterator.order g.met.I.RowEntryIterator.whole (g.E.Outside.reach c.args.env.now) (g.E.Outside.reach c.seek.new.env) it c.refuse.new.self (Some c.args.key.now) c.in-Err.error r.keeps refused;
+      still = kept_still g.I.RowEntryIterator.refuses (BringsByCalls g.I.RowEntryIterator.begins g.I.RowEntryIterator.takes g.I.RowEntryIterator.seeks) g.I.RowEntryIterator.takes g.I.RowEntryIterator.rest g.I.RowEntryIterator.sound g.I.RowEntryIterator.order g.met.I.RowEntryIterator.whole (g.E.Outside.reach c.args.env.now) (g.E.Outside.reach c.seek.new.env) it c.refuse.new.self (Some c.args.key.now) c.in-Err.error r.keeps refused;
       checked = λ w h. tt;
       sought = tt;
       cause = rw r.same refused;

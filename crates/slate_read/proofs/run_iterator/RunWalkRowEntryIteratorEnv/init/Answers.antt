@@ -1,6 +1,7 @@
 use Rattle.std.proofs.Common.{refl, None, [], arith}
 use Rattle.slate_types.proofs.Calls.{call_none, checks_none}
 use Rattle.slate_types.proofs.Reaching.{reads_none}
+use Rattle.slate_read.proofs.RunBringings.{begun_adds}
 use Rattle.slate_read.proofs.RunCalls.{again_refused, begun, begun_bound, going_ready, new_fails, refused_bound, refused_still, run_refused, stays_begun, stays_same, unrefused_going, unrefused_new}
 use Rattle.slate_read.proofs.run_iterator.RunWalkRowEntryIteratorEnv.init.Goals as goal
 
@@ -12,7 +13,7 @@ returns-in-Going g c =
       still = λ w sees k. k;
       checked = λ w k. checks_none w _;
       ready = going_ready c.args.self.now.order c.args.self.now.state c.args.self.now.cursor _ is;
-      begun = ([], call_none _, ((unrefused_going c.args.self.now.state is, is, (refl, refl)), λ later at e h. h));
+      begun = ([], call_none _, ((unrefused_going c.args.self.now.state is, is, (refl, refl), λ later r h. h), λ later at e h. h));
       cause = tt;
       no_larger = omega arith;
       order = refl;
@@ -40,12 +41,13 @@ returns-in-Ok g c =
     let going = c.replace.ensures.after in
     let n = c.in-Ok.ensures in
     let m = begun c.args.self.now.range c.args.self.now.order _ _ c.args.self.now.state c.replace.new.dest c.args.self.now.cursor c.begin.new.self new going n.moved in
+    let b = begun_adds c.args.self.now.order _ _ c.args.self.now.state c.replace.new.dest c.args.self.now.cursor c.begin.new.self new going n.adds in
     record {
       rows = m.rows;
       still = m.still;
       checked = m.checked;
       ready = going_ready c.args.self.now.order c.replace.new.dest c.begin.new.self _ going;
-      begun = (m.made.0, m.made.1, ((unrefused_new c.args.self.now.state new, going, (refl, refl)), m.made.2));
+      begun = (b.0, b.1, ((unrefused_new c.args.self.now.state new, going, (refl, refl), b.2.1), b.2.0));
       cause = tt;
       no_larger = begun_bound c.args.self.now.state c.replace.new.dest c.args.self.now.cursor c.begin.new.self new going n.no_larger;
       order = refl;

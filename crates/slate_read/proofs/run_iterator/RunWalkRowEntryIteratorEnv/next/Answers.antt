@@ -1,5 +1,6 @@
 use Rattle.std.proofs.Common.{refl, None, arith}
 use Rattle.slate_types.proofs.Reaching.{reads_none}
+use Rattle.slate_read.proofs.RunBringings.{going_hands}
 use Rattle.slate_read.proofs.RunCalls.{again_refused, going_bound, going_fails, going_less, going_step, refused_bound, refused_still, run_refused, stays_going, stays_new, stays_same, unbegun_refused}
 use Rattle.slate_read.proofs.run_iterator.RunWalkRowEntryIteratorEnv.next.Goals as goal
 
@@ -38,11 +39,12 @@ returns-in-Ok g c =
     let is = c.in-Going.is in
     let n = c.in-Ok.ensures in
     let s = going_step c.args.self.now.range c.args.self.now.order _ _ c.args.self.now.state c.args.self.now.cursor c.advance.new.self c.in-Ok.row is n.step in
+    let t = going_hands c.args.self.now.order _ _ c.args.self.now.state c.args.self.now.cursor c.advance.new.self c.in-Ok.row is n.hands in
     record {
       rows = s.rows;
       still = s.still;
       checked = s.checked;
-      taken = (s.taken.0, s.taken.1, ((is, is, (refl, refl)), s.taken.2.1));
+      taken = (t.0, t.1, ((is, is, (refl, refl), t.2.0), t.2.1));
       cause = tt;
       smaller = λ some. going_less c.args.self.now.state c.args.self.now.cursor c.advance.new.self is (n.smaller some);
       no_larger = going_bound c.args.self.now.state c.args.self.now.cursor c.advance.new.self is n.no_larger;

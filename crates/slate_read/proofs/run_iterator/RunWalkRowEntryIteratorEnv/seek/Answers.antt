@@ -1,5 +1,6 @@
 use Rattle.std.proofs.Common.{refl, Some, arith}
 use Rattle.slate_types.proofs.Reaching.{reads_none}
+use Rattle.slate_read.proofs.RunBringings.{going_adds}
 use Rattle.slate_read.proofs.RunCalls.{again_refused, going_bound, going_fails, going_sought, refused_bound, refused_still, run_refused, stays_going, stays_new, stays_same, unbegun_refused}
 use Rattle.slate_read.proofs.run_iterator.RunWalkRowEntryIteratorEnv.seek.Goals as goal
 
@@ -36,11 +37,12 @@ returns-in-Ok g c =
     let is = c.in-Going.is in
     let n = c.in-Ok.ensures in
     let s = going_sought c.args.self.now.range c.args.self.now.order c.args.key.now _ _ c.args.self.now.state c.args.self.now.cursor c.seek.new.self is n.sought in
+    let t = going_adds c.args.self.now.order _ _ c.args.self.now.state c.args.self.now.cursor c.seek.new.self is n.adds in
     record {
       rows = s.rows;
       still = s.still;
       checked = s.checked;
-      sought = (s.made.0, s.made.1, ((is, is, (refl, refl)), s.made.2));
+      sought = (t.0, t.1, ((is, is, (refl, refl), t.2.1), t.2.0));
       cause = tt;
       no_larger = going_bound c.args.self.now.state c.args.self.now.cursor c.seek.new.self is n.no_larger;
       order = refl;

@@ -3,11 +3,16 @@ use Rattle.slate_types.specs.Outside.{OnlyReads}
 use Rattle.slate_types.proofs.Moves.{Moves}
 use Rattle.slate_store.specs.Reach.{reach_of}
 use Rattle.slate_read.specs.RunWalk.{IsSoundRun, bound_run, refuses_run, rest_run}
+use Rattle.slate_read.specs.RunBringing.{brings_run}
+use Rattle.slate_read.proofs.Bringings.{AddsBy}
 use Rattle.slate_read.proofs.run_state.RunCursor.advance.Given as goal
 
 abbrev pub invariant-loop-row : goal.invariant-loop-row
 invariant-loop-row g l = record {
   moves : Moves (rest_run l.range l.order) (IsSoundRun l.range l.order) (refuses_run l.order)
+      (reach_of g.S.Store g.M.MergeOperator g.T.BlockTransformer l.initial.env)
+      (reach_of g.S.Store g.M.MergeOperator g.T.BlockTransformer l.env) l.initial.self l.self;
+  adds : AddsBy (brings_run l.order) (refuses_run l.order)
       (reach_of g.S.Store g.M.MergeOperator g.T.BlockTransformer l.initial.env)
       (reach_of g.S.Store g.M.MergeOperator g.T.BlockTransformer l.env) l.initial.self l.self;
   none : l.self.ahead ≡ None;

@@ -2,7 +2,10 @@ use Rattle.std.proofs.Common.{◌∙◌, None, length, refl, sym, ap, arith}
 use Rattle.std.proofs.lemmas.Result.{IfErr-weaker, on_ok_weaker}
 use Rattle.slate_types.proofs.Moves.{moves_fails}
 use Rattle.slate_types.proofs.Reaching.{later_none, reads_none}
-use Rattle.slate_read.specs.RunWalk.{rows_ahead}
+use Rattle.slate_read.specs.RunBringing.{brings_run}
+use Rattle.slate_read.specs.RunWalk.{refuses_run, rows_ahead}
+use Rattle.slate_read.proofs.Bringings.{both_added, none_added}
+use Rattle.slate_read.proofs.RunBringings.{let_go_adds}
 use Rattle.slate_read.proofs.RunSeeks.{ahead_kept, ahead_passed, run_sought}
 use Rattle.slate_read.proofs.run_state.RunCursor.seek.Goals as goal
 
@@ -11,6 +14,7 @@ returns-then-is_ahead_kept g c = record {
   sought = ahead_kept c.args.range.now c.args.order c.args.key.now _ c.args.self.now (sym c.is_ahead_kept.ensures ∙ c.if-is_ahead_kept.true);
   cause = tt;
   no_larger = omega arith;
+  adds = none_added (brings_run c.args.order) (refuses_run c.args.order) _ c.args.self.now;
   reads = reads_none _;
 }
 
@@ -23,5 +27,6 @@ returns g c =
       sought = on_ok_weaker c.seek_tables.result (λ k. run_sought c.args.range.now c.args.order c.args.key.now _ _ _ c.args.self.now (record c.args.self.now { ahead = c.take.new.self }) c.seek_tables.new.self moved k) o.sought;
       cause = IfErr-weaker c.seek_tables.result _ _ (λ e made. moves_fails _ _ _ _ _ _ _ _ None e moved (later_none _) made) o.cause;
       no_larger = on_ok_weaker c.seek_tables.result (λ k. omega (arith, k, none)) o.no_larger;
+      adds = on_ok_weaker c.seek_tables.result (λ k. both_added (brings_run c.args.order) (refuses_run c.args.order) _ _ _ c.args.self.now (record c.args.self.now { ahead = c.take.new.self }) c.seek_tables.new.self (let_go_adds c.args.order _ c.args.self.now (record c.args.self.now { ahead = c.take.new.self }) c.take.ensures.after refl refl) k) o.adds;
       reads = o.reads;
     }

@@ -1,8 +1,11 @@
 use Rattle.std.proofs.Common.{◌∙◌, None, length, refl, ap, arith}
-use Rattle.slate_read.specs.RunWalk.{rows_ahead}
+use Rattle.slate_read.specs.RunBringing.{brings_run}
+use Rattle.slate_read.specs.RunWalk.{refuses_run, rows_ahead}
 use Rattle.std.proofs.lemmas.Result.{err_from_is_err_and}
 use Rattle.slate_types.proofs.Moves.{moves_both, moves_fails, moves_none}
 use Rattle.slate_types.proofs.Reaching.{reads_none, reads_then}
+use Rattle.slate_read.proofs.Bringings.{both_added, none_added}
+use Rattle.slate_read.proofs.RunBringings.{found_adds, next_adds, passes_adds, run_spent_adds}
 use Rattle.slate_read.proofs.Runs.{opened_ahead, opened_fewer, opened_run}
 use Rattle.slate_read.proofs.RunSeeks.{ended_sought, found_none, found_some, passes_moves, run_fails, run_lifted, run_sought, passed_fewer, passed_bound}
 use Rattle.slate_read.proofs.run_state.RunCursor.seek_tables.Goals as goal
@@ -10,6 +13,7 @@ use Rattle.slate_read.proofs.run_state.RunCursor.seek_tables.Goals as goal
 pub loop-row-init : goal.loop-row-init
 loop-row-init g c = record {
   moves = moves_none _ _ _ _ _;
+  adds = none_added (brings_run c.args.order) (refuses_run c.args.order) _ c.args.self.now;
   none = c.requires.none;
   bound = omega arith;
   reads = reads_none _;
@@ -29,6 +33,9 @@ loop-row-preserved g c =
     let less = o.no_larger (p.open_table ∙ closed) in
     record {
       moves = moves_both _ _ _ _ _ _ _ _ _ i.moves (moves_both _ _ _ _ _ _ _ _ _ found (moves_both _ _ _ _ _ _ _ _ _ passed opened));
+      adds = both_added (brings_run c.args.order) (refuses_run c.args.order) _ _ _ c.args.self.now c.loop-row.self c.open_next.new.self i.adds
+          (both_added (brings_run c.args.order) (refuses_run c.args.order) _ _ _ c.loop-row.self (record c.loop-row.self { current = c.find_row.new.current }) c.open_next.new.self (run_spent_adds c.args.order _ _ c.loop-row.self (record c.loop-row.self { current = c.find_row.new.current }) (rw c.in_default.is at t.hands) refl refl)
+          (both_added (brings_run c.args.order) (refuses_run c.args.order) _ _ _ (record c.loop-row.self { current = c.find_row.new.current }) c.pass_over.new.self c.open_next.new.self (passes_adds c.args.order c.args.key.now _ (record c.loop-row.self { current = c.find_row.new.current }) c.pass_over.new.self p) (next_adds c.args.range.now c.args.order _ _ c.pass_over.new.self c.open_next.new.self c.in_ok-open_next.field-0 o.opened)));
       none = opened_ahead c.args.range.now _ _ c.pass_over.new.self c.open_next.new.self c.in_ok-open_next.field-0 o.opened ∙ p.ahead ∙ i.none;
       bound = omega (arith, i.bound, t.no_larger, fewer, less);
       reads = reads_then _ _ _ i.reads (reads_then _ _ _ t.reads o.reads);
@@ -48,6 +55,7 @@ returns-in_err-row g c =
       sought = rw p.1 tt;
       cause = rw (p.1, p.2) (moves_fails _ _ _ _ _ _ _ _ None _ i.moves i.reads.later (run_fails c.args.order _ _ c.loop-row.self _ c.in_err-row.ensures.cause));
       no_larger = rw p.1 tt;
+      adds = rw p.1 tt;
       reads = reads_then _ _ _ i.reads c.in_err-row.ensures.reads;
     }
 
@@ -62,6 +70,7 @@ returns-in-Some g c =
       sought = run_sought c.args.range.now c.args.order c.args.key.now _ _ _ c.args.self.now c.loop-row.self (record { ahead = c.replace.new.dest; current = c.find_row.new.current; tables = c.loop-row.self.tables; limits = c.loop-row.self.limits }) i.moves found;
       cause = tt;
       no_larger = omega (arith, i.bound, less, one);
+      adds = both_added (brings_run c.args.order) (refuses_run c.args.order) _ _ _ c.args.self.now c.loop-row.self (record { ahead = c.replace.new.dest; current = c.find_row.new.current; tables = c.loop-row.self.tables; limits = c.loop-row.self.limits }) i.adds (found_adds c.args.order _ _ c.loop-row.self (record { ahead = c.replace.new.dest; current = c.find_row.new.current; tables = c.loop-row.self.tables; limits = c.loop-row.self.limits }) c.in-Some.row (rw c.in-Some.is at t.hands) c.replace.ensures.after refl);
       reads = reads_then _ _ _ i.reads t.reads;
     }
 
@@ -80,6 +89,7 @@ returns-in_err-open_next g c =
       sought = rw p.1 tt;
       cause = rw (p.1, p.2) (moves_fails _ _ _ _ _ _ _ _ None _ (moves_both _ _ _ _ _ _ _ _ _ i.moves (moves_both _ _ _ _ _ _ _ _ _ found passed)) reads.later (o.cause c.args.order));
       no_larger = rw p.1 tt;
+      adds = rw p.1 tt;
       reads = reads_then _ _ _ reads o.reads;
     }
 
@@ -99,5 +109,8 @@ returns-then-not-branch g c =
       sought = run_sought c.args.range.now c.args.order c.args.key.now _ _ _ c.args.self.now c.pass_over.new.self c.open_next.new.self (moves_both _ _ _ _ _ _ _ _ _ i.moves (moves_both _ _ _ _ _ _ _ _ _ found passed)) ended;
       cause = tt;
       no_larger = omega (arith, i.bound, t.no_larger, fewer, less);
+      adds = both_added (brings_run c.args.order) (refuses_run c.args.order) _ _ _ c.args.self.now c.loop-row.self c.open_next.new.self i.adds
+          (both_added (brings_run c.args.order) (refuses_run c.args.order) _ _ _ c.loop-row.self (record c.loop-row.self { current = c.find_row.new.current }) c.open_next.new.self (run_spent_adds c.args.order _ _ c.loop-row.self (record c.loop-row.self { current = c.find_row.new.current }) (rw c.in_default.is at t.hands) refl refl)
+          (both_added (brings_run c.args.order) (refuses_run c.args.order) _ _ _ (record c.loop-row.self { current = c.find_row.new.current }) c.pass_over.new.self c.open_next.new.self (passes_adds c.args.order c.args.key.now _ (record c.loop-row.self { current = c.find_row.new.current }) c.pass_over.new.self p) (next_adds c.args.range.now c.args.order _ _ c.pass_over.new.self c.open_next.new.self c.in_ok-open_next.field-0 o.opened)));
       reads = reads_then _ _ _ i.reads (reads_then _ _ _ t.reads o.reads);
     }

@@ -2,12 +2,18 @@ use Rattle.std.proofs.Common.{◌≡◌, ◌≤◌, length, None}
 use Rattle.slate_types.specs.Outside.{OnlyReads}
 use Rattle.slate_types.proofs.Moves.{Moves}
 use Rattle.slate_store.specs.Reach.{reach_of}
-use Rattle.slate_read.specs.RunWalk.{IsSoundRun, bound_run, refuses_run, rest_run_sought}
+use Rattle.slate_read.specs.RunWalk.{IsSoundRun, bound_run, refuses_run}
+use Rattle.slate_read.specs.RunBringing.{brings_run}
+use Rattle.slate_read.proofs.Bringings.{AddsBy}
+use Rattle.slate_read.proofs.RunSeeks.{rest_run_sought}
 use Rattle.slate_read.proofs.run_state.RunCursor.seek_tables.Given as goal
 
 abbrev pub invariant-loop-row : goal.invariant-loop-row
 invariant-loop-row g l = record {
   moves : Moves (rest_run_sought l.range l.order l.key) (IsSoundRun l.range l.order) (refuses_run l.order)
+      (reach_of g.S.Store g.M.MergeOperator g.T.BlockTransformer l.initial.env)
+      (reach_of g.S.Store g.M.MergeOperator g.T.BlockTransformer l.env) l.initial.self l.self;
+  adds : AddsBy (brings_run l.order) (refuses_run l.order)
       (reach_of g.S.Store g.M.MergeOperator g.T.BlockTransformer l.initial.env)
       (reach_of g.S.Store g.M.MergeOperator g.T.BlockTransformer l.env) l.initial.self l.self;
   none : l.self.ahead ≡ None;

@@ -30,7 +30,7 @@ returns g c =
     let from = c.next_fetch-blocks.result.start in
     let upto = c.next_fetch-blocks.result.end in
     let blocks = c.in_ok-found.found.items in
-    let made = blocks_fetched _ _ c.args.table.now (entries_of c.args.self.now.index) from upto blocks e.objects (meaning_of _ _ refl e.same_encoded e.same_decoded) e.count e.found in
+    let made = blocks_fetched _ _ c.args.table.now (entries_of c.args.self.now.index) from upto blocks e.objects (meaning_of _ _ refl e.same_encoded e.same_decoded) e.count (e.found c.next_fetch-blocks.ensures.some) in
     record {
       fetched = on_ok_weaker c.put_ready.result (λ ready. (
         made.0,

@@ -1,9 +1,10 @@
 use Rattle.std.proofs.Common.{◌≤◌, ◌-◌}
 use Rattle.slate_types.specs.Outside.{OnlyReads}
 use Rattle.slate_store.specs.Reach.{reach_of}
-use Rattle.slate_read.specs.TableWalk.{IsSoundRising, bound_behind, refuses_behind, rest_sought}
+use Rattle.slate_read.specs.TableWalk.{IsSoundRising, bound_behind, refuses_behind}
 use Rattle.slate_types.proofs.Moves.{Moves}
 use Rattle.slate_read.proofs.Bringings.{Adds}
+use Rattle.slate_read.proofs.Seeks.{rest_sought}
 use Rattle.slate_read.proofs.table_state.Cursor.walk_to.Given as goal
 
 abbrev pub invariant-loop-self : goal.invariant-loop-self
