@@ -9,7 +9,7 @@ use Rattle.slate_store.specs.Store.{Act, AnswersRead, object_at, part_of}
 use Rattle.slate_table.specs.Reading.{IsRead, Reads}
 use Rattle.slate_table.proofs.FrameReads.{answered}
 use Rattle.slate_db.specs.Answered.{AddsReads, AnswersAct, AnswersAs, AnswersFrom, Answering}
-use Rattle.slate_db.proofs.Lists.{all_front, all_behind}
+use Rattle.slate_types.proofs.Lists.{AllByRecursion_front, AllByRecursion_behind}
 
 -- ---- acts are only added
 
@@ -36,12 +36,12 @@ acts_of_both os first middle last f l a =
 answers_first : (os : Objects) (first middle last : Option (List Act)) → AddsReads first middle → AddsReads middle last → AnswersAs os first last → AnswersAs os first middle
 answers_first os first middle last f l a =
     let both = acts_of_both os first middle last f l a in
-    record { known = a.known; more = both.0; began = a.began; ended = both.2; each = all_front (AnswersAct os) both.0 both.1 both.4 }
+    record { known = a.known; more = both.0; began = a.began; ended = both.2; each = AllByRecursion_front (AnswersAct os) both.0 both.1 both.4 }
 
 answers_last : (os : Objects) (first middle last : Option (List Act)) → AddsReads first middle → AddsReads middle last → AnswersAs os first last → AnswersAs os middle last
 answers_last os first middle last f l a =
     let both = acts_of_both os first middle last f l a in
-    record { known = a.known ++ both.0; more = both.1; began = both.2; ended = both.3; each = all_behind (AnswersAct os) both.0 both.1 both.4 }
+    record { known = a.known ++ both.0; more = both.1; began = both.2; ended = both.3; each = AllByRecursion_behind (AnswersAct os) both.0 both.1 both.4 }
 
 pub answering_first : (os : Objects) (objects : Option Objects) (first middle last : Option (List Act)) → AddsReads first middle → AddsReads middle last → Answering os objects first last → Answering os objects first middle
 answering_first os objects first middle last f l (inl is) = inl is

@@ -10,8 +10,9 @@ use Rattle.slate_db.specs.Meaning.{Meaning, combine_of}
 use Rattle.slate_db.specs.Flushed.{IsFolded}
 use Rattle.slate_db.specs.Model.{Rows, versions_in}
 use Rattle.slate_db.specs.Sound.{AreBases}
-use Rattle.slate_db.proofs.Short.{all_append, all_filter, all_from_last}
+use Rattle.slate_db.proofs.Short.{all_from_last}
 use Rattle.slate_db.proofs.Versions.{all_by_versions, all_versions_in}
+use Rattle.slate_types.proofs.Lists.{AllByRecursion_append, AllByRecursion_filter}
 
 value_base : (c : Combine) (v : ValueDeletable) (rs : List RowEntry) → not (is_merge v) ≡ true → not (is_merge (value_of_taken c v rs)) ≡ true
 value_base c v [] h = h
@@ -30,7 +31,7 @@ fold_base c rows h = by (taken rows) (all_from_last (λ r. is_base r ≡ true) i
 pub folded_bases : (m : Meaning) (b : ℕ) (layers : List Rows) (rows : Rows) → AllByRecursion AreBases layers → IsFolded m b layers rows → AreBases rows
 folded_bases m b layers rows h folded = all_by_versions (λ r. is_base r ≡ true) rows (λ k.
     let here : AreBases (versions_in k layers) = all_versions_in (λ r. is_base r ≡ true) k layers h in
-    subst AreBases (sym (folded k)) (all_append _ _ _ (fold_base (combine_of m k) _ (all_filter _ _ _ here)) (all_filter _ _ _ here)))
+    subst AreBases (sym (folded k)) (AllByRecursion_append _ _ _ (fold_base (combine_of m k) _ (AllByRecursion_filter _ _ _ here)) (AllByRecursion_filter _ _ _ here)))
 
 pub no_merge_among : (rows : Rows) → AreBases rows → list_any is_operand rows ≡ false
 no_merge_among [] h = refl

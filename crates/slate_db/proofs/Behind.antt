@@ -13,7 +13,7 @@ use Rattle.slate_types.specs.Lawful.{IsLawfulTransform}
 use Rattle.slate_types.specs.Outside.{Act, Meaning, Objects, Reach}
 use Rattle.slate_types.specs.World.{IsCall, AnswersObjects, Made, Section}
 use Rattle.slate_types.proofs.Calls.{call_both, call_none}
-use Rattle.slate_types.proofs.Lists.{AllByRecursion-append}
+use Rattle.slate_types.proofs.Lists.{AllByRecursion_append, AllByRecursion_weaken}
 use Rattle.slate_store.specs.Store.{object_at, part_of}
 use Rattle.slate_filter.specs.Policy.{Policy, is_denied}
 use Rattle.slate_table.specs.declared.info.SsTableHandle.{SsTableHandle}
@@ -31,7 +31,6 @@ use Rattle.slate_db.specs.Asked.{AreBehindFilters, Asks, Covers, Finds, IsBehind
 use Rattle.slate_db.specs.Installs.{AreHandles, Holds, IsHandle, root, tables_of}
 use Rattle.slate_db.specs.Model.{CoreModel}
 use Rattle.slate_db.specs.Shown.{Asking, LetsThrough, filters_act}
-use Rattle.slate_db.proofs.Lists.{all_map}
 use Rattle.slate_db.proofs.PathsApart.{one_id}
 use Rattle.slate_db.proofs.Places.{FiltersStand, asks_some, before_filters, filters_stand, none_denies}
 
@@ -158,7 +157,7 @@ once_of a c h start size objects meaning (inl none) = ([], call_quiet a c object
 once_of a c h start size objects meaning (inr r) = read_of a c h start size (λ _. Unit {0}) objects meaning r
 
 pub reads_of_both : (a b c : Reach) (h : SsTableHandle) → Made a b (AllByRecursion (IsReadOf h)) → Made b c (AllByRecursion (IsReadOf h)) → Made a c (AllByRecursion (IsReadOf h))
-reads_of_both a b c h (first, f, fs) (last, l, ls) = (first ++ last, call_both a b c first last f l, AllByRecursion-append (IsReadOf h) first last fs ls)
+reads_of_both a b c h (first, f, fs) (last, l, ls) = (first ++ last, call_both a b c first last f l, AllByRecursion_append (IsReadOf h) first last fs ls)
 
 -- behind a first one
 pub two_of : (a c : Reach) (h : SsTableHandle) (s1 n1 s2 n2 : ℕ) (m1 : Option (List ℕ) → Type 0) (objects : Option Objects) (acts : Option (List Act)) → objects ≡ a.objects → c.objects ≡ objects → c.meaning ≡ a.meaning →
@@ -288,7 +287,7 @@ asks_by asking a b c hs are (reads, call, behind) is set = (
   reads,
   call,
   filters_first a.meaning.encode a.meaning.decode is.readable.lawful.transformer asking is.os (tables_of c.events) hs reads
-      (all_map (λ (t : Ulid × List ℕ). HasFiltersOf a.meaning.encode asking.policies t.0.0 t.1) (λ (t : Ulid × List ℕ). t.0.0 < 2 ^ 128) (λ t has. has.is.named) (tables_of c.events) is.readable.filtered) are is.readable.holds (acts_answered is.os a b reads call is.answers) set behind,
+      (AllByRecursion_weaken (λ (t : Ulid × List ℕ). HasFiltersOf a.meaning.encode asking.policies t.0.0 t.1) (λ (t : Ulid × List ℕ). t.0.0 < 2 ^ 128) (λ t has. has.is.named) (tables_of c.events) is.readable.filtered) are is.readable.holds (acts_answered is.os a b reads call is.answers) set behind,
 )
 
 -- where nothing is read

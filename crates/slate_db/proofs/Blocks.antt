@@ -14,17 +14,9 @@ use Rattle.slate_block.proofs.FieldLaws.{bind_ok}
 use Rattle.slate_block.proofs.Versions.{block_known}
 use Rattle.slate_block.proofs.WalkedVersions.{block_again}
 
-pub if_ok : {X E : Type 0} (r : Result X E) (P Q : X → Type 0) → ((x : X) → P x → Q x) → IfOk r P → IfOk r Q
-if_ok (Ok x) P Q f h = f x h
-if_ok (Err e) P Q f h = tt
-
 pub if_ok_where : {X E P : Type 0} (r : Result X E) (Q : X → Type 0) → (P → IfOk r Q) → IfOk r (λ x. P → Q x)
 if_ok_where (Ok x) Q h = h
 if_ok_where (Err e) Q h = tt
-
-pub if_err : {X E : Type 0} (r : Result X E) (P Q : E → Type 0) → ((e : E) → P e → Q e) → IfErr r P → IfErr r Q
-if_err (Ok x) P Q f h = tt
-if_err (Err e) P Q f h = f e h
 
 pub read_whole : (version : ℕ) (body offsets : List ℕ) (rows : List RowEntry) → EachIsAByte body → IsBlockOf body offsets version rows → IsKnown version → block_rows version body offsets ≡ Ok rows
 read_whole version body offsets rows fits is known = block_again version body offsets rows fits is

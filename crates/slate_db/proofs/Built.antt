@@ -28,7 +28,7 @@ use Rattle.slate_db.specs.Installs.{root, IsHandle}
 use Rattle.slate_db.specs.Model.{Rows}
 use Rattle.slate_db.specs.Layers.{FitsMemory}
 use Rattle.slate_db.proofs.FlushRows.{order_front}
-use Rattle.slate_db.proofs.Lists.{all_behind}
+use Rattle.slate_types.proofs.Lists.{AllByRecursion_behind}
 
 pub can_take : (r : RowEntry) → FitsMemory r → CanTake r
 can_take r f = (f.key.1, omega (arith, f.value))
@@ -81,7 +81,7 @@ pub one_more : (b rest it all : Rows) (row : RowEntry) → it ≡ row ∷ rest �
 one_more b rest it all row step is = append_assoc b (row ∷ []) rest ∙ ap (λ xs. b ++ xs) (sym step) ∙ is
 
 pub row_fits : (b rest it all : Rows) (row : RowEntry) → it ≡ row ∷ rest → b ++ it ≡ all → AllByRecursion FitsMemory all → FitsMemory row
-row_fits b rest it all row step is fit = (all_behind FitsMemory b (row ∷ rest) (subst (AllByRecursion FitsMemory) (sym (ap (λ xs. b ++ xs) (sym step) ∙ is)) fit)).0
+row_fits b rest it all row step is fit = (AllByRecursion_behind FitsMemory b (row ∷ rest) (subst (AllByRecursion FitsMemory) (sym (ap (λ xs. b ++ xs) (sym step) ∙ is)) fit)).0
 
 pub row_order : (b rest it all : Rows) (row : RowEntry) → it ≡ row ∷ rest → b ++ it ≡ all → AreInOrder all → AreInOrder (b ++ (row ∷ []))
 row_order b rest it all row step is order = order_front (b ++ (row ∷ [])) rest (subst AreInOrder (sym (one_more b rest it all row step is)) order)

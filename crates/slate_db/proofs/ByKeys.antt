@@ -12,9 +12,10 @@ use Rattle.slate_types.specs.declared.iter.IterationOrder.TheVariants.{Ascending
 use Rattle.slate_types.specs.Iteration.{comes_before, NoneBefore, IsInOrder, in_order}
 use Rattle.slate_types.specs.Keys.{key_cmp, key_lt, among}
 use Rattle.slate_types.specs.Rows.{of_key}
-use Rattle.slate_types.proofs.KeyOrder.{bytes_eq-same, same-key, turned-key, lt-irreflexive}
-use Rattle.slate_types.proofs.KeySetLaws.{AllAbove, among-above}
-use Rattle.slate_types.proofs.Lists.{AllByRecursion-reverse}
+use Rattle.slate_types.proofs.KeyOrder.{bytes_eq_same, equal_keys, turned_key, lt_irreflexive}
+use Rattle.slate_types.proofs.KeySetLaws.{AllAbove, among_above}
+use Rattle.slate_types.proofs.Lists.{AllByRecursion_reverse}
+use Rattle.slate_txn.proofs.PartLaws.{filter_reverse}
 
 -- ---- keys in an order
 
@@ -22,14 +23,14 @@ apart : (a b : List ℕ) → key_lt a b ≡ true → bytes_eq b a ≡ false
 apart a b h = by (bytes_eq b a) refl
   where
     by : (t : Bool) → bytes_eq b a ≡ t → t ≡ false
-    by true e = lt-irreflexive a (subst (λ (x : List ℕ). key_lt a x ≡ true) ((bytes_eq-Decides b a).0 e) h)
+    by true e = lt_irreflexive a (subst (λ (x : List ℕ). key_lt a x ≡ true) ((bytes_eq-Decides b a).0 e) h)
     by false e = refl
 
 apart_above : (a b : List ℕ) → key_lt a b ≡ true → bytes_eq a b ≡ false
 apart_above a b h = by (bytes_eq a b) refl
   where
     by : (t : Bool) → bytes_eq a b ≡ t → t ≡ false
-    by true e = lt-irreflexive a (subst (λ (x : List ℕ). key_lt a x ≡ true) (sym ((bytes_eq-Decides a b).0 e)) h)
+    by true e = lt_irreflexive a (subst (λ (x : List ℕ). key_lt a x ≡ true) (sym ((bytes_eq-Decides a b).0 e)) h)
     by false e = refl
 
 apart_in : (order : IterationOrder) (a b : List ℕ) → comes_before order a b ≡ true → bytes_eq b a ≡ false
@@ -41,20 +42,20 @@ one_first : {A : Type 0} (order : IterationOrder) (a b : List ℕ) → (comes_be
 one_first {A} order a b less same more = by order (key_cmp a b) refl less more
   where
     back : (o : Ordering) → key_cmp a b ≡ o → key_cmp b a ≡ ordering_reverse o
-    back o e = turned-key b a ∙ ap ordering_reverse e
+    back o e = turned_key b a ∙ ap ordering_reverse e
 
     by : (order : IterationOrder) (o : Ordering) → key_cmp a b ≡ o → (comes_before order a b ≡ true → A) → (comes_before order b a ≡ true → A) → A
     by Ascending Less e less more = less (ap is_lt e)
-    by Ascending Equal e less more = same (same-key a b e)
+    by Ascending Equal e less more = same (equal_keys a b e)
     by Ascending Greater e less more = more (ap is_lt (back Greater e))
     by Descending Less e less more = more (ap is_lt e)
-    by Descending Equal e less more = same (same-key a b e)
+    by Descending Equal e less more = same (equal_keys a b e)
     by Descending Greater e less more = less (ap is_lt (back Greater e))
 
 -- ---- rows of one key
 
 first_row : (x : RowEntry) (xs : List RowEntry) → of_key x.key (x ∷ xs) ≡ x ∷ of_key x.key xs
-first_row x xs = ap (λ b. cond b (x ∷ of_key x.key xs) (of_key x.key xs)) (bytes_eq-same x.key)
+first_row x xs = ap (λ b. cond b (x ∷ of_key x.key xs) (of_key x.key xs)) (bytes_eq_same x.key)
 
 not_first : (k : List ℕ) (y : RowEntry) (ys : List RowEntry) → bytes_eq y.key k ≡ false → of_key k (y ∷ ys) ≡ of_key k ys
 not_first k y ys e = ap (λ b. cond b (y ∷ of_key k ys) (of_key k ys)) e
@@ -99,15 +100,6 @@ known_by_keys order (x ∷ xs) (y ∷ ys) h g same =
 
 -- ---- a row for some keys each
 
-pub turned_filter : {X : Type 0} (t : X → Bool) (xs : List X) → filter t (reverse xs) ≡ reverse (filter t xs)
-turned_filter t [] = refl
-turned_filter t (x ∷ xs) =
-    ap (filter t) (reverse-append (x ∷ []) xs) ∙ filter-append t (reverse xs) (x ∷ []) ∙ ap (λ ys. ys ++ cond (t x) (x ∷ []) []) (turned_filter t xs) ∙ by (t x)
-  where
-    by : (b : Bool) → reverse (filter t xs) ++ cond b (x ∷ []) [] ≡ reverse (cond b (x ∷ filter t xs) (filter t xs))
-    by true = sym (reverse-append (x ∷ []) (filter t xs))
-    by false = append-nil (reverse (filter t xs))
-
 turned_given : {X Y : Type 0} (f : X → Option Y) (xs : List X) → filter_map f (reverse xs) ≡ reverse (filter_map f xs)
 turned_given f [] = refl
 turned_given {Y = Y} f (x ∷ xs) =
@@ -144,7 +136,7 @@ given_of f own k (j ∷ js) h =
     by : (b : Bool) → bytes_eq j k ≡ b → cond b (option_to_list (f j) ++ rest) rest ≡ cond (b || among k js) (option_to_list (f k)) []
     by true e =
         let is : j ≡ k = (bytes_eq-Decides j k).0 e in
-        let none : among k js ≡ false = ap (λ a. among a js) (sym is) ∙ among-above j js h.0 in
+        let none : among k js ≡ false = ap (λ a. among a js) (sym is) ∙ among_above j js h.0 in
         ap (λ b. option_to_list (f j) ++ cond b (option_to_list (f k)) []) none ∙ append-nil (option_to_list (f j)) ∙ ap (λ a. option_to_list (f a)) is
     by false e = refl
 
@@ -154,7 +146,7 @@ none_given f own j (i ∷ is) h = by (f i) (own i) (none_given f own j is h.1)
   where
     by : (o : Option RowEntry) → AllByRecursion (λ r. r.key ≡ i) (option_to_list o) → NoneBefore Ascending j (filter_map f is) → NoneBefore Ascending j (cons_option o (filter_map f is))
     by None has later = later
-    by (Some r) has later = (ap (λ k. key_lt k j) has.0 ∙ ap is_lt (turned-key i j ∙ ap ordering_reverse h.0), later)
+    by (Some r) has later = (ap (λ k. key_lt k j) has.0 ∙ ap is_lt (turned_key i j ∙ ap ordering_reverse h.0), later)
 
 given_ascends : (f : List ℕ → Option RowEntry) → GivesOwn f → (ks : List (List ℕ)) → IsStrictlySortedBy key_cmp ks → IsInOrder Ascending (filter_map f ks)
 unfolding IsStrictlySortedBy
@@ -183,7 +175,7 @@ descends : (rows : List RowEntry) → IsInOrder Ascending rows → IsInOrder Des
 descends [] h = tt
 descends (x ∷ xs) h =
     subst (IsInOrder Descending) (sym (reverse-append (x ∷ []) xs))
-    (last_in_order (reverse xs) x (descends xs h.1) (AllByRecursion-reverse (λ y. key_lt y.key x.key ≡ false) xs (none_above x.key xs h.0)))
+    (last_in_order (reverse xs) x (descends xs h.1) (AllByRecursion_reverse (λ y. key_lt y.key x.key ≡ false) xs (none_above x.key xs h.0)))
 
 -- ---- the rows of a rising list of keys, in an order
 
@@ -195,7 +187,7 @@ pub given_of_key : (order : IterationOrder) (f : List ℕ → Option RowEntry) �
     of_key k (filter_map f (in_order order ks)) ≡ cond (among k ks) (option_to_list (f k)) []
 given_of_key Ascending f own k ks h = given_of f own k ks h
 given_of_key Descending f own k ks h =
-    ap (of_key k) (turned_given f ks) ∙ turned_filter (λ r. bytes_eq r.key k) (filter_map f ks) ∙ ap reverse (given_of f own k ks h) ∙ by (among k ks) (f k)
+    ap (of_key k) (turned_given f ks) ∙ filter_reverse (λ r. bytes_eq r.key k) (filter_map f ks) ∙ ap reverse (given_of f own k ks h) ∙ by (among k ks) (f k)
   where
     by : (b : Bool) (o : Option RowEntry) → reverse (cond b (option_to_list o) []) ≡ cond b (option_to_list o) []
     by false o = refl

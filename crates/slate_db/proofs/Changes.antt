@@ -54,10 +54,6 @@ operated_is s c ts id f is changed = ap (λ (us : Transactions). view_of (record
 pub same_is : (s : Inside) (c : CoreModel) (ts : Transactions) → view_of s ≡ c → ts ≡ s.transactions → view_of (record s { transactions = ts }) ≡ c
 same_is s c ts is same = ap (λ (us : Transactions). view_of (record s { transactions = us })) same ∙ is
 
-pub ok_both : {X E P Q R : Type 0} (r : Result X E) → (P → Q → R) → OnOk r P → OnOk r Q → OnOk r R
-ok_both (Ok x) f p q = f p q
-ok_both (Err e) f p q = tt
-
 -- ---- the model
 
 -- with an operator a merge is refused as any operation is

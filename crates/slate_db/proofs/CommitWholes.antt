@@ -30,12 +30,12 @@ use Rattle.slate_db.specs.Sound.{above, IsKept, IsSound, AreTables}
 use Rattle.slate_db.specs.Whole.{IsWhole, Unseen, log_of, layers_of}
 use Rattle.slate_db.proofs.Journals.{apply_more}
 use Rattle.slate_db.proofs.Keeps.{kept_event}
-use Rattle.slate_db.proofs.Lists.{all_more, all_map, all_front}
 use Rattle.slate_db.proofs.Logs.{tables_same}
 use Rattle.slate_db.proofs.Operands.{operable_commit, own_without}
 use Rattle.slate_db.proofs.Quiet.{quiet_more}
 use Rattle.slate_db.proofs.Split.{up_to_more}
 use Rattle.slate_db.proofs.Wholes.{less_one}
+use Rattle.slate_types.proofs.Lists.{AllByRecursion_front, AllByRecursion_push, AllByRecursion_weaken}
 
 -- ---- with operations
 
@@ -52,14 +52,14 @@ whole_committed c x id now t rows spare some within n managed log layers w = rec
     shown = w.tied.shown;
     named = all_without _ id _ w.tied.named;
     floor_within = let h : c.floor ≤ x.last = w.tied.floor_within in omega arith;
-    begins = all_without _ id _ (all_map _ _ (λ p h. (h.0, let k : p.1.begin ≤ x.last = h.1 in omega arith)) _ w.tied.begins);
-    shows = all_map _ _ (λ p h. (h.0, let k : p.1 ≤ x.last = h.1 in omega arith)) _ w.tied.shows;
+    begins = all_without _ id _ (AllByRecursion_weaken _ _ (λ p h. (h.0, let k : p.1.begin ≤ x.last = h.1 in omega arith)) _ w.tied.begins);
+    shows = AllByRecursion_weaken _ _ (λ p h. (h.0, let k : p.1 ≤ x.last = h.1 in omega arith)) _ w.tied.shows;
     own = all_without _ id _ w.tied.own;
     all_installed = λ active frozen. absurd (some active);
     runs = subst (λ (ts : List (Ulid × List ℕ)). AreRunsOf ts x.runs) (sym (tables_same c.events e refl)) w.tied.runs;
     quiet = λ idle. absurd (some idle);
     manager = managed;
-    rows_within = all_more _ c.frozen rows (all_map _ _ (λ layer h. all_map _ _ higher layer h) c.frozen (all_front _ c.frozen (c.active ∷ []) w.tied.rows_within)) within;
+    rows_within = AllByRecursion_push _ c.frozen rows (AllByRecursion_weaken _ _ (λ layer h. AllByRecursion_weaken _ _ higher layer h) c.frozen (AllByRecursion_front _ c.frozen (c.active ∷ []) w.tied.rows_within)) within;
   };
 }
   where
@@ -110,7 +110,7 @@ kept_idle m c id now t spare kept = kept_event m c (after_commit c id None now t
     e : Event
     e = events.Commit id None now (kept_ops t.ops) (tracked_writes t) t.transcript
 
-cons_list : {X : Type 0} (o : Option X) → cons_option o [] ≡ option_to_list o
+pub cons_list : {X : Type 0} (o : Option X) → cons_option o [] ≡ option_to_list o
 cons_list None = refl
 cons_list (Some x) = refl
 

@@ -13,7 +13,7 @@ use Rattle.slate_mem.specs.BatchModel.{holds_merge}
 use Rattle.slate_mem.specs.CommitRows.{commit_rows}
 use Rattle.slate_mem.specs.KeyTests.{Segments}
 use Rattle.slate_mem.specs.Table.{put_rows}
-use Rattle.slate_mem.proofs.BatchLaws.{keeps-once}
+use Rattle.slate_mem.proofs.BatchLaws.{keeps_each_once}
 use Rattle.slate_txn.specs.declared.event.TranscriptStep.{TranscriptStep}
 use Rattle.slate_txn.specs.declared.line.Line.TheVariants as lines
 use Rattle.slate_txn.specs.Conflict.{conflict, conflict_of, tracked_writes, reads}
@@ -25,8 +25,8 @@ use Rattle.slate_txn.specs.Replay.{replay, commit_made, HasNoConflict, IsNextOrN
 use Rattle.slate_txn.specs.Reply.{Committed, Refused}
 use Rattle.slate_txn.specs.State.{Commit, State, Tx, begun, last_of}
 use Rattle.slate_txn.specs.Step.{step}
-use Rattle.slate_txn.proofs.LegalLaws.{fewer-keys}
-use Rattle.slate_txn.proofs.MadeLaws.{keys-of-kept}
+use Rattle.slate_txn.proofs.LegalLaws.{fewer_keys}
+use Rattle.slate_txn.proofs.MadeLaws.{keys_of_kept}
 use Rattle.slate_db.specs.declared.engine.Core.TheInside.{Inside}
 use Rattle.slate_db.specs.Committed.{IsCommitted, IsNextOf, IsFull, after_commit, recorded_at, rows_at, put_at}
 use Rattle.slate_db.specs.Installs.{as_begun}
@@ -42,7 +42,6 @@ use Rattle.slate_db.specs.Sound.{HasNoMerge, IsKept, IsOperable}
 use Rattle.slate_db.specs.Whole.{IsWhole, Unseen, log_of, layers_of}
 use Rattle.slate_db.proofs.CommitSteps.{step_conflict, step_full, step_idle, step_commits, step_tests}
 use Rattle.slate_db.proofs.CommitWholes.{whole_committed, whole_idle, kept_idle, kept_committed}
-use Rattle.slate_db.proofs.Lists.{all_map, all_behind}
 use Rattle.slate_db.proofs.Loads.{write_load}
 use Rattle.slate_db.proofs.MemoryRows.{commit_within, puts_all}
 use Rattle.slate_db.proofs.Operands.{found_plain, plain_kept}
@@ -51,6 +50,7 @@ use Rattle.slate_db.proofs.Puts.{some_more, versions_more, active_within}
 use Rattle.slate_db.proofs.Segmenting.{segmented_as, segmented_more}
 use Rattle.slate_db.proofs.Tests.{merges_fine, refusal_kept, tested_plain}
 use Rattle.slate_db.proofs.Wholes.{after_end, less_one, same_snapshots}
+use Rattle.slate_types.proofs.Lists.{AllByRecursion_behind, AllByRecursion_weaken}
 
 -- ---- what the log takes
 
@@ -84,11 +84,11 @@ may_commit c x id t n ops tracked ts w found free next ops_are keys steps fine =
     (subst (λ (ss : List TranscriptStep). MayCommit (log_of c x) id n (kept_ops t.ops) (tracked_writes t) ss) (sym steps) (record {
       held = ap is_some named;
       next = next_or_none c.settings.start_seq x.last (replay c.events) t.ops n (w.log.last ∙ ap (last_of c.settings.start_seq) (sym w.log.replays)) next;
-      kept = keeps-once t.ops;
+      kept = keeps_each_once t.ops;
       fine = fine;
-      keys = keys-of-kept t.ops (tracked_writes t) (_, refl);
+      keys = keys_of_kept t.ops (tracked_writes t) (_, refl);
       free = subst (λ (o : Option Tx). HasNoConflict (replay c.events) o (tracked_writes t) t.transcript) (sym named)
-          (is_none _ (ap (λ (cs : List Commit). conflict_of cs t.begin (tracked_writes t) (reads t)) w.log.replays ∙ fewer-keys c.state.commits t.begin (tracked_writes t) t.marked (reads t) free));
+          (is_none _ (ap (λ (cs : List Commit). conflict_of cs t.begin (tracked_writes t) (reads t)) w.log.replays ∙ fewer_keys c.state.commits t.begin (tracked_writes t) t.marked (reads t) free));
       fits = fits x.last t.ops n w.log.last_fits next;
     }))) fine
   where
@@ -148,7 +148,7 @@ whole_made f c x id (Some n) now t spare g next managed log layers w =
     rows k = put_rows c.active (commit_rows f c.settings.default_millis k now (kept_ops t.ops))
 
     within : AllByRecursion (λ r. r.seq ≤ x.last + 1) (put_rows c.active (commit_rows f c.settings.default_millis (x.last + 1) now (kept_ops t.ops)))
-    within = puts_all _ c.active _ (all_map _ _ (λ r h. higher x.last r.seq h) _ (all_behind (λ rows. AllByRecursion (λ r. r.seq ≤ x.last) rows) c.frozen (c.active ∷ []) w.tied.rows_within).0) (commit_within f c.settings.default_millis (x.last + 1) now (kept_ops t.ops))
+    within = puts_all _ c.active _ (AllByRecursion_weaken _ _ (λ r h. higher x.last r.seq h) _ (AllByRecursion_behind (λ rows. AllByRecursion (λ r. r.seq ≤ x.last) rows) c.frozen (c.active ∷ []) w.tied.rows_within).0) (commit_within f c.settings.default_millis (x.last + 1) now (kept_ops t.ops))
 
     whole : (last : ℕ) → n ≡ x.last + 1 → IsManaged g x.ids n (c.state.commits ++ commit_made (Some n) now (kept_ops t.ops) (tracked_writes t)) (without id c.state.txns) →
         IsLog (log_of (after_commit c id (Some n) now t (put_rows c.active (commit_rows f c.settings.default_millis n now (kept_ops t.ops))) spare) (record (less_one x g) { last = n })) →

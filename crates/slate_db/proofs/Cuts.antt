@@ -12,7 +12,7 @@ use Rattle.std.proofs.lemmas.Slice.Eq.{bytes_eq-Decides}
 use Rattle.slate_types.specs.declared.types.RowEntry.{RowEntry}
 use Rattle.slate_types.specs.Keys.{key_lt}
 use Rattle.slate_types.specs.Rows.{estimated_size, row_lt, of_key}
-use Rattle.slate_types.proofs.KeyOrder.{lt-irreflexive, lt-trans}
+use Rattle.slate_types.proofs.KeyOrder.{lt_irreflexive, lt_trans}
 use Rattle.slate_mem.specs.Gathered.{last_row}
 use Rattle.slate_mem.specs.KeyTests.{Segments}
 use Rattle.slate_table.specs.Parts.{last_key}
@@ -20,7 +20,7 @@ use Rattle.slate_table.specs.Table.{AreInOrder}
 use Rattle.slate_db.specs.Cut.{AreCut, AreEnded, AreOfSegment, AreOfSegments, EndsAt, GoesOn, begins_key, begins_segment, ends_before, segment_of}
 use Rattle.slate_db.specs.Model.{Rows, versions, versions_in}
 use Rattle.slate_db.proofs.FlushRows.{order_front}
-use Rattle.slate_db.proofs.Lists.{all_front, all_behind, all_map, all_more}
+use Rattle.slate_types.proofs.Lists.{AllByRecursion_front, AllByRecursion_push, AllByRecursion_behind, AllByRecursion_weaken}
 
 abbrev pub tables_from : Segments → ℕ → Rows → Rows → List Rows
 tables_from g limit table [] = table ∷ []
@@ -169,7 +169,7 @@ all_join : (g : Segments) (limit : ℕ) (prefix : List ℕ) (front rest : Rows) 
 all_join g limit prefix front [] some are on = tt
 all_join g limit prefix front (r ∷ rest) some are on =
     let one = row_joins g limit prefix front r are (λ none. absurd (let n = ap length none in omega arith)) (on front r rest refl) in
-    (one, all_join g limit prefix (front ++ (r ∷ [])) rest (let n = length-append front (r ∷ []) in omega arith) (all_more _ front r are one) (subst (GoesOn g limit) (sym (append_assoc front (r ∷ []) rest)) on))
+    (one, all_join g limit prefix (front ++ (r ∷ [])) rest (let n = length-append front (r ∷ []) in omega arith) (AllByRecursion_push _ front r are one) (subst (GoesOn g limit) (sym (append_assoc front (r ∷ []) rest)) on))
 
 pub one_segment : (g : Segments) (limit : ℕ) (r : RowEntry) (rs : Rows) → GoesOn g limit (r ∷ rs) → AreOfSegment g (segment_of g r.key) (r ∷ rs)
 one_segment g limit r rs on = (refl, all_join g limit (segment_of g r.key) (r ∷ []) rs (omega arith) (refl, tt) on)
@@ -223,7 +223,7 @@ parts_order (t ∷ ts) h = (order_front t (flat_map (λ rows. rows) ts) h, parts
 
 pub parts_all : (P : RowEntry → Type 0) (tables : List Rows) → AllByRecursion P (flat_map (λ rows. rows) tables) → AllByRecursion (λ rows. AllByRecursion P rows) tables
 parts_all P [] h = tt
-parts_all P (t ∷ ts) h = (all_front P t (flat_map (λ rows. rows) ts) h, parts_all P ts (all_behind P t (flat_map (λ rows. rows) ts) h))
+parts_all P (t ∷ ts) h = (AllByRecursion_front P t (flat_map (λ rows. rows) ts) h, parts_all P ts (AllByRecursion_behind P t (flat_map (λ rows. rows) ts) h))
 
 -- ---- no key is in two tables
 
@@ -248,15 +248,15 @@ keys_below (s ∷ (u ∷ t)) rest r order other =
     (by (row_keys s u order.0.0) later.0, later)
   where
     by : (key_lt s.key u.key ≡ true) ⊎ (s.key ≡ u.key) → key_lt u.key r.key ≡ true → key_lt s.key r.key ≡ true
-    by (inl below) next = lt-trans s.key u.key r.key below next
+    by (inl below) next = lt_trans s.key u.key r.key below next
     by (inr same) next = subst (λ (k : List ℕ). key_lt k r.key ≡ true) (sym same) next
 
 -- and of the rows from that one on
 keys_from : (k : List ℕ) (r : RowEntry) (rest : Rows) → AreInOrder (r ∷ rest) → key_lt k r.key ≡ true → AllByRecursion (λ s. key_lt k s.key ≡ true) (r ∷ rest)
-keys_from k r rest order below = (below, all_map _ _ (λ s h. by s (row_keys r s h)) rest order.0)
+keys_from k r rest order below = (below, AllByRecursion_weaken _ _ (λ s h. by s (row_keys r s h)) rest order.0)
   where
     by : (s : RowEntry) → (key_lt r.key s.key ≡ true) ⊎ (r.key ≡ s.key) → key_lt k s.key ≡ true
-    by s (inl more) = lt-trans k r.key s.key below more
+    by s (inl more) = lt_trans k r.key s.key below more
     by s (inr same) = subst (λ (j : List ℕ). key_lt k j ≡ true) same below
 
 pub begins : (g : Segments) (limit : ℕ) (t rest : Rows) (r : RowEntry) → EndsAt g limit t (r ∷ rest) → begins_key (last_row t) r ≡ true
@@ -291,8 +291,8 @@ apart g limit t [] k order ends = inr refl
 apart g limit t (r ∷ rest) k order ends = by (key_lt k r.key) refl
   where
     by : (b : Bool) → key_lt k r.key ≡ b → (of_key k t ≡ []) ⊎ (of_key k (r ∷ rest) ≡ [])
-    by true e = inr (none_of k (r ∷ rest) (all_map _ _ (λ s h same. lt-irreflexive k (subst (λ (j : List ℕ). key_lt k j ≡ true) same h)) (r ∷ rest) (keys_from k r rest (order_behind t (r ∷ rest) order) e)))
-    by false e = inl (none_of k t (all_map _ _ (λ s h same. let f : key_lt k r.key ≡ true = subst (λ (j : List ℕ). key_lt j r.key ≡ true) same h in cc) t (keys_below t rest r order (begins g limit t rest r ends))))
+    by true e = inr (none_of k (r ∷ rest) (AllByRecursion_weaken _ _ (λ s h same. lt_irreflexive k (subst (λ (j : List ℕ). key_lt k j ≡ true) same h)) (r ∷ rest) (keys_from k r rest (order_behind t (r ∷ rest) order) e)))
+    by false e = inl (none_of k t (AllByRecursion_weaken _ _ (λ s h same. let f : key_lt k r.key ≡ true = subst (λ (j : List ℕ). key_lt j r.key ≡ true) same h in cc) t (keys_below t rest r order (begins g limit t rest r ends))))
 
 pub versions_cut : (g : Segments) (limit : ℕ) (tables : List Rows) (k : List ℕ) → AreInOrder (flat_map (λ rows. rows) tables) → AreEnded g limit tables → versions_in k tables ≡ versions k (flat_map (λ rows. rows) tables)
 versions_cut g limit [] k order ended = refl

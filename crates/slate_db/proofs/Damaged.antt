@@ -24,11 +24,7 @@ use Rattle.slate_table.specs.Reading.{SectionRead, IsRefused, RefusesBlock, Refu
 use Rattle.slate_table.specs.SectionReading.{part_in, part_of_sum, stored_sum}
 use Rattle.slate_db.specs.Lookup.{IsUnknown}
 use Rattle.slate_db.specs.Shown.{IsUnreadable, RefusesRow}
-
-pub contains_at : {X : Type 0} (xs : List X) (i : ℕ) (x : X) → slice_get xs i ≡ Some x → Contains xs x
-contains_at [] i x h = cc
-contains_at (y ∷ xs) zero x h = (0, omega arith, same_Some y x h)
-contains_at (y ∷ xs) (suc i) x h = let r = contains_at xs i x h in (suc r.0, (let lt = r.1 in omega (arith, lt)), r.2)
+use Rattle.slate_types.proofs.Lists.{Contains_at}
 
 -- ---- fields
 
@@ -171,4 +167,4 @@ begin_cause version block r e is cause damage unknown = by (known_or_not version
 -- one of them is refused
 pub walk_cause : {U : Type 0} (version : ℕ) (block : Block) (reads : List RowRead) (e : SlateDBError) → block_reads version block.body block.offsets.items ≡ Ok reads → (e ≡ OutOfMemory) ⊎ Refuses reads e → (e ≡ OutOfMemory) ⊎ (IsUnreadable e × RefusesRow version block e) ⊎ U
 walk_cause version block reads e is (inl m) = inl m
-walk_cause version block reads e is (inr r) = inr (inl (in_block e r.0, inr (reads, is, contains_at reads r.1.0 (Err e) r.1.1)))
+walk_cause version block reads e is (inr r) = inr (inl (in_block e r.0, inr (reads, is, Contains_at reads r.1.0 (Err e) r.1.1)))

@@ -16,7 +16,7 @@ use Rattle.slate_db.specs.Model.{CoreModel, Rows}
 use Rattle.slate_db.specs.Readable.{AreFiltered}
 use Rattle.slate_db.proofs.Logs.{tables_more, tables_same}
 use Rattle.slate_db.proofs.Puttings.{frozen_tables}
-use Rattle.slate_db.proofs.Short.{all_append}
+use Rattle.slate_types.proofs.Lists.{AllByRecursion_append}
 
 -- ---- tables
 
@@ -48,7 +48,7 @@ filtered_flush layout before after old new n (idle none is kept) h = still_filte
 filtered_flush layout before after old new n (stored ts is made taken) h =
     still_filtered before.meaning.encode layout.policies (old.events ++ (events.Install n ts ∷ [])) new.events (ap (λ (c : CoreModel). tables_of c.events) is)
     (subst (AreFiltered before.meaning.encode layout.policies) (sym (tables_more old.events (events.Install n ts)))
-    (all_append (λ (t : Ulid × List ℕ). HasFiltersOf before.meaning.encode layout.policies t.0.0 t.1) (tables_of old.events) ts h (tables_filtered before.meaning.encode layout _ 0 made.parts ts made.built)))
+    (AllByRecursion_append (λ (t : Ulid × List ℕ). HasFiltersOf before.meaning.encode layout.policies t.0.0 t.1) (tables_of old.events) ts h (tables_filtered before.meaning.encode layout _ 0 made.parts ts made.built)))
 
 -- a flush with its freeze
 pub filtered_flushed : (layout : Layout) (before after : Reach) (old between new : CoreModel) (n : ℕ) → IsFrozen old between → Flushes layout before after between new n → AreFiltered before.meaning.encode layout.policies (tables_of old.events) →

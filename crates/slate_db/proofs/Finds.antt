@@ -31,7 +31,7 @@ use Rattle.slate_db.specs.Installs.{AreHandles, Holds, installed, root}
 use Rattle.slate_db.specs.Lookup.{AreStored, AreStoredAs, IsStored}
 use Rattle.slate_db.specs.Meaning.{combine_of, rules_of}
 use Rattle.slate_db.specs.Model.{CoreModel, Rows, memory, versions, versions_in}
-use Rattle.slate_db.specs.Readable.{IsOwnOperand}
+use Rattle.slate_db.specs.Readable.{IsOwnRow}
 use Rattle.slate_db.specs.Shown.{Asking, BringsRow, BringsRows, HasBlock, IsOpened, IsRowOf, blocks_act, index_act}
 use Rattle.slate_db.specs.Sound.{IsSound, above, at_most}
 use Rattle.slate_db.specs.Whole.{IsWhole, Unseen}
@@ -39,13 +39,11 @@ use Rattle.slate_db.proofs.Behind.{named_by}
 use Rattle.slate_db.proofs.Folds.{rows_of_commits}
 use Rattle.slate_db.proofs.Gets.{found_turned}
 use Rattle.slate_db.proofs.KeyBlocks.{key_held_in}
-use Rattle.slate_db.proofs.Lists.{all_map}
 use Rattle.slate_db.proofs.Needs.{needs_older}
 use Rattle.slate_db.proofs.Rises.{rows_above}
 use Rattle.slate_db.proofs.ScanWorlds.{table_held}
-use Rattle.slate_db.proofs.Short.{all_filter}
 use Rattle.slate_db.proofs.Split.{split_at}
-use Rattle.slate_db.proofs.Versions.{all_reverse}
+use Rattle.slate_types.proofs.Lists.{AllByRecursion_weaken, AllByRecursion_filter, AllByRecursion_reverse}
 
 -- ---- the table that brought a row
 
@@ -132,15 +130,15 @@ brought_key m asking os ts hs layers reads k r are holds stored answered b key =
 
 -- ---- some row was brought
 
-owns_above : (c : CoreModel) (f : ℕ) (own : Rows) → f ≤ 2 ^ 64 - 2 → AllByRecursion (IsOwnOperand c) own → AllByRecursion (λ r. f < r.seq) own
-owns_above c f own fits owns = all_map (IsOwnOperand c) (λ (r : RowEntry). f < r.seq) (λ r o. let seq : r.seq ≡ 2 ^ 64 - 1 = ap (λ (x : RowEntry). x.seq) o.is in omega (arith, fits, seq)) own owns
+owns_above : (c : CoreModel) (f : ℕ) (own : Rows) → f ≤ 2 ^ 64 - 2 → AllByRecursion (IsOwnRow c) own → AllByRecursion (λ r. f < r.seq) own
+owns_above c f own fits owns = AllByRecursion_weaken (IsOwnRow c) (λ (r : RowEntry). f < r.seq) (λ r o. let seq : r.seq ≡ 2 ^ 64 - 1 = ap (λ (x : RowEntry). x.seq) o.is in omega (arith, fits, seq)) own owns
 
 -- where nothing was, the tables hold nothing that is taken
-pub none_brought : (m : Meaning) (c : CoreModel) (u : Unseen) (k : List ℕ) (at : ℕ) (own : Rows) (sound : IsSound m c) → IsWhole c u → versions_in k (memory c) ≡ key_rows (rules_of c.settings m) k (above (installed c.events) c.state.commits) → c.floor ≤ at → AllByRecursion (IsOwnOperand c) own →
+pub none_brought : (m : Meaning) (c : CoreModel) (u : Unseen) (k : List ℕ) (at : ℕ) (own : Rows) (sound : IsSound m c) → IsWhole c u → versions_in k (memory c) ≡ key_rows (rules_of c.settings m) k (above (installed c.events) c.state.commits) → c.floor ≤ at → AllByRecursion (IsOwnRow c) own →
     takes_flushed c.state (key_rows (rules_of c.settings m) k (up_to at c.state.commits) ++ reverse own) ≡ true →
     own ++ newest k at ((c.active ++ newest_first c.frozen) ++ newest_first sound.layers) ≡ own ++ newest k at (c.active ++ newest_first c.frozen) → ⊥
 none_brought m c u k at own sound w tied above_floor owns needs same =
-    needs_older (combine_of m k) f older flushed newer (reverse own) (sound.folds k at above_floor) newer_above (all_reverse (λ r. f < r.seq) own (owns_above c f own fits owns))
+    needs_older (combine_of m k) f older flushed newer (reverse own) (sound.folds k at above_floor) newer_above (AllByRecursion_reverse (λ r. f < r.seq) own (owns_above c f own fits owns))
     (ap (λ (l : Rows). takes_flushed c.state (l ++ reverse own)) all ∙ needs) equal
   where
     r : Rules
@@ -180,7 +178,7 @@ none_brought m c u k at own sound w tied above_floor owns needs same =
         (split_at c.settings.start_seq i cs w.log.rising ∙ sym (split_at c.settings.start_seq f cs w.log.rising) ∙ ap (λ (l : List Commit). l ++ above f cs) w.log.flushed_through)
 
     newer_above : AllByRecursion (λ x. f < x.seq) newer
-    newer_above = all_filter (λ x. f < x.seq) (λ x. nat_le x.seq at) (versions_in k (memory c))
+    newer_above = AllByRecursion_filter (λ x. f < x.seq) (λ x. nat_le x.seq at) (versions_in k (memory c))
         (subst (AllByRecursion (λ (x : RowEntry). f < x.seq)) (sym (tied ∙ ap (key_rows r k) same_above)) (rows_above r k f cs))
 
     layered : at_most at (versions_in k (sound.layers ++ memory c)) ≡ older ++ newer

@@ -13,7 +13,7 @@ use Rattle.slate_types.specs.Fold.{Combine, KeepsShort, fold_rows, fold_taken, t
 use Rattle.slate_types.specs.Iteration.{NoneBefore, IsInOrder}
 use Rattle.slate_types.specs.Keys.{key_cmp, key_lt}
 use Rattle.slate_types.specs.Rows.{row_lt, is_base, is_operand, of_key}
-use Rattle.slate_types.proofs.KeyOrder.{same-key, turned-key}
+use Rattle.slate_types.proofs.KeyOrder.{equal_keys, turned_key}
 use Rattle.slate_mem.specs.FlushRows.{high_rows, low_rows, kept_and_folded}
 use Rattle.slate_mem.specs.Lookup.{is_merge_among, newest_first}
 use Rattle.slate_table.specs.Table.{AreInOrder}
@@ -24,11 +24,10 @@ use Rattle.slate_db.specs.Sound.{AreBases, at_most, later}
 use Rattle.slate_db.specs.Layers.{FitsMemory, AreRising}
 use Rattle.slate_db.proofs.Bases.{no_merge_among}
 use Rattle.slate_db.proofs.FoldFits.{fold_fits}
-use Rattle.slate_db.proofs.Lists.{all_front, all_behind}
 use Rattle.slate_db.proofs.Newest.{all_versions_are}
 use Rattle.slate_db.proofs.Rises.{folded_rise}
-use Rattle.slate_db.proofs.Short.{all_append, all_filter}
 use Rattle.slate_db.proofs.Versions.{twice, all_versions, all_versions_in, all_by_versions}
+use Rattle.slate_types.proofs.Lists.{AllByRecursion_append, AllByRecursion_front, AllByRecursion_behind, AllByRecursion_filter}
 
 pub some_rows : (rows : Rows) → (rows ≡ [] → ⊥) → 0 < length rows
 some_rows [] h = absurd (h refl)
@@ -42,11 +41,11 @@ AreFalling (r ∷ rs) = AllByRecursion (λ s. s.seq < r.seq) rs × AreFalling rs
 
 pub rising_front : (xs ys : Rows) → AreRising (xs ++ ys) → AreRising xs
 rising_front [] ys h = tt
-rising_front (x ∷ xs) ys h = (all_front _ xs ys h.0, rising_front xs ys h.1)
+rising_front (x ∷ xs) ys h = (AllByRecursion_front _ xs ys h.0, rising_front xs ys h.1)
 
 before_last : (xs : Rows) (r : RowEntry) → AreRising (xs ++ (r ∷ [])) → AllByRecursion (λ s. s.seq < r.seq) xs
 before_last [] r h = tt
-before_last (x ∷ xs) r h = ((all_behind _ xs (r ∷ []) h.0).0, before_last xs r h.1)
+before_last (x ∷ xs) r h = ((AllByRecursion_behind _ xs (r ∷ []) h.0).0, before_last xs r h.1)
 
 falling : (rs : Rows) → AreRising (reverse rs) → AreFalling rs
 falling [] h = tt
@@ -72,8 +71,8 @@ key_below a b e n = by (key_cmp a b) refl
   where
     by : (o : Ordering) → key_cmp a b ≡ o → is_lt o ≡ true
     by Less is = refl
-    by Equal is = let t : bytes_eq b a ≡ true = (bytes_eq-Decides b a).1 (sym (same-key a b is)) in cc
-    by Greater is = let t : key_lt b a ≡ true = ap is_lt (turned-key b a ∙ ap ordering_reverse is) in cc
+    by Equal is = let t : bytes_eq b a ≡ true = (bytes_eq-Decides b a).1 (sym (equal_keys a b is)) in cc
+    by Greater is = let t : key_lt b a ≡ true = ap is_lt (turned_key b a ∙ ap ordering_reverse is) in cc
 
 other_stands : (r s : RowEntry) → bytes_eq s.key r.key ≡ false → key_lt s.key r.key ≡ false → row_lt r s ≡ true
 other_stands r s e n = ap (λ t. t || (bytes_eq r.key s.key && nat_lt s.seq r.seq)) (key_below r.key s.key e n)
@@ -165,7 +164,7 @@ out_some c b (r ∷ rs) (x ∷ xs) made h = omega arith
 -- there are rows where there is a memtable
 gathered_some : (layers : List Rows) (rows : Rows) → ((k : List ℕ) → versions k rows ≡ versions_in k layers) → 0 < length layers → AllByRecursion (λ xs. 0 < length xs) layers → 0 < length rows
 gathered_some [] rows same some each = absurd (omega arith)
-gathered_some (layer ∷ layers) [] same some each = absurd (none layer each.0 (all_by_versions (λ r. ⊥) layer (λ k. all_front _ (versions k layer) (versions_in k layers) (subst (AllByRecursion (λ r. ⊥)) (same k) tt))))
+gathered_some (layer ∷ layers) [] same some each = absurd (none layer each.0 (all_by_versions (λ r. ⊥) layer (λ k. AllByRecursion_front _ (versions k layer) (versions_in k layers) (subst (AllByRecursion (λ r. ⊥)) (same k) tt))))
   where
     none : (xs : Rows) → 0 < length xs → AllByRecursion (λ r. ⊥) xs → ⊥
     none [] h all = absurd (omega arith)
@@ -183,7 +182,7 @@ flush_order m b layers out folded order rise = in_order out order (λ k. falling
 pub flush_fits : (m : Meaning) (b : ℕ) (layers : List Rows) (out : Rows) → ((k : List ℕ) → KeepsShort (combine_of m k)) → IsFolded m b layers out → AllByRecursion (λ xs. AllByRecursion FitsMemory xs) layers → AllByRecursion FitsMemory out
 flush_fits m b layers out keeps folded fit = all_by_versions FitsMemory out (λ k.
     let here : AllByRecursion FitsMemory (versions_in k layers) = all_versions_in FitsMemory k layers fit in
-    subst (AllByRecursion FitsMemory) (sym (folded k)) (all_append _ _ _ (fold_fits (combine_of m k) (keeps k) _ (all_filter _ _ _ here)) (all_filter _ _ _ here)))
+    subst (AllByRecursion FitsMemory) (sym (folded k)) (AllByRecursion_append _ _ _ (fold_fits (combine_of m k) (keeps k) _ (AllByRecursion_filter _ _ _ here)) (AllByRecursion_filter _ _ _ here)))
 
 pub flush_some : (c : List ℕ → Combine) (b : ℕ) (layers : List Rows) (rows out : Rows) → ((k : List ℕ) → versions k rows ≡ versions_in k layers) → ((k : List ℕ) → of_key k out ≡ kept_and_folded (c k) b (of_key k rows)) →
     0 < length layers → AllByRecursion (λ xs. 0 < length xs) layers → 0 < length out
@@ -226,4 +225,4 @@ merge_still layers rows same h = by (is_merge_among rows) refl
 
 pub order_front : (xs ys : Rows) → AreInOrder (xs ++ ys) → AreInOrder xs
 order_front [] ys h = tt
-order_front (x ∷ xs) ys h = (all_front _ xs ys h.0, order_front xs ys h.1)
+order_front (x ∷ xs) ys h = (AllByRecursion_front _ xs ys h.0, order_front xs ys h.1)

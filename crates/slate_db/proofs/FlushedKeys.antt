@@ -9,8 +9,8 @@ use Rattle.slate_db.specs.Flushed.{IsFolded}
 use Rattle.slate_db.specs.Meaning.{Meaning, combine_of}
 use Rattle.slate_db.specs.Model.{Rows, versions, versions_in}
 use Rattle.slate_db.specs.Sound.{at_most, later}
-use Rattle.slate_db.proofs.Lists.{all_map}
-use Rattle.slate_db.proofs.Versions.{all_by_versions, all_reverse}
+use Rattle.slate_db.proofs.Versions.{all_by_versions}
+use Rattle.slate_types.proofs.Lists.{AllByRecursion_weaken, AllByRecursion_reverse}
 
 keys_are : (k : List ℕ) (rows : Rows) → AllByRecursion (λ r. r.key ≡ k) (of_key k rows)
 keys_are k [] = tt
@@ -25,4 +25,4 @@ flushed_keys m barrier layers out P folded has = all_by_versions (λ r. P r.key)
   where
     by : (k : List ℕ) (rows : Rows) → versions_in k layers ≡ rows → AllByRecursion (λ r. P r.key) (versions k out)
     by k [] is = subst (AllByRecursion (λ r. P r.key)) (sym (folded k ∙ ap (λ (xs : Rows). option_to_list (fold_rows (combine_of m k) (at_most barrier xs)) ++ later barrier xs) is)) tt
-    by k (r ∷ rs) is = all_map (λ s. s.key ≡ k) (λ s. P s.key) (λ s same. subst P (sym same) (has k r rs is)) (versions k out) (all_reverse (λ s. s.key ≡ k) (of_key k out) (keys_are k out))
+    by k (r ∷ rs) is = AllByRecursion_weaken (λ s. s.key ≡ k) (λ s. P s.key) (λ s same. subst P (sym same) (has k r rs is)) (versions k out) (AllByRecursion_reverse (λ s. s.key ≡ k) (of_key k out) (keys_are k out))

@@ -11,8 +11,8 @@ use Rattle.slate_block.specs.BlockSpelling.{as_read}
 use Rattle.slate_block.specs.RowSpelling.{read_expiry}
 use Rattle.slate_db.specs.Layers.{FitsMemory}
 use Rattle.slate_db.specs.Model.{Rows}
-use Rattle.slate_db.proofs.Lists.{all_map}
 use Rattle.slate_db.proofs.Short.{all_from_last, value_short}
+use Rattle.slate_types.proofs.Lists.{AllByRecursion_weaken}
 
 -- an operator keeps short values short where its law says so, and what stands without one does
 pub operator_short : {M : Type 0} (combine : M → List ℕ → Combine) (o : Option M) → ((operator : M) (k : List ℕ) → KeepsShort (combine operator k)) → (k : List ℕ) → KeepsShort (operator_at (option_map combine o) k)
@@ -34,7 +34,7 @@ fold_fits c keeps rows h = by (taken rows) (all_from_last FitsMemory is_base row
     by (r ∷ rs) h = (
       record {
         key = h.0.key;
-        value = value_short c keeps r.value rs h.0.value (all_map FitsMemory (λ s. IsShort (operand s)) (λ s f. f.value) rs h.1);
+        value = value_short c keeps r.value rs h.0.value (AllByRecursion_weaken FitsMemory (λ s. IsShort (operand s)) (λ s f. f.value) rs h.1);
         read = λ i. record {
           key = r.key;
           value = value_of_taken c r.value rs;

@@ -34,11 +34,6 @@ fold_within c b rows h = by (taken rows) (taken_within b rows h)
     by [] h = tt
     by (r ∷ rs) h = (greatest_within b r.seq rs h.0 h.1, tt)
 
--- a test that all pass keeps all
-all_pass : {X : Type 0} (t : X → Bool) (xs : List X) → AllByRecursion (λ x. t x ≡ true) xs → filter t xs ≡ xs
-all_pass t [] h = refl
-all_pass t (x ∷ xs) h = rw h.0 (ap (λ ys. x ∷ ys) (all_pass t xs h.1))
-
 pub none_pass : {X : Type 0} (t : X → Bool) (xs : List X) → AllByRecursion (λ x. t x ≡ false) xs → filter t xs ≡ []
 none_pass t [] h = refl
 none_pass t (x ∷ xs) h = rw h.0 (none_pass t xs h.1)

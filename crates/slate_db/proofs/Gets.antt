@@ -12,7 +12,7 @@ use Rattle.slate_types.specs.Outside.{Objects}
 use Rattle.slate_types.specs.Rows.{is_base, of_key, operand}
 use Rattle.slate_store.specs.Store.{object_at}
 use Rattle.slate_mem.specs.Table.{newest, up_to as rows_up_to}
-use Rattle.slate_mem.proofs.MemLaws.{taken-newest}
+use Rattle.slate_mem.proofs.MemLaws.{taken_newest}
 use Rattle.slate_table.specs.declared.info.SsTableHandle.{SsTableHandle}
 use Rattle.slate_table.specs.Parts.{Encode}
 use Rattle.slate_table.specs.Paths.{path_of}
@@ -24,19 +24,19 @@ use Rattle.slate_mem.specs.Lookup.{newest_first, is_merge_among}
 use Rattle.slate_db.specs.Lookup.{AreStored, AreStoredAs}
 use Rattle.slate_db.specs.Meaning.{Meaning, IsLawfulMeaning, rules_of, combine_of}
 use Rattle.slate_db.specs.Model.{CoreModel, Rows, memory, versions, versions_in}
-use Rattle.slate_db.specs.Readable.{IsOwnOperand}
+use Rattle.slate_db.specs.Readable.{IsOwnRow}
 use Rattle.slate_db.specs.Sound.{AreBases, AreTables, IsKept, IsOperable, IsTied, at_most, above}
 use Rattle.slate_db.specs.Whole.{IsWhole, Unseen}
 use Rattle.slate_db.proofs.Bases.{no_merge_among}
-use Rattle.slate_db.proofs.Lists.{all_map}
 use Rattle.slate_mem.proofs.LayerLaws.{first_both}
 use Rattle.slate_db.proofs.Newest.{versions_are}
 use Rattle.slate_db.proofs.NoMerges.{memory_bases, own_bases_of}
 use Rattle.slate_db.proofs.Runs.{all_handles}
 use Rattle.slate_db.proofs.Seen.{seen_fold}
 use Rattle.slate_db.proofs.Tables.{all_same}
-use Rattle.slate_db.proofs.Short.{all_append, all_filter, all_from_last, commits_short, fine_short}
-use Rattle.slate_db.proofs.Versions.{all_reverse, all_versions_in, short_versions, twice}
+use Rattle.slate_db.proofs.Short.{all_from_last, commits_short, fine_short}
+use Rattle.slate_db.proofs.Versions.{all_versions_in, short_versions, twice}
+use Rattle.slate_types.proofs.Lists.{AllByRecursion_append, AllByRecursion_weaken, AllByRecursion_filter, AllByRecursion_reverse}
 
 -- ---- the store holds the tables that the core knows
 
@@ -97,25 +97,25 @@ of_keys k (r ∷ rs) = by (bytes_eq r.key k) refl (of_keys k rs)
 
 key_versions : (k : List ℕ) (layers : List Rows) → AllByRecursion (λ r. r.key ≡ k) (versions_in k layers)
 key_versions k [] = tt
-key_versions k (rows ∷ layers) = all_append _ (versions k rows) (versions_in k layers) (all_reverse _ (of_key k rows) (of_keys k rows)) (key_versions k layers)
+key_versions k (rows ∷ layers) = AllByRecursion_append _ (versions k rows) (versions_in k layers) (AllByRecursion_reverse _ (of_key k rows) (of_keys k rows)) (key_versions k layers)
 
 pairs : (k : List ℕ) (rows : Rows) → AllByRecursion (λ r. r.key ≡ k) rows → AreShort rows → AreOf k rows
 pairs k [] h s = tt
 pairs k (r ∷ rs) h s = ((h.0, s.0), pairs k rs h.1 s.1)
 
 pub own_pairs : (k : List ℕ) (own : Rows) → AllByRecursion (λ r. r.key ≡ k) own → AreShort own → AreOf k (reverse own)
-own_pairs k own keys short = pairs k (reverse own) (all_reverse (λ r. r.key ≡ k) own keys) (all_reverse (λ r. IsShort (operand r)) own short)
+own_pairs k own keys short = pairs k (reverse own) (AllByRecursion_reverse (λ r. r.key ≡ k) own keys) (AllByRecursion_reverse (λ r. IsShort (operand r)) own short)
 
 memory_short : (m : Meaning) (c : CoreModel) (u : Unseen) (k : List ℕ) → IsWhole c u → IsLawfulMeaning m → IsKept m c → AreShort (versions_in k (memory c))
 memory_short m c u k w law kept =
-    subst (λ (xs : Rows). AreShort xs) (sym (kept.0 k)) (commits_short (rules_of c.settings m) k (law.short k) _ (all_filter _ (λ x. nat_lt (installed c.events) x.seq) c.state.commits (all_map _ _ (λ x. fine_short x.ops) c.state.commits w.log.fine)))
+    subst (λ (xs : Rows). AreShort xs) (sym (kept.0 k)) (commits_short (rules_of c.settings m) k (law.short k) _ (AllByRecursion_filter _ (λ x. nat_lt (installed c.events) x.seq) c.state.commits (AllByRecursion_weaken _ _ (λ x. fine_short x.ops) c.state.commits w.log.fine)))
 
 pub found_turned : (c : CoreModel) (k : List ℕ) (at : ℕ) (own found : Rows) (layers : List Rows) → found ≡ own ++ newest k at ((c.active ++ newest_first c.frozen) ++ newest_first layers) →
     reverse found ≡ taken (at_most at (versions_in k (layers ++ memory c))) ++ reverse own
 found_turned c k at own found layers is =
     ap reverse (is ∙ ap (λ rows. own ++ newest k at rows) (sym (layers_are c layers)))
     ∙ reverse-append own (newest k at (newest_first (layers ++ memory c)))
-    ∙ ap (λ rows. rows ++ reverse own) (taken-newest (rows_up_to k at (newest_first (layers ++ memory c))) ∙ ap taken (versions_are k at (layers ++ memory c)))
+    ∙ ap (λ rows. rows ++ reverse own) (taken_newest (rows_up_to k at (newest_first (layers ++ memory c))) ∙ ap taken (versions_are k at (layers ++ memory c)))
 
 -- what stands before the newest row that is no operand doesn't count under newer rows either
 taken_on : (xs ys : Rows) → taken (taken xs ++ ys) ≡ taken (xs ++ ys)
@@ -127,13 +127,13 @@ taken_on (x ∷ xs) ys = by (list_any is_base xs) refl (taken_on xs ys)
     by false e rest = refl
 
 -- without an operator none of them is an operand
-pub found_bases : (m : Meaning) (c : CoreModel) (k : List ℕ) (at : ℕ) (own found : Rows) (layers : List Rows) → m.combine ≡ None → IsTied m c → IsOperable m c → AllByRecursion AreBases layers → AllByRecursion (IsOwnOperand c) own →
+pub found_bases : (m : Meaning) (c : CoreModel) (k : List ℕ) (at : ℕ) (own found : Rows) (layers : List Rows) → m.combine ≡ None → IsTied m c → IsOperable m c → AllByRecursion AreBases layers → AllByRecursion (IsOwnRow c) own →
     found ≡ own ++ newest k at ((c.active ++ newest_first c.frozen) ++ newest_first layers) → is_merge_among found ≡ false
 found_bases m c k at own found layers none tied operable bases owns is =
-    no_merge_among found (twice (λ r. is_base r ≡ true) found (subst AreBases (sym (found_turned c k at own found layers is)) (all_append (λ r. is_base r ≡ true) _ (reverse own) below (all_reverse (λ r. is_base r ≡ true) own (own_bases_of c own (operable none) owns)))))
+    no_merge_among found (twice (λ r. is_base r ≡ true) found (subst AreBases (sym (found_turned c k at own found layers is)) (AllByRecursion_append (λ r. is_base r ≡ true) _ (reverse own) below (AllByRecursion_reverse (λ r. is_base r ≡ true) own (own_bases_of c own (operable none) owns)))))
   where
     below : AreBases (taken (at_most at (versions_in k (layers ++ memory c))))
-    below = all_from_last (λ r. is_base r ≡ true) is_base _ (all_filter (λ r. is_base r ≡ true) (λ r. nat_le r.seq at) _ (all_versions_in (λ r. is_base r ≡ true) k (layers ++ memory c) (all_append AreBases layers (memory c) bases (memory_bases m c none tied operable))))
+    below = all_from_last (λ r. is_base r ≡ true) is_base _ (AllByRecursion_filter (λ r. is_base r ≡ true) (λ r. nat_le r.seq at) _ (all_versions_in (λ r. is_base r ≡ true) k (layers ++ memory c) (AllByRecursion_append AreBases layers (memory c) bases (memory_bases m c none tied operable))))
 
 -- the rows that were found can be folded, and fold as the commits do under own rows
 pub record Folds (m : Meaning) (c : CoreModel) (k : List ℕ) (at : ℕ) (own found : Rows) : Type 0 where
@@ -143,10 +143,10 @@ pub record Folds (m : Meaning) (c : CoreModel) (k : List ℕ) (at : ℕ) (own fo
 pub found_folds : (m : Meaning) (c : CoreModel) (u : Unseen) (k : List ℕ) (at : ℕ) (own found : Rows) (layers : List Rows) → IsWhole c u → IsLawfulMeaning m → IsKept m c → AreTables m (tables_of c.events) layers → AllByRecursion AreShort layers → c.floor ≤ at →
     AllByRecursion (λ r. r.key ≡ k) own → AreShort own → found ≡ own ++ newest k at ((c.active ++ newest_first c.frozen) ++ newest_first layers) → Folds m c k at own found
 found_folds m c u k at own found layers w law kept tables short above keys own_short is = record {
-  are = subst (AreOf k) (sym turned) (all_append _ (taken seen) (reverse own) (pairs k (taken seen) (all_from_last _ is_base seen (all_filter _ (λ r. nat_le r.seq at) _ (key_versions k all))) (all_from_last _ is_base seen (all_filter _ (λ r. nat_le r.seq at) _ all_short)))
+  are = subst (AreOf k) (sym turned) (AllByRecursion_append _ (taken seen) (reverse own) (pairs k (taken seen) (all_from_last _ is_base seen (AllByRecursion_filter _ (λ r. nat_le r.seq at) _ (key_versions k all))) (all_from_last _ is_base seen (AllByRecursion_filter _ (λ r. nat_le r.seq at) _ all_short)))
       (own_pairs k own keys own_short));
   fold = ap (fold_rows (combine_of m k)) turned ∙ ap (fold_taken (combine_of m k)) (taken_on seen (reverse own))
-      ∙ seen_fold m c u layers k at (reverse own) w law kept tables above (all_reverse (λ r. IsShort (operand r)) own own_short);
+      ∙ seen_fold m c u layers k at (reverse own) w law kept tables above (AllByRecursion_reverse (λ r. IsShort (operand r)) own own_short);
 }
   where
     all : List Rows
@@ -159,4 +159,4 @@ found_folds m c u k at own found layers w law kept tables short above keys own_s
     turned = found_turned c k at own found layers is
 
     all_short : AreShort (versions_in k all)
-    all_short = subst (λ (xs : Rows). AreShort xs) (sym (flat_map-append (versions k) layers (memory c))) (all_append _ (versions_in k layers) (versions_in k (memory c)) (short_versions k layers short) (memory_short m c u k w law kept))
+    all_short = subst (λ (xs : Rows). AreShort xs) (sym (flat_map-append (versions k) layers (memory c))) (AllByRecursion_append _ (versions_in k layers) (versions_in k (memory c)) (short_versions k layers short) (memory_short m c u k w law kept))

@@ -30,12 +30,12 @@ use Rattle.slate_db.proofs.Split.{none_above, all_up_to}
 use Rattle.slate_db.proofs.Bases.{folded_bases}
 use Rattle.slate_db.proofs.NoMerges.{memory_bases}
 use Rattle.slate_db.proofs.Rises.{folded_within, rows_above, tables_rise}
-use Rattle.slate_db.proofs.Short.{all_append, all_filter, commits_short, fold_short, fine_short, AreShortOps}
+use Rattle.slate_db.proofs.Short.{commits_short, fold_short, fine_short, AreShortOps}
 use Rattle.slate_db.proofs.AllRows.{flush_fold}
-use Rattle.slate_db.proofs.Lists.{all_map, all_front}
 use Rattle.slate_db.proofs.Logs.{tables_more}
 use Rattle.slate_db.proofs.MemoryLayers.{frozen_rise}
 use Rattle.slate_db.proofs.Versions.{short_versions, short_by_key}
+use Rattle.slate_types.proofs.Lists.{AllByRecursion_append, AllByRecursion_front, AllByRecursion_weaken, AllByRecursion_filter}
 
 tables_append : (m : Meaning) (ts us : List (Ulid × List ℕ)) (layers more : List Rows) → AreTables m ts layers → AreTables m us more → AreTables m (ts ++ us) (layers ++ more)
 tables_append m [] us layers more h is = subst (λ (ls : List Rows). AreTables m us (ls ++ more)) (sym h) is
@@ -55,15 +55,15 @@ kept_install m c u ts spare g limit rows parts w idle tables order cut folded ke
   λ law. let z : IsSound m c = kept.1 law in record {
     layers = z.layers ++ parts;
     tables = subst (λ (xs : List (Ulid × List ℕ)). AreTables m xs (z.layers ++ parts)) (sym (tables_more c.events (events.Install u.last ts))) (tables_append m (tables_of c.events) ts z.layers parts z.tables tables);
-    short = all_append AreShort z.layers parts z.short (of_parts _ (short_by_key rows (λ k.
-        subst (λ (xs : Rows). AreShort xs) (sym (folded k)) (all_append _ _ _ (fold_short (combine_of m k) (law.short k) _ (all_filter _ _ _ (memory_short k law))) (all_filter _ _ _ (memory_short k law))))));
-    bases = λ none. all_append AreBases z.layers parts (z.bases none) (of_parts _ (folded_bases m (least_start u.last c.state) c.frozen rows (all_front _ c.frozen (c.active ∷ []) (memory_bases m c none kept.0 kept.2)) folded));
+    short = AllByRecursion_append AreShort z.layers parts z.short (of_parts _ (short_by_key rows (λ k.
+        subst (λ (xs : Rows). AreShort xs) (sym (folded k)) (AllByRecursion_append _ _ _ (fold_short (combine_of m k) (law.short k) _ (AllByRecursion_filter _ _ _ (memory_short k law))) (AllByRecursion_filter _ _ _ (memory_short k law))))));
+    bases = λ none. AllByRecursion_append AreBases z.layers parts (z.bases none) (of_parts _ (folded_bases m (least_start u.last c.state) c.frozen rows (AllByRecursion_front _ c.frozen (c.active ∷ []) (memory_bases m c none kept.0 kept.2)) folded));
     within = subst (λ (i : ℕ). AllByRecursion (λ layer. AllByRecursion (λ r. r.seq ≤ i) layer) (z.layers ++ parts)) (sym through)
-        (all_append _ z.layers parts (all_map _ _ (wider (installed c.events) u.last w.log.installed_within) z.layers z.within) (of_parts _ (folded_within m (least_start u.last c.state) u.last c.frozen rows (all_front _ c.frozen (c.active ∷ []) w.tied.rows_within) folded)));
+        (AllByRecursion_append _ z.layers parts (AllByRecursion_weaken _ _ (wider (installed c.events) u.last w.log.installed_within) z.layers z.within) (of_parts _ (folded_within m (least_start u.last c.state) u.last c.frozen rows (AllByRecursion_front _ c.frozen (c.active ∷ []) w.tied.rows_within) folded)));
     rise = λ k. subst (λ (xs : Rows). AreRising xs) (sym (same k z.layers))
         (tables_rise m (least_start u.last c.state) (installed c.events) k z.layers c.frozen rows folded (z.rise k) z.within (frozen_rise (layers_of c u) w.layers k) (subst (AllByRecursion (λ x. installed c.events < x.seq)) (sym (tied k)) (rows_above r k (installed c.events) cs)));
     folds = λ k x h.
-        let below : c.floor ≤ x = (let f : c.floor ≤ least_start u.last c.state = start_above c.floor u.last c.state w.tied.floor_within (all_map _ _ (λ p h. h.0) c.state.txns w.tied.begins) (all_map _ _ (λ p h. h.0) c.state.snapshots w.tied.shows) in omega arith) in
+        let below : c.floor ≤ x = (let f : c.floor ≤ least_start u.last c.state = start_above c.floor u.last c.state w.tied.floor_within (AllByRecursion_weaken _ _ (λ p h. h.0) c.state.txns w.tied.begins) (AllByRecursion_weaken _ _ (λ p h. h.0) c.state.snapshots w.tied.shows) in omega arith) in
         ap (λ xs. fold_rows (combine_of m k) (at_most x xs)) (same k z.layers ∙ flat_map-append (versions k) z.layers (rows ∷ []) ∙ ap (λ xs. versions_in k z.layers ++ xs) (append-nil (versions k rows)))
         ∙ ap (fold_rows (combine_of m k)) (filter-append (λ r. nat_le r.seq x) (versions_in k z.layers) (versions k rows))
         ∙ ap (λ xs. fold_rows (combine_of m k) (at_most x (versions_in k z.layers) ++ at_most x xs)) (folded k)
@@ -100,10 +100,10 @@ kept_install m c u ts spare g limit rows parts w idle tables order cut folded ke
     tied k = sym (append-nil (versions_in k c.frozen)) ∙ sym (ap (λ a. versions_in k c.frozen ++ versions_in k (a ∷ [])) idle) ∙ sym (flat_map-append (versions k) c.frozen (c.active ∷ [])) ∙ kept.0 k
 
     short_commits : AllByRecursion (λ x. AreShortOps x.ops) c.state.commits
-    short_commits = all_map _ _ (λ x. fine_short x.ops) c.state.commits w.log.fine
+    short_commits = AllByRecursion_weaken _ _ (λ x. fine_short x.ops) c.state.commits w.log.fine
 
     memory_short : (k : List ℕ) → IsLawfulMeaning m → AreShort (versions_in k c.frozen)
-    memory_short k law = subst (λ (xs : Rows). AreShort xs) (sym (tied k)) (commits_short (rules_of c.settings m) k (law.short k) _ (all_filter _ _ c.state.commits short_commits))
+    memory_short k law = subst (λ (xs : Rows). AreShort xs) (sym (tied k)) (commits_short (rules_of c.settings m) k (law.short k) _ (AllByRecursion_filter _ _ c.state.commits short_commits))
 
 -- ---- the rows and the table of a flush
 
@@ -111,7 +111,7 @@ pub can_flush : (c : CoreModel) (u : Unseen) → IsWhole c u → 0 < length c.fr
 can_flush c u w some = record {
   some = some;
   each = w.layers.frozen_some;
-  fit = all_front _ c.frozen (c.active ∷ []) w.layers.fit;
+  fit = AllByRecursion_front _ c.frozen (c.active ∷ []) w.layers.fit;
   rise = frozen_rise (layers_of c u) w.layers;
 }
 

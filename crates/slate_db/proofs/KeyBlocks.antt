@@ -37,6 +37,7 @@ use Rattle.slate_table.proofs.TableFinds.{flat, found_in}
 use Rattle.slate_read.specs.WalkLaws.{whole_part}
 use Rattle.slate_db.specs.Asked.{holds_key}
 use Rattle.slate_db.proofs.Blocks.{read_whole}
+use Rattle.slate_types.proofs.Lists.{AllByRecursion_slice_get, slice_get_map}
 
 -- ---- the index
 
@@ -63,16 +64,6 @@ place_at version id at end [] ks (suc k) s n there = cc
 place_at version id at end (t ∷ ss) [] k s n there = absurd (omega (arith, n))
 place_at version id at end (t ∷ ss) (x ∷ ks) zero s n there = ap (λ (l : List ℕ). Some (lies version id block_kind at l)) (same_Some t s there)
 place_at version id at end (t ∷ ss) (x ∷ ks) (suc k) s n there = place_at version id (at + length t) end ss ks k s (omega (arith, n)) there
-
-mapped_get : {X Y : Type 0} (f : X → Y) (xs : List X) (i : ℕ) (x : X) → slice_get xs i ≡ Some x → slice_get (map f xs) i ≡ Some (f x)
-mapped_get f [] i x h = cc
-mapped_get f (y ∷ xs) zero x h = ap (λ (z : _). Some (f z)) (same_Some y x h)
-mapped_get f (y ∷ xs) (suc i) x h = mapped_get f xs i x h
-
-all_get : {X : Type 0} (P : X → Type 0) (xs : List X) (i : ℕ) (x : X) → AllByRecursion P xs → slice_get xs i ≡ Some x → P x
-all_get P [] i x h there = cc
-all_get P (y ∷ xs) zero x h there = subst P (same_Some y x there) h.0
-all_get P (y ∷ xs) (suc i) x h there = all_get P xs i x h.1 there
 
 -- ---- the rows of a block
 
@@ -163,7 +154,7 @@ key_held_in encode decode lawful bytes version id bs fs info entries k first sto
     of : (rows : List RowEntry) → slice_get bs i ≡ Some rows → KeyHeld encode version id bs k (block_start end es first) (blocks_size end es first stop)
     of rows there =
         let text = block_bytes version rows in
-        let one = section_placed version id encode 0 (map (λ b. block_bytes version b) bs) i text (mapped_get (λ b. block_bytes version b) bs i rows there) in
+        let one = section_placed version id encode 0 (map (λ b. block_bytes version b) bs) i text (slice_get_map (λ b. block_bytes version b) bs i rows there) in
         let begins : block_start end es i ≡ one.begin = starts_at end (places 0 ss) (separators bs) i one.begin (keys ∙ sym (places_count 0 ss)) one.place in
         let piece = section (cover_of version id block_kind (block_start end es i)) encode text in
         let piece_there : slice_get ss i ≡ Some piece = one.there ∙ ap (λ (n : ℕ). Some (section (cover_of version id block_kind n) encode text)) (sym begins) in
@@ -187,7 +178,7 @@ key_held_in encode decode lawful bytes version id bs fs info entries k first sto
         (subst (λ (l : List (ℕ × List ℕ)). IsBlockRead decode (block_in bytes version id info.filters.at l first stop i) block) same read) in
         let part : read_here.0 ≡ text = part_is encode decode lawful text read_here.0 (block_in bytes version id end es first stop i) here read_here.1 in
         let apart : IsApart block.body block.offsets.items text = subst (IsApart block.body block.offsets.items) part read_here.2 in
-        let spelled = longest_fronts version rows t.known (all_get (FitsBlock version) bs i rows t.each there) in
+        let spelled = longest_fronts version rows t.known (AllByRecursion_slice_get (FitsBlock version) bs i rows t.each there) in
         let once = apart_once spelled.0 block.body spelled.1 block.offsets.items text (block_apart spelled.0 spelled.1 text version (map (as_read version) rows) spelled.2 spelled.3) apart in
         let of_rows : IsBlockOf block.body block.offsets.items version (map (as_read version) rows) =
         subst (λ (b : List ℕ). IsBlockOf b block.offsets.items version (map (as_read version) rows)) once.0 (subst (λ (o : List ℕ). IsBlockOf spelled.0 o version (map (as_read version) rows)) once.1 spelled.2) in

@@ -18,29 +18,17 @@ use Rattle.slate_types.specs.Fold.{Combine, fold_rows, shown}
 use Rattle.slate_types.specs.Keys.{key_cmp}
 use Rattle.slate_types.specs.RowTurns.{row_before, key_order, NoneEarlier, AreInTurn}
 use Rattle.slate_types.specs.Rows.{of_key, is_operand, is_deletion, is_tombstone, hide_tombstone}
-use Rattle.slate_types.proofs.FoldLaws.{hides-older}
+use Rattle.slate_types.proofs.FoldLaws.{hides_older}
 use Rattle.slate_read.specs.Folding.{fold_group}
 use Rattle.slate_read.specs.DecidedKeys.{of_key as of_this_key, upto_base}
 use Rattle.slate_read.specs.Merge.{all_rows}
 use Rattle.slate_read.proofs.Turns.{turn_back}
 use Rattle.slate_db.specs.Layers.{AreRising}
 use Rattle.slate_db.specs.Model.{Rows}
-use Rattle.slate_db.proofs.Lists.{all_map}
-use Rattle.slate_db.proofs.Short.{all_append}
-use Rattle.slate_db.proofs.Versions.{all_reverse}
+use Rattle.slate_types.proofs.Lists.{AllByRecursion_append, AllByRecursion_weaken, AllByRecursion_reverse}
+use Rattle.slate_txn.proofs.PartLaws.{filter_swap}
 
 -- ---- filters
-
-pub filter_swap : {X : Type 0} (p q : X → Bool) (xs : List X) → filter p (filter q xs) ≡ filter q (filter p xs)
-filter_swap p q [] = refl
-filter_swap {X = X} p q (x ∷ xs) = by (p x) (q x) refl refl (filter_swap p q xs)
-  where
-    by : (a b : Bool) → p x ≡ a → q x ≡ b → filter p (filter q xs) ≡ filter q (filter p xs) →
-        filter p (cond b (x ∷ filter q xs) (filter q xs)) ≡ filter q (cond a (x ∷ filter p xs) (filter p xs))
-    by true true e f later = rw (e, f) (ap (λ ys. x ∷ ys) later)
-    by true false e f later = rw f later
-    by false true e f later = rw e later
-    by false false e f later = later
 
 turned_key : (a b : List ℕ) → bytes_eq a b ≡ bytes_eq b a
 turned_key a b = by (bytes_eq a b) refl (bytes_eq b a) refl
@@ -79,12 +67,12 @@ AreClimbing (r ∷ rs) = AllByRecursion (λ s. r.seq ≤ s.seq) rs × AreClimbin
 
 pub rising_climbs : (rows : Rows) → AreRising rows → AreClimbing rows
 rising_climbs [] h = tt
-rising_climbs (r ∷ rs) h = (all_map (λ s. r.seq < s.seq) (λ s. r.seq ≤ s.seq) (λ s k. omega (arith, k)) rs h.0, rising_climbs rs h.1)
+rising_climbs (r ∷ rs) h = (AllByRecursion_weaken (λ s. r.seq < s.seq) (λ s. r.seq ≤ s.seq) (λ s k. omega (arith, k)) rs h.0, rising_climbs rs h.1)
 
 pub climbing_both : (b : ℕ) (xs ys : Rows) → AreClimbing xs → AllByRecursion (λ r. r.seq ≤ b) xs → AreClimbing ys → AllByRecursion (λ r. b ≤ r.seq) ys → AreClimbing (xs ++ ys)
 climbing_both b [] ys climb within climbs newer = climbs
 climbing_both b (x ∷ xs) ys climb within climbs newer = (
-  all_append (λ s. x.seq ≤ s.seq) xs ys climb.0 (all_map _ _ (λ s h. let k : x.seq ≤ b = within.0 in let l : b ≤ s.seq = h in omega arith) ys newer),
+  AllByRecursion_append (λ s. x.seq ≤ s.seq) xs ys climb.0 (AllByRecursion_weaken _ _ (λ s h. let k : x.seq ≤ b = within.0 in let l : b ≤ s.seq = h in omega arith) ys newer),
   climbing_both b xs ys climb.1 within.1 climbs newer,
 )
 
@@ -135,7 +123,7 @@ upto_folds c (r ∷ rs) newer = by (is_operand r) refl (upto_folds c rs (r ∷ n
     by : (b : Bool) → is_operand r ≡ b → fold_rows c (reverse (upto_base rs) ++ (r ∷ newer)) ≡ fold_rows c (reverse rs ++ (r ∷ newer)) →
         fold_rows c (reverse (cond b (r ∷ upto_base rs) (r ∷ [])) ++ newer) ≡ fold_rows c (reverse (r ∷ rs) ++ newer)
     by true e later = behind (upto_base rs) ∙ later ∙ sym (behind rs)
-    by false e later = sym (behind rs ∙ hides-older c (reverse rs) newer r (ap not e))
+    by false e later = sym (behind rs ∙ hides_older c (reverse rs) newer r (ap not e))
 
 all_upto : (P : RowEntry → Type 0) (rows : Rows) → AllByRecursion P rows → AllByRecursion P (upto_base rows)
 all_upto P [] h = tt
@@ -153,7 +141,7 @@ pub group_shown : (c : List ℕ → Combine) (k : List ℕ) (rows : Rows) → Al
 group_shown c k rows keys =
     fold_shown (fold_group c (upto_base (reverse rows)))
     ∙ ap (λ (o : Option RowEntry). option_to_list (option_and_then (λ r. hide_tombstone r.value r) o)) (
-    group_is c k (upto_base (reverse rows)) (all_upto (λ r. r.key ≡ k) (reverse rows) (all_reverse (λ r. r.key ≡ k) rows keys))
+    group_is c k (upto_base (reverse rows)) (all_upto (λ r. r.key ≡ k) (reverse rows) (AllByRecursion_reverse (λ r. r.key ≡ k) rows keys))
     ∙ ap (fold_rows (c k)) (sym (append-nil (reverse (upto_base (reverse rows)))))
     ∙ upto_folds (c k) (reverse rows) []
     ∙ ap (fold_rows (c k)) (append-nil (reverse (reverse rows)) ∙ reverse-reverse rows)

@@ -90,6 +90,7 @@ mod RangeFilters
 mod ScanFilters
 mod ScanOpenings
 mod ScanRefusals
+mod ScanBringings
 mod OpenNotes
 mod Readers
 mod ScanMerges

@@ -14,7 +14,7 @@ use Rattle.slate_mem.specs.Batch.{Ops, batch_keys, kept_ops}
 use Rattle.slate_mem.specs.CommitRows.{commit_rows}
 use Rattle.slate_mem.specs.RowOf.{row_of}
 use Rattle.slate_mem.specs.Table.{put_row, put_rows}
-use Rattle.slate_mem.proofs.BatchLaws.{keeps-keys}
+use Rattle.slate_mem.proofs.BatchLaws.{keeps_its_keys}
 use Rattle.slate_db.specs.Load.{load}
 use Rattle.slate_db.specs.Model.{CoreModel, Rows}
 
@@ -53,7 +53,7 @@ few_made f (k ∷ ks) = by (f k) (few_made f ks)
 few_rows : (c : List ℕ → Combine) (d : Option ℕ) (n : ℕ) (now : ℤ) (made ops : Ops) → made ≡ kept_ops ops → length (commit_rows c d n now made) ≤ length ops
 few_rows c d n now made ops is =
     let rows : length (commit_rows c d n now made) ≤ length (batch_keys made) = few_made (λ k. row_of (c k) d n now made k) (batch_keys made) in
-    let keys : length (batch_keys made) ≡ length (batch_keys ops) = ap length (ap batch_keys is ∙ keeps-keys ops) in
+    let keys : length (batch_keys made) ≡ length (batch_keys ops) = ap length (ap batch_keys is ∙ keeps_its_keys ops) in
     let few : length (batch_keys ops) ≤ length ops = few_of ops in
     omega arith
 

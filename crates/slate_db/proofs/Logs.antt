@@ -19,9 +19,9 @@ use Rattle.slate_db.specs.Installs.{tables_of, tables_in, runs_of, runs_in, inst
 use Rattle.slate_db.specs.Log.{LogModel, IsLog, IsIdOf, IsWhollyKept, HasPlace, MayCommit, LIMIT, ends_of, with_begin, with_snapshot, with_commit, with_end, with_release, with_freeze, with_write, with_install, with_flush}
 use Rattle.slate_db.proofs.ApartIds.{next_id, next_snapshot, not_among, wider_id}
 use Rattle.slate_db.proofs.Journals.{apply_more, used_more, legal_more}
-use Rattle.slate_db.proofs.Lists.{all_more, all_map}
 use Rattle.slate_db.proofs.RunsOf.{runs_more, runs_same}
 use Rattle.slate_db.proofs.Split.{rising_more, last_more, up_to_more, all_up_to}
+use Rattle.slate_types.proofs.Lists.{AllByRecursion_push, AllByRecursion_weaken}
 
 pub tables_more : (es : List Event) (e : Event) → tables_of (es ++ (e ∷ [])) ≡ tables_of es ++ tables_in e
 tables_more es e = flat_map-append tables_in es (e ∷ []) ∙ ap (λ ts. tables_of es ++ ts) (append-nil (tables_in e))
@@ -95,7 +95,7 @@ log_begun l level spare room bound w =
     log_event l (events.Begin (id_of (l.ids + 1)) level l.last) (l.ids + 1) l.snapshot_ids (l.ends + 1) spare
     (not_among (IsIdOf l.ids l.snapshot_ids) (id_of (l.ids + 1)) (λ id. next_id l.ids l.snapshot_ids id (few_ids l w) (few_shown l w)) (used_from [] l.events) w.used, w.last ∙ ap (λ cs. last_of l.start cs) (sym w.replays))
     refl refl refl
-    (rw used_more (inl (record { count = l.ids + 1; within = omega arith; is = refl }), all_map _ _ (wider_id l.ids (l.ids + 1) l.snapshot_ids l.snapshot_ids (omega arith) (omega arith)) _ w.used))
+    (rw used_more (inl (record { count = l.ids + 1; within = omega arith; is = refl }), AllByRecursion_weaken _ _ (wider_id l.ids (l.ids + 1) l.snapshot_ids l.snapshot_ids (omega arith) (omega arith)) _ w.used))
     (omega arith) (omega arith)
     (rw length-append (let h : l.ends ≡ ends_of (replay l.events) = w.ends in omega arith))
     room (omega arith) w
@@ -105,7 +105,7 @@ log_shown l spare room bound w =
     log_event l (events.Snapshot (snapshot_id (l.snapshot_ids + 1)) l.last) l.ids (l.snapshot_ids + 1) (l.ends + 1) spare
     (not_among (IsIdOf l.ids l.snapshot_ids) (snapshot_id (l.snapshot_ids + 1)) (λ id. next_snapshot l.ids l.snapshot_ids id (few_ids l w) (few_shown l w)) (used_from [] l.events) w.used, w.last ∙ ap (λ cs. last_of l.start cs) (sym w.replays))
     refl refl refl
-    (rw used_more (inr (record { count = l.snapshot_ids + 1; within = omega arith; is = refl }), all_map _ _ (wider_id l.ids l.ids l.snapshot_ids (l.snapshot_ids + 1) (omega arith) (omega arith)) _ w.used))
+    (rw used_more (inr (record { count = l.snapshot_ids + 1; within = omega arith; is = refl }), AllByRecursion_weaken _ _ (wider_id l.ids l.ids l.snapshot_ids (l.snapshot_ids + 1) (omega arith) (omega arith)) _ w.used))
     (omega arith) (omega arith)
     (rw length-append (let h : l.ends ≡ ends_of (replay l.events) = w.ends in omega arith))
     room (omega arith) w
@@ -137,7 +137,7 @@ log_written l now ops spare place room fits batch w = record {
   last = sym (last_more l.start l.commits commit);
   last_fits = omega arith;
   rising = rising_more l.start l.commits commit w.rising (let h : l.last ≡ last_of l.start l.commits = w.last in omega arith);
-  fine = all_more _ _ _ w.fine batch.fine;
+  fine = AllByRecursion_push _ _ _ w.fine batch.fine;
   used = rw used_more w.used;
   counted = rw length-append (let h : l.ids ≤ length l.events = w.counted in omega arith);
   snapshots_counted = rw length-append (let h : l.snapshot_ids ≤ length l.events = w.snapshots_counted in omega arith);
@@ -185,7 +185,7 @@ committed_some l id n now ops tracked ts spare may room w = record {
   last = sym (last_more l.start l.commits commit);
   last_fits = may.fits;
   rising = rising_more l.start l.commits commit w.rising (omega (arith, next, newest));
-  fine = all_more _ _ _ w.fine may.fine;
+  fine = AllByRecursion_push _ _ _ w.fine may.fine;
   used = rw used_more w.used;
   counted = rw length-append (let h : l.ids ≤ length l.events = w.counted in omega arith);
   snapshots_counted = rw length-append (let h : l.snapshot_ids ≤ length l.events = w.snapshots_counted in omega arith);

@@ -8,9 +8,9 @@ use Rattle.slate_read.specs.declared.sorted_run.SortedRun.{SortedRun}
 use Rattle.slate_db.specs.Layers.{LayersModel, AreLayers, AreRising, FitsMemory, in_memory}
 use Rattle.slate_db.specs.Model.{Rows, versions, versions_in}
 use Rattle.slate_db.proofs.FlushRows.{rising_front}
-use Rattle.slate_db.proofs.Lists.{all_more, all_front, all_behind}
 use Rattle.slate_db.proofs.MemoryRows.{puts_all, rising_behind}
 use Rattle.slate_db.proofs.Puts.{order_puts}
+use Rattle.slate_types.proofs.Lists.{AllByRecursion_front, AllByRecursion_push, AllByRecursion_behind}
 
 -- the rows in memory stay where they are
 pub versions_frozen : (k : List ℕ) (frozen : List Rows) (active : Rows) → versions_in k ((frozen ++ (active ∷ [])) ++ ([] ∷ [])) ≡ versions_in k (frozen ++ (active ∷ []))
@@ -25,16 +25,16 @@ layers_put y rows fit rise w = record {
   active_order = order_puts y.active rows w.active_order;
   frozen_order = w.frozen_order;
   frozen_some = w.frozen_some;
-  fit = all_more _ y.frozen (put_rows y.active rows) (all_front _ y.frozen (y.active ∷ []) w.fit) (puts_all FitsMemory y.active rows (all_behind _ y.frozen (y.active ∷ []) w.fit).0 fit);
+  fit = AllByRecursion_push _ y.frozen (put_rows y.active rows) (AllByRecursion_front _ y.frozen (y.active ∷ []) w.fit) (puts_all FitsMemory y.active rows (AllByRecursion_behind _ y.frozen (y.active ∷ []) w.fit).0 fit);
   rise = rise;
 }
 
 pub layers_frozen : (y : LayersModel) (freeze : ℕ) → 0 < length y.active → AreLayers y → AreLayers (record y { active = []; frozen = y.frozen ++ (y.active ∷ []); for_freeze = freeze })
 layers_frozen y freeze some w = record {
   active_order = tt;
-  frozen_order = all_more _ _ _ w.frozen_order w.active_order;
-  frozen_some = all_more _ _ _ w.frozen_some some;
-  fit = all_more _ (in_memory y) [] w.fit tt;
+  frozen_order = AllByRecursion_push _ _ _ w.frozen_order w.active_order;
+  frozen_some = AllByRecursion_push _ _ _ w.frozen_some some;
+  fit = AllByRecursion_push _ (in_memory y) [] w.fit tt;
   rise = λ k. subst (λ (xs : Rows). AreRising xs) (sym (versions_frozen k y.frozen y.active)) (w.rise k);
 }
 
@@ -43,7 +43,7 @@ layers_installed y runs floor freeze w = record {
   active_order = w.active_order;
   frozen_order = tt;
   frozen_some = tt;
-  fit = all_behind _ y.frozen (y.active ∷ []) w.fit;
+  fit = AllByRecursion_behind _ y.frozen (y.active ∷ []) w.fit;
   rise = λ k. rising_behind (versions_in k y.frozen) (versions_in k (y.active ∷ [])) (subst (λ (xs : Rows). AreRising xs) (flat_map-append (versions k) y.frozen (y.active ∷ [])) (w.rise k));
 }
 

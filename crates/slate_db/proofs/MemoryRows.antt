@@ -25,11 +25,11 @@ use Rattle.slate_db.specs.Model.{CoreModel, Rows, versions, versions_in, memory}
 use Rattle.slate_db.specs.Layers.{FitsMemory, AreRising}
 use Rattle.slate_db.specs.Log.{AreFine}
 use Rattle.slate_db.proofs.Folds.{row_of_seq}
-use Rattle.slate_db.proofs.Lists.{all_map, all_behind}
 use Rattle.slate_db.proofs.Puts.{all_rows, versions_more}
-use Rattle.slate_mem.proofs.RowOfLaws.{row-has}
-use Rattle.slate_db.proofs.Short.{all_filter, all_append, all_from_last, fine_one, fold_short}
+use Rattle.slate_mem.proofs.RowOfLaws.{row_has}
+use Rattle.slate_db.proofs.Short.{all_from_last, fine_one, fold_short}
 use Rattle.slate_db.proofs.Versions.{all_versions_in}
+use Rattle.slate_types.proofs.Lists.{AllByRecursion_append, AllByRecursion_behind, AllByRecursion_weaken, AllByRecursion_filter}
 
 -- ---- the row of an operation
 
@@ -107,7 +107,7 @@ row_fits c d n now ops k r keeps fine is = by (kept ops k) (all_from_last (λ op
     by : (xs : List WriteOp) → AllByRecursion (λ op. op_refusal k op ≡ None) xs → fold_rows c (map (op_row k n d now) xs) ≡ Some r → FitsMemory r
     by [] all e = cc
     by (x ∷ xs) all e = record {
-      key = subst IsKey (sym (row-has c d n now ops k r is).0) (op_key k x all.0);
+      key = subst IsKey (sym (row_has c d n now ops k r is).0) (op_key k x all.0);
       value = is_short (fold_rows c (map (op_row k n d now) (x ∷ xs))) r e (fold_short c keeps (map (op_row k n d now) (x ∷ xs)) (rows_short k n d now (x ∷ xs) all));
       read = fold_read c (taken (map (op_row k n d now) (x ∷ xs))) r (all_from_last (λ r. as_read 1 r ≡ r) is_base (map (op_row k n d now) (x ∷ xs)) (all_read k n d now (x ∷ xs))) e;
     }
@@ -135,11 +135,11 @@ puts_all P rows (m ∷ more) h hs = puts_all P (put_row rows m) more (put_all P 
 
 rising_end : (xs : Rows) (r : RowEntry) → AreRising xs → AllByRecursion (λ s. s.seq < r.seq) xs → AreRising (xs ++ (r ∷ []))
 rising_end [] r h hs = (tt, tt)
-rising_end (x ∷ xs) r h hs = (all_append (λ s. x.seq < s.seq) xs (r ∷ []) h.0 (hs.0, tt), rising_end xs r h.1 hs.1)
+rising_end (x ∷ xs) r h hs = (AllByRecursion_append (λ s. x.seq < s.seq) xs (r ∷ []) h.0 (hs.0, tt), rising_end xs r h.1 hs.1)
 
 rising_option : (xs : Rows) (n : ℕ) (o : Option RowEntry) → AreRising xs → AllByRecursion (λ s. s.seq < n) xs → AllByRecursion (λ r. r.seq ≡ n) (option_to_list o) → AreRising (xs ++ option_to_list o)
 rising_option xs n None h hs is = subst (λ (ys : Rows). AreRising ys) (sym (append-nil xs)) h
-rising_option xs n (Some r) h hs is = rising_end xs r h (all_map _ _ (λ s below. let e : r.seq ≡ n = is.0 in let b : s.seq < n = below in omega arith) xs hs)
+rising_option xs n (Some r) h hs is = rising_end xs r h (AllByRecursion_weaken _ _ (λ s below. let e : r.seq ≡ n = is.0 in let b : s.seq < n = below in omega arith) xs hs)
 
 pub rising_behind : (xs ys : Rows) → AreRising (xs ++ ys) → AreRising ys
 rising_behind [] ys h = h
@@ -160,8 +160,8 @@ memory_more c f d n now ops k older =
 pub rise_more : (c : CoreModel) (f : List ℕ → Combine) (d : Option ℕ) (n : ℕ) (now : ℤ) (ops : Ops) → AllByRecursion (λ rows. AllByRecursion (λ r. r.seq ≤ n) rows) (memory c) → ((k : List ℕ) → AreRising (versions_in k (memory c))) →
     (k : List ℕ) → AreRising (versions_in k (c.frozen ++ (put_rows c.active (commit_rows f d (n + 1) now ops) ∷ [])))
 rise_more c f d n now ops within rise k =
-    subst (λ (xs : Rows). AreRising xs) (sym (memory_more c f d (n + 1) now ops k (all_filter _ (λ r. bytes_eq r.key k) c.active (all_map _ _ below c.active (all_behind _ c.frozen (c.active ∷ []) within).0))))
-    (rising_option (versions_in k (memory c)) (n + 1) (row_of (f k) d (n + 1) now ops k) (rise k) (all_map _ _ below _ (all_versions_in (λ r. r.seq ≤ n) k (memory c) within)) (row_of_seq (f k) d (n + 1) now ops k))
+    subst (λ (xs : Rows). AreRising xs) (sym (memory_more c f d (n + 1) now ops k (AllByRecursion_filter _ (λ r. bytes_eq r.key k) c.active (AllByRecursion_weaken _ _ below c.active (AllByRecursion_behind _ c.frozen (c.active ∷ []) within).0))))
+    (rising_option (versions_in k (memory c)) (n + 1) (row_of (f k) d (n + 1) now ops k) (rise k) (AllByRecursion_weaken _ _ below _ (all_versions_in (λ r. r.seq ≤ n) k (memory c) within)) (row_of_seq (f k) d (n + 1) now ops k))
   where
     below : (r : RowEntry) → r.seq ≤ n → r.seq < n + 1
     below r h = omega arith

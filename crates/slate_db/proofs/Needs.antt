@@ -10,7 +10,8 @@ use Rattle.slate_mem.specs.declared.WriteOp.{WriteOp}
 use Rattle.slate_mem.specs.Batch.{replaces}
 use Rattle.slate_mem.specs.RowOf.{own_row}
 use Rattle.slate_db.proofs.OwnRows.{own_base}
-use Rattle.slate_db.proofs.Short.{all_append, all_from_last}
+use Rattle.slate_db.proofs.Short.{all_from_last}
+use Rattle.slate_types.proofs.Lists.{AllByRecursion_append}
 
 -- ---- the items from the last one on that passes
 
@@ -68,7 +69,7 @@ needs_older c f older flushed newer own folds later later_own takes same = by (l
     rest = newer ++ own
 
     over : list_any (λ r. nat_le r.seq f) (taken rest) ≡ false
-    over = none_at_most f (taken rest) (all_from_last (λ r. f < r.seq) is_base rest (all_append (λ r. f < r.seq) newer own later later_own))
+    over = none_at_most f (taken rest) (all_from_last (λ r. f < r.seq) is_base rest (AllByRecursion_append (λ r. f < r.seq) newer own later later_own))
 
     split : list_any (λ r. nat_le r.seq f) (taken (flushed ++ rest)) ≡ true
     split = ap (λ (l : List RowEntry). list_any (λ r. nat_le r.seq f) (taken l)) (sym (append_assoc flushed newer own)) ∙ takes

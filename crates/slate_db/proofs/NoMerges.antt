@@ -14,14 +14,13 @@ use Rattle.slate_txn.specs.State.{Rules, Commit, Tx, combine_at}
 use Rattle.slate_db.specs.Installs.{installed}
 use Rattle.slate_db.specs.Meaning.{Meaning, rules_of}
 use Rattle.slate_db.specs.Model.{CoreModel, Rows, memory, versions, versions_in}
-use Rattle.slate_db.specs.Readable.{IsOwnOperand}
+use Rattle.slate_db.specs.Readable.{IsOwnRow}
 use Rattle.slate_db.specs.Sound.{AreBases, HasNoMerge, IsOperable, IsTied}
 use Rattle.slate_db.proofs.Bases.{fold_base}
-use Rattle.slate_db.proofs.Lists.{all_front, all_behind}
 use Rattle.slate_db.proofs.Plain.{kept_replace}
 use Rattle.slate_db.proofs.Seen.{found_all}
-use Rattle.slate_db.proofs.Short.{all_filter}
 use Rattle.slate_db.proofs.Versions.{all_by_versions}
+use Rattle.slate_types.proofs.Lists.{AllByRecursion_front, AllByRecursion_behind, AllByRecursion_filter}
 
 -- ---- commits
 
@@ -49,11 +48,11 @@ commit_bases r k (c ∷ cs) h =
 pub by_layers : (P : RowEntry → Type 0) (layers : List Rows) → ((k : List ℕ) → AllByRecursion P (versions_in k layers)) → AllByRecursion (λ rows. AllByRecursion P rows) layers
 by_layers P [] h = tt
 by_layers P (rows ∷ layers) h =
-    (all_by_versions P rows (λ k. all_front P (versions k rows) (versions_in k layers) (h k)), by_layers P layers (λ k. all_behind P (versions k rows) (versions_in k layers) (h k)))
+    (all_by_versions P rows (λ k. AllByRecursion_front P (versions k rows) (versions_in k layers) (h k)), by_layers P layers (λ k. AllByRecursion_behind P (versions k rows) (versions_in k layers) (h k)))
 
 pub memory_bases : (m : Meaning) (c : CoreModel) → m.combine ≡ None → IsTied m c → IsOperable m c → AllByRecursion AreBases (memory c)
 memory_bases m c none tied operable = by_layers (λ r. is_base r ≡ true) (memory c) (λ k.
-    subst AreBases (sym (tied k)) (commit_bases (rules_of c.settings m) k _ (all_filter _ (λ d. nat_lt (installed c.events) d.seq) c.state.commits (operable none).commits)))
+    subst AreBases (sym (tied k)) (commit_bases (rules_of c.settings m) k _ (AllByRecursion_filter _ (λ d. nat_lt (installed c.events) d.seq) c.state.commits (operable none).commits)))
 
 -- ---- own operations
 
@@ -62,13 +61,13 @@ own_row_base k (Put v o) h = refl
 own_row_base k Delete h = refl
 own_row_base k (Merge v o) h = cc
 
-own_base_of : (c : CoreModel) (row : RowEntry) → HasNoMerge c → IsOwnOperand c row → is_base row ≡ true
+own_base_of : (c : CoreModel) (row : RowEntry) → HasNoMerge c → IsOwnRow c row → is_base row ≡ true
 own_base_of c row none own =
     subst (λ r. is_base r ≡ true) (sym own.is)
     (own_row_base own.key own.op
     (All-contains (λ op. replaces op ≡ true) (kept own.tx.ops own.key) own.op
     (All-from_recursion _ (kept own.tx.ops own.key) (kept_replace own.tx.ops own.key (found_all (λ (t : Tx). holds_merge t.ops ≡ false) own.id c.state.txns own.tx none.own own.open_there))) own.among))
 
-pub own_bases_of : (c : CoreModel) (rows : Rows) → HasNoMerge c → AllByRecursion (IsOwnOperand c) rows → AreBases rows
+pub own_bases_of : (c : CoreModel) (rows : Rows) → HasNoMerge c → AllByRecursion (IsOwnRow c) rows → AreBases rows
 own_bases_of c [] none h = tt
 own_bases_of c (r ∷ rs) none h = (own_base_of c r none h.0, own_bases_of c rs none h.1)

@@ -9,7 +9,7 @@ use Rattle.slate_types.specs.declared.types.RowEntry.{RowEntry}
 use Rattle.slate_types.specs.declared.types.Ulid.{Ulid}
 use Rattle.slate_types.specs.Fold.{Combine, fold_rows, from_last}
 use Rattle.slate_types.specs.Keys.{key_cmp, keys_set}
-use Rattle.slate_types.proofs.KeyOrder.{same-key}
+use Rattle.slate_types.proofs.KeyOrder.{equal_keys}
 use Rattle.slate_mem.specs.declared.WriteOp.{WriteOp}
 use Rattle.slate_mem.specs.Batch.{Ops, batch_keys, ops_of, replaces}
 use Rattle.slate_mem.specs.KeyTests.{Segments, segment_refusal}
@@ -25,9 +25,8 @@ use Rattle.slate_db.specs.Model.{CoreModel, Rows, memory, versions, versions_in}
 use Rattle.slate_db.specs.Segmented.{HavePrefixes}
 use Rattle.slate_db.specs.Sound.{IsTied, above}
 use Rattle.slate_db.proofs.FlushedKeys.{flushed_keys}
-use Rattle.slate_db.proofs.Lists.{all_front}
-use Rattle.slate_db.proofs.Short.{all_filter}
 use Rattle.slate_db.proofs.TouchedSegments.{tables_stand}
+use Rattle.slate_types.proofs.Lists.{AllByRecursion_front, AllByRecursion_filter}
 
 abbrev pub InOneSegment : Segments → Rows → Type 0
 InOneSegment g rows = (prefix : List ℕ) × AllByRecursion (StandsIn g prefix) rows
@@ -41,7 +40,7 @@ all_inserted P k (x ∷ ks) h = by (key_cmp k x) refl (all_inserted P k ks) h
   where
     by : (o : Ordering) → key_cmp k x ≡ o → (AllByRecursion P (insert_key key_cmp ks k) → P k × AllByRecursion P ks) → AllByRecursion P (match_ordering o (k ∷ x ∷ ks) (x ∷ ks) (x ∷ insert_key key_cmp ks k)) → P k × AllByRecursion P (x ∷ ks)
     by Less e later h = h
-    by Equal e later h = (subst P (sym (same-key k x e)) h.0, h)
+    by Equal e later h = (subst P (sym (equal_keys k x e)) h.0, h)
     by Greater e later h = let rest = later h.1 in (rest.0, (h.0, rest.1))
 
 pub all_of_set : (P : List ℕ → Type 0) (ks : List (List ℕ)) → AllByRecursion P (keys_set ks) → AllByRecursion P ks
@@ -84,7 +83,7 @@ frozen_first k old mid (inr frozen) = ([], sym (append-nil (versions_in k (memor
 pub flushed_stand : (m : Meaning) (layout : Layout) (old mid : CoreModel) (number barrier : ℕ) (tables : List (Ulid × List ℕ)) → IsFrozen old mid → IsTied m old → HavePrefixes layout.segments old.state.commits →
     (made : AreTablesOfFlush m layout number barrier mid.frozen tables) → AllByRecursion (InOneSegment layout.segments) made.parts
 flushed_stand m layout old mid number barrier tables frozen tied have made =
-    all_front (InOneSegment layout.segments) made.parts []
+    AllByRecursion_front (InOneSegment layout.segments) made.parts []
     (tables_stand layout.segments layout.table_bytes made.rows (made.parts ++ []) (flushed_keys m barrier mid.frozen made.rows HasPrefix made.folded has) made.cut)
   where
     HasPrefix : List ℕ → Type 0
@@ -93,4 +92,4 @@ flushed_stand m layout old mid number barrier tables frozen tied have made =
     has : (k : List ℕ) (r : RowEntry) (rs : Rows) → versions_in k mid.frozen ≡ r ∷ rs → HasPrefix k
     has k r rs is =
         let first = frozen_first k old mid frozen in
-        of_commits HasPrefix (rules_of old.settings m) k (above (installed old.events) old.state.commits) r (rs ++ first.0) (all_filter _ _ old.state.commits have) (sym (tied k) ∙ first.1 ∙ ap (λ (xs : Rows). xs ++ first.0) is)
+        of_commits HasPrefix (rules_of old.settings m) k (above (installed old.events) old.state.commits) r (rs ++ first.0) (AllByRecursion_filter _ _ old.state.commits have) (sym (tied k) ∙ first.1 ∙ ap (λ (xs : Rows). xs ++ first.0) is)

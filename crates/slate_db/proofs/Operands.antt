@@ -15,8 +15,8 @@ use Rattle.slate_txn.proofs.NamedLaws.{all_without, update_all}
 use Rattle.slate_db.specs.Meaning.{Meaning}
 use Rattle.slate_db.specs.Model.{CoreModel}
 use Rattle.slate_db.specs.Sound.{HasNoMerge, IsOperable}
-use Rattle.slate_db.proofs.Lists.{all_more}
 use Rattle.slate_db.proofs.Plain.{kept_replace}
+use Rattle.slate_types.proofs.Lists.{AllByRecursion_push}
 
 -- what slate_store says of an operator is what slate_mem says
 pub combine_is : {M C : Type 0} (f : M → C) (o : Option M) → combine_of f o ≡ option_map f o
@@ -78,5 +78,5 @@ operable_commit m c d x commits own one h none =
     let z : HasNoMerge c = h none in
     record {
       own = own none z.own;
-      commits = subst (λ (cs : List Commit). AllByRecursion (λ d. holds_merge d.ops ≡ false) cs) (sym commits) (all_more (λ d. holds_merge d.ops ≡ false) c.state.commits x z.commits (one none z));
+      commits = subst (λ (cs : List Commit). AllByRecursion (λ d. holds_merge d.ops ≡ false) cs) (sym commits) (AllByRecursion_push (λ d. holds_merge d.ops ≡ false) c.state.commits x z.commits (one none z));
     }

@@ -7,7 +7,7 @@ use Rattle.std.proofs.lemmas.List.Folds.{list_any-append}
 use Rattle.slate_types.specs.declared.types.RowEntry.{RowEntry}
 use Rattle.slate_types.specs.Fold.{AreShort, Combine, IsShort, fold_rows, from_last}
 use Rattle.slate_types.specs.Rows.{is_base, is_operand, operand}
-use Rattle.slate_types.proofs.FoldLaws.{hides-older}
+use Rattle.slate_types.proofs.FoldLaws.{hides_older}
 use Rattle.slate_mem.specs.declared.WriteOp.{WriteOp}
 use Rattle.slate_mem.specs.declared.WriteOp.TheVariants.{Put, Delete, Merge}
 use Rattle.slate_mem.specs.Batch.{Ops, kept, ops_of, replaces}
@@ -17,12 +17,11 @@ use Rattle.slate_txn.specs.Named.{find_named}
 use Rattle.slate_txn.specs.State.{Tx}
 use Rattle.slate_db.specs.Log.{AreFine}
 use Rattle.slate_db.specs.Model.{CoreModel, Rows}
-use Rattle.slate_db.specs.Readable.{IsOwnOperand, decides_own, keeps_merge}
-use Rattle.slate_db.proofs.Lists.{all_map}
+use Rattle.slate_db.specs.Readable.{IsOwnRow, decides_own, keeps_merge}
 use Rattle.slate_db.proofs.Shown.{contains_here}
 use Rattle.slate_db.proofs.Short.{kept_fine}
 use Rattle.slate_db.proofs.UnderOwn.{decided_last}
-use Rattle.slate_db.proofs.Versions.{all_reverse}
+use Rattle.slate_types.proofs.Lists.{AllByRecursion_weaken, AllByRecursion_reverse}
 
 pub own_base : (k : List ℕ) (op : WriteOp) → replaces op ≡ true → is_base (own_row k op) ≡ true
 own_base k (Put v o) h = refl
@@ -68,7 +67,7 @@ own_decides k ops = decides k (kept ops k) (behind_none replaces (ops_of ops k))
 
 hidden : (c : Combine) (k : List ℕ) (older : Rows) (xs : List WriteOp) → list_any replaces (drop 1 xs) ≡ false → list_any replaces xs ≡ true → fold_rows c (map (own_row k) xs) ≡ fold_rows c (older ++ map (own_row k) xs)
 hidden c k older [] none some = cc
-hidden c k older (x ∷ xs) none some = sym (hides-older c older (map (own_row k) xs) (own_row k x) (own_base k x (by (replaces x) some)))
+hidden c k older (x ∷ xs) none some = sym (hides_older c older (map (own_row k) xs) (own_row k x) (own_base k x (by (replaces x) some)))
   where
     by : (b : Bool) → (b || list_any replaces xs) ≡ true → b ≡ true
     by true e = refl
@@ -131,7 +130,7 @@ merges_turned k (x ∷ xs) =
 
 module _ (k : List ℕ) (ops : Ops) (own : Rows) (is : own ≡ map (own_row k) (reverse (kept ops k))) where
   of_kept : (P : RowEntry → Type 0) → AllByRecursion (λ op. P (own_row k op)) (kept ops k) → AllByRecursion P own
-  of_kept P h = subst (AllByRecursion P) (sym is) (mapped P k (reverse (kept ops k)) (all_reverse (λ op. P (own_row k op)) (kept ops k) h))
+  of_kept P h = subst (AllByRecursion P) (sym is) (mapped P k (reverse (kept ops k)) (AllByRecursion_reverse (λ op. P (own_row k op)) (kept ops k) h))
 
   pub oldest_first : reverse own ≡ map (own_row k) (kept ops k)
   oldest_first = ap reverse is ∙ own_turned k (kept ops k)
@@ -154,10 +153,10 @@ module _ (k : List ℕ) (ops : Ops) (own : Rows) (is : own ≡ map (own_row k) (
   pub own_short : AreFine ops → AreShort own
   own_short fine = of_kept (λ r. IsShort (operand r)) (kept_fine k ops fine)
 
-  pub own_of_open : (c : CoreModel) (id : List ℕ) (t : Tx) → find_named id c.state.txns ≡ Some t → ops ≡ t.ops → AllByRecursion (IsOwnOperand c) own
+  pub own_of_open : (c : CoreModel) (id : List ℕ) (t : Tx) → find_named id c.state.txns ≡ Some t → ops ≡ t.ops → AllByRecursion (IsOwnRow c) own
   own_of_open c id t found same =
-      of_kept (IsOwnOperand c) (subst (λ (os : Ops). AllByRecursion (λ op. IsOwnOperand c (own_row k op)) (kept os k)) (sym same)
-      (all_map (Contains (kept t.ops k)) (λ op. IsOwnOperand c (own_row k op)) (λ op among. record { id = id; tx = t; open_there = found; key = k; op = op; among = among; is = refl }) (kept t.ops k) (each_among [] (kept t.ops k))))
+      of_kept (IsOwnRow c) (subst (λ (os : Ops). AllByRecursion (λ op. IsOwnRow c (own_row k op)) (kept os k)) (sym same)
+      (AllByRecursion_weaken (Contains (kept t.ops k)) (λ op. IsOwnRow c (own_row k op)) (λ op among. record { id = id; tx = t; open_there = found; key = k; op = op; among = among; is = refl }) (kept t.ops k) (each_among [] (kept t.ops k))))
 
   pub own_merges : keeps_merge k ops ≡ true → is_merge_among own ≡ true
   own_merges some = ap is_merge_among is ∙ merges_turned k (kept ops k) ∙ some

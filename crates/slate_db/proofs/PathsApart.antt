@@ -14,7 +14,7 @@ use Rattle.slate_store.proofs.StoreLaws.{others_stay, put_is_there}
 use Rattle.slate_table.specs.Paths.{hex_digit, hex, path_of, table_id}
 use Rattle.slate_db.specs.Flushed.{with_tables}
 use Rattle.slate_db.specs.Installs.{root, ArePlaced, Holds, NumberedFrom}
-use Rattle.slate_db.proofs.Short.{all_append}
+use Rattle.slate_types.proofs.Lists.{AllByRecursion_append}
 
 digit_same : (a b : ℕ) → a < 16 → b < 16 → hex_digit a ≡ hex_digit b → a ≡ b
 digit_same a b h k e = grind (arith, nat_tests)
@@ -82,7 +82,7 @@ earlier_run i p n (t ∷ ts) h below = (record { number = i; place = p; id = h.0
 
 pub earlier_all : (i n : ℕ) (runs : List (List (Ulid × List ℕ))) → NumberedFrom i runs → i + length runs ≤ n → AllByRecursion (IsEarlier n 0) (flat_map (λ ts. ts) runs)
 earlier_all i n [] h later = tt
-earlier_all i n (ts ∷ runs) h later = all_append (IsEarlier n 0) ts (flat_map (λ us. us) runs) (earlier_run i 0 n ts h.0 (omega arith)) (earlier_all (i + 1) n runs h.1 (omega arith))
+earlier_all i n (ts ∷ runs) h later = AllByRecursion_append (IsEarlier n 0) ts (flat_map (λ us. us) runs) (earlier_run i 0 n ts h.0 (omega arith)) (earlier_all (i + 1) n runs h.1 (omega arith))
 
 -- ---- what is held stays so
 
@@ -105,5 +105,5 @@ holds_puts os n p ts (u ∷ us) fits earlier placed h =
     let path : List ℕ = path_of root u.0.0 in
     let one : Holds (with_object os path u.1) (ts ++ (u ∷ [])) = holds_more (with_object os path u.1) u ts (put_is_there os path u.1) (holds_still os path u.1 ts (apart_from n p u ts placed.0 fits placed.1 earlier) h) in
     let before : AllByRecursion (IsEarlier n (p + 1)) (ts ++ (u ∷ [])) =
-    all_append (IsEarlier n (p + 1)) ts (u ∷ []) (still_earlier n p ts earlier) (record { number = n; place = p; id = placed.0; fits = placed.1; earlier = inr (refl, omega arith) }, tt) in
+    AllByRecursion_append (IsEarlier n (p + 1)) ts (u ∷ []) (still_earlier n p ts earlier) (record { number = n; place = p; id = placed.0; fits = placed.1; earlier = inr (refl, omega arith) }, tt) in
     subst (Holds (with_tables (with_object os path u.1) us)) (append_assoc ts (u ∷ []) us) (holds_puts (with_object os path u.1) n (p + 1) (ts ++ (u ∷ [])) us fits before placed.2 one)

@@ -12,18 +12,15 @@ use Rattle.slate_txn.specs.Refusals.{write_refusal}
 use Rattle.slate_txn.specs.Reply.{Written, Refused}
 use Rattle.slate_txn.specs.State.{Rules, State, last_of}
 use Rattle.slate_txn.specs.Step.{step, refused_or, with_reply, as_commit}
-use Rattle.slate_txn.proofs.BatchKeys.{some-kept, HasSome}
+use Rattle.slate_txn.proofs.BatchKeys.{some_kept, HasSome}
 use Rattle.slate_db.specs.Log.{AreFine}
 use Rattle.slate_db.proofs.Refused.{refusal_is, exhausted, step_refused}
+use Rattle.slate_types.proofs.Plain.{neither}
 
 -- ---- each operation replaces what is below it
 
 AllReplace : List WriteOp → Type 0
 AllReplace xs = AllByRecursion (λ op. replaces op ≡ true) xs
-
-pub neither : (a b : Bool) → (a || b) ≡ false → (a ≡ false) × (b ≡ false)
-neither true b h = cc
-neither false b h = (refl, h)
 
 pub no_merge : (o : List ℕ × WriteOp) → is_merge_op o ≡ false → replaces o.1 ≡ true
 no_merge (k, Put v p) h = refl
@@ -60,7 +57,7 @@ some_ops (o ∷ os) h = omega arith
 
 pub empty_kept : (ops : Ops) → kept_ops ops ≡ [] → ops ≡ []
 empty_kept [] h = refl
-empty_kept (o ∷ os) h = absurd (none (kept_ops (o ∷ os)) (some-kept o os) h)
+empty_kept (o ∷ os) h = absurd (none (kept_ops (o ∷ os)) (some_kept o os) h)
   where
     none : (xs : Ops) → HasSome xs → xs ≡ [] → ⊥
     none [] s e = s

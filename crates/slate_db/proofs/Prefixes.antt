@@ -7,14 +7,8 @@ use Rattle.std.proofs.lemmas.Bool.Decides.{nat_tests}
 use Rattle.slate_types.specs.Keys.{key_cmp, key_lt, key_le}
 use Rattle.slate_mem.specs.KeyTests.{Segments, prefix_of_len}
 use Rattle.slate_db.specs.Cut.{segment_of}
-
-both : (a b : Bool) → (a && b) ≡ true → (a ≡ true) × (b ≡ true)
-both true b h = (refl, h)
-both false b h = cc
-
-not_both : (a b : Bool) → a ≡ true → (a && b) ≡ false → b ≡ false
-not_both true b h k = k
-not_both false b h k = cc
+use Rattle.slate_types.proofs.Plain.{both_true, and_first}
+use Rattle.slate_mem.proofs.NestLaws.{begins_front}
 
 heads : (a b : ℕ) → nat_eq a b ≡ true → a ≡ b
 heads a b h = grind (arith, nat_tests, h)
@@ -44,7 +38,7 @@ between (b ∷ p) [] k l a e s t = cc
 between (b ∷ p) (x ∷ j) k [] a e s t = cc
 between (b ∷ p) (x ∷ j) [] (z ∷ l) a e s t = cc
 between (b ∷ p) (x ∷ j) (y ∷ k) (z ∷ l) a e s t =
-    by (λ a e s t. between p j k l a e s t) (both (nat_eq b x) (starts_with nat_eq j p) s) (both (nat_eq b z) (starts_with nat_eq l p) t) (first_le x y (key_cmp j k) a) (first_le y z (key_cmp k l) e)
+    by (λ a e s t. between p j k l a e s t) (both_true (nat_eq b x) (starts_with nat_eq j p) s) (both_true (nat_eq b z) (starts_with nat_eq l p) t) (first_le x y (key_cmp j k) a) (first_le y z (key_cmp k l) e)
   where
     by : (key_le j k ≡ true → key_le k l ≡ true → starts_with nat_eq j p ≡ true → starts_with nat_eq l p ≡ true → starts_with nat_eq k p ≡ true) → (nat_eq b x ≡ true) × (starts_with nat_eq j p ≡ true) → (nat_eq b z ≡ true) × (starts_with nat_eq l p ≡ true) → (ltb x y ≡ true) ⊎ ((x ≡ y) × (key_le j k ≡ true)) → (ltb y z ≡ true) ⊎ ((y ≡ z) × (key_le k l ≡ true)) → starts_with nat_eq (y ∷ k) (b ∷ p) ≡ true
     by rest s t (inl below) (inl above) = absurd (not_below x y z below above (sym (heads b x s.0) ∙ heads b z t.0))
@@ -57,7 +51,7 @@ pub share : (k p q : List ℕ) → starts_with nat_eq k p ≡ true → starts_wi
 share k [] q s t = inr refl
 share k (b ∷ p) [] s t = inl refl
 share [] (b ∷ p) (c ∷ q) s t = cc
-share (x ∷ k) (b ∷ p) (c ∷ q) s t = by (λ s t. share k p q s t) (both (nat_eq b x) (starts_with nat_eq k p) s) (both (nat_eq c x) (starts_with nat_eq k q) t)
+share (x ∷ k) (b ∷ p) (c ∷ q) s t = by (λ s t. share k p q s t) (both_true (nat_eq b x) (starts_with nat_eq k p) s) (both_true (nat_eq c x) (starts_with nat_eq k q) t)
   where
     on : b ≡ c → (starts_with nat_eq p q ≡ true) ⊎ (starts_with nat_eq q p ≡ true) → (starts_with nat_eq (b ∷ p) (c ∷ q) ≡ true) ⊎ (starts_with nat_eq (c ∷ q) (b ∷ p) ≡ true)
     on e (inl h) = inl (ap (λ d. d && starts_with nat_eq p q) (same_heads c b (sym e)) ∙ h)
@@ -72,7 +66,7 @@ rises [] q j k a s t f g = cc
 rises (b ∷ p) [] j k a s t f g = cc
 rises (b ∷ p) (c ∷ q) [] k a s t f g = cc
 rises (b ∷ p) (c ∷ q) (x ∷ j) [] a s t f g = cc
-rises (b ∷ p) (c ∷ q) (x ∷ j) (y ∷ k) a s t f g = by (λ a s t f g. rises p q j k a s t f g) (both (nat_eq b x) (starts_with nat_eq j p) s) (both (nat_eq c y) (starts_with nat_eq k q) t) (first_le x y (key_cmp j k) a)
+rises (b ∷ p) (c ∷ q) (x ∷ j) (y ∷ k) a s t f g = by (λ a s t f g. rises p q j k a s t f g) (both_true (nat_eq b x) (starts_with nat_eq j p) s) (both_true (nat_eq c y) (starts_with nat_eq k q) t) (first_le x y (key_cmp j k) a)
   where
     below : ltb b c ≡ true → key_lt (b ∷ p) (c ∷ q) ≡ true
     below h = ap (λ d. is_lt (ordering_then (cond d Less (cond (nat_eq b c) Equal Greater)) (key_cmp p q))) h
@@ -89,14 +83,9 @@ rises (b ∷ p) (c ∷ q) (x ∷ j) (y ∷ k) a s t f g = by (λ a s t f g. rise
     by rest s t (inl h) = below (ap (λ u. ltb u c) (heads b x s.0) ∙ ap (λ u. ltb x u) (heads c y t.0) ∙ h)
     by rest s t (inr h) =
         let e : b ≡ c = heads b x s.0 ∙ h.0 ∙ sym (heads c y t.0) in
-        level e (rest h.1 s.1 t.1 (not_both (nat_eq c b) (starts_with nat_eq p q) (same_heads c b (sym e)) f) (not_both (nat_eq b c) (starts_with nat_eq q p) (same_heads b c e) g))
+        level e (rest h.1 s.1 t.1 (and_first (nat_eq c b) (starts_with nat_eq p q) (same_heads c b (sym e)) f) (and_first (nat_eq b c) (starts_with nat_eq q p) (same_heads b c e) g))
 
 -- ---- the prefix of a key
-
-starts_take : (n : ℕ) (k : List ℕ) → starts_with nat_eq k (take n k) ≡ true
-starts_take zero k = refl
-starts_take (suc n) [] = refl
-starts_take (suc n) (x ∷ k) = ap (λ b. b && starts_with nat_eq k (take n k)) (same_heads x x refl) ∙ starts_take n k
 
 -- a key begins with the prefix of its segment
 pub begins_itself : (g : Segments) (k : List ℕ) → starts_with nat_eq k (segment_of g k) ≡ true
@@ -106,4 +95,4 @@ begins_itself (Some f) k = by (f k)
     by : (o : Option ℕ) → starts_with nat_eq k (unwrap_or (prefix_of_len k o) []) ≡ true
     by None = refl
     by (Some zero) = refl
-    by (Some (suc n)) = starts_take (suc n) k
+    by (Some (suc n)) = begins_front (suc n) k

@@ -11,15 +11,15 @@ use Rattle.slate_types.specs.declared.types.RowEntry.{RowEntry}
 use Rattle.slate_types.specs.Keys.{key_cmp, among}
 use Rattle.slate_types.specs.Rows.{row_lt, sequenced, sequenced_cmp, of_key}
 use Rattle.slate_types.specs.Fold.{Combine}
-use Rattle.slate_types.proofs.KeySetLaws.{set-rises, among-above, AllAbove}
-use Rattle.slate_types.proofs.RowLaws.{sequenced-total, sequenced-same, rows-by-sequenced}
+use Rattle.slate_types.proofs.KeySetLaws.{set_rises, among_above, AllAbove}
+use Rattle.slate_types.proofs.RowLaws.{sequenced_total, sequenced_same, rows_by_sequenced}
 use Rattle.slate_mem.specs.Batch.{Ops, batch_keys}
 use Rattle.slate_mem.specs.CommitRows.{commit_rows}
 use Rattle.slate_mem.specs.RowOf.{row_of}
 use Rattle.slate_mem.specs.Table.{put_row, put_rows}
-use Rattle.slate_mem.proofs.BatchLaws.{has-a-row, among-keys, some_of}
-use Rattle.slate_mem.proofs.MemLaws.{puts-in-front}
-use Rattle.slate_mem.proofs.RowOfLaws.{row-has}
+use Rattle.slate_mem.proofs.BatchLaws.{has_one_row, among_keys, some_of}
+use Rattle.slate_mem.proofs.MemLaws.{puts_in_front}
+use Rattle.slate_mem.proofs.RowOfLaws.{row_has}
 use Rattle.slate_table.specs.Table.{AreInOrder}
 use Rattle.slate_txn.specs.State.{Rules, Commit, last_of, combine_at}
 use Rattle.slate_txn.specs.Reads.{key_rows}
@@ -30,10 +30,9 @@ use Rattle.slate_db.specs.Sound.{above, IsKept}
 use Rattle.slate_db.specs.Log.{Rising}
 use Rattle.slate_db.specs.Whole.{IsWhole, Unseen}
 use Rattle.slate_db.proofs.Folds.{row_of_seq}
-use Rattle.slate_db.proofs.Lists.{all_behind}
-use Rattle.slate_db.proofs.Short.{all_filter}
 use Rattle.slate_db.proofs.Split.{last_within}
 use Rattle.slate_db.proofs.Versions.{twice}
+use Rattle.slate_types.proofs.Lists.{AllByRecursion_behind, AllByRecursion_filter}
 
 -- ---- the order
 
@@ -43,10 +42,10 @@ is_less Equal h = cc
 is_less Greater h = cc
 
 stands : (r s : RowEntry) → sequenced_cmp (sequenced r) (sequenced s) ≡ Less → row_lt r s ≡ true
-stands r s h = rows-by-sequenced r s ∙ ap is_lt h
+stands r s h = rows_by_sequenced r s ∙ ap is_lt h
 
 stood : (r s : RowEntry) → row_lt r s ≡ true → sequenced_cmp (sequenced r) (sequenced s) ≡ Less
-stood r s h = is_less _ (sym (rows-by-sequenced r s) ∙ h)
+stood r s h = is_less _ (sym (rows_by_sequenced r s) ∙ h)
 
 Before : RowEntry → Rows → Type 0
 Before r rows = AllByRecursion (λ s. IsTrue (row_lt r s)) rows
@@ -54,7 +53,7 @@ Before r rows = AllByRecursion (λ s. IsTrue (row_lt r s)) rows
 before_all : (row r : RowEntry) (rs : Rows) → sequenced_cmp (sequenced row) (sequenced r) ≡ Less → Before r rs → Before row rs
 unfolding Before
 before_all row r [] h b = tt
-before_all row r (s ∷ rs) h b = (stands row s (sequenced-total.trans (sequenced row) (sequenced r) (sequenced s) h (stood r s b.0)), before_all row r rs h b.1)
+before_all row r (s ∷ rs) h b = (stands row s (sequenced_total.trans (sequenced row) (sequenced r) (sequenced s) h (stood r s b.0)), before_all row r rs h b.1)
 
 before_same : (row r : RowEntry) (rs : Rows) → sequenced row ≡ sequenced r → Before r rs → Before row rs
 unfolding Before
@@ -78,8 +77,8 @@ order_put (r ∷ rs) row h = by (sequenced_cmp (sequenced row) (sequenced r)) re
   where
     by : (o : Ordering) → sequenced_cmp (sequenced row) (sequenced r) ≡ o → AreInOrder (put_row rs row) → AreInOrder (match_ordering o (row ∷ r ∷ rs) (row ∷ rs) (r ∷ put_row rs row))
     by Less is later = ((stands row r is, before_all row r rs is h.0), h)
-    by Equal is later = (before_same row r rs (sequenced-same (sequenced row) (sequenced r) is) h.0, h.1)
-    by Greater is later = (before_put r row rs (sequenced-total.antisymm (sequenced r) (sequenced row) ∙ ap ordering_reverse is) h.0, later)
+    by Equal is later = (before_same row r rs (sequenced_same (sequenced row) (sequenced r) is) h.0, h.1)
+    by Greater is later = (before_put r row rs (sequenced_total.antisymm (sequenced r) (sequenced row) ∙ ap ordering_reverse is) h.0, later)
 
 pub order_puts : (rows more : Rows) → AreInOrder rows → AreInOrder (put_rows rows more)
 order_puts rows [] h = h
@@ -155,14 +154,14 @@ one_row f keyed k (j ∷ js) h = by (f j) refl (bytes_eq j k) refl (one_row f ke
         of_key k (cons_option o (filter_map f js)) ≡ cond (b || among k js) (option_to_list (f k)) []
     by None is true e later =
         let same : j ≡ k = (bytes_eq-Decides j k).0 e in
-        later ∙ ap (λ t. cond t (option_to_list (f k)) []) (ap (λ q. among q js) (sym same) ∙ among-above j js h.0)
+        later ∙ ap (λ t. cond t (option_to_list (f k)) []) (ap (λ q. among q js) (sym same) ∙ among_above j js h.0)
         ∙ sym (ap option_to_list (ap f (sym same) ∙ is))
     by None is false e later = later
     by (Some r) is true e later =
         let same : j ≡ k = (bytes_eq-Decides j k).0 e in
         ap (λ q. cond (bytes_eq q k) (r ∷ of_key k (filter_map f js)) (of_key k (filter_map f js))) (keyed j r is)
         ∙ ap (λ t. cond t (r ∷ of_key k (filter_map f js)) (of_key k (filter_map f js))) e
-        ∙ ap (λ rs. r ∷ rs) (later ∙ ap (λ t. cond t (option_to_list (f k)) []) (ap (λ q. among q js) (sym same) ∙ among-above j js h.0))
+        ∙ ap (λ rs. r ∷ rs) (later ∙ ap (λ t. cond t (option_to_list (f k)) []) (ap (λ q. among q js) (sym same) ∙ among_above j js h.0))
         ∙ sym (ap option_to_list (ap f (sym same) ∙ is))
     by (Some r) is false e later =
         ap (λ q. cond (bytes_eq q k) (r ∷ of_key k (filter_map f js)) (of_key k (filter_map f js))) (keyed j r is)
@@ -186,7 +185,7 @@ pub versions_more : (c : List ℕ → Combine) (d : Option ℕ) (n : ℕ) (now :
     versions k (put_rows rows (commit_rows c d n now ops)) ≡ versions k rows ++ option_to_list (row_of (c k) d n now ops k)
 unfolding HasKeys of_keys
 versions_more c d n now ops rows k older =
-    ap reverse (puts-in-front k n rows (commit_rows c d n now ops) older seqs rising)
+    ap reverse (puts_in_front k n rows (commit_rows c d n now ops) older seqs rising)
     ∙ reverse-append (of_key k (commit_rows c d n now ops)) (of_key k rows)
     ∙ ap (λ rs. versions k rows ++ rs) (ap reverse own ∙ turned (row k))
   where
@@ -194,16 +193,16 @@ versions_more c d n now ops rows k older =
     row j = row_of (c j) d n now ops j
 
     keyed : HasKeys row
-    keyed j r is = (row-has (c j) d n now ops j r is).0
+    keyed j r is = (row_has (c j) d n now ops j r is).0
 
     seqs : AllByRecursion (λ r. r.seq ≡ n) (commit_rows c d n now ops)
-    seqs = all_rows (λ r. r.seq ≡ n) row (λ j r is. (row-has (c j) d n now ops j r is).1.0) (batch_keys ops)
+    seqs = all_rows (λ r. r.seq ≡ n) row (λ j r is. (row_has (c j) d n now ops j r is).1.0) (batch_keys ops)
 
     rising : IsStrictlySortedBy key_cmp (map (λ r. r.key) (commit_rows c d n now ops))
-    rising = rising_rows row keyed (batch_keys ops) (set-rises (map (λ o. o.0) ops))
+    rising = rising_rows row keyed (batch_keys ops) (set_rises (map (λ o. o.0) ops))
 
     own : of_key k (commit_rows c d n now ops) ≡ option_to_list (row k)
-    own = one_row row keyed k (batch_keys ops) (set-rises (map (λ o. o.0) ops)) ∙ only_own (row k) (among k (batch_keys ops)) (has-a-row (c k) d n now ops k)
+    own = one_row row keyed k (batch_keys ops) (set_rises (map (λ o. o.0) ops)) ∙ only_own (row k) (among k (batch_keys ops)) (has_one_row (c k) d n now ops k)
 
 has_rows : (f : List ℕ → Option RowEntry) (k : List ℕ) (ks : List (List ℕ)) → among k ks ≡ true → is_some (f k) ≡ true → HasRows (of_keys f ks)
 unfolding of_keys
@@ -219,13 +218,13 @@ has_rows f k (j ∷ js) h s = by (f j) refl (bytes_eq j k) refl h (λ t. has_row
 pub some_more : (c : List ℕ → Combine) (d : Option ℕ) (n : ℕ) (now : ℤ) (ops : Ops) (rows : Rows) → (ops ≡ [] → ⊥) → put_rows rows (commit_rows c d n now ops) ≡ [] → ⊥
 unfolding of_keys
 some_more c d n now [] rows some e = some refl
-some_more c d n now (o ∷ os) rows some e = not_none _ (puts_some rows (commit_rows c d n now (o ∷ os)) (has_rows row o.0 (batch_keys (o ∷ os)) here (has-a-row (c o.0) d n now (o ∷ os) o.0 ∙ here))) e
+some_more c d n now (o ∷ os) rows some e = not_none _ (puts_some rows (commit_rows c d n now (o ∷ os)) (has_rows row o.0 (batch_keys (o ∷ os)) here (has_one_row (c o.0) d n now (o ∷ os) o.0 ∙ here))) e
   where
     row : List ℕ → Option RowEntry
     row j = row_of (c j) d n now (o ∷ os) j
 
     here : among o.0 (batch_keys (o ∷ os)) ≡ true
-    here = among-keys (o ∷ os) o.0 ∙ ap (λ b. some_of (map (λ p. p.1) (cond b (o ∷ filter (λ p. bytes_eq p.0 o.0) os) (filter (λ p. bytes_eq p.0 o.0) os)))) ((bytes_eq-Decides o.0 o.0).1 refl)
+    here = among_keys (o ∷ os) o.0 ∙ ap (λ b. some_of (map (λ p. p.1) (cond b (o ∷ filter (λ p. bytes_eq p.0 o.0) os) (filter (λ p. bytes_eq p.0 o.0) os)))) ((bytes_eq-Decides o.0 o.0).1 refl)
 
 -- ---- the rows that are there are older
 
@@ -250,7 +249,7 @@ active_within m c u w kept k = twice _ (of_key k c.active) (subst (AllByRecursio
     cs = above (installed c.events) c.state.commits
 
     all : AllByRecursion (λ r. r.seq < u.last + 1) (key_rows (rules_of c.settings m) k cs)
-    all = within_rows (rules_of c.settings m) k (u.last + 1) cs (all_filter _ (λ x. nat_lt (installed c.events) x.seq) c.state.commits (within_last c.settings.start_seq (u.last + 1) c.state.commits w.log.rising (let l : u.last ≡ last_of c.settings.start_seq c.state.commits = w.log.last in omega arith)))
+    all = within_rows (rules_of c.settings m) k (u.last + 1) cs (AllByRecursion_filter _ (λ x. nat_lt (installed c.events) x.seq) c.state.commits (within_last c.settings.start_seq (u.last + 1) c.state.commits w.log.rising (let l : u.last ≡ last_of c.settings.start_seq c.state.commits = w.log.last in omega arith)))
 
     last : AllByRecursion (λ r. r.seq < u.last + 1) (versions k c.active ++ [])
-    last = all_behind _ (versions_in k c.frozen) _ (subst (AllByRecursion (λ r. r.seq < u.last + 1)) (sym (kept.0 k) ∙ flat_map-append (versions k) c.frozen (c.active ∷ [])) all)
+    last = AllByRecursion_behind _ (versions_in k c.frozen) _ (subst (AllByRecursion (λ r. r.seq < u.last + 1)) (sym (kept.0 k) ∙ flat_map-append (versions k) c.frozen (c.active ∷ [])) all)

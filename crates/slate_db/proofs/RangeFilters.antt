@@ -15,8 +15,8 @@ use Rattle.slate_types.specs.Keys.{in_range, is_before_end, is_past_start, key_l
 use Rattle.slate_types.specs.Lawful.{IsLawfulTransform}
 use Rattle.slate_types.specs.Outside.{Meaning, Objects}
 use Rattle.slate_types.specs.Rows.{of_key}
-use Rattle.slate_types.proofs.KeyOrder.{bytes_eq-same, le-lt-trans, lt-irreflexive, lt-le-trans, not-le}
-use Rattle.slate_types.proofs.PointLaws.{point-key}
+use Rattle.slate_types.proofs.KeyOrder.{bytes_eq_same, le_lt_trans, lt_irreflexive, lt_le_trans, not_le}
+use Rattle.slate_types.proofs.PointLaws.{point_key}
 use Rattle.slate_block.specs.BlockSpelling.{as_read}
 use Rattle.slate_block.specs.ReadingLaws.{EachIsAByte}
 use Rattle.slate_block.specs.RowSpelling.{read_expiry}
@@ -42,12 +42,9 @@ use Rattle.slate_table.proofs.TableLaws.{tables_one_way}
 use Rattle.slate_db.specs.Lookup.{IsStoredAs}
 use Rattle.slate_db.specs.Model.{Rows}
 use Rattle.slate_db.specs.ScanFilters.{Covers, query_for, scan_query}
+use Rattle.slate_types.proofs.Plain.{both_true}
 
 -- ---- what a scan asks matches each key of its range
-
-both_true : (a b : Bool) → (a && b) ≡ true → (a ≡ true) × (b ≡ true)
-both_true true b h = (refl, h)
-both_true false b h = cc
 
 begun_by : (p k : List ℕ) → starts_with nat_eq k p ≡ true → k ≡ p ++ drop (length p) k
 begun_by [] k h = refl
@@ -61,7 +58,7 @@ pub scan_covers : (range : BytesRange) (prefix : Option (List ℕ)) (context : O
 scan_covers range prefix context begins = by (point_of range) prefix refl begins
   where
     by : (point : Option (List ℕ)) (known : Option (List ℕ)) → point_of range ≡ point → ((p k : List ℕ) → known ≡ Some p → in_range range k ≡ true → starts_with nat_eq k p ≡ true) → Covers (query_for point known context) range
-    by (Some key) known is h = λ k within. sym ((bytes_eq-Decides key k).0 (sym (point-key range key k is) ∙ within))
+    by (Some key) known is h = λ k within. sym ((bytes_eq-Decides key k).0 (sym (point_key range key k is) ∙ within))
     by None (Some p) is h = λ k within. (drop (length p) k, begun_by p k (h p k refl within))
     by None None is h = tt
 
@@ -157,16 +154,16 @@ le_trans a b c h k = by (key_le a c) refl
   where
     by : (t : Bool) → key_le a c ≡ t → t ≡ true
     by true e = refl
-    by false e = lt-irreflexive a (le-lt-trans a b a h (le-lt-trans b c a k (not-le a c e)))
+    by false e = lt_irreflexive a (le_lt_trans a b a h (le_lt_trans b c a k (not_le a c e)))
 
 past_later : (start : Bound (List ℕ)) (k l : List ℕ) → is_past_start start k ≡ true → key_le k l ≡ true → is_past_start start l ≡ true
 past_later (Included a) k l h le = le_trans a k l h le
-past_later (Excluded a) k l h le = lt-le-trans a k l h le
+past_later (Excluded a) k l h le = lt_le_trans a k l h le
 past_later Unbounded k l h le = refl
 
 before_earlier : (end : Bound (List ℕ)) (k f : List ℕ) → is_before_end end k ≡ true → key_le f k ≡ true → is_before_end end f ≡ true
 before_earlier (Included b) k f h le = le_trans f k b le h
-before_earlier (Excluded b) k f h le = le-lt-trans f k b le h
+before_earlier (Excluded b) k f h le = le_lt_trans f k b le h
 before_earlier Unbounded k f h le = refl
 
 reached_by : (range : BytesRange) (info : SsTableInfo) (k : List ℕ) → in_range range k ≡ true → encloses (seen_info info) k ≡ true → can_reach range info ≡ true
@@ -188,7 +185,7 @@ reached_by range info k inside enclosed = rw (from_start info.last_entry within.
 
 not_gone : (rows : List RowEntry) (r : RowEntry) → Contains rows r → of_key r.key rows ≡ [] → ⊥
 not_gone [] r (i, lt, at) none = absurd (omega (arith, lt))
-not_gone (x ∷ rows) r (zero, lt, at) none = by (bytes_eq x.key r.key) (ap (λ (y : RowEntry). bytes_eq y.key r.key) at ∙ bytes_eq-same r.key) none
+not_gone (x ∷ rows) r (zero, lt, at) none = by (bytes_eq x.key r.key) (ap (λ (y : RowEntry). bytes_eq y.key r.key) at ∙ bytes_eq_same r.key) none
   where
     by : (t : Bool) → t ≡ true → cond t (x ∷ of_key r.key rows) (of_key r.key rows) ≡ [] → ⊥
     by true e gone = cc

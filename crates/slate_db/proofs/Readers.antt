@@ -22,7 +22,7 @@ use Rattle.slate_db.specs.declared.engine.Core.TheInside.{Inside}
 use Rattle.slate_db.specs.Log.{AreFine}
 use Rattle.slate_db.specs.Meaning.{Meaning, rules_of}
 use Rattle.slate_db.specs.Model.{CoreModel}
-use Rattle.slate_db.specs.Readable.{IsOwnOperand}
+use Rattle.slate_db.specs.Readable.{IsOwnRow}
 use Rattle.slate_db.specs.Scanned.{HasOwn}
 use Rattle.slate_db.specs.View.{view_of, IsWholeInside}
 use Rattle.slate_db.specs.Vouched.{IsVouchedFor}
@@ -140,9 +140,9 @@ vouched_get m c id k key a from found own is h =
     (is ∙ ap (λ (r : Reader). option_map key_value (seen (rules_of c.settings m) c.state.commits r.at r.ops key)) (of_open c.state id t from e found)) g) h
 
 -- own rows are of an open transaction
-pub own_of_reader : (c : CoreModel) (id : List ℕ) (from : Reader) (k : List ℕ) (own : List RowEntry) → reader c.state id ≡ Some from → own ≡ map (own_row k) (reverse (kept from.ops k)) → AllByRecursion (IsOwnOperand c) own
+pub own_of_reader : (c : CoreModel) (id : List ℕ) (from : Reader) (k : List ℕ) (own : List RowEntry) → reader c.state id ≡ Some from → own ≡ map (own_row k) (reverse (kept from.ops k)) → AllByRecursion (IsOwnRow c) own
 own_of_reader c id from k own found is = by (who_reads c.state id from found)
   where
-    by : IsReader c.state id from → AllByRecursion (IsOwnOperand c) own
+    by : IsReader c.state id from → AllByRecursion (IsOwnRow c) own
     by (transaction t here same) = own_of_open k from.ops own is c id t here (ap (λ (r : Reader). r.ops) same)
-    by (snapshot n here there same) = subst (AllByRecursion (IsOwnOperand c)) (sym (is ∙ ap (λ (r : Reader). map (own_row k) (reverse (kept r.ops k))) same)) tt
+    by (snapshot n here there same) = subst (AllByRecursion (IsOwnRow c)) (sym (is ∙ ap (λ (r : Reader). map (own_row k) (reverse (kept r.ops k))) same)) tt

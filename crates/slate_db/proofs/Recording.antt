@@ -7,9 +7,9 @@ use Rattle.std.specs.List.Sorted.{IsStrictlySortedBy}
 use Rattle.std.proofs.lemmas.List.Kept.{IsStrictlySortedBy-filter}
 use Rattle.std.proofs.lemmas.Slice.Eq.{bytes_eq-Decides}
 use Rattle.slate_types.specs.Keys.{key_cmp, keys_set, among}
-use Rattle.slate_types.proofs.KeySetLaws.{same-set, set-keeps}
-use Rattle.slate_mem.proofs.NestLaws.{sets-same}
-use Rattle.slate_mem.proofs.TableLaws.{any-append, set-of-set}
+use Rattle.slate_types.proofs.KeySetLaws.{same_set, set_keeps}
+use Rattle.slate_mem.proofs.NestLaws.{sets_same}
+use Rattle.slate_mem.proofs.TableLaws.{any_append, set_of_set}
 use Rattle.slate_db.specs.Segmented.{without_prefixes}
 
 or_true : (b : Bool) → (b || true) ≡ true
@@ -27,7 +27,7 @@ and_false false = refl
 
 -- a prefix that is inserted is among them
 among_inserted : (x p : List ℕ) (ks : List (List ℕ)) → IsStrictlySortedBy key_cmp ks → among p (insert_key key_cmp ks x) ≡ (bytes_eq x p || among p ks)
-among_inserted x p ks rising = ap (λ js. among p (insert_key key_cmp js x)) (sym (set-of-set ks rising)) ∙ set-keeps (x ∷ ks) p
+among_inserted x p ks rising = ap (λ js. among p (insert_key key_cmp js x)) (sym (set_of_set ks rising)) ∙ set_keeps (x ∷ ks) p
 
 same_bytes : (x p : List ℕ) → bytes_eq x p ≡ true → x ≡ p
 same_bytes x p e = (bytes_eq-Decides x p).0 e
@@ -70,8 +70,8 @@ missing_all recorded own fresh was p = sym (or_false (among p fresh)) ∙ was p
 
 pub all_inserted : (x : List ℕ) (ks left rest : List (List ℕ)) → left ≡ x ∷ rest → IsStrictlySortedBy key_cmp ks → keys_set (insert_key key_cmp ks x ++ rest) ≡ keys_set (ks ++ left)
 all_inserted x ks left rest is rising =
-    sets-same (insert_key key_cmp ks x ++ rest) (ks ++ (x ∷ rest)) (λ p.
-    any-append p (insert_key key_cmp ks x) rest ∙ ap (λ b. b || among p rest) (among_inserted x p ks rising) ∙ or_assoc (bytes_eq x p) (among p ks) (among p rest) ∙ sym (any-append p ks (x ∷ rest)))
+    sets_same (insert_key key_cmp ks x ++ rest) (ks ++ (x ∷ rest)) (λ p.
+    any_append p (insert_key key_cmp ks x) rest ∙ ap (λ b. b || among p rest) (among_inserted x p ks rising) ∙ or_assoc (bytes_eq x p) (among p ks) (among p rest) ∙ sym (any_append p ks (x ∷ rest)))
     ∙ ap (λ js. keys_set (ks ++ js)) (sym is)
 
 pub others_stay : (x p : List ℕ) (ks more : List (List ℕ)) → IsStrictlySortedBy key_cmp ks → among x more ≡ true → among p more ≡ false → among p (insert_key key_cmp ks x) ≡ among p ks
@@ -95,8 +95,8 @@ AreFresh recorded own fresh = (p : List ℕ) → among p fresh ≡ (among p own 
 
 pub recorded_all : (recorded own fresh made : List (List ℕ)) → AreFresh recorded own fresh → IsStrictlySortedBy key_cmp made → keys_set made ≡ keys_set (recorded ++ fresh) → made ≡ keys_set (recorded ++ own)
 recorded_all recorded own fresh made new rising is =
-    sym (set-of-set made rising) ∙ is
-    ∙ sets-same (recorded ++ fresh) (recorded ++ own) (λ p. any-append p recorded fresh ∙ ap (λ b. among p recorded || b) (new p) ∙ either (among p recorded) (among p own) ∙ sym (any-append p recorded own))
+    sym (set_of_set made rising) ∙ is
+    ∙ sets_same (recorded ++ fresh) (recorded ++ own) (λ p. any_append p recorded fresh ∙ ap (λ b. among p recorded || b) (new p) ∙ either (among p recorded) (among p own) ∙ sym (any_append p recorded own))
   where
     either : (a b : Bool) → (a || (b && not a)) ≡ (a || b)
     either true b = refl
@@ -119,7 +119,7 @@ among_kept P p (k ∷ ks) = by (P k) refl (bytes_eq k p) refl (among_kept P p ks
 
 pub taken_back : (recorded own fresh made : List (List ℕ)) → AreFresh recorded own fresh → IsStrictlySortedBy key_cmp recorded → IsStrictlySortedBy key_cmp made → ((p : List ℕ) → among p fresh ≡ false → among p made ≡ among p recorded) → without_prefixes fresh made ≡ recorded
 taken_back recorded own fresh made new rise rising others =
-    same-set (without_prefixes fresh made) recorded (IsStrictlySortedBy-filter key_cmp (λ q. not (among q fresh)) made rising) rise each
+    same_set (without_prefixes fresh made) recorded (IsStrictlySortedBy-filter key_cmp (λ q. not (among q fresh)) made rising) rise each
   where
     each : (p : List ℕ) → among p (without_prefixes fresh made) ≡ among p recorded
     each p = among_kept (λ q. not (among q fresh)) p made ∙ by (among p fresh) refl

@@ -14,14 +14,14 @@ use Rattle.slate_db.specs.Model.{Rows, versions, versions_in}
 use Rattle.slate_db.specs.Sound.{above, at_most, later}
 use Rattle.slate_db.specs.Layers.{AreRising}
 use Rattle.slate_db.proofs.Folds.{at_most_within, fold_within, rows_of_commits}
-use Rattle.slate_db.proofs.Lists.{all_map}
-use Rattle.slate_db.proofs.Short.{all_append, all_filter, all_from_last}
+use Rattle.slate_db.proofs.Short.{all_from_last}
 use Rattle.slate_db.proofs.Versions.{all_by_versions, all_versions_in}
+use Rattle.slate_types.proofs.Lists.{AllByRecursion_append, AllByRecursion_weaken, AllByRecursion_filter}
 
 pub rising_both : (b : ℕ) (xs ys : Rows) → AreRising xs → AllByRecursion (λ r. r.seq ≤ b) xs → AreRising ys → AllByRecursion (λ r. b < r.seq) ys → AreRising (xs ++ ys)
 rising_both b [] ys rise within rises newer = rises
 rising_both b (x ∷ xs) ys rise within rises newer = (
-  all_append (λ s. x.seq < s.seq) xs ys rise.0 (all_map _ _ (λ s h. let k : x.seq ≤ b = within.0 in let l : b < s.seq = h in omega arith) ys newer),
+  AllByRecursion_append (λ s. x.seq < s.seq) xs ys rise.0 (AllByRecursion_weaken _ _ (λ s h. let k : x.seq ≤ b = within.0 in let l : b < s.seq = h in omega arith) ys newer),
   rising_both b xs ys rise.1 within.1 rises newer,
 )
 
@@ -30,7 +30,7 @@ rising_filter t [] h = tt
 rising_filter t (r ∷ rs) h = by (t r) (rising_filter t rs h.1)
   where
     by : (b : Bool) → AreRising (filter t rs) → AreRising (cond b (r ∷ filter t rs) (filter t rs))
-    by true rest = (all_filter (λ s. r.seq < s.seq) t rs h.0, rest)
+    by true rest = (AllByRecursion_filter (λ s. r.seq < s.seq) t rs h.0, rest)
     by false rest = rest
 
 one_rises : (o : Option RowEntry) → AreRising (option_to_list o)
@@ -66,11 +66,11 @@ fold_above c b rows h = by (taken rows) (all_from_last (λ r. b < r.seq) is_base
 pub folded_within : (m : Meaning) (b n : ℕ) (layers : List Rows) (rows : Rows) → AllByRecursion (λ layer. AllByRecursion (λ r. r.seq ≤ n) layer) layers → IsFolded m b layers rows → AllByRecursion (λ r. r.seq ≤ n) rows
 folded_within m b n layers rows h folded = all_by_versions (λ r. r.seq ≤ n) rows (λ k.
     let here : AllByRecursion (λ r. r.seq ≤ n) (versions_in k layers) = all_versions_in (λ r. r.seq ≤ n) k layers h in
-    subst (AllByRecursion (λ r. r.seq ≤ n)) (sym (folded k)) (all_append _ _ _ (fold_within (combine_of m k) n _ (all_filter _ _ _ here)) (all_filter _ _ _ here)))
+    subst (AllByRecursion (λ r. r.seq ≤ n)) (sym (folded k)) (AllByRecursion_append _ _ _ (fold_within (combine_of m k) n _ (AllByRecursion_filter _ _ _ here)) (AllByRecursion_filter _ _ _ here)))
 
 folded_above : (m : Meaning) (b n : ℕ) (k : List ℕ) (layers : List Rows) (rows : Rows) → IsFolded m b layers rows → AllByRecursion (λ r. n < r.seq) (versions_in k layers) → AllByRecursion (λ r. n < r.seq) (versions k rows)
 folded_above m b n k layers rows folded h =
-    subst (AllByRecursion (λ r. n < r.seq)) (sym (folded k)) (all_append _ _ _ (fold_above (combine_of m k) n _ (all_filter _ _ _ h)) (all_filter _ _ _ h))
+    subst (AllByRecursion (λ r. n < r.seq)) (sym (folded k)) (AllByRecursion_append _ _ _ (fold_above (combine_of m k) n _ (AllByRecursion_filter _ _ _ h)) (AllByRecursion_filter _ _ _ h))
 
 pub folded_rise : (m : Meaning) (b : ℕ) (k : List ℕ) (layers : List Rows) (rows : Rows) → IsFolded m b layers rows → AreRising (versions_in k layers) → AreRising (versions k rows)
 folded_rise m b k layers rows folded rise =

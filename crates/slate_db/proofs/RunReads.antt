@@ -10,7 +10,7 @@ use Rattle.slate_types.specs.declared.types.RowEntry.{RowEntry}
 use Rattle.slate_types.specs.Outside.{Act, IsFault, IsLater, Meaning, Objects, Reach}
 use Rattle.slate_types.specs.World.{Made}
 use Rattle.slate_types.proofs.Calls.{call_both}
-use Rattle.slate_types.proofs.Lists.{AllByRecursion-append}
+use Rattle.slate_types.proofs.Lists.{AllByRecursion_append, AllByRecursion_weaken}
 use Rattle.slate_types.proofs.OutsideLaws.{counted_earlier}
 use Rattle.slate_mem.specs.Lookup.{is_decided, newest_first}
 use Rattle.slate_mem.specs.Table.{newest}
@@ -22,7 +22,6 @@ use Rattle.slate_db.specs.Installs.{handles_of}
 use Rattle.slate_db.specs.Lookup.{AreStored, AreStoredAs, FindsBehind, IsUnknown}
 use Rattle.slate_db.specs.Model.{Rows}
 use Rattle.slate_db.specs.Shown.{Asking, BringsRow, BringsRows, ShowsDamage}
-use Rattle.slate_db.proofs.Lists.{all_map}
 use Rattle.slate_db.proofs.Shown.{more_reads}
 use Rattle.slate_db.proofs.UnderOwn.{behind_stays}
 
@@ -104,9 +103,9 @@ rows_of_run a b c asking hs ks newer found all among (first, f, (some, behind, e
   (
     some ++ more,
     is ∙ ap (λ (x : List RowEntry). x ++ more) behind ∙ append_assoc newer some more,
-    AllByRecursion-append (BringsRow a.meaning.decode asking hs (first ++ last)) some more
-        (all_map (BringsRow a.meaning.decode asking hs first) (BringsRow a.meaning.decode asking hs (first ++ last)) (λ r row. more_reads a.meaning.decode asking hs first last r row) some each)
-        (all_map (BringsRow a.meaning.decode asking ks last) (BringsRow a.meaning.decode asking hs (first ++ last)) (λ r row. by r row) more (subst (λ (m : Meaning). AllByRecursion (BringsRow m.decode asking ks last) more) f.meaning others)),
+    AllByRecursion_append (BringsRow a.meaning.decode asking hs (first ++ last)) some more
+        (AllByRecursion_weaken (BringsRow a.meaning.decode asking hs first) (BringsRow a.meaning.decode asking hs (first ++ last)) (λ r row. more_reads a.meaning.decode asking hs first last r row) some each)
+        (AllByRecursion_weaken (BringsRow a.meaning.decode asking ks last) (BringsRow a.meaning.decode asking hs (first ++ last)) (λ r row. by r row) more (subst (λ (m : Meaning). AllByRecursion (BringsRow m.decode asking ks last) more) f.meaning others)),
   ),
 )
   where

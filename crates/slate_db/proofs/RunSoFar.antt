@@ -24,9 +24,9 @@ use Rattle.slate_db.specs.Model.{Rows}
 use Rattle.slate_db.specs.StoredParts.{AreFirstParts, ArePartsPut, CanBuild, IsOneTable, IsPartTooLarge, IsTablePut}
 use Rattle.slate_db.proofs.Causes.{callback_fault}
 use Rattle.slate_db.proofs.Cuts.{parts_all, parts_order}
-use Rattle.slate_db.proofs.Lists.{all_behind}
 use Rattle.slate_db.proofs.Puttings.{adds_more, may_as, may_more, takes_more}
 use Rattle.slate_db.proofs.Runs.{handles_more, made_more, runs_kept}
+use Rattle.slate_types.proofs.Lists.{AllByRecursion_behind}
 
 pub record IsSoFar (before now : Reach) (layout : Layout) (number : ℕ) (parts left : List Rows) (ts : List (Ulid × List ℕ)) (handles : List SsTableHandle) : Type 0 where
   pub done : List Rows
@@ -51,7 +51,7 @@ none_so_far before layout number parts left ts handles all none empty =
 pub next_builds : (before now : Reach) (layout : Layout) (number : ℕ) (parts left rest : List Rows) (rows : Rows) (ts : List (Ulid × List ℕ)) (handles : List SsTableHandle) → IsSoFar before now layout number parts left ts handles → left ≡ rows ∷ rest →
     AllByRecursion CanBuild parts → CanBuild rows
 next_builds before now layout number parts left rest rows ts handles far next each =
-    (all_behind CanBuild far.done (rows ∷ rest) (subst (AllByRecursion CanBuild) (sym (ap (λ xs. far.done ++ xs) (sym next) ∙ far.split)) each)).0
+    (AllByRecursion_behind CanBuild far.done (rows ∷ rest) (subst (AllByRecursion CanBuild) (sym (ap (λ xs. far.done ++ xs) (sym next) ∙ far.split)) each)).0
 
 pub one_so_far : (before now after : Reach) (layout : Layout) (number : ℕ) (parts left rest : List Rows) (rows : Rows) (ts us : List (Ulid × List ℕ)) (handles more : List SsTableHandle) (t : Ulid × List ℕ) (h : SsTableHandle) →
     IsSoFar before now layout number parts left ts handles → left ≡ rows ∷ rest → now.meaning.encode ≡ before.meaning.encode → IsTablePut now.meaning.encode layout number (length ts) rows t h now.objects after.objects →
@@ -177,14 +177,6 @@ pub has_too_large : (layout : Layout) (rows : Rows) (parts : List Rows) (e : Sla
 has_too_large layout rows parts e cut p = record { before = p.before; table = p.table; behind = p.behind; cut = subst (AreCut layout.segments layout.table_bytes rows) (sym p.split) cut; large = p.large }
 
 -- ---- of results
-
-pub both_ok : {X E : Type 0} (r : Result X E) (P Q R : X → Type 0) → ((x : X) → P x → Q x → R x) → IfOk r P → IfOk r Q → IfOk r R
-both_ok (Ok x) P Q R f p q = f x p q
-both_ok (Err e) P Q R f p q = tt
-
-pub refused_as : {X E P Q : Type 0} (r : Result X E) → (P → Q) → OnErr r P → OnErr r Q
-refused_as (Ok x) f p = tt
-refused_as (Err e) f p = f p
 
 -- why no rows were made
 pub rows_cause : {D : Type 0} (a b : Counts) (m : Meaning) (layers : List Rows) (e : SlateDBError) → (e ≡ MergeOperatorMissing → WantsOperator m layers e) →

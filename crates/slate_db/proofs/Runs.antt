@@ -21,8 +21,9 @@ use Rattle.slate_db.specs.Flushed.{AreTablesAt, IsTableAt, Layout}
 use Rattle.slate_db.specs.Installs.{AreApart, AreHandles, ArePlaced, AreRuns, AreRunsOf, BeginsWith, EndsBelow, IsHandle, handles_of, prefixes_of, tables_of}
 use Rattle.slate_db.specs.Model.{Rows}
 use Rattle.slate_db.proofs.Cuts.{keys_after, order_behind}
-use Rattle.slate_db.proofs.Lists.{all_behind, all_front, all_map}
 use Rattle.slate_db.proofs.Prefixes.{begins_itself, between}
+use Rattle.slate_types.proofs.Plain.{both_true}
+use Rattle.slate_types.proofs.Lists.{AllByRecursion_front, AllByRecursion_behind, AllByRecursion_weaken}
 
 -- ---- the tables of a journal
 
@@ -84,7 +85,7 @@ ends_below encode layout number place [] [] [] h last is some below made kept = 
 ends_below encode layout number place ([] ∷ parts) (t ∷ ts) (g ∷ hs) h last is some below made kept = absurd (omega (arith, some.0))
 ends_below encode layout number place ((r ∷ rs) ∷ parts) (t ∷ ts) (g ∷ hs) h last is some below made kept = (
   record { last = last; first = r.key; ends = is; begins = (kept_keys encode layout number place (r ∷ rs) t g made.0 kept.0).0; below = below.0 },
-  ends_below encode layout number (place + 1) parts ts hs h last is some.1 (all_behind _ (r ∷ rs) (flat_map (λ rows. rows) parts) below) made.1 kept.1,
+  ends_below encode layout number (place + 1) parts ts hs h last is some.1 (AllByRecursion_behind _ (r ∷ rs) (flat_map (λ rows. rows) parts) below) made.1 kept.1,
 )
 ends_below encode layout number place [] [] (g ∷ hs) h last is some below made kept = absurd kept
 ends_below encode layout number place [] (t ∷ ts) hs h last is some below made kept = absurd made
@@ -124,7 +125,7 @@ all_begin encode layout number place ([] ∷ parts) (t ∷ ts) (h ∷ hs) (prefi
 all_begin encode layout number place ((r ∷ rs) ∷ parts) (t ∷ ts) (h ∷ hs) (prefix ∷ prefixes) some made kept are =
     let keys = kept_keys encode layout number place (r ∷ rs) t h made.0 kept.0 in
     let begins : AllByRecursion (λ s. starts_with nat_eq s.key prefix ≡ true) (r ∷ rs) =
-    all_map _ _ (λ s is. subst (λ (p : List ℕ). starts_with nat_eq s.key p ≡ true) is (begins_itself layout.segments s.key)) (r ∷ rs) are.0 in (
+    AllByRecursion_weaken _ _ (λ s is. subst (λ (p : List ℕ). starts_with nat_eq s.key p ≡ true) is (begins_itself layout.segments s.key)) (r ∷ rs) are.0 in (
       record { first = r.key; last = last_key r.key rs; begins = keys.0; ends = keys.1; first_begins = begins.0; last_begins = last_key_is (λ k. starts_with nat_eq k prefix ≡ true) r.key rs begins.0 begins.1 },
       all_begin encode layout number (place + 1) parts ts hs prefixes some.1 made.1 kept.1 are.1,
     )
@@ -145,7 +146,7 @@ begin_behind prefix (h ∷ hs) ks prefixes begin = begin_behind prefix hs ks pre
 
 apart_front : (hs ks : List SsTableHandle) → AreApart (hs ++ ks) → AreApart hs
 apart_front [] ks apart = tt
-apart_front (h ∷ hs) ks apart = (all_front _ hs ks apart.0, apart_front hs ks apart.1)
+apart_front (h ∷ hs) ks apart = (AllByRecursion_front _ hs ks apart.0, apart_front hs ks apart.1)
 
 apart_behind : (hs ks : List SsTableHandle) → AreApart (hs ++ ks) → AreApart ks
 apart_behind [] ks apart = apart
@@ -192,10 +193,6 @@ runs_kept encode layout number rows parts prefixes ts runs order cut made kept a
     (subst (λ (ps : List (List ℕ)). AllBegin ps (handles_of runs)) (sym each) (all_begin encode layout number 0 parts ts (handles_of runs) prefixes cut.some made kept are))
 
 -- ---- reads of them
-
-both_true : (a b : Bool) → (a && b) ≡ true → (a ≡ true) × (b ≡ true)
-both_true true b h = (refl, h)
-both_true false b h = cc
 
 -- a key of a table begins with the prefix of its run
 pub enclosed_begins : (prefix k : List ℕ) (h : SsTableHandle) → BeginsWith prefix h → encloses (seen_info h.info) k ≡ true → starts_with nat_eq k prefix ≡ true

@@ -34,8 +34,8 @@ use Rattle.slate_db.proofs.Causes.{store_fault, transform_fault}
 use Rattle.slate_db.proofs.Filters.{Asks, IsAsking, WhyNot, asked_cause, asked_passes, asks_err, asks_some, filtered_one, filtered_some, table_there}
 use Rattle.slate_db.proofs.RangeFilters.{denied_range}
 use Rattle.slate_db.proofs.RunReads.{handle_among, run_here}
-use Rattle.slate_db.proofs.Short.{all_append}
 use Rattle.slate_db.proofs.Tables.{answered_by, read_part, table_as}
+use Rattle.slate_types.proofs.Lists.{AllByRecursion_append}
 
 -- ---- one table, whose filters were asked
 
@@ -295,7 +295,7 @@ runs_among runs i run one left next within is (inr (some, more)) mine before h t
 -- the tables of runs are there
 pub tables_there : (m : Meaning) (os : Objects) (runs : List SortedRun) (groups : List (List Rows)) → AreStoredRuns m os runs groups → AreTablesThere m os (handles_of runs)
 tables_there m os [] [] s = tt
-tables_there m os (run ∷ runs) (layers ∷ groups) s = all_append (λ (h : SsTableHandle). (rows : Rows) × IsStoredAs m os h rows) run.tables.items (handles_of runs) (each run.tables.items layers s.0) (tables_there m os runs groups s.1)
+tables_there m os (run ∷ runs) (layers ∷ groups) s = AllByRecursion_append (λ (h : SsTableHandle). (rows : Rows) × IsStoredAs m os h rows) run.tables.items (handles_of runs) (each run.tables.items layers s.0) (tables_there m os runs groups s.1)
   where
     each : (hs : List SsTableHandle) (ls : List Rows) → AreStoredAs m os hs ls → AreTablesThere m os hs
     each [] [] k = tt

@@ -15,8 +15,8 @@ use Rattle.slate_read.specs.MergeLaws.{merged_in_order, merged_in_turn}
 use Rattle.slate_read.proofs.FoldedKeys.{cut_whole}
 use Rattle.slate_read.proofs.FoldedTurns.{none_rises_in_turn}
 use Rattle.slate_db.specs.Model.{Rows}
-use Rattle.slate_db.proofs.Lists.{all_behind}
 use Rattle.slate_db.proofs.ScanRows.{AreTogether, Leads, order_together}
+use Rattle.slate_types.proofs.Lists.{AllByRecursion_behind}
 
 -- ---- rows of one key are one group
 
@@ -200,7 +200,7 @@ folds_keys Q c ([] ∷ gs) h k = absurd h.0
 folds_keys Q c ((r ∷ rows) ∷ gs) h k =
     let is = group_folds c r rows h.0 in
     subst (λ (o : Option RowEntry). AllByRecursion (λ r. Q r.key) (cons_option o (filter_map (fold_group c) gs))) (sym is.1)
-    (subst Q (sym is.2) k.0, folds_keys Q c gs h.1 (all_behind (λ r. Q r.key) rows (flat_map (λ (g : Rows). g) gs) k.1))
+    (subst Q (sym is.2) k.0, folds_keys Q c gs h.1 (AllByRecursion_behind (λ r. Q r.key) rows (flat_map (λ (g : Rows). g) gs) k.1))
 
 pub folded_keys : (Q : List ℕ → Type 0) (c : List ℕ → Combine) (different : Bool) (barrier : Option ℕ) (rows : Rows) → AllByRecursion (λ r. Q r.key) rows → AllByRecursion (λ r. Q r.key) (folded c different barrier rows)
 folded_keys Q c different barrier rows h =

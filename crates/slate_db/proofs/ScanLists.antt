@@ -13,7 +13,7 @@ use Rattle.slate_types.specs.Iteration.{in_order}
 use Rattle.slate_types.specs.Keys.{in_range, key_le, key_lt}
 use Rattle.slate_types.specs.Outside.{Objects}
 use Rattle.slate_types.specs.Rows.{of_key}
-use Rattle.slate_types.proofs.KeyOrder.{le-lt-trans, lt-irreflexive}
+use Rattle.slate_types.proofs.KeyOrder.{le_lt_trans, lt_irreflexive}
 use Rattle.slate_mem.specs.Table.{ranged}
 use Rattle.slate_table.specs.declared.info.SsTableHandle.{SsTableHandle}
 use Rattle.slate_table.specs.Finding.{encloses, is_from, is_upto}
@@ -31,8 +31,8 @@ use Rattle.slate_db.specs.ScanLaws.{ListsHaveAllRows}
 use Rattle.slate_db.specs.Scanned.{AreStoredRuns, AreTablesOfRuns, BringEach, Brings, HaveRows, in_one}
 use Rattle.slate_db.specs.Sound.{AreTables}
 use Rattle.slate_db.proofs.Gets.{all_stored}
-use Rattle.slate_db.proofs.KeyRows.{filter_swap}
-use Rattle.slate_db.proofs.Lists.{all_behind, all_front}
+use Rattle.slate_types.proofs.Lists.{AllByRecursion_front, AllByRecursion_behind}
+use Rattle.slate_txn.proofs.PartLaws.{filter_swap}
 
 -- ---- one list for each layer
 
@@ -134,13 +134,13 @@ not_above : (first k : List ℕ) → key_lt k first ≡ true → key_le first k 
 not_above first k h = by (key_le first k) refl
   where
     by : (t : Bool) → key_le first k ≡ t → t ≡ false
-    by true e = lt-irreflexive first (le-lt-trans first k first e h)
+    by true e = lt_irreflexive first (le_lt_trans first k first e h)
     by false e = refl
 
 not_behind : (h g : SsTableHandle) (k : List ℕ) → EndsBelow h g → encloses (seen_info h.info) k ≡ true → encloses (seen_info g.info) k ≡ false
 not_behind h g k b e =
     first_false (is_from g.info.first_entry k) (is_upto g.info.last_entry k)
-    (ap (λ o. is_from o k) b.begins ∙ not_above b.first k (le-lt-trans k b.last b.first (sym (ap (λ o. is_upto o k) b.ends) ∙ second_true (is_from h.info.first_entry k) (is_upto h.info.last_entry k) e) b.below))
+    (ap (λ o. is_from o k) b.begins ∙ not_above b.first k (le_lt_trans k b.last b.first (sym (ap (λ o. is_upto o k) b.ends) ∙ second_true (is_from h.info.first_entry k) (is_upto h.info.last_entry k) e) b.below))
 
 none_behind : (k : List ℕ) (h : SsTableHandle) (hs : List SsTableHandle) (layers : List Rows) → encloses (seen_info h.info) k ≡ true → AllByRecursion (EndsBelow h) hs → AreWithin hs layers → of_key k (all_rows layers) ≡ []
 none_behind k h [] [] e below within = refl
@@ -269,8 +269,8 @@ have_some m c range runs kept layers groups some is tables are same in_memory in
 pub stored_runs : (m : Meaning) → IsLawfulMeaning m → (os : Objects) (runs : List (List (Ulid × List ℕ))) (kept : List SortedRun) (groups : List (List Rows)) → AreTablesOfRuns m runs groups → AreRuns runs kept → Holds os (flat_map (λ ts. ts) runs) → AreStoredRuns m os kept groups
 stored_runs m law os [] [] [] tables are holds = tt
 stored_runs m law os (ts ∷ runs) (run ∷ kept) (layers ∷ groups) tables are holds = (
-  all_stored m law os ts run.tables.items layers tables.0 are.0.handles (all_front _ ts (flat_map (λ us. us) runs) holds),
-  stored_runs m law os runs kept groups tables.1 are.1 (all_behind _ ts (flat_map (λ us. us) runs) holds),
+  all_stored m law os ts run.tables.items layers tables.0 are.0.handles (AllByRecursion_front _ ts (flat_map (λ us. us) runs) holds),
+  stored_runs m law os runs kept groups tables.1 are.1 (AllByRecursion_behind _ ts (flat_map (λ us. us) runs) holds),
 )
 stored_runs m law os [] kept (layers ∷ groups) tables are holds = absurd tables
 stored_runs m law os (ts ∷ runs) kept [] tables are holds = absurd tables

@@ -1,5 +1,5 @@
 -- A scan that was opened: what it leaves, and what it may refuse for.
-use Rattle.std.proofs.Common.{◌≡◌, ◌≢◌, ◌⊎◌, inl, inr, ℕ, ◌≤◌, true, false, List, [], ◌∷◌, ◌++◌, map, filter, reverse, Option, Some, None, refl, sym, ap, subst, ◌∙◌}
+use Rattle.std.proofs.Common.{◌≡◌, ◌≢◌, ◌⊎◌, inl, inr, ℕ, ◌≤◌, true, false, List, [], ◌∷◌, ◌++◌, map, filter, flat_map, reverse, Option, Some, None, refl, sym, ap, subst, ◌∙◌}
 use Rattle.std.specs.Prelude.{Contains, IfErr, IfOk, Result, Ok, Err}
 use Rattle.std.proofs.lemmas.List.Elements.{Contains-append_right}
 use Rattle.std.specs.List.{AllByRecursion}
@@ -21,20 +21,22 @@ use Rattle.slate_types.proofs.Calls.{call_both, seen}
 use Rattle.slate_types.proofs.Reaching.{fault_earlier}
 use Rattle.slate_mem.specs.Batch.{Ops}
 use Rattle.slate_mem.specs.BatchModel.{holds_merge}
+use Rattle.slate_mem.specs.Lookup.{newest_first}
 use Rattle.slate_read.specs.declared.folding.Folding.{Folding}
 use Rattle.slate_read.specs.declared.merge_iterator.MergeState.{MergeState}
 use Rattle.slate_read.specs.declared.merge_iterator.MergeState.TheVariants.{Begun, New, Refused}
 use Rattle.slate_read.specs.Folding.{NoneRises, folded}
-use Rattle.slate_read.specs.Folds.{Blames, BlamesNext, IsRise, MeetsOpen, MeetsRise, RefusesFold}
+use Rattle.slate_read.specs.Folds.{Blames, BlamesNext, IsRise, MeetsOpen, MeetsRise, RefusesBrought}
 use Rattle.slate_read.specs.MergeLaws.{merged_in_order}
 use Rattle.slate_read.specs.Merging.{AnyByRecursion, blames, waiting_sources}
 use Rattle.slate_read.specs.MergeStateLaws.{any_weaker, merges}
 use Rattle.slate_read.specs.MergeStates.{IsFrontIn, IsMergeOf, WaitingAre, refuses_in}
-use Rattle.slate_read.specs.OperatorIterators.{IsFolding, IsGoing, IsOperable, Keeps, RefusesBy, Stays, StaysIn, refuses_folding, rest_folding}
+use Rattle.slate_read.specs.OperatorIterators.{IsFolding, IsGoing, IsOperable, Keeps, RefusesBy, Stays, StaysIn, rest_folding}
 use Rattle.slate_read.specs.Peeking.{TakesAhead, with_ahead}
 use Rattle.slate_read.specs.declared.sorted_run.SortedRun.{SortedRun}
 use Rattle.slate_read.specs.ReadSources as read
 use Rattle.slate_read.specs.Showing.{ShowsByReads}
+use Rattle.slate_read.proofs.Tellings.{none_of}
 use Rattle.slate_table.specs.declared.info.SsTableHandle.{SsTableHandle}
 use Rattle.slate_table.specs.Parts.{Encode}
 use Rattle.slate_txn.specs.Reads.{rows_seen}
@@ -46,24 +48,25 @@ use Rattle.slate_db.specs.Installs.{handles_of, tables_of}
 use Rattle.slate_db.specs.Lookup.{AreFilteredAs}
 use Rattle.slate_db.specs.Log.{AreFine}
 use Rattle.slate_db.specs.Meaning.{rules_of}
-use Rattle.slate_db.specs.Model.{CoreModel, Rows}
-use Rattle.slate_db.specs.OpenScans.{AreScanSources, CanOpen, IsBlamedFor, folded_rows, merged_rows}
+use Rattle.slate_db.specs.Model.{CoreModel, Rows, memory}
+use Rattle.slate_db.specs.OpenScans.{AreScanSources, CanOpen, FoldsRefuse, IsBlamedFor, SourcesBring, folded_rows, merged_rows}
 use Rattle.slate_filter.specs.Policy.{Policy}
-use Rattle.slate_db.specs.Readable.{IsAnswered, IsReadable}
+use Rattle.slate_db.specs.Readable.{IsAnswered, IsOwnRow, IsReadable}
 use Rattle.slate_db.specs.ScanFilters.{AreRunsLeft, AreTablesThere, RunsAreLeft, ShowsFilters, scan_query}
-use Rattle.slate_db.specs.Scanned.{AreStoredRuns}
-use Rattle.slate_db.specs.Scans.{AreForIn, FoldsAll, IsFor, IsOpeningError, IsOperableIn, IsReached, IsRefusedByScan, IsScanRefusal, IsShownByScan, IsSoundIn, IsSoundSource, IsWorldOf, Leaves, MergedSources, RefusesIn, ScanRefuses, ScanSource, has_value, left_in, merge_refuses, merge_rows, order_of, source_refuses, source_rows}
+use Rattle.slate_db.specs.Scanned.{AreStoredRuns, own_rows}
+use Rattle.slate_db.specs.Scans.{AreForIn, FoldsAll, IsFor, IsOpeningError, IsOperableIn, IsReached, IsRefusedByScan, IsScanRefusal, IsScanned, IsShownByScan, IsSoundIn, IsSoundSource, IsWorldOf, Leaves, MergedSources, RefusesIn, ScanRefuses, ScanSource, fold_brings, has_value, left_in, merge_refuses, merge_rows, order_of, source_refuses, source_rows}
 use Rattle.slate_db.specs.Sound.{AreBases}
 use Rattle.slate_db.specs.Whole.{IsWhole, Unseen}
 use Rattle.slate_db.proofs.Answered.{from_last}
 use Rattle.slate_db.proofs.Filters.{filtered_known}
 use Rattle.slate_db.proofs.Foldings.{bases_closed, closed_bases, going_refuses, refuses_going}
 use Rattle.slate_db.proofs.Runs.{all_handles}
+use Rattle.slate_db.proofs.ScanBringings.{brought_weaker, merge_sources, scanned_later, sources_scanned}
 use Rattle.slate_db.proofs.ScanFilters.{shows_more, tables_there}
 use Rattle.slate_db.proofs.ScanOpenings.{ScanOpens, runs_of_core, scan_opens, stored}
 use Rattle.slate_db.proofs.ScanRefusals.{IsShown, blamed_shows}
 use Rattle.slate_db.proofs.ScanFolds.{merged_falls}
-use Rattle.slate_db.proofs.ScanStates.{IsSound, Merged, OwnRefusal, operable_folds}
+use Rattle.slate_db.proofs.ScanStates.{Folds, IsSound, Merged, OwnRefusal, met_anywhere, operable_folds}
 use Rattle.slate_db.proofs.ScanWorlds.{sees_world}
 
 -- ---- a merge that was begun
@@ -129,12 +132,31 @@ module _ (sources : List ScanSource) (order : IterationOrder) (merge : MergedSou
   pub opened_operable : (v : Merged) (w : World) → v.folding ≡ it.folding → IsOperable merge_rows v w → IsOperableIn (Walking v) w
   opened_operable v w same h = operable_folds v w (opened_folds v same) h
 
-  pub opened_later : (v : Merged) (m : Meaning) (reads : List Act) → IsGoing v → IsReady (refuses_folding merge_refuses v m) → NoMore (merge_refuses it.iterator m) reads (merge_refuses v.iterator m) →
+  ready_never : {Q : Type 0} (v : Merged) (m : Meaning) (later : List Act) (at : Option (List ℕ)) (e : SlateDBError) → IsReady (Folds v m) → Folds v m later at e → e ≡ IteratorNotInitialized → Q
+  ready_never v m later at e ready h is = absurd (ready later at (subst (λ (d : SlateDBError). Folds v m later at d) is h))
+
+  pub opened_later : (v : Merged) (m : Meaning) (reads : List Act) → IsGoing v → IsReady (Folds v m) → NoMore (merge_refuses it.iterator m) reads (merge_refuses v.iterator m) →
       (later : List Act) (at : Option (List ℕ)) (e : SlateDBError) → merge_refuses v.iterator m later at e → IsBlamedFor sources m (reads ++ later) at e
   opened_later v m reads going ready less later at e h =
       waiting_blamed source_refuses sources it.iterator.state fresh_waits m (reads ++ later) at e
-      (λ is. ready later at (going_refuses (λ d. merge_refuses v.iterator m later at d ⊎ RefusesFold m at d) v IteratorNotInitialized going (inl (subst (merge_refuses v.iterator m later at) is h))))
+      (λ is. ready_never v m later at e ready (going_refuses (λ d. merge_refuses v.iterator m later at d ⊎ RefusesBrought (fold_brings v m later) m at d) v e going (inl h)) is)
       (less later at e h)
+
+  fresh_sources : (m : Meaning) (reads : List Act) (r : RowEntry) → fold_brings fresh m reads r → SourcesBring sources m reads r
+  fresh_sources m reads r (inl none) = absurd (none_of r none)
+  fresh_sources m reads r (inr c) = merge_sources sources merge made.waits m reads r c
+
+  -- what it refuses from then on, its sources bring, or refuse
+  pub opened_brought : (v : Merged) (m : Meaning) (reads : List Act) → IsReady (Folds v m) → NoMore (Folds it m) reads (Folds v m) → (later : List Act) (at : Option (List ℕ)) (e : SlateDBError) → Folds v m later at e → FoldsRefuse sources m (reads ++ later) at e
+  opened_brought v m reads ready less later at e h = by (subst (λ (u : Merged). Folds u m (reads ++ later) at e) (sym is_fresh) (less later at e h))
+    where
+      begun : e ≢ IteratorNotInitialized
+      begun is = ready_never v m later at e ready h is
+
+      by : ((false ≡ false) × (e ≡ IteratorNotInitialized)) ⊎ (merge_refuses merge m (reads ++ later) at e ⊎ RefusesBrought (fold_brings fresh m (reads ++ later)) m at e) → FoldsRefuse sources m (reads ++ later) at e
+      by (inl bad) = absurd (begun bad.1)
+      by (inr (inl refused)) = inr (waiting_blamed source_refuses sources merge.state made.waits m (reads ++ later) at e begun refused)
+      by (inr (inr brought)) = inl (brought_weaker (fold_brings fresh m (reads ++ later)) (SourcesBring sources m (reads ++ later)) m at e (fresh_sources m (reads ++ later)) brought)
 
   not_waiting : {Q : Type 0} (answer : Option RowEntry) (s : MergeState ScanSource) → WaitingAre sources s → IsFrontIn answer s → Q
   not_waiting answer (New waiting) is front = absurd front
@@ -151,9 +173,9 @@ module _ (sources : List ScanSource) (order : IterationOrder) (merge : MergedSou
 
   -- an opening meets no operand
   pub opening_own : (takes : MergedSources → Meaning → List Act → Option RowEntry → MergedSources → Type 0) → ((u v : MergedSources) (m : Meaning) (reads : List Act) (answer : Option RowEntry) → takes u m reads answer v → IsFrontIn answer u.state) →
-      (v : Merged) (a b : Reach) (reads : List Act) (e : SlateDBError) → Stays merge_refuses takes it a.meaning reads None e v → IsFault a b e ⊎ refuses_folding merge_refuses it a.meaning reads None e → IsFault a b e ⊎ refuses_in source_refuses it.iterator.state a.meaning reads None e
+      (v : Merged) (a b : Reach) (reads : List Act) (e : SlateDBError) → Stays merge_refuses takes it a.meaning reads None e v → IsFault a b e ⊎ Folds it a.meaning reads None e → IsFault a b e ⊎ refuses_in source_refuses it.iterator.state a.meaning reads None e
   opening_own takes front v a b reads e stays (inl fault) = inl fault
-  opening_own takes front v a b reads e stays (inr r) = inr (by_fresh (subst (λ (u : Merged). RefusesBy u.refusal u.begun (λ d. refuses_in source_refuses it.iterator.state a.meaning reads None d ⊎ RefusesFold a.meaning None d) e) (sym is_fresh) r))
+  opening_own takes front v a b reads e stays (inr r) = inr (by_fresh (subst (λ (u : Merged). RefusesBy u.refusal u.begun (λ d. refuses_in source_refuses it.iterator.state a.meaning reads None d ⊎ RefusesBrought (fold_brings u a.meaning reads) a.meaning None d) e) (sym is_fresh) r))
     where
       met : MeetsOpen (λ u rs answer x. takes u a.meaning rs answer x) it.folding.snapshot_barrier_seq it.ahead reads it.iterator v.iterator → refuses_in source_refuses it.iterator.state a.meaning reads None e
       met (row, is_open_row, taken) = not_waiting (Some row) it.iterator.state fresh_waits (front it.iterator v.iterator a.meaning reads (Some row)
@@ -166,12 +188,12 @@ module _ (sources : List ScanSource) (order : IterationOrder) (merge : MergedSou
           first [] t is = no_rows ends.newer ends.oldest (ends.row ∷ []) is
           first (row ∷ rows) t is = not_waiting (Some row) it.iterator.state fresh_waits (front it.iterator t.0 a.meaning t.1 (Some row) t.4)
 
-      stayed : StaysIn None false None e ((reads ≡ []) × (v ≡ it)) (Keeps e v × BlamedOn takes a.meaning reads e v) → RefusesFold a.meaning None e → refuses_in source_refuses it.iterator.state a.meaning reads None e
+      stayed : StaysIn None false None e ((reads ≡ []) × (v ≡ it)) (Keeps e v × BlamedOn takes a.meaning reads e v) → RefusesBrought (fold_brings fresh a.meaning reads) a.meaning None e → refuses_in source_refuses it.iterator.state a.meaning reads None e
       stayed (inl s) refused = unbegun it.iterator.state fresh_waits a.meaning reads None e s.1
-      stayed (inr s) (inl missing) = elim (s.1.1.0 missing.1) [ inl own ↦ own | inr meets ↦ met meets ]
-      stayed (inr s) (inr rising) = elim (blames_rise e rising.2 s.1.1) [ inl own ↦ own | inr meets ↦ risen meets ]
+      stayed (inr s) (inl operand) = elim (s.1.1.0 operand.refuses.1) [ inl own ↦ own | inr meets ↦ met meets ]
+      stayed (inr s) (inr rise) = elim (blames_rise e rise.refuses.2 s.1.1) [ inl own ↦ own | inr meets ↦ risen meets ]
 
-      by_fresh : ((false ≡ false) × (e ≡ IteratorNotInitialized)) ⊎ (refuses_in source_refuses it.iterator.state a.meaning reads None e ⊎ RefusesFold a.meaning None e) → refuses_in source_refuses it.iterator.state a.meaning reads None e
+      by_fresh : ((false ≡ false) × (e ≡ IteratorNotInitialized)) ⊎ (refuses_in source_refuses it.iterator.state a.meaning reads None e ⊎ RefusesBrought (fold_brings fresh a.meaning reads) a.meaning None e) → refuses_in source_refuses it.iterator.state a.meaning reads None e
       by_fresh (inl h) = unbegun it.iterator.state fresh_waits a.meaning reads None e h.1
       by_fresh (inr (inl h)) = h
       by_fresh (inr (inr h)) = stayed (subst (λ (u : Merged). StaysIn u.refusal u.begun None e ((reads ≡ []) × (v ≡ it)) (Keeps e v × BlamedOn takes a.meaning reads e v)) (sym is_fresh) stays) h
@@ -213,12 +235,12 @@ by_reads_later decode h done reads e s = record {
 shown_later : {m : Meaning} {c : CoreModel} (done reads : List Act) (e : SlateDBError) → IsShownByScan m c reads e → IsShownByScan m c (done ++ reads) e
 shown_later {m} done reads e s = record { handles = s.handles; are = s.are; shown = (s.shown.0, s.shown.1, by_reads_later m.decode s.shown.0 done reads e s.shown.2) }
 
-pub refused_later : (m : Meaning) (c : CoreModel) (done reads : List Act) (e : SlateDBError) → IsRefusedByScan m c reads e → IsRefusedByScan m c (done ++ reads) e
-refused_later m c done reads e r = record {
+pub refused_later : (m : Meaning) (c : CoreModel) (done reads : List Act) (at : Option (List ℕ)) (e : SlateDBError) → IsRefusedByScan m c reads at e → IsRefusedByScan m c (done ++ reads) at e
+refused_later m c done reads at e r = record {
   handles = r.handles;
   are = r.are;
   refused = elim r.refused [
-    | inl k ↦ inl k
+    | inl k ↦ inl (brought_weaker (IsScanned m c r.handles reads) (IsScanned m c r.handles (done ++ reads)) m at e (scanned_later m c r.handles done reads) k)
     | inr s ↦ inr (s.0, s.1, by_reads_later m.decode s.0 done reads e s.2)
   ];
 }
@@ -232,8 +254,8 @@ module _ (m : Meaning) (c : CoreModel) (x : Unseen) (w : IsWhole c x) (left : Li
   shown_by : (reads : List Act) (e : SlateDBError) → IsShown m (handles_of x.runs) reads e → IsShownByScan m c reads e
   shown_by reads e s = record { handles = handles_of x.runs; are = all_handles c.events x.runs w.tied.runs; shown = s.1 }
 
-  refused_by : (reads : List Act) (e : SlateDBError) → IsShown m (handles_of x.runs) reads e → IsRefusedByScan m c reads e
-  refused_by reads e s = record { handles = handles_of x.runs; are = all_handles c.events x.runs w.tied.runs; refused = inr s.1 }
+  refused_by : (reads : List Act) (at : Option (List ℕ)) (e : SlateDBError) → IsShown m (handles_of x.runs) reads e → IsRefusedByScan m c reads at e
+  refused_by reads at e s = record { handles = handles_of x.runs; are = all_handles c.events x.runs w.tied.runs; refused = inr s.1 }
 
   abbrev pub LaterBlamed : Merged → List Act → Type 0
   LaterBlamed rows reads = (later : List Act) (at : Option (List ℕ)) (e : SlateDBError) → merge_refuses rows.iterator m later at e → IsBlamedFor sources m (reads ++ later) at e
@@ -249,21 +271,39 @@ module _ (m : Meaning) (c : CoreModel) (x : Unseen) (w : IsWhole c x) (left : Li
   scan_is_for rows it reads state_is range_is going blamed later at e h = by (own_refusal rows it state_is range_is going later at e h)
     where
       by : OwnRefusal range rows m later at e → IsScanRefusal e
-      by (inl (inl missing)) = inl missing.1
-      by (inl (inr rising)) = inr (inl rising.2)
+      by (inl (inl operand)) = inl operand.refuses.1
+      by (inl (inr rise)) = inr (inl rise.refuses.2)
       by (inr r) = inr (inr (sources_for rows reads blamed later at e r))
 
-  pub scan_refused : (rows : Merged) (it : DbIterator) (reads : List Act) → it.state ≡ Walking rows → it.range ≡ range → IsGoing rows → LaterBlamed rows reads →
-      (later : List Act) (at : Option (List ℕ)) (e : SlateDBError) → ScanRefuses it m later at e → IsRefusedByScan m c (reads ++ later) e
-  scan_refused rows it reads state_is range_is going blamed later at e h = by (own_refusal rows it state_is range_is going later at e h)
-    where
-      anywhere : RefusesFold m at e → RefusesFold m None e
-      anywhere (inl missing) = inl (refl, missing.1, missing.2)
-      anywhere (inr rising) = inr (refl, rising.1, rising.2)
+  -- some tables are among those of the core
+  scanned_of : (reads : List Act) (r : RowEntry) → IsScanned m c (handles_of left) reads r → IsScanned m c (handles_of x.runs) reads r
+  scanned_of reads r (inl own) = inl own
+  scanned_of reads r (inr (inl there)) = inr (inl there)
+  scanned_of reads r (inr (inr (h, there, unread))) = inr (inr (h, among h there, unread))
 
-      by : OwnRefusal range rows m later at e → IsRefusedByScan m c (reads ++ later) e
-      by (inl folding) = record { handles = handles_of x.runs; are = all_handles c.events x.runs w.tied.runs; refused = inl (anywhere folding) }
-      by (inr r) = refused_by (reads ++ later) e (shown (reads ++ later) at e r.0 (blamed later at e r.1))
+  abbrev pub LaterBrought : Merged → List Act → Type 0
+  LaterBrought rows reads = (later : List Act) (at : Option (List ℕ)) (e : SlateDBError) → Folds rows m later at e → FoldsRefuse sources m (reads ++ later) at e
+
+  -- owns: the own operations are of an open transaction; turned: the layers are those in memory, the newest first
+  pub scan_refused : (owns : (k : List ℕ) → AllByRecursion (IsOwnRow c) (own_rows ops k)) → (turned : newest_first (memory c) ≡ flat_map (λ rows. rows) layers) → (rows : Merged) (it : DbIterator) (reads : List Act) → it.state ≡ Walking rows → it.range ≡ range → IsGoing rows → LaterBrought rows reads →
+      (later : List Act) (at : Option (List ℕ)) (e : SlateDBError) → ScanRefuses it m later at e → IsRefusedByScan m c (reads ++ later) at e
+  scan_refused owns turned rows it reads state_is range_is going brought later at e h = by (own_refusal rows it state_is range_is going later at e h)
+    where
+      of : IsReached range at → FoldsRefuse sources m (reads ++ later) at e → IsRefusedByScan m c (reads ++ later) at e
+      of reached (inl met) = record {
+        handles = handles_of x.runs;
+        are = all_handles c.events x.runs w.tied.runs;
+        refused = inl (brought_weaker (SourcesBring sources m (reads ++ later)) (IsScanned m c (handles_of x.runs) (reads ++ later)) m at e
+            (λ r k. scanned_of (reads ++ later) r (sources_scanned m range order (reads ++ later) r c n ops layers left sources are owns turned k)) met);
+      }
+      of reached (inr blamed) = refused_by (reads ++ later) at e (shown (reads ++ later) at e reached blamed)
+
+      folds : merge_refuses rows.iterator m later at e ⊎ RefusesBrought (fold_brings rows m later) m at e → Folds rows m later at e
+      folds k = going_refuses (λ d. merge_refuses rows.iterator m later at d ⊎ RefusesBrought (fold_brings rows m later) m at d) rows e going k
+
+      by : OwnRefusal range rows m later at e → IsRefusedByScan m c (reads ++ later) at e
+      by (inl met) = of (met_anywhere (fold_brings rows m later) range m at e met) (brought later at e (folds (inr met)))
+      by (inr r) = of r.0 (brought later at e (folds (inl r.1)))
 
   -- before: the filters were asked
   pub opening_refused : (policies : List Policy) (query : Option FilterQuery) (before middle after : Reach) (e : SlateDBError) → middle.meaning ≡ m → OnlyReads before middle → Made before middle (λ _. Unit {0}) →

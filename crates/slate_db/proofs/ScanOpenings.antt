@@ -39,7 +39,6 @@ use Rattle.slate_db.specs.Scanned.{AreStoredRuns, BringEach, Brings, HasOwn, in_
 use Rattle.slate_db.specs.Scans.{IsWorldOf, ScanSource, has_value, source_rows}
 use Rattle.slate_db.specs.Sound.{AreBases, IsKept}
 use Rattle.slate_db.specs.Whole.{IsWhole, Unseen}
-use Rattle.slate_db.proofs.Lists.{all_behind, all_front}
 use Rattle.slate_db.proofs.NoMerges.{memory_bases}
 use Rattle.slate_db.proofs.Plain.{kept_replace}
 use Rattle.slate_db.proofs.RunsOf.{tables_are}
@@ -50,8 +49,7 @@ use Rattle.slate_db.proofs.ScanSources.{core_scans}
 use Rattle.slate_db.proofs.ScanTables.{IsRunHere, IsRunLeft, RunsLeft, runs_here, runs_left}
 use Rattle.slate_db.proofs.ScanWorlds.{AreNew, all_found, held_paths, held_runs, is_world, map_both, paths_of, runs_new, world_of}
 use Rattle.slate_db.proofs.SourceLists.{each_back}
-use Rattle.slate_db.proofs.Short.{all_append, all_filter}
-use Rattle.slate_db.proofs.Versions.{all_reverse}
+use Rattle.slate_types.proofs.Lists.{AllByRecursion_append, AllByRecursion_front, AllByRecursion_behind, AllByRecursion_filter, AllByRecursion_reverse}
 
 -- ---- rows
 
@@ -86,12 +84,12 @@ module _ (range : BytesRange) (ops : Ops) (own : Rows) (has : HasOwn range ops o
   own_within = own_of_range (λ r. in_range range r.key ≡ true) (λ k within. own_keys range k within (reverse (kept ops k)))
 
   own_all_bases : holds_merge ops ≡ false → AllByRecursion (λ r. is_base r ≡ true) own
-  own_all_bases plain = own_of_range (λ r. is_base r ≡ true) (λ k within. own_bases k (reverse (kept ops k)) (all_reverse (λ op. replaces op ≡ true) (kept ops k) (kept_replace ops k plain)))
+  own_all_bases plain = own_of_range (λ r. is_base r ≡ true) (λ k within. own_bases k (reverse (kept ops k)) (AllByRecursion_reverse (λ op. replaces op ≡ true) (kept ops k) (kept_replace ops k plain)))
 
 -- what is true of all rows of the layers in the range
 all_lists : (Q : RowEntry → Type 0) (range : BytesRange) (n : ℕ) (layers : List Rows) (lists : List Rows) → BringEach range layers lists → AllByRecursion (λ rows. AllByRecursion Q (ranged range rows)) layers → AllByRecursion (AllByRecursion Q) (map (filter (upto_seq (Some n))) lists)
 all_lists Q range n [] [] h k = tt
-all_lists Q range n (rows ∷ layers) (list ∷ lists) h k = (all_filter Q (upto_seq (Some n)) list (all_brought Q (ranged range rows) list h.0 k.0), all_lists Q range n layers lists h.1 k.1)
+all_lists Q range n (rows ∷ layers) (list ∷ lists) h k = (AllByRecursion_filter Q (upto_seq (Some n)) list (all_brought Q (ranged range rows) list h.0 k.0), all_lists Q range n layers lists h.1 k.1)
 all_lists Q range n [] (list ∷ lists) h k = absurd h
 all_lists Q range n (rows ∷ layers) [] h k = absurd h
 
@@ -172,7 +170,7 @@ module _ (w : World) (order : IterationOrder) where
 
 all_flat : (Q : RowEntry → Type 0) (ls : List Rows) → AllByRecursion (AllByRecursion Q) ls → AllByRecursion Q (all_rows ls)
 all_flat Q [] h = tt
-all_flat Q (rows ∷ ls) h = all_append Q rows (all_rows ls) h.0 (all_flat Q ls h.1)
+all_flat Q (rows ∷ ls) h = AllByRecursion_append Q rows (all_rows ls) h.0 (all_flat Q ls h.1)
 
 -- for a scan at a sequence, under own operations
 pub record ScanOpens (os : Objects) (m : Meaning) (c : CoreModel) (n : ℕ) (ops : Ops) (range : BytesRange) (order : IterationOrder) (sources : List ScanSource) : Type 0 where
@@ -228,7 +226,7 @@ module _ (m : Meaning) (c : CoreModel) (x : Unseen) (w : IsWhole c x) (law : IsL
 
   bases_of : (groups : List (List Rows)) → AllByRecursion AreBases (flat_map (λ ls. ls) groups) → AllByRecursion AreBases (in_one groups)
   bases_of [] h = tt
-  bases_of (ls ∷ groups) h = (all_flat (λ r. is_base r ≡ true) ls (all_front AreBases ls (flat_map (λ l. l) groups) h), bases_of groups (all_behind AreBases ls (flat_map (λ l. l) groups) h))
+  bases_of (ls ∷ groups) h = (all_flat (λ r. is_base r ≡ true) ls (AllByRecursion_front AreBases ls (flat_map (λ l. l) groups) h), bases_of groups (AllByRecursion_behind AreBases ls (flat_map (λ l. l) groups) h))
 
   run_bases : m.combine ≡ None → AllByRecursion AreBases (in_one runs_of_core.groups)
   run_bases none = bases_of runs_of_core.groups (subst (AllByRecursion AreBases) runs_of_core.is ((kept_m.1 law).bases none))
@@ -281,9 +279,9 @@ module _ (m : Meaning) (c : CoreModel) (x : Unseen) (w : IsWhole c x) (law : IsL
         (all_merged Q order (left_of n own_list lists) (
           own,
           subst (AllByRecursion (AllByRecursion Q)) (sym (map_both (filter (upto_seq (Some n))) (rests v order are.in_memory) (rests v order are.in_runs)))
-              (all_append (AllByRecursion Q) (map (filter (upto_seq (Some n))) (rests v order are.in_memory)) (map (filter (upto_seq (Some n))) (rests v order are.in_runs))
-              (all_lists Q range n (reverse (memory c)) (rests v order are.in_memory) in_memory.bring (all_reverse _ (memory c) in_mem))
-              (all_lists Q range n (reverse (in_one of_left.some)) (rests v order are.in_runs) in_runs.bring (all_reverse _ (in_one of_left.some) in_run))),
+              (AllByRecursion_append (AllByRecursion Q) (map (filter (upto_seq (Some n))) (rests v order are.in_memory)) (map (filter (upto_seq (Some n))) (rests v order are.in_runs))
+              (all_lists Q range n (reverse (memory c)) (rests v order are.in_memory) in_memory.bring (AllByRecursion_reverse _ (memory c) in_mem))
+              (all_lists Q range n (reverse (in_one of_left.some)) (rests v order are.in_runs) in_runs.bring (AllByRecursion_reverse _ (in_one of_left.some) in_run))),
         ))
 
     every_within : (ls : List Rows) → AllByRecursion (λ rows. AllByRecursion (λ r. in_range range r.key ≡ true) (ranged range rows)) ls
@@ -292,13 +290,13 @@ module _ (m : Meaning) (c : CoreModel) (x : Unseen) (w : IsWhole c x) (law : IsL
 
     every_base : (ls : List Rows) → AllByRecursion AreBases ls → AllByRecursion (λ rows. AllByRecursion (λ r. is_base r ≡ true) (ranged range rows)) ls
     every_base [] h = tt
-    every_base (rows ∷ ls) h = (all_filter (λ r. is_base r ≡ true) (λ r. in_range range r.key) rows h.0, every_base ls h.1)
+    every_base (rows ∷ ls) h = (AllByRecursion_filter (λ r. is_base r ≡ true) (λ r. in_range range r.key) rows h.0, every_base ls h.1)
 
     pub scan_opens : ScanOpens os m c n ops range order sources
     scan_opens = record {
       world = v;
       is = is_world m os x.runs runs_of_core.groups (stored os holds);
-      can = subst (AllByRecursion (CanOpen v order)) (sym are.are) (can_open v order (HasOwn range ops) are.own own_in, all_append (CanOpen v order) are.in_memory are.in_runs in_memory.can in_runs.can);
+      can = subst (AllByRecursion (CanOpen v order)) (sym are.are) (can_open v order (HasOwn range ops) are.own own_in, AllByRecursion_append (CanOpen v order) are.in_memory are.in_runs in_memory.can in_runs.can);
       operable = λ none. all_of_merged (λ r. is_base r ≡ true) (own_all_bases range ops own_list own_in.rows (plain none)) (every_base (memory c) (memory_plain none)) (every_base (in_one of_left.some) (of_left.bases (run_bases none)));
       within = folded_keys (λ k. in_range range k ≡ true) (operator_at m.combine) true None (merged_rows order v sources)
           (all_of_merged (λ r. in_range range r.key ≡ true) (own_within range ops own_list own_in.rows) (every_within (memory c)) (every_within (in_one of_left.some)));

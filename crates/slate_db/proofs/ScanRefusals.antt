@@ -27,28 +27,27 @@ use Rattle.slate_db.specs.Model.{CoreModel, Rows}
 use Rattle.slate_db.specs.OpenScans.{AreEach, AreScanSources, CanOpen, IsBlamedFor, IsInMemory, IsMemorySource, IsOverRun, IsRunSource}
 use Rattle.slate_db.specs.Scans.{IsReached, ScanSource, ShowsAmong, source_refuses}
 use Rattle.slate_db.specs.Whole.{IsWhole, Unseen}
-use Rattle.slate_db.proofs.Lists.{all_map}
-use Rattle.slate_db.proofs.Versions.{all_reverse}
+use Rattle.slate_types.proofs.Lists.{AllByRecursion_weaken, AllByRecursion_reverse}
 
 -- damage, shown of some of these tables
 abbrev pub IsShown : Meaning → List SsTableHandle → List Act → SlateDBError → Type 0
 IsShown m hs reads e = IsDamage e × ShowsAmong m.decode hs reads e
 
-abbrev AreAmong : List SsTableHandle → SortedRun → Type 0
+abbrev pub AreAmong : List SsTableHandle → SortedRun → Type 0
 AreAmong hs run = (h : SsTableHandle) → Contains run.tables.items h → Contains hs h
 
-all_among : (runs : List SortedRun) → AllByRecursion (AreAmong (handles_of runs)) runs
+pub all_among : (runs : List SortedRun) → AllByRecursion (AreAmong (handles_of runs)) runs
 all_among [] = tt
 all_among (run ∷ runs) = (
   λ h there. Contains-append_left run.tables.items (handles_of runs) h there,
-  all_map (AreAmong (handles_of runs)) (AreAmong (handles_of (run ∷ runs))) (λ r f h there. Contains-append_right run.tables.items (handles_of runs) h (f h there)) runs (all_among runs),
+  AllByRecursion_weaken (AreAmong (handles_of runs)) (AreAmong (handles_of (run ∷ runs))) (λ r f h there. Contains-append_right run.tables.items (handles_of runs) h (f h there)) runs (all_among runs),
 )
 
 reached : (range : BytesRange) (at : Option (List ℕ)) (e : SlateDBError) {A : Type 0} → IsReached range at → RefusesSeek range at e → A
 reached range None e h r = absurd r
 reached range (Some key) e h r = let no : not (is_past_start range.start key) ≡ false = ap not h in let yes : not (is_past_start range.start key) ≡ true = r.0 in cc
 
-any_both : {Y : Type 0} (Q : Y → Type 0) (xs ys : List Y) → AnyByRecursion Q (xs ++ ys) → AnyByRecursion Q xs ⊎ AnyByRecursion Q ys
+pub any_both : {Y : Type 0} (Q : Y → Type 0) (xs ys : List Y) → AnyByRecursion Q (xs ++ ys) → AnyByRecursion Q xs ⊎ AnyByRecursion Q ys
 any_both Q [] ys h = inr h
 any_both Q (x ∷ xs) ys (inl h) = inl (inl h)
 any_both Q (x ∷ xs) ys (inr h) = elim (any_both Q xs ys h) [ inl k ↦ inl (inr k) | inr k ↦ inr k ]
@@ -104,7 +103,7 @@ blamed_shows m range order n ops layers runs sources are reads at e open_at (beg
   where
     later : AnyByRecursion (Refuses m range order reads e begun (handles_of runs) at) are.in_memory ⊎ AnyByRecursion (Refuses m range order reads e begun (handles_of runs) at) are.in_runs → IsShown m (handles_of runs) reads e
     later (inl r) = memory_none m range order reads e begun (handles_of runs) n layers are.in_memory at are.of_memory r
-    later (inr r) = some_run m range order reads e begun (handles_of runs) n (reverse runs) are.in_runs at (all_reverse (AreAmong (handles_of runs)) runs (all_among runs)) open_at are.of_runs r
+    later (inr r) = some_run m range order reads e begun (handles_of runs) n (reverse runs) are.in_runs at (AllByRecursion_reverse (AreAmong (handles_of runs)) runs (all_among runs)) open_at are.of_runs r
 
     by : AnyByRecursion (Refuses m range order reads e begun (handles_of runs) at) (are.own ∷ (are.in_memory ++ are.in_runs)) → IsShown m (handles_of runs) reads e
     by (inl (inl r)) = memory_silent m range order reads e begun (handles_of runs) _ are.own.iterator at are.of_own.1 r

@@ -14,15 +14,15 @@ use Rattle.slate_types.specs.declared.types.RowEntry.{RowEntry}
 use Rattle.slate_types.specs.Iteration.{IsInOrder, NoneBefore, comes_before, in_order}
 use Rattle.slate_types.specs.Keys.{in_range, key_cmp, key_le, key_lt}
 use Rattle.slate_types.specs.Rows.{is_base, of_key}
-use Rattle.slate_types.proofs.KeyOrder.{not-lt, same-key}
+use Rattle.slate_types.proofs.KeyOrder.{not_lt, equal_keys}
 use Rattle.slate_types.proofs.IterationLaws.{in_order_filtered}
 use Rattle.slate_mem.specs.Table.{ranged}
 use Rattle.slate_read.specs.Groups.{in_turn, newest_first, put_behind}
 use Rattle.slate_read.specs.Merge.{all_rows, decided_after, decides, is_hidden, merged}
 use Rattle.slate_read.specs.Merge as merge
 use Rattle.slate_db.specs.Model.{Rows}
-use Rattle.slate_db.proofs.ByKeys.{turned_filter}
-use Rattle.slate_db.proofs.Short.{all_append, all_filter}
+use Rattle.slate_types.proofs.Lists.{AllByRecursion_append, AllByRecursion_filter}
+use Rattle.slate_txn.proofs.PartLaws.{filter_reverse}
 
 -- ---- all rows that are merged
 
@@ -48,7 +48,7 @@ all_decided P hidden (r ∷ rows) h = by (is_hidden hidden r.key) (all_decided P
 
 all_lists : (P : RowEntry → Type 0) (lists : List Rows) → AllByRecursion (AllByRecursion P) lists → AllByRecursion P (all_rows lists)
 all_lists P [] h = tt
-all_lists P (rows ∷ lists) h = all_append P rows (all_rows lists) h.0 (all_lists P lists h.1)
+all_lists P (rows ∷ lists) h = AllByRecursion_append P rows (all_rows lists) h.0 (all_lists P lists h.1)
 
 pub all_merged : (P : RowEntry → Type 0) (order : IterationOrder) (lists : List Rows) → AllByRecursion (AllByRecursion P) lists → AllByRecursion P (merged order true lists)
 all_merged P order lists h = all_decided P None _ (all_put P _ (all_rows lists) [] (all_lists P lists h) tt)
@@ -73,7 +73,7 @@ all_of_keys P (r ∷ rs) h = (first (bytes_eq r.key r.key) (same_key r.key) (h r
 
 -- a list that has of each key the rows of another one
 pub all_brought : (P : RowEntry → Type 0) (rows list : Rows) → ((k : List ℕ) → of_key k list ≡ of_key k rows) → AllByRecursion P rows → AllByRecursion P list
-all_brought P rows list same h = all_of_keys P list (λ k. subst (AllByRecursion P) (sym (same k)) (all_filter P (λ r. bytes_eq r.key k) rows h))
+all_brought P rows list same h = all_of_keys P list (λ k. subst (AllByRecursion P) (sym (same k)) (AllByRecursion_filter P (λ r. bytes_eq r.key k) rows h))
 
 pub all_ranged : (range : BytesRange) (rows : Rows) → AllByRecursion (λ r. in_range range r.key ≡ true) (ranged range rows)
 all_ranged range [] = tt
@@ -172,7 +172,7 @@ le_lt a b apart h = by (key_cmp a b) refl h
   where
     by : (o : Ordering) → key_cmp a b ≡ o → is_le o ≡ true → is_lt o ≡ true
     by Less e h = refl
-    by Equal e h = let same : a ≡ b = same-key a b e in let yes : bytes_eq b a ≡ true = ap (bytes_eq b) same ∙ same_key b in cc
+    by Equal e h = let same : a ≡ b = equal_keys a b e in let yes : bytes_eq b a ≡ true = ap (bytes_eq b) same ∙ same_key b in cc
     by Greater e h = cc
 
 apart_back : (a b : List ℕ) → bytes_eq a b ≡ false → bytes_eq b a ≡ false
@@ -184,8 +184,8 @@ apart_back a b h = by (bytes_eq b a) refl
 
 -- of two keys one comes before the other
 one_before : (order : IterationOrder) (a k : List ℕ) → bytes_eq a k ≡ false → comes_before order a k ≡ false → comes_before order k a ≡ true
-one_before Ascending a k apart h = le_lt k a apart (not-lt a k h)
-one_before Descending a k apart h = le_lt a k (apart_back a k apart) (not-lt k a h)
+one_before Ascending a k apart h = le_lt k a apart (not_lt a k h)
+one_before Descending a k apart h = le_lt a k (apart_back a k apart) (not_lt k a h)
 
 none_behind : (order : IterationOrder) (k : List ℕ) (x : RowEntry) (rows : Rows) → comes_before order k x.key ≡ true → NoneBefore order x.key rows → of_key k rows ≡ []
 none_behind order k x [] before h = refl
@@ -223,7 +223,7 @@ all_none k (r ∷ rows) h = (h.0, all_none k rows h.1)
 
 all_reversed : (P : RowEntry → Type 0) (rows : Rows) → AllByRecursion P rows → AllByRecursion P (reverse rows)
 all_reversed P [] h = tt
-all_reversed P (r ∷ rows) h = subst (AllByRecursion P) (sym (back_one r rows)) (all_append P (reverse rows) (r ∷ []) (all_reversed P rows h.1) (h.0, tt))
+all_reversed P (r ∷ rows) h = subst (AllByRecursion P) (sym (back_one r rows)) (AllByRecursion_append P (reverse rows) (r ∷ []) (all_reversed P rows h.1) (h.0, tt))
 
 order_reversed : (rows : Rows) → IsInOrder Ascending rows → IsInOrder Descending (reverse rows)
 order_reversed [] h = tt
@@ -234,4 +234,4 @@ order_reversed (r ∷ rows) h =
 -- in either order rows of a table have of each key the rows that it has, as they stand in it
 pub turned_same : (order : IterationOrder) (rows : Rows) → IsInOrder Ascending rows → (k : List ℕ) → of_key k (in_turn order (in_order order rows)) ≡ of_key k rows
 turned_same Ascending rows h k = refl
-turned_same Descending rows h k = (turned_key k (reverse rows) (order_together Descending (reverse rows) (order_reversed rows h))).rows_are ∙ ap reverse (turned_filter (λ r. bytes_eq r.key k) rows) ∙ reverse-reverse (of_key k rows)
+turned_same Descending rows h k = (turned_key k (reverse rows) (order_together Descending (reverse rows) (order_reversed rows h))).rows_are ∙ ap reverse (filter_reverse (λ r. bytes_eq r.key k) rows) ∙ reverse-reverse (of_key k rows)

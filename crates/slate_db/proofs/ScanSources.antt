@@ -20,12 +20,12 @@ use Rattle.slate_db.specs.ScanLaws.{ScansOfCoreShowWhatIsSeen}
 use Rattle.slate_db.specs.Scanned.{AreSources, HasOwn, HaveRows, own_rows}
 use Rattle.slate_db.specs.Sound.{AreTables, IsKept, at_most}
 use Rattle.slate_db.specs.Whole.{IsWhole, Unseen}
-use Rattle.slate_db.proofs.Lists.{all_map}
 use Rattle.slate_db.proofs.Rises.{rising_both, rows_above}
 use Rattle.slate_db.proofs.Scans.{scan_shows}
 use Rattle.slate_db.proofs.Seen.{same_tables, seen_fold}
-use Rattle.slate_db.proofs.Short.{all_append, all_filter, all_from_last, commits_short, fine_short, AreShortOps}
-use Rattle.slate_db.proofs.Versions.{all_reverse, all_versions_in, short_versions}
+use Rattle.slate_db.proofs.Short.{all_from_last, commits_short, fine_short, AreShortOps}
+use Rattle.slate_db.proofs.Versions.{all_versions_in, short_versions}
+use Rattle.slate_types.proofs.Lists.{AllByRecursion_append, AllByRecursion_weaken, AllByRecursion_filter, AllByRecursion_reverse}
 
 -- own rows are short
 values_short : (xs : List WriteOp) (k : List ℕ) → AllByRecursion (λ op. IsShort (bytes_of (op_value op))) xs → AreShort (map (own_row k) xs)
@@ -42,7 +42,7 @@ of_ops P k (o ∷ os) h = by (bytes_eq o.0 k) (of_ops P k os h.1)
 
 own_short : (k : List ℕ) (ops : Ops) → AreFine ops → AreShort (own_rows ops k)
 own_short k ops fine =
-    values_short (reverse (kept ops k)) k (all_reverse _ (kept ops k) (all_from_last _ replaces (ops_of ops k) (of_ops (λ op. IsShort (bytes_of (op_value op))) k ops (fine_short ops fine))))
+    values_short (reverse (kept ops k)) k (AllByRecursion_reverse _ (kept ops k) (all_from_last _ replaces (ops_of ops k) (of_ops (λ op. IsShort (bytes_of (op_value op))) k ops (fine_short ops fine))))
 
 module _ (m : Meaning) (c : CoreModel) (x : Unseen) (layers : List Rows) (w : IsWhole c x) (law : IsLawfulMeaning m) (kept : IsKept m c) (tables : AreTables m (tables_of c.events) layers) where
   same : (kept.1 law).layers ≡ layers
@@ -64,15 +64,15 @@ module _ (m : Meaning) (c : CoreModel) (x : Unseen) (layers : List Rows) (w : Is
 
   all_short : AllByRecursion AreShort (layers ++ memory c)
   all_short =
-      all_append AreShort layers (memory c) (subst (AllByRecursion AreShort) same (kept.1 law).short)
-      (all_map _ AreShort (λ rows h. all_map FitsMemory (λ r. IsShort (operand r)) (λ r f. f.value) rows h) (memory c) w.layers.fit)
+      AllByRecursion_append AreShort layers (memory c) (subst (AllByRecursion AreShort) same (kept.1 law).short)
+      (AllByRecursion_weaken _ AreShort (λ rows h. AllByRecursion_weaken FitsMemory (λ r. IsShort (operand r)) (λ r f. f.value) rows h) (memory c) w.layers.fit)
 
   below : (k : List ℕ) → AllByRecursion (λ r. r.seq < 2 ^ 64 - 1) (versions_in k (layers ++ memory c))
   below k =
       all_versions_in (λ r. r.seq < 2 ^ 64 - 1) k (layers ++ memory c)
-      (all_append (λ rows. AllByRecursion (λ r. r.seq < 2 ^ 64 - 1) rows) layers (memory c)
-      (all_map _ _ (λ rows h. all_map _ _ installed_below rows h) layers in_tables)
-      (all_map _ _ (λ rows h. all_map _ _ last_below rows h) (memory c) w.tied.rows_within))
+      (AllByRecursion_append (λ rows. AllByRecursion (λ r. r.seq < 2 ^ 64 - 1) rows) layers (memory c)
+      (AllByRecursion_weaken _ _ (λ rows h. AllByRecursion_weaken _ _ installed_below rows h) layers in_tables)
+      (AllByRecursion_weaken _ _ (λ rows h. AllByRecursion_weaken _ _ last_below rows h) (memory c) w.tied.rows_within))
     where
       last_below : (r : RowEntry) → r.seq ≤ x.last → r.seq < 2 ^ 64 - 1
       last_below r h = let fits : x.last ≤ 2 ^ 64 - 2 = w.log.last_fits in omega arith
@@ -87,7 +87,7 @@ module _ (m : Meaning) (c : CoreModel) (x : Unseen) (layers : List Rows) (w : Is
       ∙ ap (fold_rows (combine_of m k)) (append-nil (key_rows (rules_of c.settings m) k (up_to n c.state.commits)))
 
   commits_fine : AllByRecursion (λ (x : Commit). AreShortOps x.ops) c.state.commits
-  commits_fine = all_map (λ (x : Commit). AreFine x.ops) (λ (x : Commit). AreShortOps x.ops) (λ x h. fine_short x.ops h) c.state.commits w.log.fine
+  commits_fine = AllByRecursion_weaken (λ (x : Commit). AreFine x.ops) (λ (x : Commit). AreShortOps x.ops) (λ x h. fine_short x.ops h) c.state.commits w.log.fine
 
   sources : (n : ℕ) (ops : Ops) (range : BytesRange) (own : Rows) (lists : List Rows) → c.floor ≤ n → AreFine ops → HasOwn range ops own → HaveRows range (layers ++ memory c) lists →
       AreSources (rules_of c.settings m) c.state.commits n ops range (λ k. versions_in k (layers ++ memory c)) own lists
@@ -98,7 +98,7 @@ module _ (m : Meaning) (c : CoreModel) (x : Unseen) (layers : List Rows) (w : Is
     lawful = law.operator;
     keeps_short = law.short;
     short = λ k. short_versions k (layers ++ memory c) all_short;
-    commits_short = λ k. commits_short (rules_of c.settings m) k (law.short k) (up_to n c.state.commits) (all_filter _ _ c.state.commits commits_fine);
+    commits_short = λ k. commits_short (rules_of c.settings m) k (law.short k) (up_to n c.state.commits) (AllByRecursion_filter _ _ c.state.commits commits_fine);
     own_short = λ k. own_short k ops fine;
     below = below;
     folds = folds n from;

@@ -18,11 +18,11 @@ use Rattle.slate_types.specs.Refusing.{IsDamage, NoMore}
 use Rattle.slate_types.specs.World.{World, Made}
 use Rattle.slate_types.proofs.Calls.{call_none}
 use Rattle.slate_types.proofs.IterationLaws.{drop_before_none}
-use Rattle.slate_types.proofs.KeyOrder.{le-lt-trans, lt-irreflexive, lt-le-trans, lt-trans, not-le, not-lt}
+use Rattle.slate_types.proofs.KeyOrder.{le_lt_trans, lt_irreflexive, lt_le_trans, lt_trans, not_le, not_lt}
 use Rattle.slate_read.specs.declared.folding.Folding.{Folding}
 use Rattle.slate_read.specs.declared.operator_iterator.MergeOperatorIterator.{MergeOperatorIterator}
 use Rattle.slate_read.specs.Folding.{NoneRises}
-use Rattle.slate_read.specs.Folds.{RefusesFold}
+use Rattle.slate_read.specs.Folds.{RefusesBrought}
 use Rattle.slate_read.specs.Kept.{Copies}
 use Rattle.slate_read.specs.OperatorIterators.{IsGoing, IsOperable, refuses_folding, rest_folding, sound_folding}
 use Rattle.slate_read.specs.Peeking.{with_ahead}
@@ -31,7 +31,7 @@ use Rattle.slate_txn.specs.Alone.{first_left}
 use Rattle.slate_db.specs.declared.scan.DbIterator.{DbIterator}
 use Rattle.slate_db.specs.declared.scan.ScanState.{ScanState}
 use Rattle.slate_db.specs.declared.scan.ScanState.TheVariants.{Walking, Done, Refused}
-use Rattle.slate_db.specs.Scans.{AnswersAgain, AreForIn, FoldsAll, IsOperableIn, IsReached, IsSoundIn, IsSoundMerged, Leaves, MergedSources, RefusesIn, SourcesRefuse, left_in, merge_refuses, merge_rows, order_of_merge}
+use Rattle.slate_db.specs.Scans.{AnswersAgain, AreForIn, FoldsAll, IsOperableIn, IsReached, IsSoundIn, IsSoundMerged, Leaves, MergedSources, RefusesIn, SourcesRefuse, fold_brings, left_in, merge_brings, merge_refuses, merge_rows, order_of_merge}
 use Rattle.slate_db.specs.Values.{HasValues, has_value}
 use Rattle.slate_db.proofs.Foldings.{bases_closed, closed_bases, going_refuses, refuses_going, refuses_weaker}
 use Rattle.slate_db.proofs.Passing.{has_none}
@@ -40,8 +40,8 @@ use Rattle.slate_db.proofs.Passing.{has_none}
 
 past_key : (start : Bound (List ℕ)) (key k : List ℕ) → is_past_start start key ≡ false → is_past_start start k ≡ true → key_lt key k ≡ true
 past_key Unbounded key k below past = cc
-past_key (Included a) key k below past = lt-le-trans key a k (not-le a key below) past
-past_key (Excluded a) key k below past = le-lt-trans key a k (not-lt a key below) past
+past_key (Included a) key k below past = lt_le_trans key a k (not_le a key below) past
+past_key (Excluded a) key k below past = le_lt_trans key a k (not_lt a key below) past
 
 both_true : (a b : Bool) → (a && b) ≡ true → a ≡ true
 both_true true b h = refl
@@ -54,7 +54,7 @@ not_below : (a b : List ℕ) → key_lt a b ≡ true → key_lt b a ≡ false
 not_below a b h = by (key_lt b a) refl
   where
     by : (c : Bool) → key_lt b a ≡ c → key_lt b a ≡ false
-    by true is = lt-irreflexive a (lt-trans a b a h is)
+    by true is = lt_irreflexive a (lt_trans a b a h is)
     by false is = is
 
 -- no row of the range stands before such a key
@@ -173,32 +173,47 @@ sources_walk r range a b x u v is h = on_ok_weaker r
 
 -- what a state refuses for that is going
 abbrev pub OwnRefusal : BytesRange → Merged → Meaning → List Act → Option (List ℕ) → SlateDBError → Type 0
-OwnRefusal range u m reads at e = RefusesFold m at e ⊎ (IsReached range at × merge_refuses u.iterator m reads at e)
+OwnRefusal range u m reads at e = RefusesBrought (fold_brings u m reads) m at e ⊎ (IsReached range at × merge_refuses u.iterator m reads at e)
+
+abbrev pub Folds : Merged → Meaning → List Act → Option (List ℕ) → SlateDBError → Type 0
+Folds u m reads at e = refuses_folding merge_refuses merge_brings u m reads at e
+
+-- what it refuses as an iterator that folds
+abbrev FoldsGoing : Merged → Meaning → List Act → Option (List ℕ) → SlateDBError → Type 0
+FoldsGoing u m reads at e = merge_refuses u.iterator m reads at e ⊎ RefusesBrought (fold_brings u m reads) m at e
+
+-- no seek meets such a row
+pub met_anywhere : (brings : RowEntry → Type 0) (range : BytesRange) (m : Meaning) (at : Option (List ℕ)) (e : SlateDBError) → RefusesBrought brings m at e → IsReached range at
+met_anywhere brings range m at e (inl operand) = subst (IsReached range) (sym operand.refuses.0) tt
+met_anywhere brings range m at e (inr rise) = subst (IsReached range) (sym rise.refuses.0) tt
+
+own_of : (range : BytesRange) (u : Merged) (m : Meaning) (reads : List Act) (at : Option (List ℕ)) (e : SlateDBError) → IsReached range at → FoldsGoing u m reads at e → OwnRefusal range u m reads at e
+own_of range u m reads at e reached (inl k) = inr (reached, k)
+own_of range u m reads at e reached (inr k) = inl k
 
 pub later_walk : {V : Type 0} (r : Result V SlateDBError) (range : BytesRange) (a b : Reach) (x : ScanState) (u v : Merged) → x ≡ Walking u → OnOk r (Goes u v) →
-    OnOk r (Made a b (λ reads. NoMore (merge_refuses u.iterator a.meaning) reads (merge_refuses v.iterator a.meaning))) → OnOk r (Made a b (λ reads. NoMore (RefusesIn range x a.meaning) reads (RefusesIn range (Walking v) a.meaning)))
+    OnOk r (Made a b (λ reads. NoMore (Folds u a.meaning) reads (Folds v a.meaning))) → OnOk r (Made a b (λ reads. NoMore (RefusesIn range x a.meaning) reads (RefusesIn range (Walking v) a.meaning)))
 later_walk r range a b x u v is goes h = on_both r goes h
     (λ g k. subst (λ (s : ScanState). Made a b (λ reads. NoMore (RefusesIn range s a.meaning) reads (RefusesIn range (Walking v) a.meaning))) (sym is) (k.0, k.1, λ later at e f. by g k.0 k.2 later at e f))
   where
-    own : (reads : List Act) → NoMore (merge_refuses u.iterator a.meaning) reads (merge_refuses v.iterator a.meaning) → (later : List Act) (at : Option (List ℕ)) (e : SlateDBError) → OwnRefusal range v a.meaning later at e → OwnRefusal range u a.meaning (reads ++ later) at e
-    own reads less later at e (inl f) = inl f
-    own reads less later at e (inr f) = inr (f.0, less later at e f.1)
+    back : Goes u v → (reads : List Act) → NoMore (Folds u a.meaning) reads (Folds v a.meaning) → (later : List Act) (at : Option (List ℕ)) (e : SlateDBError) → FoldsGoing v a.meaning later at e → FoldsGoing u a.meaning (reads ++ later) at e
+    back g reads less later at e f = refuses_going (FoldsGoing u a.meaning (reads ++ later) at) u e g.0 (less later at e (going_refuses (FoldsGoing v a.meaning later at) v e g.1 f))
 
-    by : Goes u v → (reads : List Act) → NoMore (merge_refuses u.iterator a.meaning) reads (merge_refuses v.iterator a.meaning) → NoMore (RefusesIn range (Walking u) a.meaning) reads (RefusesIn range (Walking v) a.meaning)
-    by g reads less later at e f = going_refuses (OwnRefusal range u a.meaning (reads ++ later) at) u e g.0 (own reads less later at e (refuses_going (OwnRefusal range v a.meaning later at) v e g.1 f))
+    own : Goes u v → (reads : List Act) → NoMore (Folds u a.meaning) reads (Folds v a.meaning) → (later : List Act) (at : Option (List ℕ)) (e : SlateDBError) → OwnRefusal range v a.meaning later at e → OwnRefusal range u a.meaning (reads ++ later) at e
+    own g reads less later at e (inl f) = own_of range u a.meaning (reads ++ later) at e (met_anywhere (fold_brings v a.meaning later) range a.meaning at e f) (back g reads less later at e (inr f))
+    own g reads less later at e (inr f) = own_of range u a.meaning (reads ++ later) at e f.0 (back g reads less later at e (inl f.1))
+
+    by : Goes u v → (reads : List Act) → NoMore (Folds u a.meaning) reads (Folds v a.meaning) → NoMore (RefusesIn range (Walking u) a.meaning) reads (RefusesIn range (Walking v) a.meaning)
+    by g reads less later at e f = going_refuses (OwnRefusal range u a.meaning (reads ++ later) at) u e g.0 (own g reads less later at e (refuses_going (OwnRefusal range v a.meaning later at) v e g.1 f))
 
 pub cause_walk : {V : Type 0} (r : Result V SlateDBError) (range : BytesRange) (at : Option (List ℕ)) (a b : Reach) (x : ScanState) (u : Merged) → x ≡ Walking u → IsReached range at →
-    IfErr r (λ e. Made a b (λ reads. IsFault a b e ⊎ refuses_folding merge_refuses u a.meaning reads at e)) → IfErr r (λ e. Made a b (λ reads. IsFault a b e ⊎ RefusesIn range x a.meaning reads at e))
+    IfErr r (λ e. Made a b (λ reads. IsFault a b e ⊎ Folds u a.meaning reads at e)) → IfErr r (λ e. Made a b (λ reads. IsFault a b e ⊎ RefusesIn range x a.meaning reads at e))
 cause_walk r range at a b x u is reached h = IfErr-weaker r _ _
     (λ e k. subst (λ (s : ScanState). Made a b (λ reads. IsFault a b e ⊎ RefusesIn range s a.meaning reads at e)) (sym is) (k.0, k.1, by e k.0 k.2)) h
   where
-    own : (reads : List Act) (e : SlateDBError) → merge_refuses u.iterator a.meaning reads at e ⊎ RefusesFold a.meaning at e → OwnRefusal range u a.meaning reads at e
-    own reads e (inl k) = inr (reached, k)
-    own reads e (inr k) = inl k
-
-    by : (e : SlateDBError) (reads : List Act) → IsFault a b e ⊎ refuses_folding merge_refuses u a.meaning reads at e → IsFault a b e ⊎ RefusesIn range (Walking u) a.meaning reads at e
+    by : (e : SlateDBError) (reads : List Act) → IsFault a b e ⊎ Folds u a.meaning reads at e → IsFault a b e ⊎ RefusesIn range (Walking u) a.meaning reads at e
     by e reads (inl k) = inl k
-    by e reads (inr k) = inr (refuses_weaker (λ d. merge_refuses u.iterator a.meaning reads at d ⊎ RefusesFold a.meaning at d) (OwnRefusal range u a.meaning reads at) u.refusal u.begun e (own reads e) k)
+    by e reads (inr k) = inr (refuses_weaker (FoldsGoing u a.meaning reads at) (OwnRefusal range u a.meaning reads at) u.refusal u.begun e (own_of range u a.meaning reads at e reached) k)
 
 pub checked_walk : {V : Type 0} (r : Result V SlateDBError) (order : IterationOrder) (w : World) (a b : Reach) (x : ScanState) (u : Merged) (Q : Type 0) → x ≡ Walking u → (IsSound u w → OnOk r Q) → IsSoundIn order x w → OnOk r Q
 checked_walk r order w a b x u Q is h sound = h (sound_walk order w x u is sound).2

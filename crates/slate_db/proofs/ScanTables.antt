@@ -14,7 +14,7 @@ use Rattle.slate_types.specs.Rows.{of_key}
 use Rattle.slate_types.specs.declared.types.Ulid.{Ulid}
 use Rattle.slate_types.specs.World.{Kept, World}
 use Rattle.slate_types.proofs.IterationLaws.{in_order_filtered}
-use Rattle.slate_types.proofs.KeyOrder.{le-lt-trans, lt-irreflexive, lt-le-trans, lt-trans}
+use Rattle.slate_types.proofs.KeyOrder.{le_lt_trans, lt_irreflexive, lt_le_trans, lt_trans}
 use Rattle.slate_mem.specs.Table.{ranged}
 use Rattle.slate_block.specs.BlockSpelling.{as_read}
 use Rattle.slate_table.specs.declared.info.SsTableHandle.{SsTableHandle}
@@ -38,11 +38,11 @@ use Rattle.slate_db.specs.OpenScans.{AreEach}
 use Rattle.slate_db.specs.ScanFilters.{AreLeft, AreRunsLeft}
 use Rattle.slate_db.specs.Scanned.{AreStoredRuns, Brings, in_one}
 use Rattle.slate_db.specs.Sound.{AreBases}
-use Rattle.slate_db.proofs.Lists.{all_behind, all_front, all_map}
 use Rattle.slate_db.proofs.ScanLists.{ranged_key}
 use Rattle.slate_db.proofs.ScanRows.{turned_same}
 use Rattle.slate_db.proofs.ScanWorlds.{held, held_runs, kept_in, map_both, table_held}
-use Rattle.slate_db.proofs.Short.{all_append}
+use Rattle.slate_types.proofs.Plain.{both_true}
+use Rattle.slate_types.proofs.Lists.{AllByRecursion_append, AllByRecursion_front, AllByRecursion_behind, AllByRecursion_weaken}
 
 tables_readable : TablesAreReadable
 tables_readable = readable same_end index_held index_found blocks_held
@@ -91,21 +91,17 @@ each_rows m os (h ∷ hs) [] s = absurd s
 
 -- ---- they rise
 
-both_true : (a b : Bool) → (a && b) ≡ true → (a ≡ true) × (b ≡ true)
-both_true true b h = (refl, h)
-both_true false b h = cc
-
 below_one : (h g : SsTableHandle) (j k : List ℕ) → EndsBelow h g → encloses (seen_info h.info) j ≡ true → encloses (seen_info g.info) k ≡ true → key_lt j k ≡ true
 below_one h g j k b e f =
-    lt-le-trans j b.first k
-    (le-lt-trans j b.last b.first (sym (ap (λ o. is_upto o j) b.ends) ∙ (both_true (is_from h.info.first_entry j) (is_upto h.info.last_entry j) e).1) b.below)
+    lt_le_trans j b.first k
+    (le_lt_trans j b.last b.first (sym (ap (λ o. is_upto o j) b.ends) ∙ (both_true (is_from h.info.first_entry j) (is_upto h.info.last_entry j) e).1) b.below)
     (sym (ap (λ o. is_from o k) b.begins) ∙ (both_true (is_from g.info.first_entry k) (is_upto g.info.last_entry k) f).0)
 
 below_rest : (w : World) (h : SsTableHandle) (j : List ℕ) (hs : List SsTableHandle) (kepts : List Kept) → encloses (seen_info h.info) j ≡ true → AllByRecursion (EndsBelow h) hs → AreEachReadable w hs kepts → AllByRecursion (λ s. key_lt j s.key ≡ true) (run_rows kepts)
 below_rest w h j [] [] e below each = tt
 below_rest w h j (g ∷ hs) (kept ∷ kepts) e below each =
-    all_append (λ s. key_lt j s.key ≡ true) (all_rows kept) (run_rows kepts)
-    (all_map (λ s. encloses (seen_info g.info) s.key ≡ true) (λ s. key_lt j s.key ≡ true) (λ s f. below_one h g j s.key below.0 e f) (all_rows kept) each.0.enclosed)
+    AllByRecursion_append (λ s. key_lt j s.key ≡ true) (all_rows kept) (run_rows kepts)
+    (AllByRecursion_weaken (λ s. encloses (seen_info g.info) s.key ≡ true) (λ s. key_lt j s.key ≡ true) (λ s f. below_one h g j s.key below.0 e f) (all_rows kept) each.0.enclosed)
     (below_rest w h j hs kepts e below.1 each.1)
 below_rest w h j [] (kept ∷ kepts) e below each = absurd each
 below_rest w h j (g ∷ hs) [] e below each = absurd each
@@ -113,7 +109,7 @@ below_rest w h j (g ∷ hs) [] e below each = absurd each
 rising : (w : World) (hs : List SsTableHandle) (kepts : List Kept) → AreApart hs → AreEachReadable w hs kepts → AreRisingTables kepts
 rising w [] [] apart each = tt
 rising w (h ∷ hs) (kept ∷ kepts) apart each = (
-  all_map (λ r. encloses (seen_info h.info) r.key ≡ true) (λ r. AllByRecursion (λ s. key_lt r.key s.key ≡ true) (run_rows kepts)) (λ r e. below_rest w h r.key hs kepts e apart.0 each.1) (all_rows kept) each.0.enclosed,
+  AllByRecursion_weaken (λ r. encloses (seen_info h.info) r.key ≡ true) (λ r. AllByRecursion (λ s. key_lt r.key s.key ≡ true) (run_rows kepts)) (λ r e. below_rest w h r.key hs kepts e apart.0 each.1) (all_rows kept) each.0.enclosed,
   rising w hs kepts apart.1 each.1,
 )
 rising w [] (kept ∷ kepts) apart each = absurd each
@@ -125,7 +121,7 @@ not_turned : (j k : List ℕ) → key_lt j k ≡ true → key_lt k j ≡ false
 not_turned j k h = by (key_lt k j) refl
   where
     by : (b : Bool) → key_lt k j ≡ b → b ≡ false
-    by true e = lt-irreflexive j (lt-trans j k j h e)
+    by true e = lt_irreflexive j (lt_trans j k j h e)
     by false e = refl
 
 none_both : (k : List ℕ) (xs ys : Rows) → NoneBefore Ascending k xs → AllByRecursion (λ s. key_lt k s.key ≡ true) ys → NoneBefore Ascending k (xs ++ ys)
@@ -158,10 +154,10 @@ pub runs_here : (m : Meaning) (os : Objects) (w : World) (ts : List (List (Ulid 
 runs_here m os w [] [] [] s are meant fits found = tt
 runs_here m os w (t ∷ ts) (run ∷ runs) (layers ∷ groups) s are meant fits found =
     let hs = run.tables.items in
-    let each = each_readable m os w hs layers s.0 meant fits (all_front _ (held m os hs layers s.0) (held_runs m os runs groups s.1) found) in
+    let each = each_readable m os w hs layers s.0 meant fits (AllByRecursion_front _ (held m os hs layers s.0) (held_runs m os runs groups s.1) found) in
     let rise = rising w hs (kepts_of m os hs layers s.0) are.0.apart each in (
       record { kepts = kepts_of m os hs layers s.0; tables = each_rows m os hs layers s.0; are = record { each = each; rising = rise }; rows = rows_are m os hs layers s.0; order = in_order_all w hs (kepts_of m os hs layers s.0) each rise },
-      runs_here m os w ts runs groups s.1 are.1 meant fits (all_behind _ (held m os hs layers s.0) (held_runs m os runs groups s.1) found),
+      runs_here m os w ts runs groups s.1 are.1 meant fits (AllByRecursion_behind _ (held m os hs layers s.0) (held_runs m os runs groups s.1) found),
     )
 runs_here m os w ts [] (layers ∷ groups) s are meant fits found = absurd s
 runs_here m os w ts (run ∷ runs) [] s are meant fits found = absurd s
@@ -186,8 +182,8 @@ part_left w range (h ∷ hs) (rs ∷ layers) (kept ∷ kepts) left each rows ris
       some = kept ∷ p.some;
       each = subst (λ (l : List SsTableHandle). AreEachReadable w l (kept ∷ p.some)) (sym is) (each.0, p.each);
       same = filter-append (is_in range) (all_rows kept) (run_rows p.some) ∙ ap (λ (l : Rows). filter (is_in range) (all_rows kept) ++ l) p.same ∙ sym (filter-append (is_in range) (all_rows kept) (run_rows kepts));
-      below = λ k h. all_append (λ s. key_lt k s.key ≡ true) (all_rows kept) (run_rows p.some) (all_front (λ s. key_lt k s.key ≡ true) (all_rows kept) (run_rows kepts) h) (p.below k (all_behind (λ s. key_lt k s.key ≡ true) (all_rows kept) (run_rows kepts) h));
-      rising = (all_map (λ (r : RowEntry). AllByRecursion (λ s. key_lt r.key s.key ≡ true) (run_rows kepts)) (λ (r : RowEntry). AllByRecursion (λ s. key_lt r.key s.key ≡ true) (run_rows p.some)) (λ r h. p.below r.key h) (all_rows kept) rise.0, p.rising);
+      below = λ k h. AllByRecursion_append (λ s. key_lt k s.key ≡ true) (all_rows kept) (run_rows p.some) (AllByRecursion_front (λ s. key_lt k s.key ≡ true) (all_rows kept) (run_rows kepts) h) (p.below k (AllByRecursion_behind (λ s. key_lt k s.key ≡ true) (all_rows kept) (run_rows kepts) h));
+      rising = (AllByRecursion_weaken (λ (r : RowEntry). AllByRecursion (λ s. key_lt r.key s.key ≡ true) (run_rows kepts)) (λ (r : RowEntry). AllByRecursion (λ s. key_lt r.key s.key ≡ true) (run_rows p.some)) (λ r h. p.below r.key h) (all_rows kept) rise.0, p.rising);
     }
 part_left w range (h ∷ hs) (rs ∷ layers) (kept ∷ kepts) left each rows rise (inr (none, rest)) =
     let p = part_left w range hs layers kepts left each.1 rows.1 rise.1 rest in
@@ -195,7 +191,7 @@ part_left w range (h ∷ hs) (rs ∷ layers) (kept ∷ kepts) left each rows ris
       some = p.some;
       each = p.each;
       same = p.same ∙ ap (λ (l : Rows). l ++ filter (is_in range) (run_rows kepts)) (sym (ap (filter (is_in range)) rows.0 ∙ none)) ∙ sym (filter-append (is_in range) (all_rows kept) (run_rows kepts));
-      below = λ k h. p.below k (all_behind (λ s. key_lt k s.key ≡ true) (all_rows kept) (run_rows kepts) h);
+      below = λ k h. p.below k (AllByRecursion_behind (λ s. key_lt k s.key ≡ true) (all_rows kept) (run_rows kepts) h);
       rising = p.rising;
     }
 part_left w range [] [] (kept ∷ kepts) left each rows rise is = absurd each

@@ -30,9 +30,8 @@ use Rattle.slate_db.specs.Meaning.{Meaning}
 use Rattle.slate_db.specs.Model.{Rows}
 use Rattle.slate_db.specs.Scanned.{AreStoredRuns}
 use Rattle.slate_db.specs.Scans.{IsWorldOf}
-use Rattle.slate_db.proofs.Lists.{all_behind, all_front, all_map}
 use Rattle.slate_db.proofs.PathsApart.{IsEarlier, earlier_apart, still_earlier}
-use Rattle.slate_db.proofs.Short.{all_append}
+use Rattle.slate_types.proofs.Lists.{AllByRecursion_append, AllByRecursion_front, AllByRecursion_behind, AllByRecursion_weaken}
 
 -- ---- one table
 
@@ -118,12 +117,12 @@ run_new n p ts [] fits earlier placed = tt
 run_new n p ts (u ∷ us) fits earlier placed = (
   apart_paths n p u ts placed.0 fits placed.1 earlier,
   subst (λ (l : List (List ℕ)). AreNew l (paths_of us)) (map_both (λ t. path_of root t.0.0) ts (u ∷ []))
-      (run_new n (p + 1) (ts ++ (u ∷ [])) us fits (all_append (IsEarlier n (p + 1)) ts (u ∷ []) (still_earlier n p ts earlier) (record { number = n; place = p; id = placed.0; fits = placed.1; earlier = inr (refl, omega arith) }, tt)) placed.2),
+      (run_new n (p + 1) (ts ++ (u ∷ [])) us fits (AllByRecursion_append (IsEarlier n (p + 1)) ts (u ∷ []) (still_earlier n p ts earlier) (record { number = n; place = p; id = placed.0; fits = placed.1; earlier = inr (refl, omega arith) }, tt)) placed.2),
 )
 
 -- of a later flush
 later_flush : (n : ℕ) (ts : List (Ulid × List ℕ)) → AllByRecursion (IsEarlier n 0) ts → AllByRecursion (IsEarlier (n + 1) 0) ts
-later_flush n ts h = all_map (IsEarlier n 0) (IsEarlier (n + 1) 0) (λ t e. record { number = e.number; place = e.place; id = e.id; fits = e.fits; earlier = by e.number e.place e.earlier }) ts h
+later_flush n ts h = AllByRecursion_weaken (IsEarlier n 0) (IsEarlier (n + 1) 0) (λ t e. record { number = e.number; place = e.place; id = e.id; fits = e.fits; earlier = by e.number e.place e.earlier }) ts h
   where
     by : (i q : ℕ) → (i < n) ⊎ ((i ≡ n) × (q < 0)) → (i < n + 1) ⊎ ((i ≡ n + 1) × (q < 0))
     by i q (inl below) = inl (omega (arith, below))
@@ -140,7 +139,7 @@ runs_new n ts (us ∷ runs) earlier numbered fits =
     (new_both (paths_of ts) (paths_of us) (paths_of (flat_map (λ xs. xs) runs))
     (run_new n 0 ts us (omega arith) earlier numbered.0)
     (subst (λ (l : List (List ℕ)). AreNew l (paths_of (flat_map (λ xs. xs) runs))) (map_both (λ t. path_of root t.0.0) ts us)
-    (runs_new (n + 1) (ts ++ us) runs (all_append (IsEarlier (n + 1) 0) ts us (later_flush n ts earlier) (this_flush n 0 us numbered.0)) numbered.1 (omega arith))))
+    (runs_new (n + 1) (ts ++ us) runs (AllByRecursion_append (IsEarlier (n + 1) 0) ts us (later_flush n ts earlier) (this_flush n 0 us numbered.0)) numbered.1 (omega arith))))
 
 -- ---- each is found
 
@@ -174,7 +173,7 @@ held_there m os (h ∷ hs) [] s = absurd s
 
 runs_there : (m : Meaning) (os : Objects) (runs : List SortedRun) (groups : List (List Rows)) (s : AreStoredRuns m os runs groups) → AllByRecursion (λ e. object_at os e.0 ≡ Some e.1.bytes) (held_runs m os runs groups s)
 runs_there m os [] [] s = tt
-runs_there m os (run ∷ runs) (layers ∷ groups) s = all_append _ (held m os run.tables.items layers s.0) (held_runs m os runs groups s.1) (held_there m os run.tables.items layers s.0) (runs_there m os runs groups s.1)
+runs_there m os (run ∷ runs) (layers ∷ groups) s = AllByRecursion_append _ (held m os run.tables.items layers s.0) (held_runs m os runs groups s.1) (held_there m os run.tables.items layers s.0) (runs_there m os runs groups s.1)
 runs_there m os [] (layers ∷ groups) s = absurd s
 runs_there m os (run ∷ runs) [] s = absurd s
 
@@ -192,7 +191,7 @@ is_world m os runs groups s = record { meaning = refl; holds = λ path kept is. 
 -- a call that the objects answered met their world
 pub sees_world : (os : Objects) (w : World) (before after : Reach) → w.meaning ≡ before.meaning → HoldsWorld os w → AnswersFrom os before after → Sees w before after
 sees_world os w before after same holds (inl tells) = record { meaning = same; met = inl (record { os = os; tells = tells; holds = holds }) }
-sees_world os w before after same holds (inr a) = record { meaning = same; met = inr (record { known = a.known; reads = a.more; began = a.began; ended = a.ended; each = all_map (AnswersAct os) (AnswersWorld w) one a.more a.each }) }
+sees_world os w before after same holds (inr a) = record { meaning = same; met = inr (record { known = a.known; reads = a.more; began = a.began; ended = a.ended; each = AllByRecursion_weaken (AnswersAct os) (AnswersWorld w) one a.more a.each }) }
   where
     known : (start len : ℕ) (answer : Option (List ℕ)) (path : List ℕ) → answer ≡ part_of (object_at os path) start len → (found : Option Kept) → w.holds path ≡ found → IfSome found (λ kept. answer ≡ part_of (Some kept.bytes) start len)
     known start len answer path is None at = tt

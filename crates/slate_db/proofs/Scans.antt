@@ -15,14 +15,14 @@ use Rattle.slate_types.specs.Fold.{AreShort, Combine, IsLawful, IsShort, KeepsSh
 use Rattle.slate_types.specs.Keys.{key_cmp, in_range, among}
 use Rattle.slate_types.specs.RowTurns.{row_before}
 use Rattle.slate_types.specs.Rows.{of_key, operand, is_base, is_tombstone, hide_tombstone}
-use Rattle.slate_types.proofs.FoldLaws.{fold-middle}
+use Rattle.slate_types.proofs.FoldLaws.{fold_middle}
 use Rattle.slate_types.proofs.IterationLaws.{in_order_filtered}
-use Rattle.slate_types.proofs.KeySetLaws.{set-rises, set-keeps}
+use Rattle.slate_types.proofs.KeySetLaws.{set_rises, set_keeps}
 use Rattle.slate_mem.specs.declared.WriteOp.{WriteOp}
 use Rattle.slate_mem.specs.Batch.{Ops, kept, batch_keys}
 use Rattle.slate_mem.specs.RowOf.{own_row, row_of}
-use Rattle.slate_mem.proofs.BatchLaws.{has-a-row, none-left, some-kept}
-use Rattle.slate_mem.proofs.RowOfLaws.{row-has}
+use Rattle.slate_mem.proofs.BatchLaws.{has_one_row, none_left, some_kept}
+use Rattle.slate_mem.proofs.RowOfLaws.{row_has}
 use Rattle.slate_read.specs.DecidedKeys.{decided_key, upto_base}
 use Rattle.slate_read.specs.Filtering.{upto_seq}
 use Rattle.slate_read.specs.FoldedLaws.{folded_in_order}
@@ -35,19 +35,21 @@ use Rattle.slate_txn.specs.State.{Rules, Commit, combine_at}
 use Rattle.slate_db.specs.Model.{Rows}
 use Rattle.slate_db.specs.Scanned.{AreSources, left_of, own_rows, scanned}
 use Rattle.slate_db.specs.Sound.{at_most}
-use Rattle.slate_db.proofs.ByKeys.{GivesOwn, known_by_keys, given_in_order, given_of_key, turned_filter}
-use Rattle.slate_db.proofs.KeyRows.{AreClimbing, climbing_both, falling_turn, filter_swap, group_shown, has_key, of_key_is, of_lists, rising_climbs}
-use Rattle.slate_db.proofs.Lists.{all_map}
+use Rattle.slate_db.proofs.ByKeys.{GivesOwn, known_by_keys, given_in_order, given_of_key}
+use Rattle.slate_db.proofs.KeyRows.{AreClimbing, climbing_both, falling_turn, group_shown, has_key, of_key_is, of_lists, rising_climbs}
 use Rattle.slate_db.proofs.Rises.{rising_filter}
 use Rattle.slate_db.proofs.ScanFolds.{folded_of_key}
-use Rattle.slate_db.proofs.Short.{all_append, all_filter, all_from_last}
+use Rattle.slate_db.proofs.Short.{all_from_last}
 use Rattle.slate_db.proofs.Versions.{twice}
+use Rattle.slate_types.proofs.Plain.{neither}
+use Rattle.slate_types.proofs.Lists.{AllByRecursion_append, map_reverse, AllByRecursion_weaken, AllByRecursion_filter}
+use Rattle.slate_txn.proofs.PartLaws.{filter_swap, filter_reverse}
 
 -- ---- the rows of a key, as commits and own operations make them
 
 commits_own : (r : Rules) (k : List ℕ) (cs : List Commit) → AllByRecursion (λ x. x.key ≡ k) (key_rows r k cs)
 commits_own r k [] = tt
-commits_own r k (c ∷ cs) = by (row_of (combine_at r k) r.default_millis c.seq c.now c.ops k) (row-has (combine_at r k) r.default_millis c.seq c.now c.ops k) (commits_own r k cs)
+commits_own r k (c ∷ cs) = by (row_of (combine_at r k) r.default_millis c.seq c.now c.ops k) (row_has (combine_at r k) r.default_millis c.seq c.now c.ops k) (commits_own r k cs)
   where
     by : (o : Option RowEntry) → ((x : RowEntry) → o ≡ Some x → (x.key ≡ k) × ((x.seq ≡ c.seq) × (x.create_ts ≡ Some c.now))) → AllByRecursion (λ x. x.key ≡ k) (key_rows r k cs) →
         AllByRecursion (λ x. x.key ≡ k) (cons_option o (key_rows r k cs))
@@ -75,13 +77,9 @@ shown_key c k rows h = by (taken rows) (all_from_last (λ x. x.key ≡ k) is_bas
     by (x ∷ xs) h = folded (fold_taken c (x ∷ xs)) (h.0, tt)
 
 seen_own : (r : Rules) (cs : List Commit) (n : ℕ) (ops : Ops) → GivesOwn (seen r cs n ops)
-seen_own r cs n ops k = shown_key (combine_at r k) k _ (all_append (λ x. x.key ≡ k) (key_rows r k (up_to n cs)) (map (own_row k) (kept ops k)) (commits_own r k (up_to n cs)) (own_keys k (kept ops k)))
+seen_own r cs n ops k = shown_key (combine_at r k) k _ (AllByRecursion_append (λ x. x.key ≡ k) (key_rows r k (up_to n cs)) (map (own_row k) (kept ops k)) (commits_own r k (up_to n cs)) (own_keys k (kept ops k)))
 
 -- ---- a key that neither a commit nor an own operation has is seen as none
-
-either_false : (a b : Bool) → (a || b) ≡ false → (a ≡ false) × (b ≡ false)
-either_false true b h = cc
-either_false false b h = (refl, h)
 
 among_both : (k : List ℕ) (xs ys : List (List ℕ)) → among k (xs ++ ys) ≡ (among k xs || among k ys)
 among_both k [] ys = refl
@@ -93,20 +91,20 @@ among_both k (x ∷ xs) ys = ap (λ b. bytes_eq x k || b) (among_both k xs ys) �
 
 no_rows : (r : Rules) (k : List ℕ) (cs : List Commit) → among k (flat_map (λ c. batch_keys c.ops) cs) ≡ false → key_rows r k cs ≡ []
 no_rows r k [] h = refl
-no_rows r k (c ∷ cs) h = by (row_of (combine_at r k) r.default_millis c.seq c.now c.ops k) (has-a-row (combine_at r k) r.default_millis c.seq c.now c.ops k ∙ both.0) (no_rows r k cs both.1)
+no_rows r k (c ∷ cs) h = by (row_of (combine_at r k) r.default_millis c.seq c.now c.ops k) (has_one_row (combine_at r k) r.default_millis c.seq c.now c.ops k ∙ both.0) (no_rows r k cs both.1)
   where
     both : (among k (batch_keys c.ops) ≡ false) × (among k (flat_map (λ c. batch_keys c.ops) cs) ≡ false)
-    both = either_false _ _ (sym (among_both k (batch_keys c.ops) (flat_map (λ c. batch_keys c.ops) cs)) ∙ h)
+    both = neither _ _ (sym (among_both k (batch_keys c.ops) (flat_map (λ c. batch_keys c.ops) cs)) ∙ h)
 
     by : (o : Option RowEntry) → is_some o ≡ false → key_rows r k cs ≡ [] → cons_option o (key_rows r k cs) ≡ []
     by None e later = later
     by (Some x) e later = cc
 
 unseen : (r : Rules) (cs : List Commit) (n : ℕ) (ops : Ops) (k : List ℕ) → among k (keys_seen cs n ops) ≡ false → seen r cs n ops k ≡ None
-unseen r cs n ops k h = λ i. shown (combine_at r k) (no_rows r k (up_to n cs) both.0 i ++ map (own_row k) (none-left (kept ops k) (some-kept ops k ∙ both.1) i))
+unseen r cs n ops k h = λ i. shown (combine_at r k) (no_rows r k (up_to n cs) both.0 i ++ map (own_row k) (none_left (kept ops k) (some_kept ops k ∙ both.1) i))
   where
     both : (among k (flat_map (λ c. batch_keys c.ops) (up_to n cs)) ≡ false) × (among k (batch_keys ops) ≡ false)
-    both = either_false _ _ (sym (among_both k (flat_map (λ c. batch_keys c.ops) (up_to n cs)) (batch_keys ops)) ∙ sym (set-keeps (flat_map (λ c. batch_keys c.ops) (up_to n cs) ++ batch_keys ops) k) ∙ h)
+    both = neither _ _ (sym (among_both k (flat_map (λ c. batch_keys c.ops) (up_to n cs)) (batch_keys ops)) ∙ sym (set_keeps (flat_map (λ c. batch_keys c.ops) (up_to n cs) ++ batch_keys ops) k) ∙ h)
 
 -- ---- what is seen, by keys
 
@@ -125,7 +123,7 @@ among_filter k t (j ∷ js) = by (t j) refl (bytes_eq j k) refl (among_filter k 
     by false p false q later = later
 
 in_range_rise : (cs : List Commit) (n : ℕ) (ops : Ops) (range : BytesRange) → IsStrictlySortedBy key_cmp (filter (in_range range) (keys_seen cs n ops))
-in_range_rise cs n ops range = IsStrictlySortedBy-filter key_cmp (in_range range) (keys_seen cs n ops) (set-rises (flat_map (λ c. batch_keys c.ops) (up_to n cs) ++ batch_keys ops))
+in_range_rise cs n ops range = IsStrictlySortedBy-filter key_cmp (in_range range) (keys_seen cs n ops) (set_rises (flat_map (λ c. batch_keys c.ops) (up_to n cs) ++ batch_keys ops))
 
 seen_of_key : (r : Rules) (cs : List Commit) (n : ℕ) (ops : Ops) (order : IterationOrder) (range : BytesRange) (k : List ℕ) →
     of_key k (rows_seen r cs n ops order range) ≡ cond (in_range range k) (option_to_list (seen r cs n ops k)) []
@@ -144,14 +142,6 @@ seen_of_key r cs n ops order range k =
 
 -- ---- the own rows of a key
 
-turned_map : {X Y : Type 0} (f : X → Y) (xs : List X) → map f (reverse xs) ≡ reverse (map f xs)
-turned_map f [] = refl
-turned_map {X = X} f (x ∷ xs) = ap (map f) (reverse-append (x ∷ []) xs) ∙ map_last (reverse xs) ∙ ap (λ ys. ys ++ (f x ∷ [])) (turned_map f xs) ∙ sym (reverse-append (f x ∷ []) (map f xs))
-  where
-    map_last : (ys : List X) → map f (ys ++ (x ∷ [])) ≡ map f ys ++ (f x ∷ [])
-    map_last [] = refl
-    map_last (y ∷ ys) = ap (λ zs. f y ∷ zs) (map_last ys)
-
 own_climbing : (k : List ℕ) (xs : List WriteOp) → AreClimbing (map (own_row k) xs)
 own_climbing k [] = tt
 own_climbing k (x ∷ xs) = (all_own xs, own_climbing k xs)
@@ -167,7 +157,7 @@ own_above k (x ∷ xs) = (omega arith, own_above k xs)
 -- own rows stand above rows that fold alike
 same_fold : (c : Combine) → IsLawful c → KeepsShort c → (xs ys own : Rows) → AreShort xs → AreShort ys → AreShort own → fold_rows c xs ≡ fold_rows c ys → fold_rows c (xs ++ own) ≡ fold_rows c (ys ++ own)
 same_fold c law keeps xs ys own hx hy ho e =
-    fold-middle c law keeps [] xs own tt hx ho ∙ ap (λ (o : Option RowEntry). fold_rows c (option_to_list o ++ own)) e ∙ sym (fold-middle c law keeps [] ys own tt hy ho)
+    fold_middle c law keeps [] xs own tt hx ho ∙ ap (λ (o : Option RowEntry). fold_rows c (option_to_list o ++ own)) e ∙ sym (fold_middle c law keeps [] ys own tt hy ho)
 
 -- ---- the law
 
@@ -181,11 +171,11 @@ module _ (r : Rules) (cs : List Commit) (n : ℕ) (ops : Ops) (range : BytesRang
 
   all_keys : (k : List ℕ) → in_range range k ≡ true → AllByRecursion (λ x. x.key ≡ k) (all_of k)
   unfolding all_of
-  all_keys k e = all_append (λ x. x.key ≡ k) (at_most n (versions k)) (map (own_row k) (kept ops k)) (all_filter (λ x. x.key ≡ k) (λ x. nat_le x.seq n) (versions k) (twice (λ x. x.key ≡ k) (versions k) turned)) (own_keys k (kept ops k))
+  all_keys k e = AllByRecursion_append (λ x. x.key ≡ k) (at_most n (versions k)) (map (own_row k) (kept ops k)) (AllByRecursion_filter (λ x. x.key ≡ k) (λ x. nat_le x.seq n) (versions k) (twice (λ x. x.key ≡ k) (versions k) turned)) (own_keys k (kept ops k))
     where
       many : (ls : List Rows) → AllByRecursion (λ x. x.key ≡ k) (flat_map (of_key k) ls)
       many [] = tt
-      many (l ∷ ls) = all_append (λ x. x.key ≡ k) (of_key k l) (flat_map (of_key k) ls) (has_key k l) (many ls)
+      many (l ∷ ls) = AllByRecursion_append (λ x. x.key ≡ k) (of_key k l) (flat_map (of_key k) ls) (has_key k l) (many ls)
 
       turned : AllByRecursion (λ x. x.key ≡ k) (reverse (versions k))
       turned = subst (AllByRecursion (λ (x : RowEntry). x.key ≡ k)) (s.have_rows k ∙ ap (λ b. cond b (reverse (versions k)) []) e) (many lists)
@@ -194,17 +184,17 @@ module _ (r : Rules) (cs : List Commit) (n : ℕ) (ops : Ops) (range : BytesRang
   unfolding all_of
   all_climbing k =
       climbing_both (2 ^ 64 - 2) (at_most n (versions k)) (map (own_row k) (kept ops k)) (rising_climbs (at_most n (versions k)) (rising_filter (λ x. nat_le x.seq n) (versions k) (s.rise k)))
-      (all_filter (λ x. x.seq ≤ 2 ^ 64 - 2) (λ x. nat_le x.seq n) (versions k) (all_map _ _ (λ x h. let b : x.seq < 2 ^ 64 - 1 = h in omega arith) (versions k) (s.below k)))
+      (AllByRecursion_filter (λ x. x.seq ≤ 2 ^ 64 - 2) (λ x. nat_le x.seq n) (versions k) (AllByRecursion_weaken _ _ (λ x h. let b : x.seq < 2 ^ 64 - 1 = h in omega arith) (versions k) (s.below k)))
       (own_climbing k (kept ops k)) (own_above k (kept ops k))
 
   own_short : (k : List ℕ) → AreShort (map (own_row k) (kept ops k))
-  own_short k = twice (λ x. IsShort (operand x)) (map (own_row k) (kept ops k)) (subst AreShort (turned_map (own_row k) (kept ops k)) (s.own_short k))
+  own_short k = twice (λ x. IsShort (operand x)) (map (own_row k) (kept ops k)) (subst AreShort (map_reverse (own_row k) (kept ops k)) (s.own_short k))
 
   all_seen : (k : List ℕ) → shown (combine_at r k) (all_of k) ≡ seen r cs n ops k
   unfolding all_of
   all_seen k = ap (option_and_then (λ x. hide_tombstone x.value x))
       (same_fold (combine_at r k) (s.lawful k) (s.keeps_short k) (at_most n (versions k)) (key_rows r k (up_to n cs)) (map (own_row k) (kept ops k))
-      (all_filter (λ x. IsShort (operand x)) (λ x. nat_le x.seq n) (versions k) (s.short k)) (s.commits_short k) (own_short k) (s.folds k))
+      (AllByRecursion_filter (λ x. IsShort (operand x)) (λ x. nat_le x.seq n) (versions k) (s.short k)) (s.commits_short k) (own_short k) (s.folds k))
 
   -- the rows of a key in all lists
   listed : (k : List ℕ) → all_rows (map (of_key k) (left_of n own lists)) ≡ brought k
@@ -215,7 +205,7 @@ module _ (r : Rules) (cs : List Commit) (n : ℕ) (ops : Ops) (range : BytesRang
     where
       by : (b : Bool) → cond b (own_rows ops k) [] ++ at_most n (cond b (reverse (versions k)) []) ≡ cond b (reverse (at_most n (versions k) ++ map (own_row k) (kept ops k))) []
       by true =
-          (λ i. turned_map (own_row k) (kept ops k) i ++ turned_filter (λ x. nat_le x.seq n) (versions k) i)
+          (λ i. map_reverse (own_row k) (kept ops k) i ++ filter_reverse (λ x. nat_le x.seq n) (versions k) i)
           ∙ sym (reverse-append (at_most n (versions k)) (map (own_row k) (kept ops k)))
       by false = refl
 

@@ -19,11 +19,11 @@ use Rattle.slate_db.specs.StoredState.{StoresState}
 use Rattle.slate_db.specs.Layers.{AreRising}
 use Rattle.slate_db.specs.Whole.{IsWhole, Unseen}
 use Rattle.slate_db.proofs.Short.{fine_short}
-use Rattle.slate_db.proofs.Lists.{all_map}
 use Rattle.slate_db.proofs.AllRows.{all_fold}
 use Rattle.slate_db.proofs.Folds.{at_most_all, wider}
 use Rattle.slate_db.proofs.Split.{up_to_within}
 use Rattle.slate_db.proofs.Versions.{all_versions_in, short_versions}
+use Rattle.slate_types.proofs.Lists.{AllByRecursion_weaken}
 
 pub found_all : {X : Type 0} (P : X → Type 0) (k : List ℕ) (ps : List (List ℕ × X)) (x : X) → AllByRecursion (λ p. P p.1) ps → find_named k ps ≡ Some x → P x
 found_all P k [] x h e = cc
@@ -47,7 +47,7 @@ seen_fold m c u layers k at own w law kept tables above short_own =
     ap (λ xs. fold_rows (combine_of m k) (xs ++ own)) (ap (at_most at) (flat_map-append (versions k) layers (memory c)) ∙ filter-append (λ r. nat_le r.seq at) (versions_in k layers) (versions_in k (memory c)))
     ∙ ap (fold_rows (combine_of m k)) (append_assoc (at_most at (versions_in k layers)) (at_most at (versions_in k (memory c))) own)
     ∙ all_fold (rules_of c.settings m) k (law.operator k) (law.short k) c.settings.start_seq (installed c.events) at c.state.commits (versions_in k layers) (versions_in k (memory c)) own
-    w.log.rising (all_map _ _ (λ x. fine_short x.ops) c.state.commits w.log.fine) (short_versions k layers short) short_own (kept.0 k) folds
+    w.log.rising (AllByRecursion_weaken _ _ (λ x. fine_short x.ops) c.state.commits w.log.fine) (short_versions k layers short) short_own (kept.0 k) folds
   where
     same : (kept.1 law).layers ≡ layers
     same = same_tables m law (tables_of c.events) (kept.1 law).layers layers (kept.1 law).tables tables

@@ -14,12 +14,12 @@ use Rattle.slate_types.specs.declared.types.Ulid.{Ulid}
 use Rattle.slate_types.specs.Fold.{fold_rows}
 use Rattle.slate_types.specs.Keys.{among, key_cmp, keys_set}
 use Rattle.slate_types.specs.Outside.{Objects}
-use Rattle.slate_types.proofs.KeyOrder.{bytes_eq-above, bytes_eq-below, bytes_eq-same, is-less}
-use Rattle.slate_types.proofs.KeySetLaws.{AllAbove, set-keeps, set-rises}
+use Rattle.slate_types.proofs.KeyOrder.{bytes_eq_above, bytes_eq_below, bytes_eq_same, is_less}
+use Rattle.slate_types.proofs.KeySetLaws.{AllAbove, set_keeps, set_rises}
 use Rattle.slate_mem.specs.Batch.{batch_keys}
 use Rattle.slate_mem.specs.KeyTests.{Segments, nest, prefix_by, prefix_of_len, prefixes, segment_refusal}
 use Rattle.slate_mem.specs.Segments.{NeverNest}
-use Rattle.slate_mem.proofs.TableLaws.{any-append}
+use Rattle.slate_mem.proofs.TableLaws.{any_append}
 use Rattle.slate_table.specs.Table.{IsTable}
 use Rattle.slate_txn.specs.Open.{least_start}
 use Rattle.slate_txn.specs.State.{Commit, State, last_of}
@@ -39,12 +39,11 @@ use Rattle.slate_db.proofs.Cuts.{one_segment}
 use Rattle.slate_db.proofs.FlushedKeys.{flushed_keys}
 use Rattle.slate_db.proofs.Flushes.{frozen_settings, frozen_state}
 use Rattle.slate_db.proofs.Installs.{tables_of_parts}
-use Rattle.slate_db.proofs.Lists.{all_behind, all_front, all_map}
 use Rattle.slate_db.proofs.Logs.{tables_more}
 use Rattle.slate_db.proofs.OneSegment.{all_of_set, frozen_first, of_commits}
 use Rattle.slate_db.proofs.Puttings.{frozen_tables}
-use Rattle.slate_db.proofs.Short.{all_filter}
-use Rattle.slate_db.proofs.TouchedSegments.{IsUpTo, NoneFalls, all_mapped, falls_behind, has_prefix, rows_rise, set_of_same}
+use Rattle.slate_db.proofs.TouchedSegments.{IsUpTo, NoneFalls, falls_behind, has_prefix, rows_rise, set_of_same}
+use Rattle.slate_types.proofs.Lists.{AllByRecursion_front, AllByRecursion_map, AllByRecursion_behind, AllByRecursion_weaken, AllByRecursion_filter}
 
 -- ---- the rows of a segment
 
@@ -53,15 +52,15 @@ prefixes_in g rows = map (λ r. segment_of g r.key) rows
 
 just_these : (g : Segments) (p : List ℕ) (rows : Rows) → AreOfSegment g p rows → of_segment g p rows ≡ rows
 just_these g p [] are = refl
-just_these g p (r ∷ rows) are = ap (λ b. cond b (r ∷ of_segment g p rows) (of_segment g p rows)) (ap (λ (q : List ℕ). bytes_eq q p) are.0 ∙ bytes_eq-same p) ∙ ap (λ (rs : Rows). r ∷ rs) (just_these g p rows are.1)
+just_these g p (r ∷ rows) are = ap (λ b. cond b (r ∷ of_segment g p rows) (of_segment g p rows)) (ap (λ (q : List ℕ). bytes_eq q p) are.0 ∙ bytes_eq_same p) ∙ ap (λ (rs : Rows). r ∷ rs) (just_these g p rows are.1)
 
 none_of_these : (g : Segments) (p q : List ℕ) → key_cmp p q ≡ Less → (rows : Rows) → AreOfSegment g p rows → of_segment g q rows ≡ []
 none_of_these g p q below [] are = refl
-none_of_these g p q below (r ∷ rows) are = ap (λ b. cond b (r ∷ of_segment g q rows) (of_segment g q rows)) (ap (λ (x : List ℕ). bytes_eq x q) are.0 ∙ bytes_eq-below p q below) ∙ none_of_these g p q below rows are.1
+none_of_these g p q below (r ∷ rows) are = ap (λ b. cond b (r ∷ of_segment g q rows) (of_segment g q rows)) (ap (λ (x : List ℕ). bytes_eq x q) are.0 ∙ bytes_eq_below p q below) ∙ none_of_these g p q below rows are.1
 
 none_above : (g : Segments) (p : List ℕ) (rows : Rows) → AllAbove p (prefixes_in g rows) → of_segment g p rows ≡ []
 none_above g p [] h = refl
-none_above g p (r ∷ rows) h = ap (λ b. cond b (r ∷ of_segment g p rows) (of_segment g p rows)) (bytes_eq-above p (segment_of g r.key) h.0) ∙ none_above g p rows h.1
+none_above g p (r ∷ rows) h = ap (λ b. cond b (r ∷ of_segment g p rows) (of_segment g p rows)) (bytes_eq_above p (segment_of g r.key) h.0) ∙ none_above g p rows h.1
 
 -- ---- what is true of all keys, and of all of their set
 
@@ -79,7 +78,7 @@ all_of_keys P [] h = tt
 all_of_keys P (k ∷ ks) h = all_in_set P k (keys_set ks) h.0 (all_of_keys P ks h.1)
 
 all_higher : (p q : List ℕ) (ks : List (List ℕ)) → key_cmp p q ≡ Less → AllAbove q ks → AllAbove p ks
-all_higher p q ks below higher = all_map _ _ (λ k h. nat_list_cmp_total.trans p q k below h) ks higher
+all_higher p q ks below higher = AllByRecursion_weaken _ _ (λ k h. nat_list_cmp_total.trans p q k below h) ks higher
 
 -- ---- a table before those of others
 
@@ -112,7 +111,7 @@ some_prefixes g (r ∷ rows) some = omega arith
 touched_more : (g : Segments) (p : List ℕ) (rows rest : Rows) → 0 < length rows → AreOfSegment g p rows → keys_set (prefixes_in g (rows ++ rest)) ≡ insert_key key_cmp (keys_set (prefixes_in g rest)) p
 touched_more g p rows rest some are =
     ap keys_set (map-append (λ (r : RowEntry). segment_of g r.key) rows rest)
-    ∙ set_of_same p (prefixes_in g rows) (prefixes_in g rest) (some_prefixes g rows some) (all_mapped (λ r. segment_of g r.key) (λ q. q ≡ p) rows are)
+    ∙ set_of_same p (prefixes_in g rows) (prefixes_in g rest) (some_prefixes g rows some) (AllByRecursion_map (λ r. segment_of g r.key) (λ q. q ≡ p) rows are)
 
 -- a run of its own
 apart : (m : Meaning) (g : Segments) (t : Ulid × List ℕ) (ts : List (Ulid × List ℕ)) (version : ℕ) (p : List ℕ) (rows rest : Rows) → IsTable m.encode t.1 version t.0.0 rows → 0 < length rows → AreOfSegment g p rows →
@@ -164,7 +163,7 @@ table_before : (m : Meaning) (g : Segments) (t : Ulid × List ℕ) (ts : List (U
     AllByRecursion (IsUpTo p) (prefixes_in g rest) → Grouped m g rest ts → Grouped m g (rows ++ rest) (t ∷ ts)
 unfolding IsStrictlySortedBy
 table_before m g t ts version p rows rest table some are up before =
-    by before.runs refl (subst (AllByRecursion (IsUpTo p)) (sym before.touched) (all_of_keys (IsUpTo p) (prefixes_in g rest) up)) (subst (IsStrictlySortedBy key_cmp) (sym before.touched) (set-rises (prefixes_in g rest)))
+    by before.runs refl (subst (AllByRecursion (IsUpTo p)) (sym before.touched) (all_of_keys (IsUpTo p) (prefixes_in g rest) up)) (subst (IsStrictlySortedBy key_cmp) (sym before.touched) (set_rises (prefixes_in g rest)))
   where
     by : (runs : List SegmentRun) → before.runs ≡ runs → AllByRecursion (IsUpTo p) (map (λ run. run.prefix) before.runs) → IsStrictlySortedBy key_cmp (map (λ run. run.prefix) before.runs) → Grouped m g (rows ++ rest) (t ∷ ts)
     by [] is up rises = apart m g t ts version p rows rest table some are before (subst (λ (xs : List SegmentRun). AllAbove p (map (λ run. run.prefix) xs)) (sym is) tt)
@@ -179,7 +178,7 @@ table_before m g t ts version p rows rest table some are up before =
             (subst (λ (xs : List SegmentRun). map (λ run. run.prefix) xs ≡ keys_set (prefixes_in g rest)) is before.touched)
             (subst (AllByRecursion (IsSegmentRun m g rest)) is before.each) above
         next_is (inr below) = apart m g t ts version p rows rest table some are before
-            (subst (λ (xs : List SegmentRun). AllAbove p (map (λ run. run.prefix) xs)) (sym is) (is-less (key_cmp p next.prefix) below, all_higher p next.prefix (map (λ run. run.prefix) runs) (is-less (key_cmp p next.prefix) below) above))
+            (subst (λ (xs : List SegmentRun). AllAbove p (map (λ run. run.prefix) xs)) (sym is) (is_less (key_cmp p next.prefix) below, all_higher p next.prefix (map (λ run. run.prefix) runs) (is_less (key_cmp p next.prefix) below) above))
 
 -- ---- all tables
 
@@ -197,7 +196,7 @@ grouped m g limit (t ∷ ts) parts (version, rows, rest, table, are, is) some on
     by (r ∷ rs) table later some on none =
         let both = subst NoneFalls (map-append (λ (x : RowEntry). segment_of g x.key) (r ∷ rs) (flat_map (λ xs. xs) rest)) none in
         table_before m g t ts version (segment_of g r.key) (r ∷ rs) (flat_map (λ xs. xs) rest) table some.0 (one_segment g limit r rs on.0)
-        (all_behind (IsUpTo (segment_of g r.key)) (prefixes_in g rs) (prefixes_in g (flat_map (λ xs. xs) rest)) both.0)
+        (AllByRecursion_behind (IsUpTo (segment_of g r.key)) (prefixes_in g rs) (prefixes_in g (flat_map (λ xs. xs) rest)) both.0)
         (later some.1 on.1 (falls_behind (prefixes_in g (r ∷ rs)) (prefixes_in g (flat_map (λ xs. xs) rest)) both))
 
 -- ---- the segment of a key with a row in memory is recorded
@@ -219,7 +218,7 @@ keys_recorded None ps (k ∷ ks) fine within = (tt, keys_recorded None ps ks fin
 keys_recorded (Some f) ps (k ∷ ks) fine within =
     let is : prefix_of_len k (f k) ≡ Some (segment_of (Some f) k) = has_prefix (prefix_of_len k (f k)) (segment_of (Some f) k) (errors.EmptySegmentPrefix k) fine.0 refl in
     let all : filter_map (prefix_by (Some f)) (k ∷ ks) ≡ segment_of (Some f) k ∷ filter_map (prefix_by (Some f)) ks = ap (λ (o : Option (List ℕ)). cons_option o (filter_map (prefix_by (Some f)) ks)) is in (
-      within (segment_of (Some f) k) (ap (among (segment_of (Some f) k)) all ∙ or_first _ _ (bytes_eq-same (segment_of (Some f) k))),
+      within (segment_of (Some f) k) (ap (among (segment_of (Some f) k)) all ∙ or_first _ _ (bytes_eq_same (segment_of (Some f) k))),
       keys_recorded (Some f) ps ks fine.1 (λ p h. within p (ap (among p) all ∙ or_second _ _ h)),
     )
 
@@ -227,8 +226,8 @@ commits_recorded : (g : Segments) (ps : List (List ℕ)) (cs : List Commit) → 
     AllByRecursion (λ c. AllByRecursion (IsRecorded g ps) (batch_keys c.ops)) cs
 commits_recorded g ps [] have within = tt
 commits_recorded g ps (c ∷ cs) have within = (
-  keys_recorded g ps (batch_keys c.ops) have.0 (λ p h. within p (any-append p (prefixes g c.ops) (flat_map (λ d. prefixes g d.ops) cs) ∙ or_first _ _ h)),
-  commits_recorded g ps cs have.1 (λ p h. within p (any-append p (prefixes g c.ops) (flat_map (λ d. prefixes g d.ops) cs) ∙ or_second _ _ h)),
+  keys_recorded g ps (batch_keys c.ops) have.0 (λ p h. within p (any_append p (prefixes g c.ops) (flat_map (λ d. prefixes g d.ops) cs) ∙ or_first _ _ h)),
+  commits_recorded g ps cs have.1 (λ p h. within p (any_append p (prefixes g c.ops) (flat_map (λ d. prefixes g d.ops) cs) ∙ or_second _ _ h)),
 )
 
 none_nests : (g : Segments) (ps : List (List ℕ)) → NeverNest ps → (j k : List ℕ) → IsRecorded g ps j → IsRecorded g ps k → nest (segment_of g j) (segment_of g k) ≡ false
@@ -237,18 +236,18 @@ none_nests (Some f) ps apart j k is-j is-k = apart (segment_of (Some f) j) (segm
 
 none_nest : (g : Segments) (ps : List (List ℕ)) → NeverNest ps → (rows : Rows) → AllByRecursion (λ r. IsRecorded g ps r.key) rows → NoneNest g rows
 none_nest g ps apart [] are = tt
-none_nest g ps apart (r ∷ rows) are = (all_map _ _ (λ s h. none_nests g ps apart r.key s.key are.0 h) rows are.1, none_nest g ps apart rows are.1)
+none_nest g ps apart (r ∷ rows) are = (AllByRecursion_weaken _ _ (λ s h. none_nests g ps apart r.key s.key are.0 h) rows are.1, none_nest g ps apart rows are.1)
 
 rows_recorded : (m : Meaning) (g : Segments) (old mid : CoreModel) (barrier : ℕ) (rows : Rows) → IsFrozen old mid → IsTied m old → IsSegmented g old → IsFolded m barrier mid.frozen rows → AllByRecursion (λ r. IsRecorded g old.segments r.key) rows
 rows_recorded m g old mid barrier rows frozen tied z folded = flushed_keys m barrier mid.frozen rows (IsRecorded g old.segments) folded has
   where
     within : (p : List ℕ) → among p (flat_map (λ c. prefixes g c.ops) old.state.commits) ≡ true → among p old.segments ≡ true
-    within p h = ap (among p) z.recorded ∙ set-keeps (flat_map (λ c. prefixes g c.ops) old.state.commits) p ∙ h
+    within p h = ap (among p) z.recorded ∙ set_keeps (flat_map (λ c. prefixes g c.ops) old.state.commits) p ∙ h
 
     has : (k : List ℕ) (r : RowEntry) (rs : Rows) → versions_in k mid.frozen ≡ r ∷ rs → IsRecorded g old.segments k
     has k r rs is =
         let first = frozen_first k old mid frozen in
-        of_commits (IsRecorded g old.segments) (rules_of old.settings m) k (above (installed old.events) old.state.commits) r (rs ++ first.0) (all_filter _ _ old.state.commits (commits_recorded g old.segments old.state.commits z.each within))
+        of_commits (IsRecorded g old.segments) (rules_of old.settings m) k (above (installed old.events) old.state.commits) r (rs ++ first.0) (AllByRecursion_filter _ _ old.state.commits (commits_recorded g old.segments old.state.commits z.each within))
         (sym (tied k) ∙ first.1 ∙ ap (λ (xs : Rows). xs ++ first.0) is)
 
 -- ---- a flush behind its freeze
@@ -300,7 +299,7 @@ some_added m layout old mid new number n ts frozen tied z newest is made = recor
     runs : Grouped m layout.segments made.rows ts
     runs = subst (λ (rows : Rows). Grouped m layout.segments rows ts) all
         (grouped m layout.segments layout.table_bytes ts made.parts (tables_of_parts m m.encode layout number 0 made.parts ts refl made.built)
-        (all_front _ made.parts [] made.cut.some) (all_front _ made.parts [] made.cut.go_on) (subst (λ (rows : Rows). NoneFalls (prefixes_in layout.segments rows)) (sym all) none))
+        (AllByRecursion_front _ made.parts [] made.cut.some) (AllByRecursion_front _ made.parts [] made.cut.go_on) (subst (λ (rows : Rows). NoneFalls (prefixes_in layout.segments rows)) (sym all) none))
 
 pub adds_runs : {E : Type 0} (r : Result ℕ E) (m : Meaning) (layout : Layout) (old mid new : CoreModel) (before after : Option Objects) → IsFrozen old mid → IfOk r (λ n. n ≡ last_of mid.settings.start_seq mid.state.commits) →
     IfOk r (λ n. IsFlushed m layout mid new n before after) → IsTied m old → IsSegmented layout.segments old → OnOk r (AddsSegmentRuns m layout.segments old (tables_of old.events) (tables_of new.events))

@@ -13,7 +13,7 @@ use Rattle.slate_mem.specs.KeyTests.{Segments, key_refusal, merges_refusal, nest
 use Rattle.slate_mem.specs.Refusals.{first_refusal}
 use Rattle.slate_mem.specs.RowOf.{op_expiry}
 use Rattle.slate_mem.specs.Segments.{NeverNest}
-use Rattle.slate_mem.proofs.NestLaws.{never-nest, set-of-front}
+use Rattle.slate_mem.proofs.NestLaws.{never_nest, set_of_front}
 use Rattle.slate_txn.specs.State.{Commit}
 use Rattle.slate_db.specs.Flushed.{IsFlushed, Layout, idle, stored}
 use Rattle.slate_db.specs.Frozen.{IsFrozen}
@@ -21,8 +21,9 @@ use Rattle.slate_db.specs.Meaning.{Meaning}
 use Rattle.slate_db.specs.Model.{CoreModel, IsSame}
 use Rattle.slate_db.specs.Segmented.{HavePrefixes, IsSegmented, recorded_by}
 use Rattle.slate_db.specs.SegmentLaws.{HaveOneSegment, NestNowhere, SegmentsStandApart}
-use Rattle.slate_db.proofs.Lists.{all_more}
 use Rattle.slate_db.proofs.Tests.{fine_before, fine_behind}
+use Rattle.slate_types.proofs.Plain.{both_true}
+use Rattle.slate_types.proofs.Lists.{AllByRecursion_push}
 
 -- ---- what is kept
 
@@ -73,12 +74,12 @@ pub segmented_more : {C : Type 0} (o : Option C) (g : Segments) (c d : CoreModel
 segmented_more o g c d millis now held x segments commits tested z = record {
   recorded = segments
       ∙ ap (λ ps. keys_set (ps ++ own)) z.recorded
-      ∙ set-of-front (flat_map each_of c.state.commits) own
+      ∙ set_of_front (flat_map each_of c.state.commits) own
       ∙ ap (λ ps. keys_set (flat_map each_of c.state.commits ++ ps)) (sym (append-nil own))
       ∙ ap keys_set (sym (flat_map-append each_of c.state.commits (x ∷ [])))
       ∙ ap (recorded_by g) (sym commits);
-  each = subst (HavePrefixes g) (sym commits) (all_more _ c.state.commits x z.each (have_prefixes g millis now x.ops (batch_keys x.ops) (fine_rest (merges_refusal (is_some o) held) keys (fine_before tests nests tested))));
-  apart = subst NeverNest (sym segments) (never-nest c.segments own z.apart (fine_behind tests nests tested));
+  each = subst (HavePrefixes g) (sym commits) (AllByRecursion_push _ c.state.commits x z.each (have_prefixes g millis now x.ops (batch_keys x.ops) (fine_rest (merges_refusal (is_some o) held) keys (fine_before tests nests tested))));
+  apart = subst NeverNest (sym segments) (never_nest c.segments own z.apart (fine_behind tests nests tested));
 }
   where
     own : List (List ℕ)
@@ -109,11 +110,6 @@ segmented_flushed (Err e) m layout between new before after flushed same g z = s
 
 -- ---- the laws
 
-and_parts : (s t : Bool) → (s && t) ≡ true → (s ≡ true) × (t ≡ true)
-and_parts true true h = (refl, refl)
-and_parts true false h = cc
-and_parts false t h = cc
-
 or_true : (b : Bool) → (b || true) ≡ true
 or_true true = refl
 or_true false = refl
@@ -124,8 +120,8 @@ both_begin k p [] f h = refl
 both_begin k [] (y ∷ q) f h = refl
 both_begin [] (x ∷ p) (y ∷ q) f h = cc
 both_begin (z ∷ k) (x ∷ p) (y ∷ q) f h =
-    let first = and_parts (nat_eq x z) (starts_with nat_eq k p) f in
-    let second = and_parts (nat_eq y z) (starts_with nat_eq k q) h in
+    let first = both_true (nat_eq x z) (starts_with nat_eq k p) f in
+    let second = both_true (nat_eq y z) (starts_with nat_eq k q) h in
     let front : nat_eq y x ≡ true = grind (arith, nat_tests, first.0, second.0) in
     let back : nat_eq x y ≡ true = grind (arith, nat_tests, first.0, second.0) in
     (λ i. (front i && starts_with nat_eq p q) || (back i && starts_with nat_eq q p)) ∙ both_begin k p q first.1 second.1

@@ -12,9 +12,9 @@ use Rattle.slate_txn.specs.Replay.{IsLegal, apply, apply_all, replay}
 use Rattle.slate_txn.specs.Settings.{Settings}
 use Rattle.slate_txn.specs.State.{Rules, Commit, State, Tx, opening}
 use Rattle.slate_txn.specs.Vouched.{AreVouched, AreVouchedFrom, VouchedAt, VouchedBy}
-use Rattle.slate_txn.proofs.LegalLaws.{found-bare}
-use Rattle.slate_txn.proofs.NameLaws.{gone-without, legal-once}
-use Rattle.slate_txn.proofs.PlaceLaws.{each-at-its-place}
+use Rattle.slate_txn.proofs.LegalLaws.{found_bare}
+use Rattle.slate_txn.proofs.NameLaws.{gone_without, legal_once}
+use Rattle.slate_txn.proofs.PlaceLaws.{each_at_its_place}
 use Rattle.slate_db.specs.Committed.{IsCommitted}
 use Rattle.slate_db.specs.Flushed.{Flushes, Layout, idle, stored}
 use Rattle.slate_db.specs.Frozen.{IsFrozen}
@@ -45,7 +45,7 @@ no_commit r s (events.Release id) h = tt
 -- the transaction stands in the journal's state with its begin, above the same commits
 open_alone : (r : Rules) (es : List Event) (s : State) (id : List ℕ) (t : Tx) → Replays es s → find_named id s.txns ≡ Some t → IsVouched r s.commits t → VouchedBy r (replay es) (find_named id (replay es).txns) t.transcript
 open_alone r es s id t replays found h =
-    subst (λ o. VouchedBy r (replay es) o t.transcript) (sym (ap (find_named id) replays.txns ∙ found-bare id s t found))
+    subst (λ o. VouchedBy r (replay es) o t.transcript) (sym (ap (find_named id) replays.txns ∙ found_bare id s t found))
     (subst (λ (cs : List Commit). IsAlone r cs t.begin t.transcript) (sym replays.commits) h)
 
 -- ---- a journal
@@ -80,11 +80,11 @@ new_vouched m c first none = record {
 
 -- who is open in a state is so in the state that its journal replays to
 closed : (es : List Event) (s : State) (id : List ℕ) → Replays es s → find_named id (replay es).txns ≡ None → (t : Tx) → find_named id s.txns ≡ Some t → ⊥
-closed es s id replays none t found = let clash : None ≡ Some _ = sym none ∙ ap (find_named id) replays.txns ∙ found-bare id s t found in cc
+closed es s id replays none t found = let clash : None ≡ Some _ = sym none ∙ ap (find_named id) replays.txns ∙ found_bare id s t found in cc
 
 -- a name that goes from a legal journal's state is gone
 gone : (n0 : ℕ) (es more : List Event) (id : List ℕ) → IsLegal n0 es → (replay more).txns ≡ without id (replay es).txns → find_named id (replay more).txns ≡ None
-gone n0 es more id legal is = ap (find_named id) is ∙ gone-without id (replay es).txns (legal-once n0 es legal).0
+gone n0 es more id legal is = ap (find_named id) is ∙ gone_without id (replay es).txns (legal_once n0 es legal).0
 
 all_but : (m : Meaning) (old new : CoreModel) (id : List ℕ) → OthersStayVouched m id old new → ((t : Tx) → find_named id new.state.txns ≡ Some t → ⊥) → ((other : List ℕ) → IsVouchedFor m old other) → (other : List ℕ) → IsVouchedFor m new other
 all_but m old new id others shut h other = by (bytes_eq other id) refl
@@ -147,4 +147,4 @@ writes_vouched m old new h = (written, frozen, flushed)
     flushed layout before after n (stored tables is made taken) = more _ (events.Install n tables) tt refl refl (λ id v. v) is
 
 pub at_their_places : CommitsStandAtTheirPlaces
-at_their_places m c legal h = each-at-its-place (rules_of c.settings m) c.events legal h
+at_their_places m c legal h = each_at_its_place (rules_of c.settings m) c.events legal h

@@ -23,18 +23,6 @@ use Rattle.std.proofs.Common.{◌≤◌, ◌-◌, ◌^◌, length, refl, arith, 
 abbrev pub AreShortOps : Ops → Type 0
 AreShortOps ops = AllByRecursion (λ o. IsShort (bytes_of (op_value o.1))) ops
 
-pub all_filter : {X : Type 0} (P : X → Type 0) (t : X → Bool) (xs : List X) → AllByRecursion P xs → AllByRecursion P (filter t xs)
-all_filter P t [] h = tt
-all_filter P t (x ∷ xs) h = by (t x) (all_filter P t xs h.1)
-  where
-    by : (b : Bool) → AllByRecursion P (filter t xs) → AllByRecursion P (cond b (x ∷ filter t xs) (filter t xs))
-    by true rest = (h.0, rest)
-    by false rest = rest
-
-pub all_append : {X : Type 0} (P : X → Type 0) (xs ys : List X) → AllByRecursion P xs → AllByRecursion P ys → AllByRecursion P (xs ++ ys)
-all_append P [] ys h k = k
-all_append P (x ∷ xs) ys h k = (h.0, all_append P xs ys h.1 k)
-
 pub all_from_last : {X : Type 0} (P : X → Type 0) (t : X → Bool) (xs : List X) → AllByRecursion P xs → AllByRecursion P (from_last t xs)
 all_from_last P t [] h = tt
 all_from_last P t (x ∷ xs) h = by (list_any t xs) (all_from_last P t xs h.1)

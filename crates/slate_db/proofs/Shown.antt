@@ -1,10 +1,8 @@
 -- What the reads of a call show of tables.
 use Rattle.slate_block.specs.BlockSpelling.{IsKnown, IsSecond}
-use Rattle.std.proofs.Common.{◌≡◌, ◌≢◌, ◌⊎◌, inl, inr, ◌<◌, ◌≤◌, ◌+◌, ◌-◌, ◌||◌, ℕ, zero, suc, Bool, true, false, cond, eqb, List, [], ◌∷◌, ◌++◌, length, get_or, Option, Some, None, refl, sym, ap, subst, ◌∙◌, arith, append-nil, append_assoc}
+use Rattle.std.proofs.Common.{◌≡◌, ◌⊎◌, inl, inr, ◌<◌, ◌≤◌, ◌+◌, ◌-◌, ◌||◌, ℕ, zero, suc, Bool, true, false, cond, eqb, List, [], ◌∷◌, ◌++◌, length, get_or, Option, Some, None, refl, sym, ap, subst, ◌∙◌, arith, append-nil, append_assoc}
 use Rattle.std.specs.Prelude.{Contains, IsOk, Result, Ok, Err, slice_get}
 use Rattle.std.specs.List.{AllByRecursion}
-use Rattle.std.proofs.lemmas.Bool.{eqb-true}
-use Rattle.std.proofs.lemmas.Option.{same_Some}
 use Rattle.std.proofs.lemmas.List.Elements.{All-contains, All-from_recursion, Contains-append_right, Contains-get_or}
 use Rattle.slate_types.specs.declared.error.SlateDBError.{SlateDBError}
 use Rattle.slate_types.specs.declared.error.SlateDBError.TheVariants.{ChecksumMismatch, CorruptTable, InvalidFilterBlock, InvalidRowFlags, InvalidVersion, MergeOperatorMissing, OutOfMemory}
@@ -15,7 +13,7 @@ use Rattle.slate_types.specs.Outside.{Act, Meaning, Objects, IsCounted, IsFault,
 use Rattle.slate_types.specs.Rows.{is_operand}
 use Rattle.slate_types.specs.World.{IsCall, Made}
 use Rattle.slate_types.proofs.Calls.{call_both, call_none}
-use Rattle.slate_types.proofs.Lists.{AllByRecursion-append}
+use Rattle.slate_types.proofs.Lists.{AllByRecursion_append, AllByRecursion_weaken}
 use Rattle.slate_types.proofs.OutsideLaws.{counted_earlier}
 use Rattle.slate_block.specs.declared.block.Block.{Block}
 use Rattle.slate_block.specs.BlockWalks.{TakesRead}
@@ -35,11 +33,10 @@ use Rattle.slate_db.specs.Installs.{AreHandles, root, tables_of}
 use Rattle.slate_db.specs.Lookup.{IsUnknown}
 use Rattle.slate_db.specs.Model.{CoreModel, memory}
 use Rattle.slate_db.specs.Parts.{IsTableError}
-use Rattle.slate_db.specs.Readable.{IsOwnOperand, IsReadError, IsRefusedBy, LacksOperator}
-use Rattle.slate_db.specs.Shown.{Asking, index_act, blocks_act, LetsThrough, Passed, IsOpened, section_at, HasBlock, IsRowOf, RefusesRow, HasRow, HasRowRead, IsUnreadable, RefusesFiltersRead, Shows, ShowsRead, BringsRow, BringsRows, ShowsDamage}
+use Rattle.slate_db.specs.Readable.{IsOwnRow, IsReadError, IsRefusedBy, LacksOperator}
+use Rattle.slate_db.specs.Shown.{Asking, index_act, blocks_act, LetsThrough, IsOpened, section_at, HasBlock, IsRowOf, RefusesRow, HasRow, HasRowRead, IsUnreadable, RefusesFiltersRead, Shows, ShowsRead, BringsRow, BringsRows, ShowsDamage}
 use Rattle.slate_db.proofs.Causes.{callback_fault, store_fault, transform_fault}
 use Rattle.slate_db.proofs.Damaged.{block_unreadable, index_unreadable}
-use Rattle.slate_db.proofs.Lists.{all_map}
 use Rattle.slate_db.proofs.Tables.{store_earlier, transform_earlier}
 
 pub at_contains : {X : Type 0} (xs : List X) (x : X) → Contains xs x → (i : ℕ) × (i < length xs) × (slice_get xs i ≡ Some x)
@@ -57,13 +54,13 @@ steps_reads left before after [] h = tt
 steps_reads left before after (r ∷ rs) (next, step, rest) =
     let is : left before ≡ Ok r ∷ left next = step.1 in (
       subst (λ (xs : List RowRead). Contains xs (Ok r)) (sym is) (contains_here [] (left next) (Ok r)),
-      all_map (λ (x : RowEntry). Contains (left next) (Ok x)) (λ (x : RowEntry). Contains (left before) (Ok x)) (λ x h. subst (λ (xs : List RowRead). Contains xs (Ok x)) (sym is) (Contains-append_right (Ok r ∷ []) (left next) (Ok x) h)) rs (steps_reads left next after rs rest),
+      AllByRecursion_weaken (λ (x : RowEntry). Contains (left next) (Ok x)) (λ (x : RowEntry). Contains (left before) (Ok x)) (λ x h. subst (λ (xs : List RowRead). Contains xs (Ok x)) (sym is) (Contains-append_right (Ok r ∷ []) (left next) (Ok x) h)) rs (steps_reads left next after rs rest),
     )
 
 -- rows that steps brought, behind a seek
 pub brought_reads : {A : Type 0} (left : A → List RowRead) (before : A) (all front : List RowRead) (found : List RowEntry) → all ≡ front ++ left before → Brings (λ u answer v. (reads : List Act) × TakesRead (left u) answer (left v)) before found → AllByRecursion (λ r. Contains all (Ok r)) found
 brought_reads left before all front found split (rows, after, steps, each) =
-    all_map (Contains rows) (λ (r : RowEntry). Contains all (Ok r))
+    AllByRecursion_weaken (Contains rows) (λ (r : RowEntry). Contains all (Ok r))
     (λ r among. subst (λ (xs : List RowRead). Contains xs (Ok r)) (sym split)
     (Contains-append_right front (left before) (Ok r)
     (All-contains (λ (x : RowEntry). Contains (left before) (Ok x)) rows r (All-from_recursion _ rows (steps_reads left before after rows steps)) among))) found each
@@ -94,7 +91,7 @@ walk_reads version body offsets reads it first second begins known = by (known_o
     by (inr none) = let clash : Ok it ≡ Err (InvalidVersion version) = known none in absurd cc
 
 pub rows_read : (version : ℕ) (block : Block) (reads : List RowRead) (found : List RowEntry) → EachIsAByte block.body → block_reads version block.body block.offsets.items ≡ Ok reads → AllByRecursion (λ r. Contains reads (Ok r)) found → AllByRecursion (IsRowOf version block) found
-rows_read version block reads found fits is each = all_map (λ (r : RowEntry). Contains reads (Ok r)) (IsRowOf version block) (λ r h. (fits, reads, is, h)) found each
+rows_read version block reads found fits is each = AllByRecursion_weaken (λ (r : RowEntry). Contains reads (Ok r)) (IsRowOf version block) (λ r h. (fits, reads, is, h)) found each
 
 -- ---- the rows of blocks, one after another
 
@@ -109,7 +106,7 @@ IsRowAmong version blocks r = (block : Block) × Contains blocks block × IsRowO
 pub blocks_rows : (version : ℕ) (blocks : List Block) (block : Block) (found more all : List RowEntry) → Contains blocks block → AllByRecursion (λ r. (block : Block) × Contains blocks block × IsRowOf version block r) found → AllByRecursion (IsRowOf version block) more → all ≡ found ++ more →
     AllByRecursion (λ r. (block : Block) × Contains blocks block × IsRowOf version block r) all
 blocks_rows version blocks block found more all among first last is =
-    subst (AllByRecursion (IsRowAmong version blocks)) (sym is) (AllByRecursion-append (IsRowAmong version blocks) found more first (all_map (IsRowOf version block) (IsRowAmong version blocks) (λ r h. (block, among, h)) more last))
+    subst (AllByRecursion (IsRowAmong version blocks)) (sym is) (AllByRecursion_append (IsRowAmong version blocks) found more first (AllByRecursion_weaken (IsRowOf version block) (IsRowAmong version blocks) (λ r h. (block, among, h)) more last))
 
 pub among_blocks : {M U : Type 0} (version : ℕ) (blocks : List Block) (block : Block) (e : SlateDBError) → Contains blocks block → M ⊎ (IsUnreadable e × RefusesRow version block e) ⊎ U → M ⊎ ((block : Block) × Contains blocks block × IsUnreadable e × RefusesRow version block e) ⊎ U
 among_blocks version blocks block e among (inl m) = inl m
@@ -165,9 +162,17 @@ table_rows a c h now entries first stop objects acts blocks found k count r each
     let t = both.2 in (
       both.0,
       both.1,
-      all_map (λ (r : RowEntry). (block : Block) × Contains blocks block × IsRowOf h.format_version block r) (HasRowRead a.meaning.decode h both.0)
+      AllByRecursion_weaken (λ (r : RowEntry). (block : Block) × Contains blocks block × IsRowOf h.format_version block r) (HasRowRead a.meaning.decode h both.0)
           (λ r row. (row.0, has_block a.meaning.decode h both.0 t.0 first stop blocks row.0 t.1 t.2 count t.3 row.1, row.2)) found each,
     )
+
+-- where none is found in what was read
+pub no_rows_read : (a c : Reach) (h : SsTableHandle) (start size : ℕ) (means : Option (List ℕ) → Type 0) (found : List RowEntry) → c.objects ≡ a.objects → c.meaning ≡ a.meaning → Reads a.objects a.acts c.acts (path_of root h.id.0) start size means → found ≡ [] →
+    Made a c (λ reads. AllByRecursion (HasRowRead a.meaning.decode h reads) found)
+no_rows_read a c h start size means found objects meaning r none =
+    let call = call_of a c (path_of root h.id.0) start size means objects meaning r in
+    let acts = Act.read (path_of root h.id.0) start size call.0 ∷ [] in
+    (acts, call.1, subst (AllByRecursion (HasRowRead a.meaning.decode h acts)) (sym none) tt)
 
 -- ---- refusals
 
@@ -213,7 +218,7 @@ pub passed_rows : (a b c : Reach) (asking : Asking) (h : SsTableHandle) (found :
 passed_rows a b c asking h found first last = (
   first.0 ++ last.0,
   call_both a b c first.0 last.0 first.1 last.1,
-  all_map (HasRowRead a.meaning.decode h last.0) (HasRow a.meaning.decode asking h (first.0 ++ last.0)) (λ r row. record { filters = first.0; lets = first.2; opened = last.0; are = refl; meant = row }) found
+  AllByRecursion_weaken (HasRowRead a.meaning.decode h last.0) (HasRow a.meaning.decode asking h (first.0 ++ last.0)) (λ r row. record { filters = first.0; lets = first.2; opened = last.0; are = refl; meant = row }) found
       (subst (λ (m : Meaning). AllByRecursion (HasRowRead m.decode h last.0) found) first.1.meaning last.2),
 )
 
@@ -264,7 +269,7 @@ found_rows a b asking hs newer all (reads, call, (more, is, each)) = (
   reads,
   call,
   subst (AllByRecursion (Found a.meaning.decode asking hs newer reads)) (sym is)
-      (AllByRecursion-append (Found a.meaning.decode asking hs newer reads) newer more (newer_found a.meaning.decode asking hs newer reads) (all_map (BringsRow a.meaning.decode asking hs reads) (Found a.meaning.decode asking hs newer reads) (λ r row. inr row) more each)),
+      (AllByRecursion_append (Found a.meaning.decode asking hs newer reads) newer more (newer_found a.meaning.decode asking hs newer reads) (AllByRecursion_weaken (BringsRow a.meaning.decode asking hs reads) (Found a.meaning.decode asking hs newer reads) (λ r row. inr row) more each)),
 )
 
 pub no_rows : (a : Reach) (asking : Asking) (hs : List SsTableHandle) (newer : List RowEntry) → Made a a (BringsRows a.meaning.decode asking hs newer newer)
@@ -278,9 +283,9 @@ rows_on a b c asking hs h newer found more all among (first, f, (some, behind, e
   (
     some ++ more,
     is ∙ ap (λ (l : List RowEntry). l ++ more) behind ∙ append_assoc newer some more,
-    AllByRecursion-append (BringsRow a.meaning.decode asking hs (first ++ last.0)) some more
-        (all_map (BringsRow a.meaning.decode asking hs first) (BringsRow a.meaning.decode asking hs (first ++ last.0)) (λ r row. more_reads a.meaning.decode asking hs first last.0 r row) some each)
-        (all_map (HasRow a.meaning.decode asking h last.0) (BringsRow a.meaning.decode asking hs (first ++ last.0)) (λ r row. record {
+    AllByRecursion_append (BringsRow a.meaning.decode asking hs (first ++ last.0)) some more
+        (AllByRecursion_weaken (BringsRow a.meaning.decode asking hs first) (BringsRow a.meaning.decode asking hs (first ++ last.0)) (λ r row. more_reads a.meaning.decode asking hs first last.0 r row) some each)
+        (AllByRecursion_weaken (HasRow a.meaning.decode asking h last.0) (BringsRow a.meaning.decode asking hs (first ++ last.0)) (λ r row. record {
           table = h;
           among = among;
           earlier = first;
@@ -335,7 +340,7 @@ from_memory c k n near r is among =
     (newest_among k n (c.active ++ newest_first c.frozen) r (subst (λ (xs : List RowEntry). Contains xs r) is among))
 
 -- what a fold of the rows that were found is refused for
-pub fold_refused : (asking : Asking) (a b d : Reach) (c : CoreModel) (hs : List SsTableHandle) (near found : List RowEntry) (e : SlateDBError) → AreHandles (tables_of c.events) hs → ((r : RowEntry) → Contains near r → IsOwnOperand c r ⊎ Contains (newest_first (memory c)) r) → IsLater a.faults b.faults →
+pub fold_refused : (asking : Asking) (a b d : Reach) (c : CoreModel) (hs : List SsTableHandle) (near found : List RowEntry) (e : SlateDBError) → AreHandles (tables_of c.events) hs → ((r : RowEntry) → Contains near r → IsOwnRow c r ⊎ Contains (newest_first (memory c)) r) → IsLater a.faults b.faults →
     d.objects ≡ b.objects → d.meaning ≡ b.meaning → d.acts ≡ b.acts → Made a b (λ reads. AllByRecursion (λ r. Contains near r ⊎ BringsRow a.meaning.decode asking hs reads r) found) →
     (e ≡ OutOfMemory) ⊎ ((e ≡ MergeOperatorMissing) × (b.meaning.combine ≡ None) × (is_merge_among found ≡ true)) ⊎ IsCallback b.faults.operator d.faults.operator e → IsReadError asking a d c e
 fold_refused asking a b d c hs near found e are is later objects meaning acts made (inl m) = inl (subst (IsCounted a.faults d.faults) (sym m) tt)
@@ -351,11 +356,11 @@ fold_refused asking a b d c hs near found e are is later objects meaning acts ma
       },
     )
   where
-    near_is : (r : RowEntry) → IsOwnOperand c r ⊎ Contains (newest_first (memory c)) r → IsOwnOperand c r ⊎ Contains (newest_first (memory c)) r ⊎ BringsRow a.meaning.decode asking hs made.0 r
+    near_is : (r : RowEntry) → IsOwnRow c r ⊎ Contains (newest_first (memory c)) r → IsOwnRow c r ⊎ Contains (newest_first (memory c)) r ⊎ BringsRow a.meaning.decode asking hs made.0 r
     near_is r (inl o) = inl o
     near_is r (inr m) = inr (inl m)
 
-    by : (r : RowEntry) → Contains near r ⊎ BringsRow a.meaning.decode asking hs made.0 r → IsOwnOperand c r ⊎ Contains (newest_first (memory c)) r ⊎ BringsRow a.meaning.decode asking hs made.0 r
+    by : (r : RowEntry) → Contains near r ⊎ BringsRow a.meaning.decode asking hs made.0 r → IsOwnRow c r ⊎ Contains (newest_first (memory c)) r ⊎ BringsRow a.meaning.decode asking hs made.0 r
     by r (inl m) = near_is r (is r m)
     by r (inr b) = inr (inr b)
 fold_refused asking a b d c hs near found e are is later objects meaning acts made (inr (inr k)) = inl (counted_earlier a.faults b.faults d.faults e later (callback_fault b.faults d.faults e k))

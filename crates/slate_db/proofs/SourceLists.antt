@@ -75,6 +75,7 @@ run_is range within order n run copy it s iterator upto same tables h = (
     fresh = h.fresh;
     unopened = h.unopened;
     closed = h.closed;
+    none_ahead = h.none_ahead;
     opens = h.opens ∙ (λ i. reached (same i) order (tables i));
     brings = λ w kepts readable. subst (λ (b : BytesRange). BringsRun w order it.rows (in_turn order (rows_in_run b order kepts))) same (h.brings w kepts (subst (λ (hs : List SsTableHandle). AreReadable w hs kepts) (sym tables) readable));
   }),

@@ -9,7 +9,7 @@ use Rattle.slate_table.specs.declared.info.SsTableHandle.{SsTableHandle}
 use Rattle.slate_db.specs.Flushed.{Differ, StandInRuns}
 use Rattle.slate_db.specs.Installs.{handles_of, prefixes_of}
 use Rattle.slate_db.specs.StoredParts.{IsLastRun, taken, made}
-use Rattle.slate_db.proofs.Lists.{all_front, all_more}
+use Rattle.slate_types.proofs.Lists.{AllByRecursion_front, AllByRecursion_push}
 
 pub same_last : {X : Type 0} (xs ys : List X) (x y : X) → xs ++ (x ∷ []) ≡ ys ++ (y ∷ []) → x ≡ y
 same_last [] [] x y is = cc
@@ -56,7 +56,7 @@ differ_so prefix old middle run more (made is named none other) same differ =
     differ_more middle more (subst Differ (sym is) differ) (λ before last ends e. other before last (sym is ∙ ends) (e ∙ same ∙ named))
 
 some_front : (prefix : List ℕ) (old middle : List SortedRun) (run : SortedRun) → IsLastRun prefix old middle run → AllByRecursion (λ r. 0 < length r.tables.items) old → AllByRecursion (λ r. 0 < length r.tables.items) middle
-some_front prefix old middle run (taken is named) some = all_front _ middle (run ∷ []) (subst (AllByRecursion (λ r. 0 < length r.tables.items)) is some)
+some_front prefix old middle run (taken is named) some = AllByRecursion_front _ middle (run ∷ []) (subst (AllByRecursion (λ r. 0 < length r.tables.items)) is some)
 some_front prefix old middle run (made is named none other) some = subst (AllByRecursion (λ r. 0 < length r.tables.items)) (sym is) some
 
 pub stand_so : (prefix : List ℕ) (h : SsTableHandle) (prefixes : List (List ℕ)) (old middle new : List SortedRun) (run more : SortedRun) → IsLastRun prefix old middle run → more.prefix ≡ run.prefix → more.tables.items ≡ run.tables.items ++ (h ∷ []) → new ≡ middle ++ (more ∷ []) →
@@ -68,7 +68,7 @@ stand_so prefix h prefixes old middle new run more last same items is stand = su
       ∙ sym (append_assoc (prefixes_of middle) (map (λ k. run.prefix) run.tables.items) (run.prefix ∷ []))
       ∙ (λ i. sym (old_prefixes prefix old middle run last) i ++ (named_so prefix old middle run last i ∷ []))
       ∙ ap (λ ps. ps ++ (prefix ∷ [])) stand.each;
-  some = all_more (λ r. 0 < length r.tables.items) middle more (some_front prefix old middle run last stand.some) (let n = ap length items ∙ length-append run.tables.items (h ∷ []) in omega arith);
+  some = AllByRecursion_push (λ r. 0 < length r.tables.items) middle more (some_front prefix old middle run last stand.some) (let n = ap length items ∙ length-append run.tables.items (h ∷ []) in omega arith);
   differ = differ_so prefix old middle run more last same stand.differ;
 })
 

@@ -9,9 +9,9 @@ use Rattle.std.proofs.lemmas.Slice.Eq.{bytes_eq-Decides}
 use Rattle.slate_types.specs.declared.types.RowEntry.{RowEntry}
 use Rattle.slate_types.specs.Keys.{key_cmp, among, keys_set}
 use Rattle.slate_types.specs.Rows.{of_key}
-use Rattle.slate_types.proofs.KeySetLaws.{among-above, set-keeps, set-rises}
+use Rattle.slate_types.proofs.KeySetLaws.{among_above, set_keeps, set_rises}
 use Rattle.slate_db.specs.Model.{Rows}
-use Rattle.slate_db.proofs.Lists.{all_map}
+use Rattle.slate_types.proofs.Lists.{AllByRecursion_weaken}
 
 -- ---- sums, from the front
 
@@ -66,7 +66,7 @@ once_alone j n [] h = omega arith
 once_alone j n (k ∷ ks) h = by (bytes_eq j k) refl (once_alone j n ks h.1)
   where
     by : (a : Bool) → bytes_eq j k ≡ a → total (alone j n) ks ≤ n → cond a n 0 + total (alone j n) ks ≤ n
-    by true e rest = let none : total (alone j n) ks ≡ 0 = none_alone j n ks (ap (λ q. among q ks) ((bytes_eq-Decides j k).0 e) ∙ among-above k ks h.0) in omega arith
+    by true e rest = let none : total (alone j n) ks ≡ 0 = none_alone j n ks (ap (λ q. among q ks) ((bytes_eq-Decides j k).0 e) ∙ among_above k ks h.0) in omega arith
     by false e rest = omega arith
 
 some_alone : (j : List ℕ) (n : ℕ) (ks : List (List ℕ)) → among j ks ≡ true → n ≤ total (alone j n) ks
@@ -116,7 +116,7 @@ total_each f g (x ∷ xs) h = let a : f x ≤ g x = h x in let b : total f xs �
 
 pub own_keys : {X : Type 0} (key : X → List ℕ) (xs : List X) → AllByRecursion (λ x. among (key x) (map key xs) ≡ true) xs
 own_keys key [] = tt
-own_keys {X = X} key (x ∷ xs) = (ap (λ b. b || among (key x) (map key xs)) ((bytes_eq-Decides (key x) (key x)).1 refl), all_map _ _ behind xs (own_keys key xs))
+own_keys {X = X} key (x ∷ xs) = (ap (λ b. b || among (key x) (map key xs)) ((bytes_eq-Decides (key x) (key x)).1 refl), AllByRecursion_weaken _ _ behind xs (own_keys key xs))
   where
     or_true : (a b : Bool) → b ≡ true → (a || b) ≡ true
     or_true true b h = refl
@@ -130,11 +130,11 @@ pub total_by_key : (f : RowEntry → ℕ) (xs ys : Rows) → ((k : List ℕ) →
 total_by_key f xs ys h =
     let all : total f xs ≤ by_keys (λ r. r.key) f xs ks = by_keys_all (λ r. r.key) f xs ks among_all in
     let less : by_keys (λ r. r.key) f xs ks ≤ by_keys (λ r. r.key) f ys ks = total_each (λ k. total f (of_key k xs)) (λ k. total f (of_key k ys)) ks h in
-    let within : by_keys (λ r. r.key) f ys ks ≤ total f ys = by_keys_within (λ r. r.key) f ys ks (set-rises (map (λ r. r.key) xs)) in
+    let within : by_keys (λ r. r.key) f ys ks ≤ total f ys = by_keys_within (λ r. r.key) f ys ks (set_rises (map (λ r. r.key) xs)) in
     omega arith
   where
     ks : List (List ℕ)
     ks = keys_set (map (λ r. r.key) xs)
 
     among_all : AllByRecursion (λ r. among r.key ks ≡ true) xs
-    among_all = all_map _ _ (λ r e. set-keeps (map (λ r. r.key) xs) r.key ∙ e) xs (own_keys (λ r. r.key) xs)
+    among_all = AllByRecursion_weaken _ _ (λ r e. set_keeps (map (λ r. r.key) xs) r.key ∙ e) xs (own_keys (λ r. r.key) xs)

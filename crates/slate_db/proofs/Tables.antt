@@ -2,7 +2,7 @@
 use Rattle.std.proofs.Common.{◌≡◌, ℕ, zero, suc, ◌+◌, ◌<◌, List, [], ◌∷◌, drop, length, get_or, refl, sym, ap, subst, ◌∙◌, arith}
 use Rattle.std.specs.Prelude.{◌⊎◌, ◌≤◌, ◌-◌, false, flat_map, Option, Some}
 use Rattle.std.specs.List.{AllByRecursion}
-use Rattle.std.proofs.lemmas.Option.{same_Some}
+use Rattle.std.proofs.lemmas.Option.{same_Some, slice_get_within}
 use Rattle.std.proofs.Common.{inl, inr}
 use Rattle.slate_types.specs.declared.error.SlateDBError.{SlateDBError}
 use Rattle.slate_types.specs.declared.iter.IterationOrder.TheVariants.{Ascending}
@@ -18,7 +18,7 @@ use Rattle.slate_types.specs.Rows.{of_key}
 use Rattle.slate_table.specs.IndexReading.{index_keys}
 use Rattle.slate_table.specs.InfoReading.{seen_info}
 use Rattle.slate_table.specs.Paths.{path_of}
-use Rattle.slate_table.specs.Reading.{Reads, IsStoreFault, FailsDecoding, IsIndexRead, RefusesIndex, AreBlocksRead, RefusesBlocks, FailsBlocks, block_answer, block_start, blocks_size, of_index, of_blocks}
+use Rattle.slate_table.specs.Reading.{Reads, IsStoreFault, FailsDecoding, IsIndexRead, RefusesIndex, AreBlocksRead, RefusesBlocks, FailsBlocks, block_start, blocks_size, of_index, of_blocks}
 use Rattle.slate_table.specs.SectionReading.{IsTransformFault}
 use Rattle.slate_table.proofs.TableFinds.{key_held, not_refused, outside_none}
 use Rattle.slate_db.specs.Installs.{root}
@@ -131,3 +131,17 @@ key_read encode decode now objects told told2 h rows entries k first stop before
     (read_part told before middle (path_of root h.id.0) h.info.index_offset h.info.index_len (λ answer. IsIndexRead decode h.info.filter_offset (of_index h answer) entries) stored.bytes known index) k first stop order within each blocks count
     (subst (λ (x : Encode). AreBlocksRead x (of_blocks h entries first (blocks_answer stored.bytes (seen_info h.info) entries first stop)) first blocks) decodes
     (read_part told2 middle after (path_of root h.id.0) (block_start h.info.filter_offset entries first) (blocks_size h.info.filter_offset entries first stop) (λ answer. AreBlocksRead now (of_blocks h entries first answer) first blocks) stored.bytes knows r))
+
+none_of : (version : ℕ) (k : List ℕ) (found : List Rows) (rows : Rows) → AreBlocksOf version [] found → of_key k (flat_map (λ b. b) found) ≡ of_key k rows → [] ≡ of_key k rows
+none_of version k [] rows are is = is
+none_of version k (x ∷ found) rows are is = absurd are
+
+-- and none, where none is to be read
+pub key_nowhere : (encode decode : Encode) (objects told : Option Objects) (h : SsTableHandle) (rows : Rows) (entries : List (ℕ × List ℕ)) (k : List ℕ) (n first stop : ℕ) (before after : Option (List Act)) → (stored : IsStored encode decode objects h rows) →
+    Knows told before after (path_of root h.id.0) stored.bytes → first ≤ stop → stop ≤ length entries → ((i : ℕ) → CanHold (index_keys entries) i k → (first ≤ i) × (i < stop)) → stop ≤ first →
+    Reads told before after (path_of root h.id.0) h.info.index_offset h.info.index_len (λ answer. IsIndexRead decode h.info.filter_offset (of_index h answer) entries) → [] ≡ newest k n rows
+key_nowhere encode decode objects told h rows entries k n first stop before after stored known order within each none index =
+    let key = key_held encode decode stored.lawful stored.bytes h.format_version h.id.0 (seen_info h.info) rows stored.is entries
+    (read_part told before after (path_of root h.id.0) h.info.index_offset h.info.index_len (λ answer. IsIndexRead decode h.info.filter_offset (of_index h answer) entries) stored.bytes known index) k first stop order within each [] (omega (arith, order, none))
+    (λ i block at. let lt = slice_get_within [] i block at in absurd (omega (arith, lt))) in
+    newest_same k n [] rows (none_of h.format_version k key.0 rows key.1 key.3)

@@ -5,17 +5,17 @@ use Rattle.std.specs.Ordering.{match_ordering}
 use Rattle.std.proofs.lemmas.Bool.Decides.{nat_tests}
 use Rattle.slate_types.specs.declared.types.RowEntry.{RowEntry}
 use Rattle.slate_types.specs.Rows.{sequenced, sequenced_cmp}
-use Rattle.slate_types.proofs.RowLaws.{sequenced-same}
+use Rattle.slate_types.proofs.RowLaws.{sequenced_same}
 use Rattle.slate_types.specs.Fold.{Combine}
 use Rattle.slate_mem.specs.Batch.{Ops, batch_keys}
 use Rattle.slate_mem.specs.CommitRows.{commit_rows}
 use Rattle.slate_mem.specs.RowOf.{row_of}
 use Rattle.slate_mem.specs.Table.{put_row, put_rows}
-use Rattle.slate_mem.proofs.RowOfLaws.{row-has}
+use Rattle.slate_mem.proofs.RowOfLaws.{row_has}
 use Rattle.slate_db.specs.Layers.{LayersModel, AreLayers, without_seq}
 use Rattle.slate_db.specs.Model.{CoreModel, Rows, memory}
-use Rattle.slate_db.proofs.Lists.{all_map, all_behind}
 use Rattle.slate_db.proofs.Puts.{all_rows}
+use Rattle.slate_types.proofs.Lists.{AllByRecursion_behind, AllByRecursion_weaken}
 
 is_seq : (r : RowEntry) (n : ℕ) → r.seq ≡ n → (r.seq == n) ≡ true
 is_seq r n h = grind (arith, nat_tests)
@@ -33,7 +33,7 @@ without_put n row (r ∷ rs) h = by (sequenced_cmp (sequenced row) (sequenced r)
     by : (o : Ordering) → sequenced_cmp (sequenced row) (sequenced r) ≡ o → without_seq n (put_row rs row) ≡ without_seq n rs →
         without_seq n (match_ordering o (row ∷ r ∷ rs) (row ∷ rs) (r ∷ put_row rs row)) ≡ without_seq n (r ∷ rs)
     by Less e rest = out n row (r ∷ rs) h
-    by Equal e rest = out n row rs h ∙ sym (out n r rs (sym (ap (λ k. k.seq) (sequenced-same (sequenced row) (sequenced r) e)) ∙ h))
+    by Equal e rest = out n row rs h ∙ sym (out n r rs (sym (ap (λ k. k.seq) (sequenced_same (sequenced row) (sequenced r) e)) ∙ h))
     by Greater e rest = ap (λ xs. cond (not (r.seq == n)) (r ∷ xs) xs) rest
 
 without_puts : (n : ℕ) (rows more : Rows) → AllByRecursion (λ r. r.seq ≡ n) more → without_seq n (put_rows rows more) ≡ without_seq n rows
@@ -55,11 +55,11 @@ layers_back y z n more is h older = ap (λ (x : LayersModel). record x { active 
 -- ---- what a commit puts
 
 pub commit_seqs : (c : List ℕ → Combine) (d : Option ℕ) (n : ℕ) (now : ℤ) (ops : Ops) → AllByRecursion (λ r. r.seq ≡ n) (commit_rows c d n now ops)
-commit_seqs c d n now ops = all_rows (λ r. r.seq ≡ n) (λ k. row_of (c k) d n now ops k) (λ j r is. (row-has (c j) d n now ops j r is).1.0) (batch_keys ops)
+commit_seqs c d n now ops = all_rows (λ r. r.seq ≡ n) (λ k. row_of (c k) d n now ops k) (λ j r is. (row_has (c j) d n now ops j r is).1.0) (batch_keys ops)
 
 -- the rows that aren't frozen are older than the next commit
 pub older_rows : (c : CoreModel) (n : ℕ) → AllByRecursion (λ rows. AllByRecursion (λ r. r.seq ≤ n) rows) (memory c) → AllByRecursion (λ r. r.seq < n + 1) c.active
-older_rows c n h = all_map _ _ less c.active (all_behind _ c.frozen (c.active ∷ []) h).0
+older_rows c n h = AllByRecursion_weaken _ _ less c.active (AllByRecursion_behind _ c.frozen (c.active ∷ []) h).0
   where
     less : (r : RowEntry) → r.seq ≤ n → r.seq < n + 1
     less r h = omega arith

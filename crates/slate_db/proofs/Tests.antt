@@ -10,9 +10,9 @@ use Rattle.slate_mem.specs.KeyTests.{Segments, key_refusal, merges_refusal, nest
 use Rattle.slate_mem.specs.Refusals.{first_refusal, when}
 use Rattle.slate_mem.specs.RowOf.{op_expiry}
 use Rattle.slate_types.specs.Keys.{keys_set}
-use Rattle.slate_types.proofs.KeySetLaws.{set-keeps}
-use Rattle.slate_mem.proofs.BatchLaws.{keeps-keys, keeps-kept}
-use Rattle.slate_mem.proofs.NestLaws.{refusals-of-sets}
+use Rattle.slate_types.proofs.KeySetLaws.{set_keeps}
+use Rattle.slate_mem.proofs.BatchLaws.{keeps_its_keys, keeps_what_is_kept}
+use Rattle.slate_mem.proofs.NestLaws.{refusals_of_sets}
 use Rattle.slate_txn.specs.HandedOver.{IsConflict}
 use Rattle.slate_txn.specs.declared.line.Line.TheVariants as lines
 use Rattle.slate_txn.specs.Refusals.{batch_refusals, committed_prefixes, write_refusal}
@@ -79,7 +79,7 @@ keys_as segments d now ops [] = refl
 keys_as segments d now ops (k ∷ ks) = λ i. one i ∷ keys_as segments d now ops ks i
   where
     one : key_refusal segments d now (kept_ops ops) k ≡ key_refusal segments d now ops k
-    one = ap (λ xs. first_refusal (segment_refusal segments k ∷ ttl_refusal k (reverse (map (op_expiry d now) xs)) ∷ [])) (keeps-kept ops k)
+    one = ap (λ xs. first_refusal (segment_refusal segments k ∷ ttl_refusal k (reverse (map (op_expiry d now) xs)) ∷ [])) (keeps_what_is_kept ops k)
 
 abbrev all_tests : {C : Type 0} → Option C → Segments → List (List ℕ) → Ops → List (Option SlateDBError) → List (List ℕ) → Option SlateDBError
 all_tests o g recorded ops es ks = first_refusal (merges_refusal (is_some o) (holds_merge ops) ∷ (es ++ nest_refusals recorded (filter_map (prefix_by g) ks)))
@@ -87,7 +87,7 @@ all_tests o g recorded ops es ks = first_refusal (merges_refusal (is_some o) (ho
 pub refusal_kept : {C : Type 0} (o : Option C) (g : Segments) (recorded : List (List ℕ)) (d : Option ℕ) (now : ℤ) (ops : Ops) (b : BatchModel) → IsBatchOf ops b → batch_refusal o g recorded d now b ≡ test_refusal o g recorded d now ops
 refusal_kept o g recorded d now ops b of =
     (λ i. first_refusal (test_refusals (is_some o) (of.1 i) g d now (of.0 i) ++ nest_refusals recorded (prefixes g (of.0 i))))
-    ∙ ap (λ ks. all_tests o g recorded ops (map (key_refusal g d now (kept_ops ops)) ks) ks) (keeps-keys ops)
+    ∙ ap (λ ks. all_tests o g recorded ops (map (key_refusal g d now (kept_ops ops)) ks) ks) (keeps_its_keys ops)
     ∙ ap (λ es. all_tests o g recorded ops es (batch_keys ops)) (keys_as g d now ops (batch_keys ops))
 
 -- ---- the model
@@ -95,7 +95,7 @@ refusal_kept o g recorded d now ops b of =
 -- the recorded prefixes are tested as those of all commits
 recorded_tests : (r : Rules) (cs : List Commit) (recorded own : List (List ℕ)) → recorded ≡ recorded_by r.segment cs → nest_refusals (committed_prefixes r cs) own ≡ nest_refusals recorded own
 recorded_tests r cs recorded own is =
-    sym (refusals-of-sets (recorded_by r.segment cs) own (committed_prefixes r cs) own (set-keeps (committed_prefixes r cs)) (λ k. refl)) ∙ sym (ap (λ ps. nest_refusals ps own) is)
+    sym (refusals_of_sets (recorded_by r.segment cs) own (committed_prefixes r cs) own (set_keeps (committed_prefixes r cs)) (λ k. refl)) ∙ sym (ap (λ ps. nest_refusals ps own) is)
 
 write_tests : (r : Rules) (s : State) (recorded : List (List ℕ)) (ops : Ops) (n : ℕ) → (ops ≡ [] → ⊥) → AreFine ops → recorded ≡ recorded_by r.segment s.commits → n ≡ last_of r.start_seq s.commits → n < 2 ^ 64 - 2 →
     write_refusal r s ops ≡ test_refusal r.combine r.segment recorded r.default_millis s.now ops
@@ -107,7 +107,7 @@ write_tests r s recorded ops n some fine is last fits =
 pub step_tested : (r : Rules) (s : State) (recorded : List (List ℕ)) (ops : Ops) (b : BatchModel) (n : ℕ) → IsBatchOf ops b → (b.ops ≡ [] → ⊥) → batch_refusal r.combine r.segment recorded r.default_millis s.now b ≡ None → AreFine ops → recorded ≡ recorded_by r.segment s.commits → n ≡ last_of r.start_seq s.commits → n < 2 ^ 64 - 2 →
     step r s (lines.Write ops) ≡ (record s { commits = s.commits ++ (record { seq = n + 1; now = s.now; ops = b.ops; tracked = batch_keys b.ops } ∷ []) }, Written (Some (n + 1)))
 step_tested r s recorded ops b n of some tested fine is last fits =
-    written_as r s ops b.ops n (has_some ops b of some) (sym of.0) (sym (keeps-keys ops) ∙ ap batch_keys (sym of.0)) (sym last)
+    written_as r s ops b.ops n (has_some ops b of some) (sym of.0) (sym (keeps_its_keys ops) ∙ ap batch_keys (sym of.0)) (sym last)
     (write_tests r s recorded ops n (has_some ops b of some) fine is last fits ∙ sym (refusal_kept r.combine r.segment recorded r.default_millis s.now ops b of) ∙ tested)
 
 pub step_test_refused : (r : Rules) (s : State) (recorded : List (List ℕ)) (ops : Ops) (b : BatchModel) (n : ℕ) (e : SlateDBError) → IsBatchOf ops b → (b.ops ≡ [] → ⊥) → batch_refusal r.combine r.segment recorded r.default_millis s.now b ≡ Some e → AreFine ops → recorded ≡ recorded_by r.segment s.commits → n ≡ last_of r.start_seq s.commits → n < 2 ^ 64 - 2 →
@@ -197,7 +197,7 @@ module _ {C : Type 0} (o : Option C) (g h : Segments) (recorded : List (List ℕ
   nests_as : (own : List (List ℕ)) → own ≡ keys_set (prefixes h b.ops) → first_refusal (nest_refusals recorded own) ≡ first_refusal (nest_refusals recorded (prefixes g b.ops))
   nests_as own are =
       ap (λ ps. first_refusal (nest_refusals recorded ps)) (are ∙ ap (λ l. keys_set (prefixes l b.ops)) lengths)
-      ∙ ap first_refusal (refusals-of-sets recorded (keys_set (prefixes g b.ops)) recorded (prefixes g b.ops) (λ k. refl) (set-keeps (prefixes g b.ops)))
+      ∙ ap first_refusal (refusals_of_sets recorded (keys_set (prefixes g b.ops)) recorded (prefixes g b.ops) (λ k. refl) (set_keeps (prefixes g b.ops)))
 
   pub refused_own : (x : SlateDBError) → (x ≡ errors.OutOfMemory) ⊎ (first_refusal (test_refusals there b.held_merge h d z b.ops) ≡ Some x) → (x ≡ errors.OutOfMemory) ⊎ (batch_refusal o g recorded d now b ≡ Some x)
   refused_own x (inl short) = inl short

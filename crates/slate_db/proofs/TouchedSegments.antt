@@ -12,7 +12,7 @@ use Rattle.slate_types.specs.declared.error.SlateDBError.TheVariants as errors
 use Rattle.slate_types.specs.declared.types.RowEntry.{RowEntry}
 use Rattle.slate_types.specs.Keys.{key_cmp, key_le, key_lt, keys_set}
 use Rattle.slate_types.specs.Rows.{row_lt}
-use Rattle.slate_types.proofs.KeyOrder.{is-less, lt-le}
+use Rattle.slate_types.proofs.KeyOrder.{is_less, lt_le}
 use Rattle.slate_mem.specs.KeyTests.{Segments, nest, prefix_of_len, segment_refusal}
 use Rattle.slate_mem.specs.Refusals.{when}
 use Rattle.slate_read.specs.declared.sorted_run.SortedRun.{SortedRun}
@@ -24,8 +24,9 @@ use Rattle.slate_db.specs.FlushLaws.{NoneNest, RunsAreOfSegments, TablesAreOfOne
 use Rattle.slate_db.specs.Installs.{prefixes_of}
 use Rattle.slate_db.specs.Model.{Rows}
 use Rattle.slate_db.proofs.Cuts.{one_segment, row_keys}
-use Rattle.slate_db.proofs.Lists.{all_behind, all_both, all_front}
+use Rattle.slate_db.proofs.Lists.{all_both}
 use Rattle.slate_db.proofs.Prefixes.{begins_itself, rises}
+use Rattle.slate_types.proofs.Lists.{AllByRecursion_front, AllByRecursion_map, AllByRecursion_behind}
 
 -- ---- a list in which each of some prefixes stands once or more, side by side
 
@@ -80,7 +81,7 @@ all_repeated : (P : List ℕ → Type 0) (all prefixes : List (List ℕ)) → Ar
 all_repeated P all [] are h = tt
 all_repeated P all (prefix ∷ prefixes) are h =
     let both = subst (AllByRecursion P) are.is h in
-    (first are.front are.some are.same (all_front P are.front are.rest both), all_repeated P are.rest prefixes are.more (all_behind P are.front are.rest both))
+    (first are.front are.some are.same (AllByRecursion_front P are.front are.rest both), all_repeated P are.rest prefixes are.more (AllByRecursion_behind P are.front are.rest both))
   where
     first : (front : List (List ℕ)) → 0 < length front → AllByRecursion (λ p. p ≡ prefix) front → AllByRecursion P front → P prefix
     first [] some same h = absurd (omega arith)
@@ -94,7 +95,7 @@ none_falls all (prefix ∷ prefixes) are none =
   where
     first : (front : List (List ℕ)) → 0 < length front → AllByRecursion (λ p. p ≡ prefix) front → NoneFalls (front ++ are.rest) → AllByRecursion (IsUpTo prefix) are.rest
     first [] some same none = absurd (omega arith)
-    first (p ∷ front) some same none = all_behind (IsUpTo prefix) front are.rest (subst (λ (q : List ℕ). AllByRecursion (IsUpTo q) (front ++ are.rest)) same.0 none.0)
+    first (p ∷ front) some same none = AllByRecursion_behind (IsUpTo prefix) front are.rest (subst (λ (q : List ℕ). AllByRecursion (IsUpTo q) (front ++ are.rest)) same.0 none.0)
 
 -- ---- the prefixes of rows
 
@@ -114,7 +115,7 @@ keys_up : (r s : RowEntry) → IsTrue (row_lt r s) → key_le r.key s.key ≡ tr
 keys_up r s h = by (row_keys r s h)
   where
     by : (key_lt r.key s.key ≡ true) ⊎ (r.key ≡ s.key) → key_le r.key s.key ≡ true
-    by (inl below) = lt-le r.key s.key below
+    by (inl below) = lt_le r.key s.key below
     by (inr same) = subst (λ (k : List ℕ). key_le r.key k ≡ true) same (le_itself r.key)
 
 up_to : (g : Segments) (r s : RowEntry) → key_le r.key s.key ≡ true → nest (segment_of g r.key) (segment_of g s.key) ≡ false → IsUpTo (segment_of g r.key) (segment_of g s.key)
@@ -124,10 +125,6 @@ up_to g r s le none = by (apart (segment_of g r.key) (segment_of g s.key) none)
     by (inl same) = inl same
     by (inr other) = inr (rises (segment_of g r.key) (segment_of g s.key) r.key s.key le (begins_itself g r.key) (begins_itself g s.key) other.0 other.1)
 
-pub all_mapped : {X Y : Type 0} (f : X → Y) (P : Y → Type 0) (xs : List X) → AllByRecursion (λ x. P (f x)) xs → AllByRecursion P (map f xs)
-all_mapped f P [] h = tt
-all_mapped f P (x ∷ xs) h = (h.0, all_mapped f P xs h.1)
-
 some_mapped : {X Y : Type 0} (f : X → Y) (xs : List X) → 0 < length xs → 0 < length (map f xs)
 some_mapped f [] some = some
 some_mapped f (x ∷ xs) some = omega arith
@@ -135,7 +132,7 @@ some_mapped f (x ∷ xs) some = omega arith
 pub rows_rise : (g : Segments) (rows : Rows) → AreInOrder rows → NoneNest g rows → NoneFalls (map (λ r. segment_of g r.key) rows)
 rows_rise g [] order none = tt
 rows_rise g (r ∷ rows) order none = (
-  all_mapped (λ s. segment_of g s.key) (IsUpTo (segment_of g r.key)) rows (all_both _ _ _ (λ s h k. up_to g r s (keys_up r s h) k) rows order.0 none.0),
+  AllByRecursion_map (λ s. segment_of g s.key) (IsUpTo (segment_of g r.key)) rows (all_both _ _ _ (λ s h k. up_to g r s (keys_up r s h) k) rows order.0 none.0),
   rows_rise g rows order.1 none.1,
 )
 
@@ -148,7 +145,7 @@ tables_repeat g (rows ∷ tables) (prefix ∷ prefixes) some are = record {
   rest = map (λ r. segment_of g r.key) (flat_map (λ xs. xs) tables);
   is = map-append (λ r. segment_of g r.key) rows (flat_map (λ xs. xs) tables);
   some = some_mapped (λ r. segment_of g r.key) rows some.0;
-  same = all_mapped (λ r. segment_of g r.key) (λ p. p ≡ prefix) rows are.0;
+  same = AllByRecursion_map (λ r. segment_of g r.key) (λ p. p ≡ prefix) rows are.0;
   more = tables_repeat g tables prefixes some.1 are.1;
 }
 tables_repeat g [] (prefix ∷ prefixes) some are = absurd are
@@ -177,7 +174,7 @@ set_of_runs (run ∷ (next ∷ runs)) differ none =
   where
     by : IsUpTo run.prefix next.prefix → insert_key key_cmp (map (λ r. r.prefix) (next ∷ runs)) run.prefix ≡ run.prefix ∷ map (λ r. r.prefix) (next ∷ runs)
     by (inl same) = absurd (differ.0 same)
-    by (inr below) = ap (λ o. match_ordering o (run.prefix ∷ map (λ r. r.prefix) (next ∷ runs)) (map (λ r. r.prefix) (next ∷ runs)) (next.prefix ∷ insert_key key_cmp (map (λ r. r.prefix) runs) run.prefix)) (is-less (key_cmp run.prefix next.prefix) below)
+    by (inr below) = ap (λ o. match_ordering o (run.prefix ∷ map (λ r. r.prefix) (next ∷ runs)) (map (λ r. r.prefix) (next ∷ runs)) (next.prefix ∷ insert_key key_cmp (map (λ r. r.prefix) runs) run.prefix)) (is_less (key_cmp run.prefix next.prefix) below)
 
 pub runs_of_segments : RunsAreOfSegments
 runs_of_segments g limit rows tables prefixes runs order none cut are stand =
@@ -208,6 +205,6 @@ tables_stand g limit rows tables fine cut = each tables (subst (AllByRecursion (
         AllByRecursion (λ table. (prefix : List ℕ) × AllByRecursion (StandsIn g prefix) table) tables
     each [] fine some on = tt
     each (table ∷ tables) fine some on = (
-      cut_stands_in_one g limit table some.0 on.0 (all_front _ table (flat_map (λ xs. xs) tables) fine),
-      each tables (all_behind _ table (flat_map (λ xs. xs) tables) fine) some.1 on.1,
+      cut_stands_in_one g limit table some.0 on.0 (AllByRecursion_front _ table (flat_map (λ xs. xs) tables) fine),
+      each tables (AllByRecursion_behind _ table (flat_map (λ xs. xs) tables) fine) some.1 on.1,
     )

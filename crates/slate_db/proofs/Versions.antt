@@ -7,18 +7,14 @@ use Rattle.slate_types.specs.declared.types.RowEntry.{RowEntry}
 use Rattle.slate_types.specs.Rows.{operand, of_key}
 use Rattle.slate_types.specs.Fold.{AreShort, IsShort}
 use Rattle.slate_db.specs.Model.{Rows, versions, versions_in}
-use Rattle.slate_db.proofs.Short.{all_append, all_filter}
-
-pub all_reverse : {X : Type 0} (P : X → Type 0) (xs : List X) → AllByRecursion P xs → AllByRecursion P (reverse xs)
-all_reverse P [] h = tt
-all_reverse P (x ∷ xs) h = subst (AllByRecursion P) (sym (reverse-append (x ∷ []) xs)) (all_append P (reverse xs) (x ∷ []) (all_reverse P xs h.1) (h.0, tt))
+use Rattle.slate_types.proofs.Lists.{AllByRecursion_append, AllByRecursion_filter, AllByRecursion_reverse}
 
 pub all_versions : (P : RowEntry → Type 0) (k : List ℕ) (rows : Rows) → AllByRecursion P rows → AllByRecursion P (versions k rows)
-all_versions P k rows h = all_reverse P (of_key k rows) (all_filter P (λ r. bytes_eq r.key k) rows h)
+all_versions P k rows h = AllByRecursion_reverse P (of_key k rows) (AllByRecursion_filter P (λ r. bytes_eq r.key k) rows h)
 
 pub all_versions_in : (P : RowEntry → Type 0) (k : List ℕ) (layers : List Rows) → AllByRecursion (λ rows. AllByRecursion P rows) layers → AllByRecursion P (versions_in k layers)
 all_versions_in P k [] h = tt
-all_versions_in P k (rows ∷ layers) h = all_append P (versions k rows) (versions_in k layers) (all_versions P k rows h.0) (all_versions_in P k layers h.1)
+all_versions_in P k (rows ∷ layers) h = AllByRecursion_append P (versions k rows) (versions_in k layers) (all_versions P k rows h.0) (all_versions_in P k layers h.1)
 
 pub short_versions : (k : List ℕ) (layers : List Rows) → AllByRecursion AreShort layers → AreShort (versions_in k layers)
 short_versions k layers h = all_versions_in (λ r. IsShort (operand r)) k layers h

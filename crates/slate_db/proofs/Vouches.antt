@@ -18,7 +18,7 @@ use Rattle.slate_txn.specs.Reads.{seen}
 use Rattle.slate_txn.specs.Reply.{Reply, Flushed}
 use Rattle.slate_txn.specs.State.{Rules, Commit, State, Tx, begun}
 use Rattle.slate_txn.specs.Step.{step, with_op}
-use Rattle.slate_txn.proofs.ReadLaws.{alone-more, alone-same, same-commits}
+use Rattle.slate_txn.proofs.ReadLaws.{alone_more, alone_same, same_commits}
 use Rattle.slate_db.specs.Committed.{IsCommitted, IsNextOf}
 use Rattle.slate_db.specs.Meaning.{Meaning, rules_of}
 use Rattle.slate_db.specs.Model.{CoreModel, Rows}
@@ -26,9 +26,9 @@ use Rattle.slate_db.specs.Operated.{operated}
 use Rattle.slate_db.specs.Vouched.{IsVouchedFor}
 use Rattle.slate_db.specs.Whole.{IsWhole, Unseen}
 use Rattle.slate_db.specs.Written.{after_write}
-use Rattle.slate_db.proofs.Lists.{all_map}
 use Rattle.slate_db.proofs.Seen.{found_all}
 use Rattle.slate_db.proofs.Wholes.{after_begin, after_end}
+use Rattle.slate_types.proofs.Lists.{AllByRecursion_weaken}
 
 -- ---- values under names
 
@@ -99,14 +99,14 @@ found_without P id k (p ∷ ps) apart h y e = by (bytes_eq p.0 id) refl e (found
 
 -- commits above its begin
 commits_vouched : (r : Rules) (cs later : List Commit) (t : Tx) → AllByRecursion (λ c. t.begin < c.seq) later → IsVouched r cs t → IsVouched r (cs ++ later) t
-commits_vouched r cs later t above h = alone-same r cs (cs ++ later) t.begin [] [] t.transcript (sym (same-commits t.begin cs later above)) h
+commits_vouched r cs later t above h = alone_same r cs (cs ++ later) t.begin [] [] t.transcript (sym (same_commits t.begin cs later above)) h
 
 pub own_vouched : (k : List ℕ) (op : WriteOp) (r : Rules) (cs : List Commit) (t : Tx) → IsVouched r cs t → IsVouched r cs (with_op k op t)
-own_vouched k op r cs t h = alone-more r cs t.begin [] [] t.transcript (steps.Own k op ∷ []) h tt
+own_vouched k op r cs t h = alone_more r cs t.begin [] [] t.transcript (steps.Own k op ∷ []) h tt
 
 pub get_vouched : (r : Rules) (cs : List Commit) (k : List ℕ) (a : Option KeyValue) (t : Tx) → t.ops ≡ own_of t.transcript → a ≡ option_map key_value (seen r cs t.begin t.ops k) → IsVouched r cs t →
     IsVouched r cs (record t { transcript = t.transcript ++ (steps.Get k a ∷ []) })
-get_vouched r cs k a t own is h = alone-more r cs t.begin [] [] t.transcript (steps.Get k a ∷ []) h (subst (λ (os : Ops). a ≡ option_map key_value (seen r cs t.begin os k)) own is, tt)
+get_vouched r cs k a t own is h = alone_more r cs t.begin [] [] t.transcript (steps.Get k a ∷ []) h (subst (λ (os : Ops). a ≡ option_map key_value (seen r cs t.begin os k)) own is, tt)
 
 -- ---- a core
 
@@ -145,7 +145,7 @@ abbrev pub AreBelow : ℕ → CoreModel → Type 0
 AreBelow n c = AllByRecursion (λ p. p.1.begin < n) c.state.txns
 
 pub below_next : (c : CoreModel) (x : Unseen) → IsWhole c x → AreBelow (x.last + 1) c
-below_next c x w = all_map _ _ (λ p h. let k : p.1.begin ≤ x.last = h.1 in omega arith) c.state.txns w.tied.begins
+below_next c x w = AllByRecursion_weaken _ _ (λ p h. let k : p.1.begin ≤ x.last = h.1 in omega arith) c.state.txns w.tied.begins
 
 pub vouched_write : (m : Meaning) (c : CoreModel) (k : List ℕ) (n : ℕ) (now : ℤ) (ops : Ops) (rows : Rows) (spare : ℕ) → AreBelow n c → IsVouchedFor m c k → IsVouchedFor m (after_write c n now ops rows spare) k
 vouched_write m c k n now ops rows spare below h t e =

@@ -39,7 +39,7 @@ use Rattle.slate_db.proofs.ApartIds.{named_is, none_named, without_none}
 use Rattle.slate_db.proofs.Journals.{apply_more}
 use Rattle.slate_db.proofs.Keeps.{kept_event, kept_rows}
 use Rattle.slate_db.proofs.Operands.{own_without}
-use Rattle.slate_db.proofs.Lists.{all_more, all_map, all_both, all_front, all_behind, none_behind}
+use Rattle.slate_db.proofs.Lists.{all_both, none_behind}
 use Rattle.slate_db.proofs.Logs.{tables_more, tables_same}
 use Rattle.slate_db.proofs.Managing.{managed_begun, managed_changed}
 use Rattle.slate_db.proofs.MemoryLayers.{versions_frozen}
@@ -49,7 +49,8 @@ use Rattle.slate_db.proofs.Split.{all_up_to}
 use Rattle.slate_txn.proofs.BarrierLaws.{start_begins, start_shows, start_within}
 use Rattle.slate_txn.proofs.IdLaws.{all_past, count_not_named, fresh_named, fresh_snapshot, not_both, snapshot_not_named, wider, wider_snapshot}
 use Rattle.slate_txn.proofs.NamedLaws.{all_without, without_map, open_map, update_map, update_all}
-use Rattle.slate_txn.proofs.StepLaws.{own-append}
+use Rattle.slate_txn.proofs.StepLaws.{own_append}
+use Rattle.slate_types.proofs.Lists.{AllByRecursion_front, AllByRecursion_push, AllByRecursion_behind, AllByRecursion_weaken}
 
 -- what is open in a core is what is open in its journal
 pub ends_are : (c : CoreModel) (x : Unseen) → IsWhole c x → x.ends ≡ ends_of c.state
@@ -66,7 +67,7 @@ pub named_in_journal : (c : CoreModel) (x : Unseen) (id : List ℕ) → IsWhole 
 named_in_journal c x id w h = subst (λ (ts : List (List ℕ × Tx)). IsSome (find_named id ts)) (sym w.tied.txns) (open_map as_begun (λ p. refl) id c.state.txns h)
 
 pub within_newest : (floor n : ℕ) (ps : List (List ℕ × Tx)) → AllByRecursion (λ p. BeginsWithin floor n p) ps → AllByRecursion (λ p. p.1.begin ≤ n) ps
-within_newest floor n ps h = all_map _ _ (λ p w. w.1) ps h
+within_newest floor n ps h = AllByRecursion_weaken _ _ (λ p w. w.1) ps h
 
 -- of nothing
 pub whole_first : (c : CoreModel) (x : Unseen) → IsLog (log_of c x) → AreLayers (layers_of c x) → c.events ≡ [] → c.state.commits ≡ [] → c.state.txns ≡ [] → c.state.snapshots ≡ [] → x.runs ≡ [] → c.active ≡ [] → c.frozen ≡ [] → c.floor ≡ 0 → IsManaged x.manager x.ids x.last [] [] →
@@ -114,11 +115,11 @@ whole_begin c x level spare n managed stands log w = record {
     txns = ap (λ s. s.txns) more ∙ ap (λ ts. ts ++ ((id, begun level x.last) ∷ [])) w.tied.txns ∙ sym (map-append as_begun c.state.txns ((id, begun level x.last) ∷ []));
     snapshots = ap (λ s. s.snapshots) more ∙ w.tied.snapshots;
     shown = w.tied.shown;
-    named = all_more _ _ _ (all_map _ _ (λ p. wider x.ids (x.ids + 1) (omega arith) p.0) _ w.tied.named) (record { count = x.ids + 1; within = omega arith; is = refl });
+    named = AllByRecursion_push _ _ _ (AllByRecursion_weaken _ _ (λ p. wider x.ids (x.ids + 1) (omega arith) p.0) _ w.tied.named) (record { count = x.ids + 1; within = omega arith; is = refl });
     floor_within = w.tied.floor_within;
-    begins = all_more _ _ _ w.tied.begins (w.tied.floor_within, omega arith);
+    begins = AllByRecursion_push _ _ _ w.tied.begins (w.tied.floor_within, omega arith);
     shows = w.tied.shows;
-    own = all_more (λ (p : List ℕ × Tx). p.1.ops ≡ own_of p.1.transcript) c.state.txns (id, begun level x.last) w.tied.own refl;
+    own = AllByRecursion_push (λ (p : List ℕ × Tx). p.1.ops ≡ own_of p.1.transcript) c.state.txns (id, begun level x.last) w.tied.own refl;
     all_installed = λ active frozen. rw (ap (λ s. s.flushed) more) (w.tied.all_installed active frozen);
     runs = subst (λ (ts : List (Ulid × List ℕ)). AreRunsOf ts x.runs) (sym (tables_same c.events e refl)) w.tied.runs;
     quiet = λ idle. quiet_more c.events e refl refl (w.tied.quiet idle);
@@ -160,7 +161,7 @@ pub kept_begin : (m : Meaning) (c : CoreModel) (level : IsolationLevel) (n : ℕ
 kept_begin m c level n id spare = kept_event m c _ _ spare refl
     (ap (λ s. s.flushed) (apply_more opening c.events (events.Begin id level n)))
     (tables_same c.events (events.Begin id level n) refl)
-    (λ none own. all_more _ c.state.txns (id, begun level n) own refl)
+    (λ none own. AllByRecursion_push _ c.state.txns (id, begun level n) own refl)
 
 -- ---- a snapshot
 
@@ -185,12 +186,12 @@ whole_snapshot c x spare n shown log w = record {
     shown = record {
       counted = ap (λ (m : Snapshots). m.ids) shown ∙ ap (λ i. i + 1) w.tied.shown.counted;
       opened = ap (λ (m : Snapshots). m.active) shown ∙ ap (λ ps. ps ++ ((id, x.last) ∷ [])) w.tied.shown.opened;
-      named = all_more _ _ _ (all_map _ _ (λ p. wider_snapshot x.snapshot_ids (x.snapshot_ids + 1) (omega arith) p.0) _ w.tied.shown.named) (record { count = x.snapshot_ids + 1; within = omega arith; is = refl });
+      named = AllByRecursion_push _ _ _ (AllByRecursion_weaken _ _ (λ p. wider_snapshot x.snapshot_ids (x.snapshot_ids + 1) (omega arith) p.0) _ w.tied.shown.named) (record { count = x.snapshot_ids + 1; within = omega arith; is = refl });
     };
     named = w.tied.named;
     floor_within = w.tied.floor_within;
     begins = w.tied.begins;
-    shows = all_more _ _ _ w.tied.shows (w.tied.floor_within, omega arith);
+    shows = AllByRecursion_push _ _ _ w.tied.shows (w.tied.floor_within, omega arith);
     own = w.tied.own;
     all_installed = λ active frozen. rw (ap (λ s. s.flushed) more) (w.tied.all_installed active frozen);
     runs = subst (λ (ts : List (Ulid × List ℕ)). AreRunsOf ts x.runs) (sym (tables_same c.events e refl)) w.tied.runs;
@@ -347,10 +348,10 @@ abbrev pub KeepsOwn : (Tx → Tx) → Type 0
 KeepsOwn f = (t : Tx) → t.ops ≡ own_of t.transcript → (f t).ops ≡ own_of (f t).transcript
 
 pub own_operated : (k : List ℕ) (op : WriteOp) → KeepsOwn (with_op k op)
-own_operated k op t h = ap (λ (os : Ops). os ++ ((k, op) ∷ [])) h ∙ sym (own-append t.transcript (steps.Own k op ∷ []))
+own_operated k op t h = ap (λ (os : Ops). os ++ ((k, op) ∷ [])) h ∙ sym (own_append t.transcript (steps.Own k op ∷ []))
 
 own_noted : (ts : List TranscriptStep) → own_of ts ≡ [] → KeepsOwn (λ t. record t { transcript = t.transcript ++ ts })
-own_noted ts none t h = h ∙ sym (append-nil (own_of t.transcript)) ∙ ap (λ (os : Ops). own_of t.transcript ++ os) (sym none) ∙ sym (own-append t.transcript ts)
+own_noted ts none t h = h ∙ sym (append-nil (own_of t.transcript)) ∙ ap (λ (os : Ops). own_of t.transcript ++ os) (sym none) ∙ sym (own_append t.transcript ts)
 
 pub whole_changed : (c : CoreModel) (x : Unseen) (id : List ℕ) (f : Tx → Tx) → ((t : Tx) → begun (f t).level (f t).begin ≡ begun t.level t.begin) → KeepsOwn f → IsWhole c x → IsWhole (operated c id f) x
 whole_changed c x id f same own w = record {
@@ -405,7 +406,7 @@ whole_freeze c x spare freeze log layers w = record {
     runs = subst (λ (ts : List (Ulid × List ℕ)). AreRunsOf ts x.runs) (sym (tables_same c.events events.Freeze refl)) w.tied.runs;
     quiet = λ idle. quiet_frozen c.events;
     manager = w.tied.manager;
-    rows_within = all_more _ (memory c) [] w.tied.rows_within tt;
+    rows_within = AllByRecursion_push _ (memory c) [] w.tied.rows_within tt;
   };
 }
   where
@@ -435,14 +436,14 @@ whole_write c x now ops rows spare some within n managed log layers w = record {
     shown = w.tied.shown;
     named = w.tied.named;
     floor_within = let h : c.floor ≤ x.last = w.tied.floor_within in omega arith;
-    begins = all_map _ _ (λ p h. (h.0, let k : p.1.begin ≤ x.last = h.1 in omega arith)) _ w.tied.begins;
-    shows = all_map _ _ (λ p h. (h.0, let k : p.1 ≤ x.last = h.1 in omega arith)) _ w.tied.shows;
+    begins = AllByRecursion_weaken _ _ (λ p h. (h.0, let k : p.1.begin ≤ x.last = h.1 in omega arith)) _ w.tied.begins;
+    shows = AllByRecursion_weaken _ _ (λ p h. (h.0, let k : p.1 ≤ x.last = h.1 in omega arith)) _ w.tied.shows;
     own = w.tied.own;
     all_installed = λ active frozen. absurd (some active);
     runs = subst (λ (ts : List (Ulid × List ℕ)). AreRunsOf ts x.runs) (sym (tables_same c.events e refl)) w.tied.runs;
     quiet = λ idle. absurd (some idle);
     manager = managed;
-    rows_within = all_more _ c.frozen rows (all_map _ _ (λ layer h. all_map _ _ higher layer h) c.frozen (all_front _ c.frozen (c.active ∷ []) w.tied.rows_within)) within;
+    rows_within = AllByRecursion_push _ c.frozen rows (AllByRecursion_weaken _ _ (λ layer h. AllByRecursion_weaken _ _ higher layer h) c.frozen (AllByRecursion_front _ c.frozen (c.active ∷ []) w.tied.rows_within)) within;
   };
 }
   where
@@ -479,7 +480,7 @@ whole_install c x ts runs spare freeze kept log layers w = record {
     runs = subst (λ (us : List (Ulid × List ℕ)). AreRunsOf us (x.runs ++ runs)) (sym (tables_more c.events e)) (runs_both (tables_of c.events) ts x.runs runs w.tied.runs kept);
     quiet = λ idle. quiet_more c.events e refl refl (w.tied.quiet idle);
     manager = w.tied.manager;
-    rows_within = all_behind _ c.frozen (c.active ∷ []) w.tied.rows_within;
+    rows_within = AllByRecursion_behind _ c.frozen (c.active ∷ []) w.tied.rows_within;
   };
 }
   where

@@ -25,14 +25,11 @@ use Rattle.slate_db.specs.Log.{LIMIT, AreFine}
 use Rattle.slate_db.specs.Whole.{IsWhole, Unseen}
 use Rattle.slate_db.specs.Written.{after_write}
 use Rattle.slate_db.proofs.Journals.{apply_more, used_more, legal_more}
-use Rattle.slate_db.proofs.Lists.{all_more, all_map, all_front}
 use Rattle.slate_db.proofs.Operands.{operable_commit}
 use Rattle.slate_db.proofs.Split.{rising_more, last_more, up_to_more}
 use Rattle.slate_db.proofs.Logs.{tables_same}
-
-cons_list : {X : Type 0} (o : Option X) → cons_option o [] ≡ option_to_list o
-cons_list None = refl
-cons_list (Some x) = refl
+use Rattle.slate_types.proofs.Lists.{AllByRecursion_front, AllByRecursion_push, AllByRecursion_weaken}
+use Rattle.slate_db.proofs.CommitWholes.{cons_list}
 
 pub kept_write : (m : Meaning) (c : CoreModel) (u : Unseen) (now : ℤ) (ops : Ops) (rows : Rows) (spare : ℕ) →
     ((k : List ℕ) → versions k rows ≡ versions k c.active ++ option_to_list (row_of (combine_of m k) c.settings.default_millis (u.last + 1) now ops k)) →

@@ -10,7 +10,9 @@
 --     merged_rows order w sources      the rows of all sources merged, in a world
 --     folded_rows m order w sources      what they fold to, by what the parts mean
 --     IsBlamedFor sources m reads at e      by the reads a source refuses for it, and not for want of an `init`
-use Rattle.std.specs.Prelude.{◌≡◌, ◌≢◌, ℕ, true, List, [], ◌∷◌, ◌++◌, map, reverse, Option, Some, None}
+--     SourcesBring sources m reads r      by the reads a source may hand out the row
+--     FoldsRefuse sources m reads at e      such a row is an operand, and there is no operator, or rises above one; or a source refuses for it
+use Rattle.std.specs.Prelude.{◌≡◌, ◌≢◌, ◌⊎◌, ℕ, true, List, [], ◌∷◌, ◌++◌, map, reverse, Option, Some, None}
 use Rattle.slate_types.specs.declared.bytes_range.BytesRange.{BytesRange}
 use Rattle.slate_types.specs.declared.error.SlateDBError.{SlateDBError}
 use Rattle.slate_types.specs.declared.error.SlateDBError.TheVariants.{IteratorNotInitialized}
@@ -27,9 +29,11 @@ use Rattle.slate_read.specs.declared.read_source.ReadSource.{ReadSource}
 use Rattle.slate_read.specs.declared.read_source.ReadSource.TheVariants.{Run, Batch, Memory}
 use Rattle.slate_read.specs.declared.sorted_run.SortedRun.{SortedRun}
 use Rattle.slate_read.specs.Folding.{folded}
+use Rattle.slate_read.specs.Folds.{RefusesBrought}
 use Rattle.slate_read.specs.Merge.{merged}
-use Rattle.slate_read.specs.Merging.{CanMerge, blames, waiting_sources}
+use Rattle.slate_read.specs.Merging.{AnyByRecursion, CanMerge, blames, waiting_sources}
 use Rattle.slate_read.specs.RunIterators.{IsRunIterator}
+use Rattle.slate_read.specs.SourceBringing as bringing
 use Rattle.slate_db.specs.Model.{Rows}
 use Rattle.slate_db.specs.ScanFilters.{RunsAreLeft}
 use Rattle.slate_db.specs.Scanned.{Brings, HasOwn}
@@ -91,3 +95,9 @@ folded_rows m order w sources = folded (operator_at m.combine) true None (merged
 
 abbrev pub IsBlamedFor : List ScanSource → Meaning → List Act → Option (List ℕ) → SlateDBError → Type 0
 IsBlamedFor sources m reads at e = (e ≢ IteratorNotInitialized) × blames source_refuses (waiting_sources sources) m reads at e
+
+abbrev pub SourcesBring : List ScanSource → Meaning → List Act → RowEntry → Type 0
+SourcesBring sources m reads r = AnyByRecursion (λ s. bringing.brings_source s.iterator m reads r) sources
+
+abbrev pub FoldsRefuse : List ScanSource → Meaning → List Act → Option (List ℕ) → SlateDBError → Type 0
+FoldsRefuse sources m reads at e = RefusesBrought (SourcesBring sources m reads) m at e ⊎ IsBlamedFor sources m reads at e

@@ -2,7 +2,7 @@
 --     AreFiltered encode policies ts      the tables have the filters of these policies
 --     IsReadable policies m os c      parts and policies are lawful, for them what is kept of the rows holds, and these objects hold the tables that the journal names, with their filters
 --     IsAnswered policies before after c      objects of which this is true answered each read of the call
---     IsOwnOperand c row      an open transaction has this operand among its own operations
+--     IsOwnRow c row      the row of an operation that an open transaction has among its own
 --     LacksOperator by m c hs reads e      there is no operator, and an operand was found, among own operations, in memory or by the reads
 --     IsRefusedBy by m c reads e      the reads show so of the tables that the journal names
 --     IsReadError by before after c e      a fault that came in the call, or want of memory, or such a refusal by its reads
@@ -51,7 +51,7 @@ pub record IsAnswered (policies : List Policy) (before after : Reach) (c : CoreM
   pub readable : IsReadable policies before.meaning os c
   pub answers : AnswersFrom os before after
 
-pub record IsOwnOperand (c : CoreModel) (row : RowEntry) : Type 0 where
+pub record IsOwnRow (c : CoreModel) (row : RowEntry) : Type 0 where
   pub id : List ℕ
   pub tx : Tx
   pub open_there : find_named id c.state.txns ≡ Some tx
@@ -65,7 +65,7 @@ pub record LacksOperator (by : Asking) (m : Meaning) (c : CoreModel) (hs : List 
   pub none : m.combine ≡ None
   pub row : RowEntry
   pub operand : is_operand row ≡ true
-  pub found : IsOwnOperand c row ⊎ Contains (newest_first (memory c)) row ⊎ BringsRow m.decode by hs reads row
+  pub found : IsOwnRow c row ⊎ Contains (newest_first (memory c)) row ⊎ BringsRow m.decode by hs reads row
 
 -- handles: what is kept of the tables that the journal names
 pub record IsRefusedBy (by : Asking) (m : Meaning) (c : CoreModel) (reads : List Act) (e : SlateDBError) : Type 0 where

@@ -1,6 +1,9 @@
 -- Scans: what is left of one, what it may refuse for, and how a core opens it.
 --     ScanSource      a source of a scan: rows of which those above the transaction's begin are passed over
---     source_rows, IsSoundSource, order_of, source_refuses      what it is as an iterator
+--     source_rows, IsSoundSource, order_of, source_refuses, source_begins, source_takes, source_seeks      what it is as an iterator
+--     merge_rows, IsSoundMerged, order_of_merge, merge_refuses, merge_begins, merge_takes, merge_seeks      of the sources merged
+--     merge_brings rows m reads r      the rows that calls of the merge may hand out by the reads
+--     fold_brings rows m reads r      these, and the row that was read ahead
 --     left_of it w      the rows that are left, tombstones among them
 --     brought_in state w      the rows that the sources still bring, whose operands aren't folded yet
 --     IsOperableIn state w      without an operator none of these is an operand; and none rises above the operand before it
@@ -20,8 +23,12 @@
 --     HasLeft m c it rows      of the list that the scan's opening fixed these rows are left, by the transcript
 --     ShowsAmong decode hs reads e      of some tables one shows the error, by reads among these
 --     IsShownByFilters policies query m c reads e      the reads show it of the filters of a table that the journal names, which were asked this
---     IsShownByScan m c reads e, IsRefusedByScan m c reads e      the reads show it of the tables that the journal names; or there is no
---                                                                 operator; or there is one, and it names two sequences that rise
+--     IsReadAmong m hs reads r      of some tables one has the row, by reads among these
+--     IsScanned m c hs reads r      so it is, or the row stands in memory, or is of an open transaction's own
+--     IsShownByScan m c reads e, IsRefusedByScan m c reads at e      the reads show it of the tables that the journal names; or, but for a seek,
+--                                                                 such a row is an operand, and there is no operator; or there is one,
+--                                                                 and such a row has a greater sequence than an operand of its key:
+--                                                                 it names the two
 --     IsRefusedInScan policies m c reads e      so it is, or the reads of its opening show it of the filters that were asked
 --     IsOpeningError policies query before after c e, IsScanError policies before after c e      a fault that came in the call, or want of memory, or such a refusal by its reads: an opening meets no operand
 use Rattle.std.specs.Prelude.{◌≡◌, ◌≢◌, ◌⊎◌, ℕ, ◌<◌, true, List, [], filter, count_by, Contains, Option, Some, None, Result, Err, IsSome, slice_get}
@@ -38,18 +45,23 @@ use Rattle.slate_types.specs.Refusing.{IsDamage}
 use Rattle.slate_types.specs.Rows.{is_base}
 use Rattle.slate_types.specs.World.{World, HoldsWorld, Made}
 use Rattle.slate_filter.specs.Policy.{Policy}
+use Rattle.slate_mem.specs.Lookup.{newest_first}
 use Rattle.slate_read.specs.declared.filter_iterator.FilterIterator.{FilterIterator}
 use Rattle.slate_read.specs.declared.filter_iterator.MaxSeq.{MaxSeq}
 use Rattle.slate_read.specs.declared.read_source.ReadSource.{ReadSource}
 use Rattle.slate_read.specs.declared.merge_iterator.MergeIterator.{MergeIterator}
 use Rattle.slate_read.specs.declared.operator_iterator.MergeOperatorIterator.{MergeOperatorIterator}
-use Rattle.slate_read.specs.Filtering.{upto_seq}
+use Rattle.slate_read.specs.Bringing.{BringsUnread}
+use Rattle.slate_read.specs.Calls.{BringsByCalls}
+use Rattle.slate_read.specs.Filtering.{TakesKept, upto_seq}
 use Rattle.slate_read.specs.Folding.{NoneRises}
-use Rattle.slate_read.specs.Folds.{IsRise, RefusesFold}
+use Rattle.slate_read.specs.Folds.{IsRise, RefusesBrought, brings_taken}
+use Rattle.slate_read.specs.MergeBringing.{MergeBegins, MergeSeeks, MergeTakes}
 use Rattle.slate_read.specs.MergeStates.{IsSoundMerge, refuses_in, rest_of_merge}
 use Rattle.slate_read.specs.OperatorIterators.{IsGoing, RefusesBy, rest_folding, sound_folding}
 use Rattle.slate_read.specs.Peeking.{with_ahead}
 use Rattle.slate_read.specs.ReadSources as read
+use Rattle.slate_read.specs.SourceBringing as bringing
 use Rattle.slate_read.specs.Showing.{ShowsByReads}
 use Rattle.slate_table.specs.declared.info.SsTableHandle.{SsTableHandle}
 use Rattle.slate_table.specs.Parts.{Encode}
@@ -63,7 +75,8 @@ use Rattle.slate_db.specs.declared.scan.TxnIterator.{TxnIterator}
 use Rattle.slate_db.specs.declared.scan.ScanState.TheVariants.{Walking, Done, Refused}
 use Rattle.slate_db.specs.Installs.{AreHandles, tables_of}
 use Rattle.slate_db.specs.Meaning.{rules_of}
-use Rattle.slate_db.specs.Model.{CoreModel}
+use Rattle.slate_db.specs.Model.{CoreModel, memory}
+use Rattle.slate_db.specs.Readable.{IsOwnRow}
 use Rattle.slate_db.specs.ScanFilters.{ShowsFilters}
 pub use Rattle.slate_db.specs.Values.{has_value}
 
@@ -96,6 +109,16 @@ order_of s = read.order_of s.iterator
 abbrev pub source_refuses : ScanSource → Meaning → List Act → Option (List ℕ) → SlateDBError → Type 0
 source_refuses s m reads at e = read.source_refuses s.iterator m reads at e
 
+-- what its calls may read and answer, and what becomes of it then
+abbrev pub source_begins : ScanSource → Meaning → List Act → ScanSource → Type 0
+source_begins before m reads after = bringing.source_begins before.iterator m reads after.iterator × (after.predicate ≡ before.predicate)
+
+abbrev pub source_takes : ScanSource → Meaning → List Act → Option RowEntry → ScanSource → Type 0
+source_takes before m reads answer after = TakesKept (λ x rs a y. bringing.source_takes x m rs a y) (upto_seq before.predicate.max_seq) before.iterator reads answer after.iterator × (after.predicate ≡ before.predicate)
+
+abbrev pub source_seeks : ScanSource → Meaning → List Act → List ℕ → ScanSource → Type 0
+source_seeks before m reads key after = bringing.source_seeks before.iterator m reads key after.iterator × (after.predicate ≡ before.predicate)
+
 -- ---- their rows merged
 
 abbrev pub MergedSources : Type 0
@@ -112,6 +135,19 @@ order_of_merge rows = rows.order
 
 abbrev pub merge_refuses : MergedSources → Meaning → List Act → Option (List ℕ) → SlateDBError → Type 0
 merge_refuses rows m reads at e = refuses_in source_refuses rows.state m reads at e
+
+abbrev pub merge_begins : MergedSources → Meaning → List Act → MergedSources → Type 0
+merge_begins before m reads after = MergeBegins source_begins source_takes source_seeks before m reads after
+
+abbrev pub merge_takes : MergedSources → Meaning → List Act → Option RowEntry → MergedSources → Type 0
+merge_takes before m reads answer after = MergeTakes source_begins source_takes source_seeks before m reads answer after
+
+abbrev pub merge_seeks : MergedSources → Meaning → List Act → List ℕ → MergedSources → Type 0
+merge_seeks before m reads key after = MergeSeeks source_begins source_takes source_seeks before m reads key after
+
+-- the rows that calls of the merge may hand out
+abbrev pub merge_brings : MergedSources → Meaning → List Act → RowEntry → Type 0
+merge_brings rows m reads r = BringsByCalls merge_begins merge_takes merge_seeks rows m reads r
 
 -- ---- and folded
 
@@ -148,9 +184,13 @@ abbrev pub SourcesRefuse : BytesRange → ScanState → Meaning → List Act →
 SourcesRefuse range (Walking rows) m reads at e = IsReached range at × merge_refuses rows.iterator m reads at e
 SourcesRefuse range _ m reads at e = ⊥
 
+-- the row that was read ahead, and those that calls of the merge may hand out
+abbrev pub fold_brings : MergeOperatorIterator MergedSources → Meaning → List Act → RowEntry → Type 0
+fold_brings rows m reads r = brings_taken merge_brings (rows.iterator, rows.ahead, []) m reads r
+
 -- an operand without an operator, and a row that rises above one: no seek meets them
 abbrev pub RefusesIn : BytesRange → ScanState → Meaning → List Act → Option (List ℕ) → SlateDBError → Type 0
-RefusesIn range (Walking rows) m reads at e = RefusesBy rows.refusal rows.begun (λ d. RefusesFold m at d ⊎ (IsReached range at × merge_refuses rows.iterator m reads at d)) e
+RefusesIn range (Walking rows) m reads at e = RefusesBy rows.refusal rows.begun (λ d. RefusesBrought (fold_brings rows m reads) m at d ⊎ (IsReached range at × merge_refuses rows.iterator m reads at d)) e
 RefusesIn range Done m reads at e = ⊥
 RefusesIn range (Refused kept) m reads at e = (kept ≢ OutOfMemory) × (e ≡ kept)
 
@@ -223,10 +263,18 @@ pub record IsShownByScan (m : Meaning) (c : CoreModel) (reads : List Act) (e : S
   pub are : AreHandles (tables_of c.events) handles
   pub shown : ShowsAmong m.decode handles reads e
 
-pub record IsRefusedByScan (m : Meaning) (c : CoreModel) (reads : List Act) (e : SlateDBError) : Type 0 where
+-- of some tables one has the row: its index was read, and a read of neighbouring blocks shows one that has it
+abbrev pub IsReadAmong : Meaning → List SsTableHandle → List Act → RowEntry → Type 0
+IsReadAmong m hs reads r = (table : SsTableHandle) × Contains hs table × ((order : IterationOrder) × BringsUnread m table order reads r)
+
+abbrev pub IsScanned : Meaning → CoreModel → List SsTableHandle → List Act → RowEntry → Type 0
+IsScanned m c hs reads r = IsOwnRow c r ⊎ Contains (newest_first (memory c)) r ⊎ IsReadAmong m hs reads r
+
+-- at: the key of a seek, none in the other calls
+pub record IsRefusedByScan (m : Meaning) (c : CoreModel) (reads : List Act) (at : Option (List ℕ)) (e : SlateDBError) : Type 0 where
   pub handles : List SsTableHandle
   pub are : AreHandles (tables_of c.events) handles
-  pub refused : RefusesFold m None e ⊎ ShowsAmong m.decode handles reads e
+  pub refused : RefusesBrought (IsScanned m c handles reads) m at e ⊎ ShowsAmong m.decode handles reads e
 
 pub record IsShownByFilters (policies : List Policy) (query : Option FilterQuery) (m : Meaning) (c : CoreModel) (reads : List Act) (e : SlateDBError) : Type 0 where
   pub handles : List SsTableHandle
@@ -239,7 +287,7 @@ IsOpeningError policies query before after c e = IsFault before after e ⊎ Made
 
 -- policies: those that the opening asked
 abbrev pub IsRefusedInScan : List Policy → Meaning → CoreModel → List Act → SlateDBError → Type 0
-IsRefusedInScan policies m c reads e = IsRefusedByScan m c reads e ⊎ ((query : Option FilterQuery) × IsShownByFilters policies query m c reads e)
+IsRefusedInScan policies m c reads e = ((at : Option (List ℕ)) × IsRefusedByScan m c reads at e) ⊎ ((query : Option FilterQuery) × IsShownByFilters policies query m c reads e)
 
 abbrev pub IsScanError : List Policy → Reach → Reach → CoreModel → SlateDBError → Type 0
 IsScanError policies before after c e = IsFault before after e ⊎ Made before after (λ reads. IsRefusedInScan policies before.meaning c reads e)

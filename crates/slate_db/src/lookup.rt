@@ -1,5 +1,5 @@
 //! The rows of a key in stored tables, newest first, to the first that decides.
-ghost use Rattle.std.specs.Prelude.{◌≡◌, ◌⊎◌, ◌≤◌, ◌<◌, ◌++◌, ◌∷◌, [], ℕ, List, length, map, flat_map, true, false, Ok, Some, Contains, IfOk, IfErr, OnOk, IsOkUnless};
+ghost use Rattle.std.specs.Prelude.{◌≡◌, ◌⊎◌, ◌≤◌, ◌<◌, ◌++◌, ◌∷◌, [], ℕ, List, length, map, flat_map, true, false, Ok, Some, Contains, IfOk, IfErr, IsOkUnless};
 ghost use Rattle.std.specs.List.{AllByRecursion};
 ghost use Rattle.slate_types.specs.declared.error.SlateDBError.{SlateDBError};
 ghost use Rattle.slate_types.specs.declared.filter_policy.PrefixTarget.{PrefixTarget};
@@ -206,6 +206,10 @@ fn newest_of_enclosing<S: Store, M: MergeOperator, T: BlockTransformer>(
 {
     let index = TableStore::read_index(alloc, env.store, ROOT, table, &mut env.transformer)?;
     let covered = covering(&index, key);
+    if covered.start >= covered.end {
+        drop(index);
+        return Ok(Vec::new(alloc));
+    }
     let blocks = TableStore::read_blocks(
         alloc,
         env.store,

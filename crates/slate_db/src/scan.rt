@@ -115,8 +115,9 @@ pub struct DbIterator<'a> {
 impl DbIterator<'_> {
     /// The next row, or `None` at the end. Refuses by `StoreFault`, `BlockTransformError` and `Callback`, each only where its
     /// count of faults rose, by damage, only where reads since the opening show it, by `MergeOperatorMissing`, only where there
-    /// is no operator, by `InvalidSequenceOrder`, only where there is one, with two sequences that rise, and by `OutOfMemory`.
-    /// What it was refused for it answers again, without a read.
+    /// is no operator and a row is an operand, by `InvalidSequenceOrder`, only where there is one and a row has a greater sequence
+    /// than an operand of its key, and by `OutOfMemory`. `Core::scan` says where these rows stand. What it was refused for it
+    /// answers again, without a read.
     pub fn next<S: Store, M: MergeOperator, T: BlockTransformer>(
         &mut self,
         env: &mut Env<'_, S, M, T>,
@@ -142,7 +143,8 @@ impl DbIterator<'_> {
         }
     }
 
-    /// Drops the leading rows that the order puts before the key. Refuses as `next` does, but asks no operator, and folds no rows.
+    /// Drops the leading rows that the order puts before the key. Refuses as `next` does, but asks no operator, and folds no rows, so
+    /// that `MergeOperatorMissing` and `InvalidSequenceOrder` come only where an earlier call was refused so.
     pub fn seek<S: Store, M: MergeOperator, T: BlockTransformer>(
         &mut self,
         key: &[u8],

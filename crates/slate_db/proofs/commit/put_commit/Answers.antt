@@ -5,7 +5,7 @@ use Rattle.slate_types.specs.Fold.{Combine, operator_at}
 use Rattle.slate_mem.specs.CommitRows.{commit_rows}
 use Rattle.slate_mem.specs.KeyTests.{prefixes}
 use Rattle.slate_mem.specs.Table.{put_rows}
-use Rattle.slate_mem.proofs.NestLaws.{set-of-rest}
+use Rattle.slate_mem.proofs.NestLaws.{set_of_rest}
 use Rattle.slate_types.specs.Keys.{keys_set}
 use Rattle.slate_txn.specs.State.{opening}
 use Rattle.slate_db.specs.Layers.{LayersModel, AreRising}
@@ -24,7 +24,7 @@ pub rows_of_batch-requires : goal.rows_of_batch-requires
 rows_of_batch-requires g c = tested_merges (option_map g.M.MergeOperator.combine c.args.operator.now) (segments_by g.X.PrefixExtractor.lengths c.args.extractor.now) c.args.segments.now c.args.default_millis _ c.args.batch.now.held_merge c.args.batch.now.ops c.in_ok-prefixes.ensures.tested
 
 pub returns-clause-recorded : goal.returns-clause-recorded
-returns-clause-recorded g c = c.in_ok-put_own.ensures.recorded ∙ ap (λ ps. keys_set (c.args.segments.now ++ ps)) c.in_ok-prefixes.ensures.prefixes ∙ set-of-rest c.args.segments.now (prefixes (segments_by g.X.PrefixExtractor.lengths c.args.extractor.now) c.args.batch.now.ops)
+returns-clause-recorded g c = c.in_ok-put_own.ensures.recorded ∙ ap (λ ps. keys_set (c.args.segments.now ++ ps)) c.in_ok-prefixes.ensures.prefixes ∙ set_of_rest c.args.segments.now (prefixes (segments_by g.X.PrefixExtractor.lengths c.args.extractor.now) c.args.batch.now.ops)
 
 pub put_own-requires : goal.put_own-requires
 unfolding core_of

@@ -8,9 +8,10 @@ use Rattle.slate_db.specs.Cut.{AreCut, AreOfSegment, AreOfSegments, begins_key, 
 use Rattle.slate_db.specs.Meaning.{segments_by}
 use Rattle.slate_db.specs.Model.{Rows}
 use Rattle.slate_db.proofs.Cuts.{IsNext, cut_all, ends_of_next, full_is, goes_of_next, more_size, next_ends, next_goes, segments_more, tables_from}
-use Rattle.slate_db.proofs.Lists.{all_more, none_behind}
+use Rattle.slate_db.proofs.Lists.{none_behind}
 use Rattle.slate_db.proofs.cut.cut_tables.Goals as goal
 use Rattle.slate_db.proofs.cut.cut_tables.Goals.{in-Some-2+in_ok-push, in_default}
+use Rattle.slate_types.proofs.Lists.{AllByRecursion_push}
 
 pub loop-row-preserved : goal.loop-row-preserved
 loop-row-preserved g c =
@@ -47,7 +48,7 @@ loop-row-preserved g c =
       cut = ap (λ (xs : Rows). map (λ t. t.rows.items) c.match-branch-3.tables.items ++ tables_from (segments_by g.X.PrefixExtractor.lengths c.args.extractor.now) c.args.table_bytes xs (into_iter_items c.next.new.self)) c.in_ok-push-2.ensures.items ∙ next.cut;
       sum = more_size c.match-branch-3.size c.saturating_add-size.result c.estimated_size.result c.match-branch-3.table.rows.items _ row next.sum c.estimated_size.ensures c.saturating_add-size.ensures c.in_ok-push-2.ensures.items;
       segments = next.segments;
-      segment = subst (AreOfSegment by c.match-branch-3.table.prefix) (sym c.in_ok-push-2.ensures.items) (all_more _ c.match-branch-3.table.rows.items row next.segment next.joins);
+      segment = subst (AreOfSegment by c.match-branch-3.table.prefix) (sym c.in_ok-push-2.ensures.items) (AllByRecursion_push _ c.match-branch-3.table.rows.items row next.segment next.joins);
       first = λ r more is empty. absurd (none_behind c.match-branch-3.table.rows.items row (sym c.in_ok-push-2.ensures.items ∙ empty));
     }
 

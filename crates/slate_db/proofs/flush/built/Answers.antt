@@ -1,7 +1,7 @@
 use Rattle.std.proofs.Common.{inl, ◌≡◌, ℕ, ◌<◌, ◌⊎◌, ◌++◌, [], length, map, Err, rules, ap, sym, subst, ◌∙◌, arith, refl}
 use Rattle.std.proofs.lemmas.List.{nil_from_length}
 use Rattle.std.specs.Vec.Iter.{into_iter_items}
-use Rattle.std.proofs.lemmas.Result.{err_from_is_err_and, IfOk-from_err}
+use Rattle.std.proofs.lemmas.Result.{err_from_is_err_and, IfOk-from_err, IfOk-weaker, IfErr-weaker}
 use Rattle.slate_filter.specs.Laws.{AreValidNames}
 use Rattle.slate_table.specs.Parts.{Encode}
 use Rattle.slate_table.specs.SectionReading.{changed_by, IsTransformFault}
@@ -14,7 +14,6 @@ use Rattle.slate_db.specs.Flushed.{layout_of, IsTooLarge}
 use Rattle.slate_db.specs.Meaning.{segments_by}
 use Rattle.slate_db.specs.Model.{Rows}
 use Rattle.slate_db.proofs.Built.{can_take, begun_encoded, one_more, row_fits, row_order, all_taken, add_refused, built_as, wider_fault}
-use Rattle.slate_db.proofs.Blocks.{if_ok, if_err}
 use Rattle.slate_db.proofs.flush.built.Goals as goal
 
 pub loop-row-init : goal.loop-row-init
@@ -94,16 +93,16 @@ returns g c =
           let none : into_iter_items c.loop-row.row-iterator ≡ [] = nil_from_length _ (omega (arith, c.in-None.ensures.steps.0)) in
           let rows = all_taken _ _ _ none was.rows in
           let encoded = subst (λ (encode : Encode). AreEncoded encode c.loop-row.builder) (sym same) was.encoded in
-          if_ok c.build.result _ _
+          IfOk-weaker c.build.result _ _
           (λ table h. built_as _ _ _ _ _ _ _ _ _ _ _ _ _ _ _ same rows was.min was.size was.version was.id (ap (map (λ p. (goal.FilterPolicy-dyn g (p.vtable, p.value)).meaning p.value)) c.as_slice.ensures.value) (h encoded))
           c.build.ensures.built);
-      version = if_ok c.build.result _ _ (λ table h. h ∙ c.loop-row.invariant.version) c.build.ensures.version;
-      id = if_ok c.build.result _ _ (λ table h. h ∙ c.loop-row.invariant.id) c.build.ensures.id;
-      info = (if_ok c.build.result _ _
+      version = IfOk-weaker c.build.result _ _ (λ table h. h ∙ c.loop-row.invariant.version) c.build.ensures.version;
+      id = IfOk-weaker c.build.result _ _ (λ table h. h ∙ c.loop-row.invariant.id) c.build.ensures.id;
+      info = (IfOk-weaker c.build.result _ _
           (λ table h. subst (λ (n : ℕ). HasInfo table.bytes (version_of c.args.laws.now.options.block_format) n (seen_info table.info)) c.loop-row.invariant.id
           (subst (λ (n : ℕ). HasInfo table.bytes n c.loop-row.builder.id (seen_info table.info)) c.loop-row.invariant.version h))
           c.build.ensures.info);
-      cause = if_err c.build.result _ _ (λ e h. inl (wider_fault _ _ _ e c.loop-row.invariant.later h)) c.build.ensures.cause;
+      cause = IfErr-weaker c.build.result _ _ (λ e h. inl (wider_fault _ _ _ e c.loop-row.invariant.later h)) c.build.ensures.cause;
       same_encoded = c.build.ensures.same_encoded ∙ c.loop-row.invariant.same_encoded;
       same_decoded = c.build.ensures.same_decoded ∙ c.loop-row.invariant.same_decoded;
       later = omega (arith, c.loop-row.invariant.later, c.build.ensures.later);

@@ -1,15 +1,15 @@
 use Rattle.std.proofs.Common.{map, inl, subst, sym, refl, arith, ◌∙◌}
-use Rattle.std.proofs.lemmas.Result.{IfOk-from_err, err_from_is_err_and}
+use Rattle.std.proofs.lemmas.Result.{IfOk-from_err, err_from_is_err_and, IfErr-weaker}
 use Rattle.slate_types.specs.Outside.{IsCounted, IsLater}
 use Rattle.slate_types.proofs.Reaching.{puts_of, puts_then}
 use Rattle.slate_store.specs.Reach.{reach_of}
 use Rattle.slate_db.specs.Flushed.{layout_of}
 use Rattle.slate_db.specs.Meaning.{segments_by}
-use Rattle.slate_db.proofs.Blocks.{if_err}
 use Rattle.slate_db.proofs.Built.{may_keep}
 use Rattle.slate_db.proofs.Operands.{combine_is}
-use Rattle.slate_db.proofs.RunSoFar.{both_ok, can_build, has_too_large, refused_as, rows_cause, run_cause, run_is_put, some_of_flush}
+use Rattle.slate_db.proofs.RunSoFar.{can_build, has_too_large, rows_cause, run_cause, run_is_put, some_of_flush}
 use Rattle.slate_db.proofs.flush.stored.Goals as goal
+use Rattle.slate_types.proofs.Exits.{if_ok_both, on_err_weaker}
 
 pub stored_runs-requires-clause-valid : goal.stored_runs-requires-clause-valid
 stored_runs-requires-clause-valid g c = λ κs lives. c.requires.valid
@@ -35,12 +35,12 @@ returns g c =
     let after = reach_of g.S.Store g.M.MergeOperator g.T.BlockTransformer c.stored_runs.new.env in
     let later : IsLater before.faults now.faults = record { store = omega arith; operator = rows.later; transformer = omega arith } in
     record {
-      stored = both_ok c.stored_runs.result _ _ _
+      stored = if_ok_both c.stored_runs.result _ _ _
           (λ a put stand. run_is_put m layout c.args.number c.args.barrier _ c.in_ok-rows.rows.items parts prefixes a.0 a.1.items _ _ rows.some (rows.folded m operator) rows.order c.in_ok-parts.ensures.cut c.in_ok-parts.ensures.segments stand put)
           c.stored_runs.ensures.stored c.stored_runs.ensures.stand;
       acts = c.stored_runs.ensures.acts;
-      refused = refused_as c.stored_runs.result (some_of_flush m layout c.args.number c.args.barrier _ c.in_ok-rows.rows.items parts _ _ rows.some (rows.folded m operator) rows.order c.in_ok-parts.ensures.cut) c.stored_runs.ensures.refused;
-      cause = if_err c.stored_runs.result _ _ (λ e h. run_cause before now after e later (λ large. (c.in_ok-rows.rows.items, rows.folded m operator, rows.order, has_too_large layout c.in_ok-rows.rows.items parts e c.in_ok-parts.ensures.cut large)) h) c.stored_runs.ensures.cause;
+      refused = on_err_weaker c.stored_runs.result (some_of_flush m layout c.args.number c.args.barrier _ c.in_ok-rows.rows.items parts _ _ rows.some (rows.folded m operator) rows.order c.in_ok-parts.ensures.cut) c.stored_runs.ensures.refused;
+      cause = IfErr-weaker c.stored_runs.result _ _ (λ e h. run_cause before now after e later (λ large. (c.in_ok-rows.rows.items, rows.folded m operator, rows.order, has_too_large layout c.in_ok-rows.rows.items parts e c.in_ok-parts.ensures.cut large)) h) c.stored_runs.ensures.cause;
       wanted = λ none among. absurd (rows.wanted (sym operator ∙ none) among);
       puts = puts_then before now after (puts_of before now same refl refl later refl) c.stored_runs.ensures.puts;
     }

@@ -1,5 +1,5 @@
 use Rattle.std.proofs.Common.{ℕ, map, inl, inr, arith, refl, ◌⊎◌}
-use Rattle.std.proofs.lemmas.Result.{IfOk-from_err, err_from_is_err_and}
+use Rattle.std.proofs.lemmas.Result.{IfOk-from_err, err_from_is_err_and, IfErr-weaker}
 use Rattle.slate_types.specs.declared.error.SlateDBError.{SlateDBError}
 use Rattle.slate_types.specs.Outside.{Counts, IsCounted}
 use Rattle.slate_types.proofs.Reaching.{puts_of}
@@ -7,7 +7,6 @@ use Rattle.slate_table.specs.SectionReading.{changed_by, IsTransformFault}
 use Rattle.slate_db.specs.Flushed.{IsTableAt, layout_of}
 use Rattle.slate_db.specs.Meaning.{segments_by}
 use Rattle.slate_db.specs.StoredParts.{IsPlace}
-use Rattle.slate_db.proofs.Blocks.{if_err}
 use Rattle.slate_db.proofs.Causes.{store_fault, transform_fault}
 use Rattle.slate_db.proofs.Built.{read_again, version_known, may_keep}
 use Rattle.slate_db.proofs.flush.stored_table.Goals as goal
@@ -32,7 +31,7 @@ returns g c =
           (version_known c.args.laws.now.options.block_format) c.in_ok-table.ensures.version c.in_ok-table.ensures.info);
       acts = c.put-kept.ensures.acts;
       refused = λ number place at. c.put-kept.ensures.refused (changed_by g.T.BlockTransformer.encoded c.args.env.now.transformer) (layout_of c.args.laws.now.options (map (λ p. (goal.FilterPolicy-dyn g (p.vtable, p.value)).meaning p.value) c.args.laws.now.policies.items) (segments_by g.X.PrefixExtractor.lengths c.args.laws.now.segments)) number place c.args.rows.items (is_table g c number place at);
-      cause = if_err c.put-kept.result _ _ (λ e h. inl (store_fault _ _ e h)) c.put-kept.ensures.cause;
+      cause = IfErr-weaker c.put-kept.result _ _ (λ e h. inl (store_fault _ _ e h)) c.put-kept.ensures.cause;
       operator = refl;
       puts = puts_of _ _ refl c.built.ensures.same_encoded c.built.ensures.same_decoded (record { store = c.put-kept.ensures.later; operator = omega arith; transformer = c.built.ensures.later }) refl;
     }

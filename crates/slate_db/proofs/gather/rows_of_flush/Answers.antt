@@ -1,6 +1,6 @@
 use Rattle.std.proofs.Common.{◌≡◌, ◌∙◌, ◌⊎◌, inl, inr, ℕ, Bool, true, false, not, ◌&&◌, List, map, ap, sym, subst, reverse, refl, arith, Option, Some, None}
 use Rattle.std.specs.Prelude.{option_map, is_some, IsSome}
-use Rattle.std.proofs.lemmas.Result.{IfOk-from_err, err_from_is_err_and}
+use Rattle.std.proofs.lemmas.Result.{IfOk-from_err, err_from_is_err_and, IfOk-weaker, IfErr-weaker}
 use Rattle.slate_types.specs.declared.error.SlateDBError.{SlateDBError}
 use Rattle.slate_types.specs.declared.error.SlateDBError.TheVariants.{MergeOperatorMissing, OutOfMemory}
 use Rattle.slate_types.specs.Fold.{Combine, operator_at}
@@ -10,12 +10,11 @@ use Rattle.slate_mem.specs.Gathered.{IsGathered}
 use Rattle.slate_mem.specs.Lookup.{is_merge_among, IsCallback}
 use Rattle.slate_db.specs.Meaning.{Meaning}
 use Rattle.slate_db.specs.Model.{Rows, versions, versions_in}
-use Rattle.slate_db.proofs.Blocks.{if_err, if_ok}
 use Rattle.slate_db.proofs.FoldFits.{operator_short}
 use Rattle.slate_db.proofs.FlushRows.{flush_folds, flush_order, flush_fits, flush_some, merge_gathered, merge_still}
 use Rattle.slate_db.proofs.Newest.{all_versions_are}
-use Rattle.slate_db.proofs.RunSoFar.{both_ok}
 use Rattle.slate_db.proofs.gather.rows_of_flush.Goals as goal
+use Rattle.slate_types.proofs.Exits.{if_ok_both}
 
 keys : (layers : List Rows) (out : Rows) → IsGathered layers out → (k : List ℕ) → versions k out ≡ versions_in k layers
 keys layers out g k = ap reverse (g.same k) ∙ all_versions_are k layers
@@ -60,20 +59,20 @@ returns g c =
     let own = alone (option_map g.M.MergeOperator.combine c.args.operator.now) in
     let made = c.fold_for_flush.ensures.folded c.in_ok-rows.ensures.rows.order in
     record {
-      folded = λ m is. if_ok c.fold_for_flush.result _ _
+      folded = λ m is. IfOk-weaker c.fold_for_flush.result _ _
           (λ out h. flush_folds m c.args.barrier layers rows out.items same (λ k. h k ∙ ap (λ (o : Option (List ℕ → Combine)). kept_and_folded (operator_at o k) c.args.barrier (of_key k rows)) (sym is))) made;
-      order = both_ok c.fold_for_flush.result _ _ _
+      order = if_ok_both c.fold_for_flush.result _ _ _
           (λ out h o. flush_order own c.args.barrier layers out.items (flush_folds own c.args.barrier layers rows out.items same h) o c.requires.rise) made (c.fold_for_flush.ensures.order gathered.order);
-      fit = if_ok c.fold_for_flush.result _ _
+      fit = IfOk-weaker c.fold_for_flush.result _ _
           (λ out h. flush_fits own c.args.barrier layers out.items (operator_short g.M.MergeOperator.combine c.args.operator.now g.met.M.MergeOperator.short) (flush_folds own c.args.barrier layers rows out.items same h) c.requires.fit) made;
-      some = if_ok c.fold_for_flush.result _ _
+      some = IfOk-weaker c.fold_for_flush.result _ _
           (λ out h. flush_some (operator_at (option_map g.M.MergeOperator.combine c.args.operator.now)) c.args.barrier layers rows out.items same h c.requires.some c.requires.each) made;
-      missing = λ m is. if_err c.fold_for_flush.result _ _ (λ e h missing. absurd (not_missing e _ _ missing h)) c.fold_for_flush.ensures.cause;
+      missing = λ m is. IfErr-weaker c.fold_for_flush.result _ _ (λ e h missing. absurd (not_missing e _ _ missing h)) c.fold_for_flush.ensures.cause;
       wanted = λ none among. absurd (unwanted g.M.MergeOperator.combine c.args.operator.now c.wants_operator.result (is_merge_among c.in_ok-rows.rows.items) (c.wants_operator.ensures ∙ ap (λ (xs : Rows). not (is_some c.args.operator.now) && is_merge_among xs) c.deref.ensures.value) c.if-wants_operator.false none
           (merge_still layers rows same among));
       same = c.fold_for_flush.ensures.same;
       later = c.fold_for_flush.ensures.later;
-      cause = if_err c.fold_for_flush.result _ _ (λ e h. or_missing h) c.fold_for_flush.ensures.cause;
+      cause = IfErr-weaker c.fold_for_flush.result _ _ (λ e h. or_missing h) c.fold_for_flush.ensures.cause;
     }
 
 pub returns-then-wants_operator : goal.returns-then-wants_operator

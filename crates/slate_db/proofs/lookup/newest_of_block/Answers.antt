@@ -1,9 +1,9 @@
 use Rattle.std.proofs.Common.{◌≡◌, Ok, refl, rules}
-use Rattle.std.proofs.lemmas.Result.{err_from_is_err_and, IfOk-from_err}
+use Rattle.std.proofs.lemmas.Result.{err_from_is_err_and, IfOk-from_err, IfOk-weaker, IfErr-weaker}
 use Rattle.slate_types.specs.declared.error.SlateDBError.TheVariants.{OutOfMemory}
 use Rattle.slate_block.specs.EitherVersion.{left_of}
 use Rattle.slate_block.specs.Walks.{block_reads, block_rows}
-use Rattle.slate_db.proofs.Blocks.{if_ok, if_err, read_whole, known_of, only_memory}
+use Rattle.slate_db.proofs.Blocks.{read_whole, known_of, only_memory}
 use Rattle.slate_db.proofs.Damaged.{begin_cause, walk_cause}
 use Rattle.slate_db.proofs.Shown.{rows_read, walk_reads}
 use Rattle.slate_db.proofs.lookup.newest_of_block.Goals as goal
@@ -34,6 +34,6 @@ returns c =
           let known = known_of c.args.version c.args.block.body c.args.block.offsets.items rows is in
           let read : block_rows c.args.version c.args.block.body c.args.block.offsets.items ≡ Ok rows = read_whole c.args.version c.args.block.body c.args.block.offsets.items rows (λ i. search rules) is known in
           c.newest_from-found.ensures.whole rows (c.in_ok-rows.ensures.rows rows read));
-      rows = if_ok c.newest_from-found.result _ _ (λ found h. rows_read c.args.version c.args.block (left_of c.in_ok-rows.rows).reads found.items (λ i. search rules) read_is h) c.newest_from-found.ensures.rows;
-      cause = if_err c.newest_from-found.result _ _ (λ e h. walk_cause c.args.version c.args.block (left_of c.in_ok-rows.rows).reads e read_is h) c.newest_from-found.ensures.cause;
+      rows = IfOk-weaker c.newest_from-found.result _ _ (λ found h. rows_read c.args.version c.args.block (left_of c.in_ok-rows.rows).reads found.items (λ i. search rules) read_is h) c.newest_from-found.ensures.rows;
+      cause = IfErr-weaker c.newest_from-found.result _ _ (λ e h. walk_cause c.args.version c.args.block (left_of c.in_ok-rows.rows).reads e read_is h) c.newest_from-found.ensures.cause;
     }

@@ -1,16 +1,15 @@
 use Rattle.std.proofs.Common.{Some, ◌∙◌, refl, arith, subst, sym}
-use Rattle.std.proofs.lemmas.Result.{err_from_is_err_and, IfOk-from_err}
+use Rattle.std.proofs.lemmas.Result.{err_from_is_err_and, IfOk-from_err, IfOk-weaker, IfErr-weaker}
 use Rattle.slate_types.specs.Outside.{IsCounted}
 use Rattle.slate_types.proofs.Reaching.{adds_both, reads_of}
 use Rattle.slate_table.specs.IndexValue.{entries_of}
 use Rattle.slate_table.specs.SectionReading.{changed_by}
 use Rattle.slate_db.proofs.Answered.{adds_once, adds_read, answering_first, answering_last}
-use Rattle.slate_db.proofs.Behind.{meanings, once_of, quietly, two_of}
-use Rattle.slate_db.proofs.Blocks.{if_ok, if_err}
+use Rattle.slate_db.proofs.Behind.{meanings, once_of, quietly, read_of, two_of}
 use Rattle.slate_db.proofs.Causes.{read_fault}
 use Rattle.slate_db.proofs.Newest.{newest_same}
-use Rattle.slate_db.proofs.Shown.{blocks_refused, index_refused, row_refused, table_rows}
-use Rattle.slate_db.proofs.Tables.{answered_by, blocks_whole, faults_earlier, index_whole, key_read}
+use Rattle.slate_db.proofs.Shown.{blocks_refused, index_refused, no_rows_read, row_refused, table_rows}
+use Rattle.slate_db.proofs.Tables.{answered_by, blocks_whole, faults_earlier, index_whole, key_nowhere, key_read}
 use Rattle.slate_db.proofs.lookup.newest_of_enclosing.Goals as goal
 
 pub returns-in_err-index : goal.returns-in_err-index
@@ -25,6 +24,20 @@ returns-in_err-index g c =
       cause = rw (p.1, p.2) (index_refused _ _ c.args.table.now _ c.read_index.ensures.objects refl c.read_index.ensures.same_encoded c.read_index.ensures.same_decoded c.in_err-index.ensures.cause);
       alone = once_of _ _ c.args.table.now _ _ c.read_index.ensures.objects (meanings _ _ refl c.read_index.ensures.same_encoded c.read_index.ensures.same_decoded) c.in_err-index.ensures.once;
       reads = reads_of _ _ c.read_index.ensures.objects refl c.read_index.ensures.same_encoded c.read_index.ensures.same_decoded (adds_once _ _ _ _ _ _ c.in_err-index.ensures.once) (record { store = c.read_index.ensures.later; operator = omega arith; transformer = c.read_index.ensures.later_transformer }) refl;
+    }
+
+pub returns-then-covered : goal.returns-then-covered
+returns-then-covered g c =
+    record {
+      found = (λ rows os stored a.
+          c.new.ensures.items
+          ∙ key_nowhere _ _ _ _ c.args.table.now rows (entries_of c.in_ok-index.index) c.args.key.now c.args.max_seq c.covering-covered.result.start c.covering-covered.result.end _ _ stored (answered_by stored a) c.covering-covered.ensures.order c.covering-covered.ensures.within c.covering-covered.ensures.each c.if-covered.true
+          c.in_ok-index.ensures.found);
+      whole = λ rows os stored a. tt;
+      rows = no_rows_read _ _ c.args.table.now _ _ _ c.new.result.items c.read_index.ensures.objects (meanings _ _ refl c.read_index.ensures.same_encoded c.read_index.ensures.same_decoded) c.in_ok-index.ensures.found c.new.ensures.items;
+      cause = tt;
+      alone = read_of _ _ c.args.table.now _ _ _ c.read_index.ensures.objects (meanings _ _ refl c.read_index.ensures.same_encoded c.read_index.ensures.same_decoded) c.in_ok-index.ensures.found;
+      reads = reads_of _ _ c.read_index.ensures.objects refl c.read_index.ensures.same_encoded c.read_index.ensures.same_decoded (adds_read _ _ _ _ _ _ _ c.in_ok-index.ensures.found) (record { store = c.read_index.ensures.later; operator = omega arith; transformer = c.read_index.ensures.later_transformer }) refl;
     }
 
 pub returns-in_err-blocks : goal.returns-in_err-blocks
@@ -67,22 +80,22 @@ returns g c =
           let decode = changed_by g.T.BlockTransformer.decoded c.args.env.now.transformer in
           let now = changed_by g.T.BlockTransformer.decoded c.read_index.new.transformer in
           let first = adds_read _ _ _ _ _ _ _ c.in_ok-index.ensures.found in
-          let last = adds_read _ _ _ _ _ _ _ c.in_ok-blocks.ensures.found in
+          let last = adds_read _ _ _ _ _ _ _ (c.in_ok-blocks.ensures.found c.if-covered.false) in
           let key = key_read encode decode now (Some os) (g.S.Store.objects c.args.env.now.store.now) (g.S.Store.objects c.read_index.new.store) c.args.table.now rows (entries_of c.in_ok-index.index)
           c.args.key.now c.covering-covered.result.start c.covering-covered.result.end (g.S.Store.acts c.args.env.now.store.now) (g.S.Store.acts c.read_index.new.store) (g.S.Store.acts c.read_blocks.new.store) c.in_ok-blocks.blocks.items stored (answered_by stored (answering_first os _ _ _ _ first last a)) (answered_by stored (answering_last os _ _ _ _ _ c.read_index.ensures.objects first last a)) c.read_index.ensures.same_decoded
-          c.covering-covered.ensures.order c.covering-covered.ensures.within c.covering-covered.ensures.each c.in_ok-blocks.ensures.count c.in_ok-index.ensures.found c.in_ok-blocks.ensures.found in
-          if_ok c.newest_of_blocks.result _ _ (λ found h. h ∙ newest_same c.args.key.now c.args.max_seq _ rows key.3) (c.newest_of_blocks.ensures.found key.0 key.1 key.2));
+          c.covering-covered.ensures.order c.covering-covered.ensures.within c.covering-covered.ensures.each c.in_ok-blocks.ensures.count c.in_ok-index.ensures.found (c.in_ok-blocks.ensures.found c.if-covered.false) in
+          IfOk-weaker c.newest_of_blocks.result _ _ (λ found h. h ∙ newest_same c.args.key.now c.args.max_seq _ rows key.3) (c.newest_of_blocks.ensures.found key.0 key.1 key.2));
       whole = (λ rows os stored a.
           let encode = changed_by g.T.BlockTransformer.encoded c.args.env.now.transformer in
           let decode = changed_by g.T.BlockTransformer.decoded c.args.env.now.transformer in
           let now = changed_by g.T.BlockTransformer.decoded c.read_index.new.transformer in
           let first = adds_read _ _ _ _ _ _ _ c.in_ok-index.ensures.found in
-          let last = adds_read _ _ _ _ _ _ _ c.in_ok-blocks.ensures.found in
+          let last = adds_read _ _ _ _ _ _ _ (c.in_ok-blocks.ensures.found c.if-covered.false) in
           let key = key_read encode decode now (Some os) (g.S.Store.objects c.args.env.now.store.now) (g.S.Store.objects c.read_index.new.store) c.args.table.now rows (entries_of c.in_ok-index.index)
           c.args.key.now c.covering-covered.result.start c.covering-covered.result.end (g.S.Store.acts c.args.env.now.store.now) (g.S.Store.acts c.read_index.new.store) (g.S.Store.acts c.read_blocks.new.store) c.in_ok-blocks.blocks.items stored (answered_by stored (answering_first os _ _ _ _ first last a)) (answered_by stored (answering_last os _ _ _ _ _ c.read_index.ensures.objects first last a)) c.read_index.ensures.same_decoded
-          c.covering-covered.ensures.order c.covering-covered.ensures.within c.covering-covered.ensures.each c.in_ok-blocks.ensures.count c.in_ok-index.ensures.found c.in_ok-blocks.ensures.found in
-          if_err c.newest_of_blocks.result _ _ (λ e h. subst (IsCounted _ _) (sym h) tt) (c.newest_of_blocks.ensures.whole key.0 key.1 key.2));
-      rows = if_ok c.newest_of_blocks.result _ _ (λ found h. table_rows _ _ c.args.table.now _ (entries_of c.in_ok-index.index) c.covering-covered.result.start c.covering-covered.result.end _ _ c.in_ok-blocks.blocks.items found.items (record {
+          c.covering-covered.ensures.order c.covering-covered.ensures.within c.covering-covered.ensures.each c.in_ok-blocks.ensures.count c.in_ok-index.ensures.found (c.in_ok-blocks.ensures.found c.if-covered.false) in
+          IfErr-weaker c.newest_of_blocks.result _ _ (λ e h. subst (IsCounted _ _) (sym h) tt) (c.newest_of_blocks.ensures.whole key.0 key.1 key.2));
+      rows = IfOk-weaker c.newest_of_blocks.result _ _ (λ found h. table_rows _ _ c.args.table.now _ (entries_of c.in_ok-index.index) c.covering-covered.result.start c.covering-covered.result.end _ _ c.in_ok-blocks.blocks.items found.items (record {
         first_objects = c.read_index.ensures.objects;
         last_objects = c.read_blocks.ensures.objects;
         combine = refl;
@@ -92,8 +105,8 @@ returns g c =
         order = c.covering-covered.ensures.order;
         within = c.covering-covered.ensures.within;
         index = c.in_ok-index.ensures.found;
-      }) c.in_ok-blocks.ensures.count c.in_ok-blocks.ensures.found h) c.newest_of_blocks.ensures.rows;
-      cause = if_err c.newest_of_blocks.result _ _ (λ e h. row_refused _ _ c.args.table.now _ (entries_of c.in_ok-index.index) c.covering-covered.result.start c.covering-covered.result.end _ _ c.in_ok-blocks.blocks.items e (record {
+      }) c.in_ok-blocks.ensures.count (c.in_ok-blocks.ensures.found c.if-covered.false) h) c.newest_of_blocks.ensures.rows;
+      cause = IfErr-weaker c.newest_of_blocks.result _ _ (λ e h. row_refused _ _ c.args.table.now _ (entries_of c.in_ok-index.index) c.covering-covered.result.start c.covering-covered.result.end _ _ c.in_ok-blocks.blocks.items e (record {
         first_objects = c.read_index.ensures.objects;
         last_objects = c.read_blocks.ensures.objects;
         combine = refl;
@@ -103,8 +116,8 @@ returns g c =
         order = c.covering-covered.ensures.order;
         within = c.covering-covered.ensures.within;
         index = c.in_ok-index.ensures.found;
-      }) c.in_ok-blocks.ensures.count c.in_ok-blocks.ensures.found h) c.newest_of_blocks.ensures.cause;
-      alone = two_of _ _ c.args.table.now _ _ _ _ _ _ _ c.read_index.ensures.objects c.read_blocks.ensures.objects (meanings _ _ refl (c.read_blocks.ensures.same_encoded ∙ c.read_index.ensures.same_encoded) (c.read_blocks.ensures.same_decoded ∙ c.read_index.ensures.same_decoded)) c.in_ok-index.ensures.found (quietly _ _ _ _ _ _ _ c.in_ok-blocks.ensures.found);
+      }) c.in_ok-blocks.ensures.count (c.in_ok-blocks.ensures.found c.if-covered.false) h) c.newest_of_blocks.ensures.cause;
+      alone = two_of _ _ c.args.table.now _ _ _ _ _ _ _ c.read_index.ensures.objects c.read_blocks.ensures.objects (meanings _ _ refl (c.read_blocks.ensures.same_encoded ∙ c.read_index.ensures.same_encoded) (c.read_blocks.ensures.same_decoded ∙ c.read_index.ensures.same_decoded)) c.in_ok-index.ensures.found (quietly _ _ _ _ _ _ _ (c.in_ok-blocks.ensures.found c.if-covered.false));
       reads = reads_of _ _ (c.read_blocks.ensures.objects ∙ c.read_index.ensures.objects) refl (c.read_blocks.ensures.same_encoded ∙ c.read_index.ensures.same_encoded) (c.read_blocks.ensures.same_decoded ∙ c.read_index.ensures.same_decoded)
-          (adds_both _ _ _ (adds_read _ _ _ _ _ _ _ c.in_ok-index.ensures.found) (adds_read _ _ _ _ _ _ _ c.in_ok-blocks.ensures.found)) (record { store = omega (arith, c.read_index.ensures.later, c.read_blocks.ensures.later); operator = omega arith; transformer = omega (arith, c.read_index.ensures.later_transformer, c.read_blocks.ensures.later_transformer) }) refl;
+          (adds_both _ _ _ (adds_read _ _ _ _ _ _ _ c.in_ok-index.ensures.found) (adds_read _ _ _ _ _ _ _ (c.in_ok-blocks.ensures.found c.if-covered.false))) (record { store = omega (arith, c.read_index.ensures.later, c.read_blocks.ensures.later); operator = omega arith; transformer = omega (arith, c.read_index.ensures.later_transformer, c.read_blocks.ensures.later_transformer) }) refl;
     }

@@ -1,5 +1,5 @@
 use Rattle.std.proofs.Common.{[], ◌∷◌, ◌∙◌, ◌≡◌, false, true, map, rules, sym}
-use Rattle.std.proofs.lemmas.Result.{err_from_is_err_and, IfOk-from_err}
+use Rattle.std.proofs.lemmas.Result.{err_from_is_err_and, IfOk-from_err, IfOk-weaker, IfErr-weaker}
 use Rattle.slate_types.proofs.Calls.{call_none}
 use Rattle.slate_types.proofs.OutsideLaws.{counted_earlier}
 use Rattle.slate_types.proofs.Reaching.{reads_none, reads_then}
@@ -11,7 +11,6 @@ use Rattle.slate_table.specs.InfoReading.{seen_info}
 use Rattle.slate_db.specs.Shown.{Asking, LetsThrough}
 use Rattle.slate_db.proofs.Answered.{from_last}
 use Rattle.slate_db.proofs.Behind.{behind_filters, behind_none, behind_passed}
-use Rattle.slate_db.proofs.Blocks.{if_ok, if_err}
 use Rattle.slate_db.proofs.Filters.{stored_still}
 use Rattle.slate_db.proofs.Newest.{newest_same}
 use Rattle.slate_db.proofs.Shown.{filters_shown, passed_rows, passed_shown}
@@ -71,10 +70,10 @@ returns g c =
       found = (λ rows os stored filtered a.
           c.newest_of_enclosing.ensures.found rows os (stored_still _ _ os c.args.table.now rows first.meaning stored) (from_last os _ _ _ first last a));
       whole = (λ rows os stored filtered a.
-          if_err c.newest_of_enclosing.result _ _ (λ e h. counted_earlier _ _ _ e first.later h)
+          IfErr-weaker c.newest_of_enclosing.result _ _ (λ e h. counted_earlier _ _ _ e first.later h)
           (c.newest_of_enclosing.ensures.whole rows os (stored_still _ _ os c.args.table.now rows first.meaning stored) (from_last os _ _ _ first last a)));
-      rows = if_ok c.newest_of_enclosing.result _ _ (λ found h. passed_rows _ _ _ asking c.args.table.now found.items passed h) c.newest_of_enclosing.ensures.rows;
-      cause = if_err c.newest_of_enclosing.result _ _ (λ e h. passed_shown _ _ _ asking c.args.table.now e first.later passed h) c.newest_of_enclosing.ensures.cause;
+      rows = IfOk-weaker c.newest_of_enclosing.result _ _ (λ found h. passed_rows _ _ _ asking c.args.table.now found.items passed h) c.newest_of_enclosing.ensures.rows;
+      cause = IfErr-weaker c.newest_of_enclosing.result _ _ (λ e h. passed_shown _ _ _ asking c.args.table.now e first.later passed h) c.newest_of_enclosing.ensures.cause;
       behind = behind_passed _ _ _ asking c.args.table.now passed c.newest_of_enclosing.ensures.alone;
       reads = reads_then _ _ _ first last;
     }

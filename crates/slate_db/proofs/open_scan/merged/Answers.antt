@@ -1,8 +1,7 @@
 use Rattle.std.proofs.Common.{◌≡◌, ◌∙◌, ap}
 use Rattle.slate_store.specs.Reach.{reach_of}
-use Rattle.slate_read.specs.MergeStates.{Takes}
-use Rattle.slate_db.specs.Scans.{MergedSources, source_refuses}
-use Rattle.slate_db.proofs.ScanMerges.{fresh_operable, fresh_rows, fresh_sound, fresh_waits, opened_folds, opened_later, opened_operable, opening_own, refusal_blamed}
+use Rattle.slate_db.specs.Scans.{MergedSources, merge_takes, source_refuses}
+use Rattle.slate_db.proofs.ScanMerges.{fresh_operable, fresh_rows, fresh_sound, fresh_waits, opened_brought, opened_folds, opened_later, opened_operable, opening_own, refusal_blamed}
 use Rattle.slate_db.proofs.open_scan.merged.Goals as goal
 
 pub unreachable-requires : goal.unreachable-requires
@@ -26,6 +25,7 @@ returns-in-Ok-init g c =
       rows = λ w can sees. e.rows w sees (fresh_sound sources order merge made it new w can) ∙ fresh_rows sources order merge made it new w can;
       operable = λ w can sees bases. opened_operable sources order merge made it new v w begun.2 (e.operable w sees (fresh_sound sources order merge made it new w can) (fresh_operable sources order merge made it new w can bases));
       later = (e.sources.0, e.sources.1, opened_later sources order merge made it new v m e.sources.0 begun.1 e.ready e.sources.2);
+      brought = (e.begun.0, e.begun.1, opened_brought sources order merge made it new v m e.begun.0 e.ready e.begun.2.1);
       cause = tt;
       reads = e.reads;
     }
@@ -42,4 +42,4 @@ returns-clause-cause g c =
     let new = c.in-Ok.ensures.folding in
     let cause = c.in-Err.ensures.cause in
     refusal_blamed source_refuses sources it.iterator.state (fresh_waits sources order merge made it new) a b c.in-Err.error c.refusal_of_opening.result c.refusal_of_opening.ensures cause.0 cause.1
-    (opening_own sources order merge made it new (λ u k reads answer x. Takes u answer x) (λ u x k reads answer t. t.0) c.init.new.self a b cause.0 c.in-Err.error cause.2.1 cause.2.0)
+    (opening_own sources order merge made it new (λ u k reads answer x. merge_takes u k reads answer x) (λ u x k reads answer t. t.0.0) c.init.new.self a b cause.0 c.in-Err.error cause.2.1 cause.2.0)

@@ -26,7 +26,7 @@ returns-in-Walking g c =
           undamaged_walk r range None a b w x u is tt sees.meaning meant (n.undamaged w sees s.0 s.2 (operable_in u w s.1 (subst (λ (t : ScanState). IsOperableIn t w) is op)));
       checked = λ w order sound. checked_walk r order w a b x u (Checks w a b) is (n.checked w) sound;
       sources = λ range. sources_walk r range a b x u v is n.sources;
-      later = λ range. later_walk r range a b x u v is n.going n.sources;
+      later = λ range. later_walk r range a b x u v is n.going n.later;
       cause = λ range. cause_walk r range None a b x u is tt n.cause;
       reads = n.reads;
     }

@@ -25,7 +25,7 @@ returns-in-Walking g c =
           undamaged_walk r range (Some key) a b w x u is past sees.meaning meant (n.undamaged w sees s.0 s.2);
       checked = λ w order sound. checked_walk r order w a b x u (Checks w a b) is (n.checked w) sound;
       sources = λ range. sources_walk r range a b x u v is n.sources;
-      later = λ range. later_walk r range a b x u v is n.going n.sources;
+      later = λ range. later_walk r range a b x u v is n.going n.later;
       cause = λ range past. cause_walk r range (Some key) a b x u is past n.cause;
       reads = n.reads;
     }

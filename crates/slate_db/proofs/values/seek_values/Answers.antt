@@ -1,5 +1,6 @@
 use Rattle.std.proofs.Common.{Some}
 use Rattle.std.proofs.lemmas.Result.{IfErr-weaker, on_ok_weaker}
+use Rattle.slate_read.specs.Calls.{BringsByCalls}
 use Rattle.slate_read.specs.OperatorIterators.{rest_folding}
 use Rattle.slate_read.specs.OperatorLaws.{folding_rises}
 use Rattle.slate_db.proofs.Foldings.{seek_undamaged}
@@ -21,5 +22,8 @@ pub returns-clause-undamaged : goal.returns-clause-undamaged
 returns-clause-undamaged g c = λ w sees going sound.
     let i = g.I.RowEntryIterator in
     IfErr-weaker c.seek.result _ _
-    (λ e k. seek_undamaged i.rest i.sound i.order i.refuses g.met.I.RowEntryIterator.whole c.args.rows.now w (g.E.Outside.reach c.args.env.now) (g.E.Outside.reach c.seek.new.env) c.args.key.now e sees going sound (k.0, k.1, k.2.0))
+    (λ e k. seek_undamaged i.rest i.sound i.order i.refuses (BringsByCalls i.begins i.takes i.seeks) g.met.I.RowEntryIterator.whole c.args.rows.now w (g.E.Outside.reach c.args.env.now) (g.E.Outside.reach c.seek.new.env) c.args.key.now e sees going sound (k.0, k.1, k.2.0))
     c.seek.ensures.cause
+
+pub returns-clause-later : goal.returns-clause-later
+returns-clause-later g c = on_ok_weaker c.seek.result (λ made. (made.0, made.1, made.2.1)) c.seek.ensures.sought

@@ -10,10 +10,10 @@ use Rattle.slate_db.specs.Model.{CoreModel}
 use Rattle.slate_db.specs.View.{view_of, unseen_of}
 use Rattle.slate_db.specs.Sound.{IsKept, FoldsToState}
 use Rattle.slate_db.specs.StoredState.{StoresState}
-use Rattle.slate_db.proofs.Lists.{all_map}
 use Rattle.slate_db.proofs.Seen.{folds_to_state, stores_state}
 use Rattle.slate_db.proofs.Wholes.{ends_are, replays_of}
 use Rattle.slate_db.proofs.engine.Core.journal.Goals as goal
+use Rattle.slate_types.proofs.Lists.{AllByRecursion_weaken}
 
 pub returns-clause-events : goal.returns-clause-events
 returns-clause-events c = c.journal.ensures.0 ∙ ap (λ (v : CoreModel). v.events) c.self.view_is
@@ -38,10 +38,10 @@ returns-clause-floor c =
     subst (λ (v : CoreModel). v.floor ≤ last_of v.settings.start_seq v.state.commits) c.self.view_is last
 
 pub returns-clause-begins : goal.returns-clause-begins
-returns-clause-begins c = subst (λ (v : CoreModel). AllByRecursion (λ p. v.floor ≤ p.1.begin) v.state.txns) c.self.view_is (all_map _ _ (λ p h. h.0) c.self.inside.transactions c.self.invariant.tied.begins)
+returns-clause-begins c = subst (λ (v : CoreModel). AllByRecursion (λ p. v.floor ≤ p.1.begin) v.state.txns) c.self.view_is (AllByRecursion_weaken _ _ (λ p h. h.0) c.self.inside.transactions c.self.invariant.tied.begins)
 
 pub returns-clause-shows : goal.returns-clause-shows
-returns-clause-shows c = subst (λ (v : CoreModel). AllByRecursion (λ p. v.floor ≤ p.1) v.state.snapshots) c.self.view_is (all_map _ _ (λ p h. h.0) c.self.inside.snapshots.active c.self.invariant.tied.shows)
+returns-clause-shows c = subst (λ (v : CoreModel). AllByRecursion (λ p. v.floor ≤ p.1) v.state.snapshots) c.self.view_is (AllByRecursion_weaken _ _ (λ p h. h.0) c.self.inside.snapshots.active c.self.invariant.tied.shows)
 
 pub returns-clause-own : goal.returns-clause-own
 returns-clause-own c = subst (λ (v : CoreModel). AllByRecursion (λ p. p.1.ops ≡ own_of p.1.transcript) v.state.txns) c.self.view_is c.self.invariant.tied.own

@@ -4,20 +4,20 @@ use Rattle.slate_mem.specs.Refusals.{op_refusal}
 use Rattle.slate_txn.specs.Step.{with_op, with_marks, with_unmarks}
 use Rattle.slate_txn.specs.Reply.{Done}
 use Rattle.slate_db.specs.Model.{CoreModel}
-use Rattle.slate_txn.proofs.NamedLaws.{on_ok, on_err}
-use Rattle.slate_db.proofs.Changes.{own_kept, whole_either, kept_either, operated_is, same_is, ok_both, step_operated, step_refused_op, step_changed, refused_map}
+use Rattle.slate_db.proofs.Changes.{own_kept, whole_either, kept_either, operated_is, same_is, step_operated, step_refused_op, step_changed, refused_map}
 use Rattle.slate_db.proofs.Vouches.{vouched_either}
 use Rattle.slate_db.proofs.engine.Core.mark_read.Goals as goal
+use Rattle.slate_types.proofs.Exits.{on_ok_weaker, on_err_weaker, on_ok_both}
 
 pub invariant_of-self : goal.invariant_of-self
 invariant_of-self c = whole_either c.mark_read.result c.self.inside c.mark_read.new.self c.args.id.now (with_marks c.args.keys.now) (λ t. refl) (λ t h. h) c.mark_read.ensures.marked c.mark_read.ensures.same c.self.invariant
 
 pub returns : goal.returns
 returns c = record {
-  step = on_ok c.mark_read.result (λ taken m s. step_changed c.args.self.now.state c.args.id.now (with_marks c.args.keys.now) c.requires ∙ ap (λ (v : CoreModel). (v.state, Done)) (sym (operated_is c.self.inside c.args.self.now c.mark_read.new.self c.args.id.now (with_marks c.args.keys.now) c.self.view_is taken))) c.mark_read.ensures.marked;
-  taken = on_ok c.mark_read.result (λ taken. operated_is c.self.inside c.args.self.now c.mark_read.new.self c.args.id.now (with_marks c.args.keys.now) c.self.view_is taken) c.mark_read.ensures.marked;
+  step = on_ok_weaker c.mark_read.result (λ taken m s. step_changed c.args.self.now.state c.args.id.now (with_marks c.args.keys.now) c.requires ∙ ap (λ (v : CoreModel). (v.state, Done)) (sym (operated_is c.self.inside c.args.self.now c.mark_read.new.self c.args.id.now (with_marks c.args.keys.now) c.self.view_is taken))) c.mark_read.ensures.marked;
+  taken = on_ok_weaker c.mark_read.result (λ taken. operated_is c.self.inside c.args.self.now c.mark_read.new.self c.args.id.now (with_marks c.args.keys.now) c.self.view_is taken) c.mark_read.ensures.marked;
   cause = c.mark_read.ensures.cause;
   kept = λ m k. kept_either c.mark_read.result m c.self.inside c.args.self.now c.mark_read.new.self c.args.id.now (with_marks c.args.keys.now) c.self.view_is c.mark_read.ensures.marked c.mark_read.ensures.same (λ none. own_kept c.mark_read.result) k;
-  same = on_err c.mark_read.result (λ e. same_is c.self.inside c.args.self.now c.mark_read.new.self c.self.view_is e) c.mark_read.ensures.same;
-  vouched = λ m k h. vouched_either c.mark_read.result m c.args.self.now _ c.args.id.now k (with_marks c.args.keys.now) (λ r cs t v. v) (on_ok c.mark_read.result (λ taken. operated_is c.self.inside c.args.self.now c.mark_read.new.self c.args.id.now (with_marks c.args.keys.now) c.self.view_is taken) c.mark_read.ensures.marked) (on_err c.mark_read.result (λ e. same_is c.self.inside c.args.self.now c.mark_read.new.self c.self.view_is e) c.mark_read.ensures.same) h;
+  same = on_err_weaker c.mark_read.result (λ e. same_is c.self.inside c.args.self.now c.mark_read.new.self c.self.view_is e) c.mark_read.ensures.same;
+  vouched = λ m k h. vouched_either c.mark_read.result m c.args.self.now _ c.args.id.now k (with_marks c.args.keys.now) (λ r cs t v. v) (on_ok_weaker c.mark_read.result (λ taken. operated_is c.self.inside c.args.self.now c.mark_read.new.self c.args.id.now (with_marks c.args.keys.now) c.self.view_is taken) c.mark_read.ensures.marked) (on_err_weaker c.mark_read.result (λ e. same_is c.self.inside c.args.self.now c.mark_read.new.self c.self.view_is e) c.mark_read.ensures.same) h;
 }

@@ -16,10 +16,12 @@ use Rattle.slate_db.specs.Meaning.{rules_of}
 use Rattle.slate_db.specs.Model.{CoreModel}
 use Rattle.slate_db.specs.Readable.{IsAnswered}
 use Rattle.slate_db.specs.ScanFilters.{scan_query}
+use Rattle.slate_db.specs.Scanned.{own_rows}
 use Rattle.slate_db.specs.Scans.{IsFor, IsOpeningError, IsRefusedByScan, IsWorldOf, Leaves, ScanRefuses}
 use Rattle.slate_db.specs.View.{unseen_of, view_of}
 use Rattle.slate_db.proofs.Answered.{from_first}
-use Rattle.slate_db.proofs.Readers.{own_range_of}
+use Rattle.slate_db.proofs.Readers.{own_of_reader, own_range_of}
+use Rattle.slate_db.proofs.ScanBringings.{layers_turned}
 use Rattle.slate_db.proofs.ScanMerges.{answered_last, asking_refused, leaves_runs, opening_refused, refused_later, runs_filtered, runs_there, scan_is_for, scan_leaves, scan_refused, scan_undamaged}
 use Rattle.slate_db.proofs.ScanReaders.{fine_reader, plain_reader}
 use Rattle.slate_db.proofs.engine.Core.opened.Goals as goal
@@ -37,35 +39,35 @@ returns g c =
     let first = c.asked_sources.ensures.reads in
     let last = c.merged.ensures.reads in
     let own = c.in_ok-own.ensures in
-    let own_rows = c.in_ok-own.own.rows in
+    let own_list = c.in_ok-own.own.rows in
     let there : (from : Reader) → reader c.args.self.now.state c.args.id.now ≡ Some from → reader v.state c.args.id.now ≡ Some from = λ from found. ap (λ (u : CoreModel). reader u.state c.args.id.now) c.self.view_is ∙ found in
     let from : Reader = (open_is (reader c.args.self.now.state c.args.id.now) c.requires.open).value in
     let found : reader c.args.self.now.state c.args.id.now ≡ Some from = (open_is (reader c.args.self.now.state c.args.id.now) c.requires.open).is in
     let sources = c.in_ok-sources.ensures.sources in
     let asked = c.in_ok-sources.ensures.made in
-    let are = sources.are from.ops (record { rows = own_range_of v.state c.args.id.now from (there from found) c.args.range own_rows own.rows own.none; in_order = own.in_order; turn = own.turn; same_order = own.order }) in
+    let are = sources.are from.ops (record { rows = own_range_of v.state c.args.id.now from (there from found) c.args.range own_list own.rows own.none; in_order = own.in_order; turn = own.turn; same_order = own.order }) in
     let rows = c.in_ok-rows.ensures in
     let made = c.new.ensures in
     record {
       opened = λ u at. subst (λ (k : CoreModel). k.floor ≤ c.args.begin → (a : IsAnswered policies before after k) → (w : World) × IsWorldOf a.os m w × Leaves c.new.result w (rows_seen (rules_of k.settings m) k.state.commits c.args.begin u.ops order c.args.range)) c.self.view_is
           (λ above a.
-          let mine = sources.are u.ops (record { rows = own_range_of v.state c.args.id.now u (there u at) c.args.range own_rows own.rows own.none; in_order = own.in_order; turn = own.turn; same_order = own.order }) in
+          let mine = sources.are u.ops (record { rows = own_range_of v.state c.args.id.now u (there u at) c.args.range own_list own.rows own.none; in_order = own.in_order; turn = own.turn; same_order = own.order }) in
           let b : IsAnswered policies middle after v = answered_last policies before middle after v first last a in
           subst (λ (k : Meaning). (w : World) × IsWorldOf a.os k w × Leaves c.new.result w (rows_seen (rules_of v.settings k) v.state.commits c.args.begin u.ops order c.args.range)) first.meaning
           (scan_leaves policies middle after v x c.self.invariant sources.left sources.asked.among c.args.range order c.args.begin u.ops (fine_reader v.state c.args.id.now u (there u at) c.own_range.ensures.fine) above c.in_ok-sources.sources.items mine b
           (leaves_runs policies before middle after c.args.range x.runs sources.left sources.asked first a.os (from_first a.os before middle after first last a.answers))
           (plain_reader middle.meaning v c.args.id.now u (there u at) b.readable.kept.2) c.in_ok-rows.rows c.new.result made.state made.range made.order rows.going rows.sound rows.rows rows.operable rows.later.0 rows.later.2));
-      later = subst (λ (k : CoreModel). IsFor m c.new.result × Made before after (λ reads. (later : List Act) (at : Option (List ℕ)) (e : SlateDBError) → ScanRefuses c.new.result m later at e → IsRefusedByScan m k (reads ++ later) e)) c.self.view_is (
+      later = subst (λ (k : CoreModel). IsFor m c.new.result × Made before after (λ reads. (later : List Act) (at : Option (List ℕ)) (e : SlateDBError) → ScanRefuses c.new.result m later at e → IsRefusedByScan m k (reads ++ later) at e)) c.self.view_is (
         subst (λ (k : Meaning). IsFor k c.new.result) first.meaning
             (scan_is_for middle.meaning v x c.self.invariant sources.left sources.asked.among c.args.range order c.args.begin from.ops _ c.in_ok-sources.sources.items are c.in_ok-rows.rows c.new.result rows.later.0 made.state made.range rows.going.0 rows.later.2),
         (
-          asked.0 ++ rows.later.0,
-          call_both before middle after asked.0 rows.later.0 asked.1 rows.later.1,
+          asked.0 ++ rows.brought.0,
+          call_both before middle after asked.0 rows.brought.0 asked.1 rows.brought.1,
           λ later at e h.
-              subst (λ (reads : List Act). IsRefusedByScan m v reads e) (sym (append_assoc asked.0 rows.later.0 later))
-              (refused_later m v asked.0 (rows.later.0 ++ later) e
-              (subst (λ (k : Meaning). IsRefusedByScan k v (rows.later.0 ++ later) e) first.meaning
-              (scan_refused middle.meaning v x c.self.invariant sources.left sources.asked.among c.args.range order c.args.begin from.ops _ c.in_ok-sources.sources.items are c.in_ok-rows.rows c.new.result rows.later.0 made.state made.range rows.going.0 rows.later.2 later at e
+              subst (λ (reads : List Act). IsRefusedByScan m v reads at e) (sym (append_assoc asked.0 rows.brought.0 later))
+              (refused_later m v asked.0 (rows.brought.0 ++ later) at e
+              (subst (λ (k : Meaning). IsRefusedByScan k v (rows.brought.0 ++ later) at e) first.meaning
+              (scan_refused middle.meaning v x c.self.invariant sources.left sources.asked.among c.args.range order c.args.begin from.ops _ c.in_ok-sources.sources.items are (λ k. own_of_reader v c.args.id.now from k (own_rows from.ops k) (there from found) refl) (layers_turned v) c.in_ok-rows.rows c.new.result rows.brought.0 made.state made.range rows.going.0 rows.brought.2 later at e
               (subst (λ (k : Meaning). ScanRefuses c.new.result k later at e) (sym first.meaning) h)))),
         ),
       );
@@ -125,13 +127,13 @@ returns-in_err-rows g c =
     let first = c.asked_sources.ensures.reads in
     let last = c.merged.ensures.reads in
     let own = c.in_ok-own.ensures in
-    let own_rows = c.in_ok-own.own.rows in
+    let own_list = c.in_ok-own.own.rows in
     let e = c.in_err-rows.field-0.0 in
     let from : Reader = (open_is (reader c.args.self.now.state c.args.id.now) c.requires.open).value in
     let found : reader c.args.self.now.state c.args.id.now ≡ Some from = (open_is (reader c.args.self.now.state c.args.id.now) c.requires.open).is in
     let there : reader v.state c.args.id.now ≡ Some from = ap (λ (u : CoreModel). reader u.state c.args.id.now) c.self.view_is ∙ found in
     let sources = c.in_ok-sources.ensures.sources in
-    let are = sources.are from.ops (record { rows = own_range_of v.state c.args.id.now from there c.args.range own_rows own.rows own.none; in_order = own.in_order; turn = own.turn; same_order = own.order }) in
+    let are = sources.are from.ops (record { rows = own_range_of v.state c.args.id.now from there c.args.range own_list own.rows own.none; in_order = own.in_order; turn = own.turn; same_order = own.order }) in
     record {
       opened = λ u at above a. IfOk-from_err c.from_residual-in_err-rows.result _ c.from_residual-in_err-rows.ensures.0;
       later = IfOk-from_err c.from_residual-in_err-rows.result _ c.from_residual-in_err-rows.ensures.0;

@@ -1,7 +1,6 @@
 use Rattle.std.proofs.Common.{◌≡◌, ◌+◌, ◌<◌, ◌≤◌, length, subst, arith}
 use Rattle.std.specs.Prelude.{OnOk, IfErr}
 use Rattle.slate_types.specs.declared.error.SlateDBError.TheVariants as errors
-use Rattle.slate_txn.proofs.NamedLaws.{on_ok}
 use Rattle.slate_db.specs.Flushed.{NoPlaceToFlush, events_of_flush}
 use Rattle.slate_db.specs.Load.{weight}
 use Rattle.slate_db.specs.Log.{LIMIT}
@@ -10,11 +9,12 @@ use Rattle.slate_db.specs.View.{view_of, unseen_of}
 use Rattle.slate_db.proofs.Flushes.{cause_after}
 use Rattle.slate_db.proofs.Wholes.{ends_are}
 use Rattle.slate_db.proofs.engine.Core.place_for_flush.Goals as goal
+use Rattle.slate_types.proofs.Exits.{on_ok_weaker}
 
 pub returns-clause-place : goal.returns-clause-place
 returns-clause-place c =
     subst (λ (v : CoreModel). OnOk c.place.result (weight v + events_of_flush v.active v.frozen ≤ LIMIT)) c.self.view_is
-    (on_ok c.place.result (λ h. omega (arith, c.events_of_flush.ensures.count, ends_are (view_of c.self.inside) (unseen_of c.self.inside) c.self.invariant, h)) c.place.ensures.place)
+    (on_ok_weaker c.place.result (λ h. omega (arith, c.events_of_flush.ensures.count, ends_are (view_of c.self.inside) (unseen_of c.self.inside) c.self.invariant, h)) c.place.ensures.place)
 
 pub returns-clause-limit : goal.returns-clause-limit
 returns-clause-limit c =

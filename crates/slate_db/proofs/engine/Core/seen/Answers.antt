@@ -1,7 +1,7 @@
 use Rattle.std.proofs.Common.{inl, inr, ◌≡◌, ◌⊎◌, ℕ, ◌≤◌, ◌++◌, List, None, map, true, false, refl, reverse, sym, ap, subst, ◌∙◌, arith}
 use Rattle.std.specs.Prelude.{Contains, IfOk, Option, Result}
 use Rattle.std.proofs.lemmas.List.Elements.{All-contains, All-from_recursion, Contains-append_cases}
-use Rattle.std.proofs.lemmas.Result.{IfOk-from_err, err_from_is_err_and}
+use Rattle.std.proofs.lemmas.Result.{IfOk-from_err, err_from_is_err_and, IfOk-weaker, IfErr-weaker}
 use Rattle.slate_types.specs.declared.error.SlateDBError.{SlateDBError}
 use Rattle.slate_types.specs.declared.filter_policy.PrefixTarget.TheVariants.{Point}
 use Rattle.slate_types.specs.declared.types.RowEntry.{RowEntry}
@@ -24,23 +24,23 @@ use Rattle.slate_db.specs.Meaning.{rules_of}
 use Rattle.slate_db.specs.Shown.{Asking}
 use Rattle.slate_txn.specs.Reads.{key_rows, up_to}
 use Rattle.slate_db.specs.Model.{CoreModel, memory}
-use Rattle.slate_db.specs.Readable.{IsAnswered, IsOwnOperand}
+use Rattle.slate_db.specs.Readable.{IsAnswered, IsOwnRow}
 use Rattle.slate_db.specs.Sound.{IsSound}
 use Rattle.slate_db.specs.View.{view_of, unseen_of}
 use Rattle.slate_db.specs.Whole.{IsWhole}
 use Rattle.slate_db.proofs.Behind.{acts_answered, asks_by, asks_none, made_quiet}
-use Rattle.slate_db.proofs.Blocks.{if_ok, if_ok_where, if_err}
+use Rattle.slate_db.proofs.Blocks.{if_ok_where}
 use Rattle.slate_db.proofs.Causes.{fold_fault}
 use Rattle.slate_db.proofs.Shown.{fold_refused, found_rows, from_memory, journal_damage}
 use Rattle.slate_db.proofs.Filters.{filtered_known}
 use Rattle.slate_db.proofs.Finds.{brought_key, if_any, none_brought, some_brought}
 use Rattle.slate_db.proofs.Gets.{found_bases, found_folds, stored_as, Folds}
 use Rattle.slate_db.proofs.Runs.{all_handles}
-use Rattle.slate_db.proofs.Lists.{all_map}
 use Rattle.slate_db.proofs.UnderOwn.{operand_found}
 use Rattle.slate_db.proofs.Versions.{twice}
 use Rattle.slate_db.proofs.engine.Core.seen.Goals as goal
 use Rattle.slate_db.proofs.engine.Core.seen.Given as given
+use Rattle.slate_types.proofs.Lists.{AllByRecursion_weaken}
 
 -- what is reached before the tables are read, and then
 abbrev before : (g : given.Over) → goal.After-fold_found g → Reach
@@ -66,12 +66,12 @@ near_rows g c =
 near : (g : given.Over) (c : goal.After-fold_found g) → c.in_ok-near.near.items ≡ c.args.own.items ++ newest c.as_slice.result.now c.args.at (c.args.self.now.active ++ newest_first c.args.self.now.frozen)
 near g c = c.in_ok-near.ensures.found ∙ ap (λ rows. c.args.own.items ++ rows) (near_rows g c)
 
-near_among : (g : given.Over) (c : goal.After-fold_found g) (r : RowEntry) → Contains c.in_ok-near.near.items r → IsOwnOperand c.args.self.now r ⊎ Contains (newest_first (memory c.args.self.now)) r
+near_among : (g : given.Over) (c : goal.After-fold_found g) (r : RowEntry) → Contains c.in_ok-near.near.items r → IsOwnRow c.args.self.now r ⊎ Contains (newest_first (memory c.args.self.now)) r
 near_among g c r among =
     by (Contains-append_cases c.args.own.items (newest c.as_slice.result.now c.args.at (c.args.self.now.active ++ newest_first c.args.self.now.frozen)) r (subst (λ (xs : List RowEntry). Contains xs r) (near g c) among))
   where
-    by : Contains c.args.own.items r ⊎ Contains (newest c.as_slice.result.now c.args.at (c.args.self.now.active ++ newest_first c.args.self.now.frozen)) r → IsOwnOperand c.args.self.now r ⊎ Contains (newest_first (memory c.args.self.now)) r
-    by (inl own) = inl (All-contains (IsOwnOperand c.args.self.now) c.args.own.items r (All-from_recursion _ c.args.own.items c.requires.own) own)
+    by : Contains c.args.own.items r ⊎ Contains (newest c.as_slice.result.now c.args.at (c.args.self.now.active ++ newest_first c.args.self.now.frozen)) r → IsOwnRow c.args.self.now r ⊎ Contains (newest_first (memory c.args.self.now)) r
+    by (inl own) = inl (All-contains (IsOwnRow c.args.self.now) c.args.own.items r (All-from_recursion _ c.args.own.items c.requires.own) own)
     by (inr found) = inr (from_memory c.args.self.now c.as_slice.result.now c.args.at _ r refl found)
 
 whole : (g : given.Over) (c : goal.After-fold_found g) → IsWhole c.args.self.now (unseen_of c.self.inside)
@@ -101,7 +101,7 @@ brought g c above is needs =
     let asking : Asking = record { policies = policies g c; query = c.args.query.now } in
     let layers = (sound g c is).layers in
     let folds : Folds m c.args.self.now k c.args.at c.args.own.items c.in_ok-found.found.items = found_folds m c.args.self.now _ k c.args.at c.args.own.items c.in_ok-found.found.items layers (whole g c) is.readable.lawful is.readable.kept (sound g c is).tables (sound g c is).short above c.requires.keys c.requires.short (found_is g c is) in
-    let keys : AllByRecursion (λ r. r.key ≡ k) c.in_ok-found.found.items = twice (λ r. r.key ≡ k) c.in_ok-found.found.items (all_map (λ (r : RowEntry). (r.key ≡ k) × IsShort (operand r)) (λ (r : RowEntry). r.key ≡ k) (λ r h. h.0) (reverse c.in_ok-found.found.items) folds.are) in
+    let keys : AllByRecursion (λ r. r.key ≡ k) c.in_ok-found.found.items = twice (λ r. r.key ≡ k) c.in_ok-found.found.items (AllByRecursion_weaken (λ (r : RowEntry). (r.key ≡ k) × IsShort (operand r)) (λ (r : RowEntry). r.key ≡ k) (λ r h. h.0) (reverse c.in_ok-found.found.items) folds.are) in
     let near_is = near g c ∙ ap (λ (x : List ℕ). c.args.own.items ++ newest x c.args.at (c.args.self.now.active ++ newest_first c.args.self.now.frozen)) c.as_slice.ensures in
     let rows = c.in_ok-found.ensures.rows in
     let stored = stored_as m c.args.self.now (view_of c.self.inside) (unseen_of c.self.inside) (handles_of c.runs.result.now) is.os layers c.self.view_is (ap handles_of c.runs.ensures) c.self.invariant is.readable.lawful (sound g c is).tables is.readable.holds in
@@ -159,12 +159,12 @@ returns g c =
             let m = (before g c).meaning in
             let k = c.args.key.now in
             let folds : Folds m c.args.self.now k c.args.at c.args.own.items c.in_ok-found.found.items = found_folds m c.args.self.now _ k c.args.at c.args.own.items c.in_ok-found.found.items (sound g c is).layers (whole g c) is.readable.lawful is.readable.kept (sound g c is).tables (sound g c is).short above c.requires.keys c.requires.short (found_is g c is) in
-            if_ok c.fold_found.result _ _ (λ row h. h ∙ ap (λ x. fold_rows (operator_at x k) (reverse c.in_ok-found.found.items)) (sym same) ∙ folds.fold)
+            IfOk-weaker c.fold_found.result _ _ (λ row h. h ∙ ap (λ x. fold_rows (operator_at x k) (reverse c.in_ok-found.found.items)) (sym same) ∙ folds.fold)
             (c.fold_found.ensures.row k (subst (λ x. IsLawful (operator_at x k)) same (is.readable.lawful.operator k)) (subst (λ x. KeepsShort (operator_at x k)) same (is.readable.lawful.short k)) folds.are)));
         undamaged = (λ is.
             let none : (between g c).meaning.combine ≡ None → is_merge_among c.in_ok-found.found.items ≡ false = λ lacks. found_bases (before g c).meaning c.args.self.now c.args.key.now c.args.at c.args.own.items c.in_ok-found.found.items (sound g c is).layers (same ∙ lacks) is.readable.kept.0 is.readable.kept.2 ((sound g c is).bases (same ∙ lacks)) c.requires.own (found_is g c is) in
-            if_err c.fold_found.result _ _ (λ e h. fold_fault _ _ _ (is_merge_among c.in_ok-found.found.items) e tables.later none h) c.fold_found.ensures.cause);
-        cause = if_err c.fold_found.result _ _ (λ e h. fold_refused _ (before g c) (between g c) (after g c) c.args.self.now (handles_of c.runs.result.now) c.in_ok-near.near.items c.in_ok-found.found.items e (handles g c) (near_among g c) tables.later refl
+            IfErr-weaker c.fold_found.result _ _ (λ e h. fold_fault _ _ _ (is_merge_among c.in_ok-found.found.items) e tables.later none h) c.fold_found.ensures.cause);
+        cause = IfErr-weaker c.fold_found.result _ _ (λ e h. fold_refused _ (before g c) (between g c) (after g c) c.args.self.now (handles_of c.runs.result.now) c.in_ok-near.near.items c.in_ok-found.found.items e (handles g c) (near_among g c) tables.later refl
             (λ i. record (between g c).meaning { combine = c.fold_found.ensures.same i }) refl (found_rows _ _ _ (handles_of c.runs.result.now) c.in_ok-near.near.items c.in_ok-found.found.items c.in_ok-found.ensures.rows) h) c.fold_found.ensures.cause;
         reads = reads_then _ _ _ tables (reads_of _ _ refl c.fold_found.ensures.same refl refl (adds_none _) (record { store = omega arith; operator = c.fold_found.ensures.later; transformer = omega arith }) refl);
       };

@@ -23,12 +23,11 @@ use Rattle.slate_db.specs.Installs.{AreHandles, handles_of, tables_of}
 use Rattle.slate_db.specs.Meaning.{combine_of, rules_of}
 use Rattle.slate_db.specs.Model.{CoreModel, Rows}
 use Rattle.slate_db.specs.Asked.{takes_flushed}
-use Rattle.slate_db.specs.Readable.{IsOwnOperand, decides_own}
+use Rattle.slate_db.specs.Readable.{IsOwnRow, decides_own}
 use Rattle.slate_db.specs.Whole.{IsWhole}
 use Rattle.slate_db.specs.View.{unseen_of, view_of}
 use Rattle.slate_db.proofs.Bases.{no_merge_among}
 use Rattle.slate_db.proofs.Behind.{asks_none}
-use Rattle.slate_db.proofs.Blocks.{if_err, if_ok}
 use Rattle.slate_db.proofs.Causes.{fold_fault}
 use Rattle.slate_db.proofs.Gets.{own_pairs}
 use Rattle.slate_db.proofs.NoMerges.{own_bases_of}
@@ -38,6 +37,7 @@ use Rattle.slate_db.proofs.Readers.{own_fine_of, own_of_reader, own_rows_of}
 use Rattle.slate_db.proofs.Runs.{all_handles}
 use Rattle.slate_db.proofs.Shown.{fold_refused, newer_found}
 use Rattle.slate_db.proofs.engine.Core.seen_by.Goals as goal
+use Rattle.std.proofs.lemmas.Result.{IfOk-weaker, IfErr-weaker}
 
 pub seen-requires : goal.seen-requires
 seen-requires g c =
@@ -69,15 +69,15 @@ returns-then-is_decided g c =
           let there : reader (view_of c.self.inside).state c.args.id.now ≡ Some from = ap (λ (v : CoreModel). reader v.state c.args.id.now) c.self.view_is ∙ found in
           let rows : own ≡ map (own_row k) (reverse (kept from.ops k)) = own_rows_of (view_of c.self.inside).state c.args.id.now from there k own c.in_ok-own.ensures.rows c.in_ok-own.ensures.none in
           let decided : is_decided own ≡ true = ap is_decided (sym c.deref.ensures.value) ∙ sym c.is_decided.ensures ∙ c.if-is_decided.true in
-          let owns : AllByRecursion (IsOwnOperand c.args.self.now) own = own_of_reader c.args.self.now c.args.id.now from k own found rows in
+          let owns : AllByRecursion (IsOwnRow c.args.self.now) own = own_of_reader c.args.self.now c.args.id.now from k own found rows in
           let older : Rows = key_rows (rules_of c.args.self.now.settings before.meaning) k (up_to c.args.at c.args.self.now.state.commits) in
           let handles : AreHandles (tables_of c.args.self.now.events) (handles_of c.self.inside.layers.runs) = subst (λ (v : CoreModel). AreHandles (tables_of v.events) (handles_of c.self.inside.layers.runs)) c.self.view_is (all_handles (view_of c.self.inside).events c.self.inside.layers.runs c.self.invariant.tied.runs) in
           record {
-            answer = λ is. if_ok c.fold_found.result _ _ (λ row h above. h ∙ own_decided k from.ops own rows (combine_of before.meaning k) older decided)
+            answer = λ is. IfOk-weaker c.fold_found.result _ _ (λ row h above. h ∙ own_decided k from.ops own rows (combine_of before.meaning k) older decided)
                 (c.fold_found.ensures.row k (is.readable.lawful.operator k) (is.readable.lawful.short k) (own_pairs k own (own_keys k from.ops own rows) (own_short k from.ops own rows (own_fine_of (view_of c.self.inside).state c.args.id.now from there c.own_rows.ensures.fine))));
-            undamaged = λ is. if_err c.fold_found.result _ _ (λ e h. fold_fault before.faults before.faults after.faults (is_merge_among own) e (later_none before.faults) (λ lacks. no_merge_among own (own_bases_of c.args.self.now own (is.readable.kept.2 lacks) owns)) h) c.fold_found.ensures.cause;
-            cause = if_err c.fold_found.result _ _ (λ e h. fold_refused _ before before after c.args.self.now (handles_of c.self.inside.layers.runs) own own e handles
-                (λ r among. inl (All-contains (IsOwnOperand c.args.self.now) own r (All-from_recursion _ own owns) among)) (later_none before.faults) refl
+            undamaged = λ is. IfErr-weaker c.fold_found.result _ _ (λ e h. fold_fault before.faults before.faults after.faults (is_merge_among own) e (later_none before.faults) (λ lacks. no_merge_among own (own_bases_of c.args.self.now own (is.readable.kept.2 lacks) owns)) h) c.fold_found.ensures.cause;
+            cause = IfErr-weaker c.fold_found.result _ _ (λ e h. fold_refused _ before before after c.args.self.now (handles_of c.self.inside.layers.runs) own own e handles
+                (λ r among. inl (All-contains (IsOwnRow c.args.self.now) own r (All-from_recursion _ own owns) among)) (later_none before.faults) refl
                 (λ i. record before.meaning { combine = c.fold_found.ensures.same i }) refl ([], call_none before, newer_found before.meaning.decode _ (handles_of c.self.inside.layers.runs) own []) h) c.fold_found.ensures.cause;
             reads = reads_of before after refl c.fold_found.ensures.same refl refl (adds_none before.acts) (record { store = omega arith; operator = c.fold_found.ensures.later; transformer = omega arith }) refl;
           };
@@ -104,7 +104,7 @@ returns-then-is_decided g c =
       folded = λ t found some lawful short.
           let there : find_named c.args.id.now c.self.inside.transactions ≡ Some t = ap (λ (v : CoreModel). find_named c.args.id.now v.state.txns) c.self.view_is ∙ found in
           let rows : own ≡ map (own_row k) (reverse (kept t.ops k)) = c.in_ok-own.ensures.rows t there in
-          if_ok c.fold_found.result _ _ (λ row h. h ∙ ap (fold_rows (combine_of before.meaning k)) (oldest_first k t.ops own rows))
+          IfOk-weaker c.fold_found.result _ _ (λ row h. h ∙ ap (fold_rows (combine_of before.meaning k)) (oldest_first k t.ops own rows))
           (c.fold_found.ensures.row k lawful short (own_pairs k own (own_keys k t.ops own rows) (own_short k t.ops own rows (c.own_rows.ensures.fine t there))));
       missing = λ t found lacks some.
           let there : find_named c.args.id.now c.self.inside.transactions ≡ Some t = ap (λ (v : CoreModel). find_named c.args.id.now v.state.txns) c.self.view_is ∙ found in
@@ -123,7 +123,7 @@ returns g c =
           let rows : own ≡ map (own_row k) (reverse (kept from.ops k)) = own_rows_of (view_of c.self.inside).state c.args.id.now from there k own c.in_ok-own.ensures.rows c.in_ok-own.ensures.none in
           let older : Rows = key_rows (rules_of c.args.self.now.settings before.meaning) k (up_to c.args.at c.args.self.now.state.commits) in
           record {
-            answer = λ is. if_ok c.seen.result _ _ (λ row h above. h above ∙ ap (λ (xs : Rows). fold_rows (combine_of before.meaning k) (older ++ xs)) (oldest_first k from.ops own rows)) (c.seen.ensures.read.answer is);
+            answer = λ is. IfOk-weaker c.seen.result _ _ (λ row h above. h above ∙ ap (λ (xs : Rows). fold_rows (combine_of before.meaning k) (older ++ xs)) (oldest_first k from.ops own rows)) (c.seen.ensures.read.answer is);
             undamaged = c.seen.ensures.read.undamaged;
             cause = c.seen.ensures.read.cause;
             reads = c.seen.ensures.read.reads;

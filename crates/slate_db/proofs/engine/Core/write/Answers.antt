@@ -9,7 +9,7 @@ use Rattle.slate_mem.specs.Batch.{Ops, batch_keys}
 use Rattle.slate_mem.specs.CommitRows.{commit_rows}
 use Rattle.slate_mem.specs.KeyTests.{Segments, prefixes}
 use Rattle.slate_mem.specs.Table.{put_rows}
-use Rattle.slate_mem.proofs.NestLaws.{set-of-rest}
+use Rattle.slate_mem.proofs.NestLaws.{set_of_rest}
 use Rattle.slate_types.specs.Keys.{keys_set}
 use Rattle.slate_txn.specs.declared.line.Line.TheVariants as lines
 use Rattle.slate_txn.specs.Reply.{Written, Refused}
@@ -33,7 +33,6 @@ use Rattle.slate_db.proofs.Asks.{asked_call, asked_reads, call_none, callback_fa
 use Rattle.slate_db.proofs.Keeps.{kept_recorded, kept_same, room_made}
 use Rattle.slate_db.proofs.Segmenting.{segmented_more, segmented_same}
 use Rattle.slate_db.proofs.Calls.{none_left, past_place, placed, room_in_log, written_is}
-use Rattle.slate_db.proofs.Lists.{all_map, all_behind}
 use Rattle.slate_db.proofs.Loads.{write_load}
 use Rattle.slate_db.proofs.Managing.{managed_written}
 use Rattle.slate_db.proofs.MemoryRows.{commit_within, puts_all, rise_more}
@@ -47,6 +46,7 @@ use Rattle.slate_db.proofs.Vouches.{below_next, vouched_write}
 use Rattle.slate_db.proofs.Wholes.{whole_recorded, whole_write}
 use Rattle.slate_db.proofs.Writes.{kept_write}
 use Rattle.slate_db.proofs.engine.Core.write.Goals as goal
+use Rattle.slate_types.proofs.Lists.{AllByRecursion_behind, AllByRecursion_weaken}
 
 pub returns-then-is_empty : goal.returns-then-is_empty
 returns-then-is_empty g c =
@@ -168,7 +168,7 @@ invariant_of-self-2 g c =
     (whole_recorded (after_write (view_of c.self.inside) (n + 1) c.args.now c.args.batch.ops (put_rows c.self.inside.layers.active (commit_rows f c.self.inside.default_millis (n + 1) c.args.now c.args.batch.ops)) c.push_write.new.self.spare) _ c.put_batch.new.segments
     (whole_write (view_of c.self.inside) (unseen_of c.self.inside) c.args.now c.args.batch.ops (put_rows c.self.inside.layers.active (commit_rows f c.self.inside.default_millis (n + 1) c.args.now c.args.batch.ops)) c.push_write.new.self.spare
     (some_more f c.self.inside.default_millis (n + 1) c.args.now c.args.batch.ops c.self.inside.layers.active (λ e. let t : true ≡ false = sym (c.is_empty.ensures.1 e) ∙ c.if-is_empty.false in cc))
-    (puts_all _ c.self.inside.layers.active _ (all_map _ _ (λ r h. higher n r.seq h) _ (all_behind (λ rows. AllByRecursion (λ r. r.seq ≤ n) rows) c.self.inside.layers.frozen (c.self.inside.layers.active ∷ []) c.self.invariant.tied.rows_within).0) (commit_within f c.self.inside.default_millis (n + 1) c.args.now c.args.batch.ops))
+    (puts_all _ c.self.inside.layers.active _ (AllByRecursion_weaken _ _ (λ r h. higher n r.seq h) _ (AllByRecursion_behind (λ rows. AllByRecursion (λ r. r.seq ≤ n) rows) c.self.inside.layers.frozen (c.self.inside.layers.active ∷ []) c.self.invariant.tied.rows_within).0) (commit_within f c.self.inside.default_millis (n + 1) c.args.now c.args.batch.ops))
     c.put_batch.new.manager
     (managed_written c.self.inside.manager c.put_batch.new.manager c.self.inside.log.ids n (n + 1) c.self.inside.log.commits c.self.inside.transactions (record { seq = n + 1; now = c.args.now; ops = c.args.batch.ops; tracked = batch_keys c.args.batch.ops })
     (subst (λ (k : ℕ). c.put_batch.new.manager ≡ record c.self.inside.manager { last = k; kept = c.put_batch.new.manager.kept }) seq c.in_ok-put_batch.ensures.committed)
@@ -188,7 +188,7 @@ returns g c =
     c.in_ok-put_batch.ensures.put ∙ ap (λ rs. record c.self.inside.layers { active = put_rows c.self.inside.layers.active rs }) rows in
     let by : Segments = segments_by g.X.PrefixExtractor.lengths c.args.laws.now.segments in
     let recorded : c.put_batch.new.segments ≡ keys_set (c.self.inside.segments ++ prefixes by c.args.batch.ops) =
-    c.in_ok-put_batch.ensures.recorded ∙ ap (λ ps. keys_set (c.self.inside.segments ++ ps)) c.in_ok-prefixes.ensures.prefixes ∙ set-of-rest c.self.inside.segments (prefixes by c.args.batch.ops) in
+    c.in_ok-put_batch.ensures.recorded ∙ ap (λ ps. keys_set (c.self.inside.segments ++ ps)) c.in_ok-prefixes.ensures.prefixes ∙ set_of_rest c.self.inside.segments (prefixes by c.args.batch.ops) in
     let becomes = written_is (record c.self.inside { segments = c.put_batch.new.segments }) c.reserve.new.self c.push_write.new.self c.put_batch.new.layers c.put_batch.new.manager c.args.now _ c.args.batch.ops _ _ c.reserve.ensures.value (to_z-of_z w64 c.args.now c.ranges.now) (c.from_vec.ensures ∙ c.in_ok-ops.ensures.ops) c.push_write.ensures.value layers in
     let below : n < 2 ^ 64 - 2 = omega (arith, c.last.ensures) in
     let tested : batch_refusal m.combine by c.self.inside.segments c.self.inside.default_millis c.args.now c.args.batch ≡ None =
