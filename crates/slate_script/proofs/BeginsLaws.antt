@@ -8,8 +8,9 @@ use Rattle.std.specs.declared.ops.Bound.{Bound}
 use Rattle.std.specs.declared.ops.Bound.TheVariants.{Included, Excluded, Unbounded}
 use Rattle.slate_types.specs.declared.bytes_range.BytesRange.{BytesRange}
 use Rattle.slate_types.specs.Keys.{key_cmp, key_lt, key_le, carried, successor, is_past_start, is_before_end, in_range, is_refused, prefix_start, prefix_end, excluded_or_open, behind, prefix_subrange}
-use Rattle.slate_types.proofs.KeyOrder.{lt-le}
+use Rattle.slate_types.proofs.KeyOrder.{lt_le}
 use Rattle.slate_script.specs.Scanning.{EndsBelow}
+use Rattle.slate_types.proofs.Plain.{both_true}
 
 -- ---- the first numbers of two keys
 
@@ -24,35 +25,35 @@ heads below none x y m h = by (ltb x y) refl (nat_eq x y) refl h
     by false e true f k = let same : x ≡ y = grind (arith, nat_tests, f) in inr (same, k)
     by false e false f k = let clash : false ≡ true = sym none ∙ k in cc
 
-le-less : (x y : ℕ) (m : Ordering) → x < y → is_le (ordering_then (nat_cmp x y) m) ≡ true
-le-less x y m less = let e : ltb x y ≡ true = grind (arith, nat_tests, less) in ap (λ t. is_le (ordering_then (cond t Less (cond (nat_eq x y) Equal Greater)) m)) e
+le_less : (x y : ℕ) (m : Ordering) → x < y → is_le (ordering_then (nat_cmp x y) m) ≡ true
+le_less x y m less = let e : ltb x y ≡ true = grind (arith, nat_tests, less) in ap (λ t. is_le (ordering_then (cond t Less (cond (nat_eq x y) Equal Greater)) m)) e
 
-le-same : (x y : ℕ) (m : Ordering) → x ≡ y → is_le m ≡ true → is_le (ordering_then (nat_cmp x y) m) ≡ true
-le-same x y m same h =
+le_same : (x y : ℕ) (m : Ordering) → x ≡ y → is_le m ≡ true → is_le (ordering_then (nat_cmp x y) m) ≡ true
+le_same x y m same h =
     let e : ltb x y ≡ false = grind (arith, nat_tests, same) in
     let f : nat_eq x y ≡ true = grind (arith, nat_tests, same) in
     (λ i. is_le (ordering_then (cond (e i) Less (cond (f i) Equal Greater)) m)) ∙ h
 
 -- ---- keys from a prefix on
 
-front-le : (p a k : List ℕ) → key_le (p ++ a) k ≡ true → key_le p k ≡ true
-front-le [] a [] h = refl
-front-le [] a (x ∷ k) h = refl
-front-le (b ∷ p) a [] h = cc
-front-le (b ∷ p) a (x ∷ k) h = by (heads is_le refl b x (key_cmp (p ++ a) k) h) (front-le p a k)
+front_le : (p a k : List ℕ) → key_le (p ++ a) k ≡ true → key_le p k ≡ true
+front_le [] a [] h = refl
+front_le [] a (x ∷ k) h = refl
+front_le (b ∷ p) a [] h = cc
+front_le (b ∷ p) a (x ∷ k) h = by (heads is_le refl b x (key_cmp (p ++ a) k) h) (front_le p a k)
   where
     by : Heads is_le b x (key_cmp (p ++ a) k) → (key_le (p ++ a) k ≡ true → key_le p k ≡ true) → key_le (b ∷ p) (x ∷ k) ≡ true
-    by (inl less) later = le-less b x (key_cmp p k) less
-    by (inr same) later = le-same b x (key_cmp p k) same.0 (later same.1)
+    by (inl less) later = le_less b x (key_cmp p k) less
+    by (inr same) later = le_same b x (key_cmp p k) same.0 (later same.1)
 
 -- equal first numbers, and the same of what stands behind them
 onto : (b x : ℕ) (p k : List ℕ) → b ≡ x → starts_with nat_eq k p ≡ true → starts_with nat_eq (x ∷ k) (b ∷ p) ≡ true
 onto b x p k same h = let e : nat_eq b x ≡ true = grind (arith, nat_tests, same) in λ i. e i && h i
 
-begins-between : (p a k : List ℕ) → key_le p k ≡ true → key_le k (p ++ a) ≡ true → starts_with nat_eq k p ≡ true
-begins-between [] a k h g = refl
-begins-between (b ∷ p) a [] h g = cc
-begins-between (b ∷ p) a (x ∷ k) h g = by (heads is_le refl b x (key_cmp p k) h) (heads is_le refl x b (key_cmp k (p ++ a)) g) (begins-between p a k)
+begins_between : (p a k : List ℕ) → key_le p k ≡ true → key_le k (p ++ a) ≡ true → starts_with nat_eq k p ≡ true
+begins_between [] a k h g = refl
+begins_between (b ∷ p) a [] h g = cc
+begins_between (b ∷ p) a (x ∷ k) h g = by (heads is_le refl b x (key_cmp p k) h) (heads is_le refl x b (key_cmp k (p ++ a)) g) (begins_between p a k)
   where
     by : Heads is_le b x (key_cmp p k) → Heads is_le x b (key_cmp k (p ++ a)) → (key_le p k ≡ true → key_le k (p ++ a) ≡ true → starts_with nat_eq k p ≡ true) → starts_with nat_eq (x ∷ k) (b ∷ p) ≡ true
     by (inl less) (inl more) later = absurd (omega (arith, less, more))
@@ -68,34 +69,34 @@ past [] = []
 past (b ∷ []) = (b + 1) ∷ []
 past (b ∷ c ∷ p) = b ∷ past (c ∷ p)
 
-successor-is : (b : ℕ) (p : List ℕ) → EndsBelow (b ∷ p) → successor (b ∷ p) ≡ Some (past (b ∷ p))
+successor_is : (b : ℕ) (p : List ℕ) → EndsBelow (b ∷ p) → successor (b ∷ p) ≡ Some (past (b ∷ p))
 unfolding past
-successor-is b [] h = by (nat_eq b 255) refl
+successor_is b [] h = by (nat_eq b 255) refl
   where
     by : (t : Bool) → nat_eq b 255 ≡ t → cond t None (Some ((b + 1) ∷ [])) ≡ Some ((b + 1) ∷ [])
     by true e = let same : b ≡ 255 = grind (arith, nat_tests, e) in absurd (h (ap Some same))
     by false e = refl
-successor-is b (c ∷ p) h = ap (carried b) (successor-is c p (λ e. h (ap (slice_get (b ∷ c ∷ p)) next ∙ e)))
+successor_is b (c ∷ p) h = ap (carried b) (successor_is c p (λ e. h (ap (slice_get (b ∷ c ∷ p)) next ∙ e)))
   where
     next : length (b ∷ c ∷ p) - 1 ≡ suc (length (c ∷ p) - 1)
     next = omega arith
 
-nil-not-lt : (k : List ℕ) → key_lt k [] ≡ false
-nil-not-lt [] = refl
-nil-not-lt (x ∷ k) = refl
+nil_not_lt : (k : List ℕ) → key_lt k [] ≡ false
+nil_not_lt [] = refl
+nil_not_lt (x ∷ k) = refl
 
-begins-below : (p k : List ℕ) → key_le p k ≡ true → key_lt k (past p) ≡ true → starts_with nat_eq k p ≡ true
+begins_below : (p k : List ℕ) → key_le p k ≡ true → key_lt k (past p) ≡ true → starts_with nat_eq k p ≡ true
 unfolding past
-begins-below [] k h g = refl
-begins-below (b ∷ []) [] h g = cc
-begins-below (b ∷ []) (x ∷ k) h g = by (heads is_le refl b x (key_cmp [] k) h) (heads is_lt refl x (b + 1) (key_cmp k []) g)
+begins_below [] k h g = refl
+begins_below (b ∷ []) [] h g = cc
+begins_below (b ∷ []) (x ∷ k) h g = by (heads is_le refl b x (key_cmp [] k) h) (heads is_lt refl x (b + 1) (key_cmp k []) g)
   where
     by : Heads is_le b x (key_cmp [] k) → Heads is_lt x (b + 1) (key_cmp k []) → starts_with nat_eq (x ∷ k) (b ∷ []) ≡ true
     by (inl less) (inl more) = absurd (omega (arith, less, more))
     by (inr same) (inl more) = onto b x [] k same.0 refl
-    by first (inr other) = let clash : false ≡ true = sym (nil-not-lt k) ∙ other.1 in cc
-begins-below (b ∷ c ∷ p) [] h g = cc
-begins-below (b ∷ c ∷ p) (x ∷ k) h g = by (heads is_le refl b x (key_cmp (c ∷ p) k) h) (heads is_lt refl x b (key_cmp k (past (c ∷ p))) g) (begins-below (c ∷ p) k)
+    by first (inr other) = let clash : false ≡ true = sym (nil_not_lt k) ∙ other.1 in cc
+begins_below (b ∷ c ∷ p) [] h g = cc
+begins_below (b ∷ c ∷ p) (x ∷ k) h g = by (heads is_le refl b x (key_cmp (c ∷ p) k) h) (heads is_lt refl x b (key_cmp k (past (c ∷ p))) g) (begins_below (c ∷ p) k)
   where
     by : Heads is_le b x (key_cmp (c ∷ p) k) → Heads is_lt x b (key_cmp k (past (c ∷ p))) → (key_le (c ∷ p) k ≡ true → key_lt k (past (c ∷ p)) ≡ true → starts_with nat_eq k (c ∷ p) ≡ true) →
         starts_with nat_eq (x ∷ k) (b ∷ c ∷ p) ≡ true
@@ -106,28 +107,24 @@ begins-below (b ∷ c ∷ p) (x ∷ k) h g = by (heads is_le refl b x (key_cmp (
 
 -- ---- keys of composed ranges
 
-from-start : (b : ℕ) (p : List ℕ) (start : Bound (List ℕ)) (k : List ℕ) → is_past_start (behind (b ∷ p) start (prefix_start (b ∷ p))) k ≡ true → key_le (b ∷ p) k ≡ true
-from-start b p (Included a) k h = front-le (b ∷ p) a k h
-from-start b p (Excluded a) k h = front-le (b ∷ p) a k (lt-le ((b ∷ p) ++ a) k h)
-from-start b p Unbounded k h = h
+from_start : (b : ℕ) (p : List ℕ) (start : Bound (List ℕ)) (k : List ℕ) → is_past_start (behind (b ∷ p) start (prefix_start (b ∷ p))) k ≡ true → key_le (b ∷ p) k ≡ true
+from_start b p (Included a) k h = front_le (b ∷ p) a k h
+from_start b p (Excluded a) k h = front_le (b ∷ p) a k (lt_le ((b ∷ p) ++ a) k h)
+from_start b p Unbounded k h = h
 
-to-end : (b : ℕ) (p : List ℕ) (end : Bound (List ℕ)) (k : List ℕ) → EndsBelow (b ∷ p) → key_le (b ∷ p) k ≡ true → is_before_end (behind (b ∷ p) end (prefix_end (b ∷ p))) k ≡ true → starts_with nat_eq k (b ∷ p) ≡ true
-to-end b p (Included a) k below from h = begins-between (b ∷ p) a k from h
-to-end b p (Excluded a) k below from h = begins-between (b ∷ p) a k from (lt-le k ((b ∷ p) ++ a) h)
-to-end b p Unbounded k below from h = begins-below (b ∷ p) k from (subst (λ o. is_before_end (excluded_or_open o) k ≡ true) (successor-is b p below) h)
+to_end : (b : ℕ) (p : List ℕ) (end : Bound (List ℕ)) (k : List ℕ) → EndsBelow (b ∷ p) → key_le (b ∷ p) k ≡ true → is_before_end (behind (b ∷ p) end (prefix_end (b ∷ p))) k ≡ true → starts_with nat_eq k (b ∷ p) ≡ true
+to_end b p (Included a) k below from h = begins_between (b ∷ p) a k from h
+to_end b p (Excluded a) k below from h = begins_between (b ∷ p) a k from (lt_le k ((b ∷ p) ++ a) h)
+to_end b p Unbounded k below from h = begins_below (b ∷ p) k from (subst (λ o. is_before_end (excluded_or_open o) k ≡ true) (successor_is b p below) h)
 
-both-true : (a b : Bool) → (a && b) ≡ true → (a ≡ true) × (b ≡ true)
-both-true true b h = (refl, h)
-both-true false b h = cc
+some_range : (t : Bool) (r s : BytesRange) → cond t None (Some r) ≡ Some s → r ≡ s
+some_range true r s e = cc
+some_range false r s e = ap (λ o. unwrap_or o r) e
 
-some-range : (t : Bool) (r s : BytesRange) → cond t None (Some r) ≡ Some s → r ≡ s
-some-range true r s e = cc
-some-range false r s e = ap (λ o. unwrap_or o r) e
-
-pub begins-in : (p : List ℕ) (start end : Bound (List ℕ)) (r : BytesRange) (k : List ℕ) → EndsBelow p → prefix_subrange p start end ≡ Some r → in_range r k ≡ true → starts_with nat_eq k p ≡ true
-begins-in [] start end r k below is within = refl
-begins-in (b ∷ p) start end r k below is within =
+pub begins_in : (p : List ℕ) (start end : Bound (List ℕ)) (r : BytesRange) (k : List ℕ) → EndsBelow p → prefix_subrange p start end ≡ Some r → in_range r k ≡ true → starts_with nat_eq k p ≡ true
+begins_in [] start end r k below is within = refl
+begins_in (b ∷ p) start end r k below is within =
     let made : BytesRange = record { start = behind (b ∷ p) start (prefix_start (b ∷ p)); end = behind (b ∷ p) end (prefix_end (b ∷ p)) } in
-    let same = some-range (is_refused made.start made.end) made r is in
-    let bounds = both-true (is_past_start made.start k) (is_before_end made.end k) (ap (λ q. in_range q k) same ∙ within) in
-    to-end b p end k below (from-start b p start k bounds.0) bounds.1
+    let same = some_range (is_refused made.start made.end) made r is in
+    let bounds = both_true (is_past_start made.start k) (is_before_end made.end k) (ap (λ q. in_range q k) same ∙ within) in
+    to_end b p end k below (from_start b p start k bounds.0) bounds.1

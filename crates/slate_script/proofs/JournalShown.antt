@@ -12,35 +12,35 @@ use Rattle.slate_txn.specs.State.{Commit, State, opening}
 use Rattle.slate_language.specs.Answers.{shown_commits}
 use Rattle.slate_script.specs.Shown.{shown_in}
 
-shown-both : (cs ds : List Commit) → shown_commits (cs ++ ds) ≡ shown_commits cs ++ shown_commits ds
-shown-both [] ds = refl
-shown-both (c ∷ cs) ds = ap (λ rest. record c { ops = [] } ∷ rest) (shown-both cs ds)
+shown_both : (cs ds : List Commit) → shown_commits (cs ++ ds) ≡ shown_commits cs ++ shown_commits ds
+shown_both [] ds = refl
+shown_both (c ∷ cs) ds = ap (λ rest. record c { ops = [] } ∷ rest) (shown_both cs ds)
 
-shown-one : (s : State) (e : Event) → shown_commits (apply s e).commits ≡ shown_commits s.commits ++ shown_in e
-shown-one s (events.Begin id level start) = sym (append-nil (shown_commits s.commits))
-shown-one s (events.End id) = sym (append-nil (shown_commits s.commits))
-shown-one s (events.Commit id None now ops tracked ts) = shown-both s.commits []
-shown-one s (events.Commit id (Some n) now ops tracked ts) = shown-both s.commits _
-shown-one s (events.Write n now ops) = shown-both s.commits _
-shown-one s events.Freeze = sym (append-nil (shown_commits s.commits))
-shown-one s (events.Install through tables) = sym (append-nil (shown_commits s.commits))
-shown-one s (events.Snapshot id n) = sym (append-nil (shown_commits s.commits))
-shown-one s (events.Release id) = sym (append-nil (shown_commits s.commits))
+shown_one : (s : State) (e : Event) → shown_commits (apply s e).commits ≡ shown_commits s.commits ++ shown_in e
+shown_one s (events.Begin id level start) = sym (append-nil (shown_commits s.commits))
+shown_one s (events.End id) = sym (append-nil (shown_commits s.commits))
+shown_one s (events.Commit id None now ops tracked ts) = shown_both s.commits []
+shown_one s (events.Commit id (Some n) now ops tracked ts) = shown_both s.commits _
+shown_one s (events.Write n now ops) = shown_both s.commits _
+shown_one s events.Freeze = sym (append-nil (shown_commits s.commits))
+shown_one s (events.Install through tables) = sym (append-nil (shown_commits s.commits))
+shown_one s (events.Snapshot id n) = sym (append-nil (shown_commits s.commits))
+shown_one s (events.Release id) = sym (append-nil (shown_commits s.commits))
 
 -- what all events show
 abbrev pub shown_all : List Event → List Commit
 shown_all es = flat_map shown_in es
 
-shown-after : (s : State) (es : List Event) → shown_commits (apply_all s es).commits ≡ shown_commits s.commits ++ shown_all es
-shown-after s [] = sym (append-nil (shown_commits s.commits))
-shown-after s (e ∷ es) =
-    shown-after (apply s e) es ∙ ap (λ cs. cs ++ shown_all es) (shown-one s e) ∙ append_assoc (shown_commits s.commits) (shown_in e) (shown_all es)
+shown_after : (s : State) (es : List Event) → shown_commits (apply_all s es).commits ≡ shown_commits s.commits ++ shown_all es
+shown_after s [] = sym (append-nil (shown_commits s.commits))
+shown_after s (e ∷ es) =
+    shown_after (apply s e) es ∙ ap (λ cs. cs ++ shown_all es) (shown_one s e) ∙ append_assoc (shown_commits s.commits) (shown_in e) (shown_all es)
 
-pub shown-replay : (es : List Event) → shown_all es ≡ shown_commits (replay es).commits
-shown-replay es = sym (shown-after opening es)
+pub shown_replay : (es : List Event) → shown_all es ≡ shown_commits (replay es).commits
+shown_replay es = sym (shown_after opening es)
 
 -- the keys of operations, the first of them and the others
-pub keys-first : (os : Ops) (i : ℕ) (o : List ℕ × WriteOp) → i < length os → o ≡ get_or os i o → map (λ p. p.0) (drop i os) ≡ o.0 ∷ map (λ p. p.0) (drop (i + 1) os)
-keys-first os i o within is =
+pub keys_first : (os : Ops) (i : ℕ) (o : List ℕ × WriteOp) → i < length os → o ≡ get_or os i o → map (λ p. p.0) (drop i os) ≡ o.0 ∷ map (λ p. p.0) (drop (i + 1) os)
+keys_first os i o within is =
     ap (map (λ p. p.0)) (drop-cons os i o within ∙ ap (λ n. get_or os i o ∷ drop n os) (sym (add-one i)))
     ∙ ap (λ (p : List ℕ × WriteOp). p.0 ∷ map (λ q. q.0) (drop (i + 1) os)) (sym is)

@@ -13,79 +13,79 @@ use Rattle.slate_language.specs.declared.parts.Xor.{Xor}
 use Rattle.slate_language.specs.declared.words.Generated.{Generated}
 use Rattle.slate_language.specs.declared.words.Settings.{Settings}
 use Rattle.slate_language.specs.Words.{read_generated, read_words}
-use Rattle.slate_language.proofs.WordLaws.{generated-alone}
+use Rattle.slate_language.proofs.WordLaws.{generated_alone}
 use Rattle.slate_language.specs.Parts.{named, xored}
 use Rattle.slate_script.specs.Program.{segments_of, changed, main_rules, parts_of}
 use Rattle.slate_script.specs.Run.{Premises, run_rules}
-use Rattle.slate_language.proofs.PartsLaws.{named-lawful, xor-back}
+use Rattle.slate_language.proofs.PartsLaws.{named_lawful, xor_back}
 use Rattle.slate_script.proofs.MeaningOf.{meaning_of}
 
 -- operator, transformer: those of the words, where they name some
-abbrev pub words-mean : Option NamedOperator → Option Xor → Meaning
-words-mean operator transformer = meaning_of named (λ (x : Xor). xored x.mask) (λ (x : Xor). xored x.mask) operator transformer
+abbrev pub words_mean : Option NamedOperator → Option Xor → Meaning
+words_mean operator transformer = meaning_of named (λ (x : Xor). xored x.mask) (λ (x : Xor). xored x.mask) operator transformer
 
-pub lawful : (operator : Option NamedOperator) (transformer : Option Xor) → IsLawfulMeaning (words-mean operator transformer)
+pub lawful : (operator : Option NamedOperator) (transformer : Option Xor) → IsLawfulMeaning (words_mean operator transformer)
 lawful operator transformer = record { operator = λ k. (combined operator k).0; short = λ k. (combined operator k).1; transformer = back transformer }
   where
-    combined : (o : Option NamedOperator) (k : List ℕ) → IsLawful (combine_of (words-mean o transformer) k) × KeepsShort (combine_of (words-mean o transformer) k)
+    combined : (o : Option NamedOperator) (k : List ℕ) → IsLawful (combine_of (words_mean o transformer) k) × KeepsShort (combine_of (words_mean o transformer) k)
     combined None k = (record { first = λ v h. refl; assoc = λ u v w h i j. refl }, λ u v h i. i)
-    combined (Some o) k = named-lawful o k
+    combined (Some o) k = named_lawful o k
 
-    back : (t : Option Xor) → IsLawfulTransform (words-mean operator t).encode (words-mean operator t).decode
+    back : (t : Option Xor) → IsLawfulTransform (words_mean operator t).encode (words_mean operator t).decode
     back None d = refl
-    back (Some x) d = xor-back x.mask d
+    back (Some x) d = xor_back x.mask d
 
-pub premises : (policies : List Policy) (operator : Option NamedOperator) (transformer : Option Xor) (objects : Option Objects) → AreLawful policies → IsEmpty objects → Premises policies (words-mean operator transformer) objects
+pub premises : (policies : List Policy) (operator : Option NamedOperator) (transformer : Option Xor) (objects : Option Objects) → AreLawful policies → IsEmpty objects → Premises policies (words_mean operator transformer) objects
 premises policies operator transformer objects lawful_policies empty = record { lawful_policies = lawful_policies; lawful = lawful operator transformer; empty = empty }
 
 -- a part without faults has none
-pub none-rose : {P : Type 0} (before after : Option P) → Rose (faults_of (λ _. 0) before) (faults_of (λ _. 0) after) → ⊥
-none-rose None None h = omega arith
-none-rose None (Some p) h = omega arith
-none-rose (Some p) None h = omega arith
-none-rose (Some p) (Some q) h = omega arith
+pub none_rose : {P : Type 0} (before after : Option P) → Rose (faults_of (λ _. 0) before) (faults_of (λ _. 0) after) → ⊥
+none_rose None None h = omega arith
+none_rose None (Some p) h = omega arith
+none_rose (Some p) None h = omega arith
+none_rose (Some p) (Some q) h = omega arith
 
-pub same-settings : (o : Option Settings) (a b : Settings) → o ≡ Some a → o ≡ Some b → a ≡ b
-same-settings o a b h k = cc
+pub same_settings : (o : Option Settings) (a b : Settings) → o ≡ Some a → o ≡ Some b → a ≡ b
+same_settings o a b h k = cc
 
-pub some-not-none : (o : Option Settings) (a : Settings) → o ≡ Some a → o ≡ None → ⊥
-some-not-none o a h k = cc
+pub some_not_none : (o : Option Settings) (a : Settings) → o ≡ Some a → o ≡ None → ⊥
+some_not_none o a h k = cc
 
 pub neither : {A B P : Type 0} → (A → ⊥) → (B → ⊥) → A ⊎ B → P
 neither f k (inl h) = absurd (f h)
 neither f k (inr h) = absurd (k h)
 
-pub status-or-either : {n k a b : ℕ} → n ≡ k → (n ≡ a) ⊎ (n ≡ b) → (k ≡ a) ⊎ (k ≡ b)
-status-or-either is (inl h) = inl (sym is ∙ h)
-status-or-either is (inr h) = inr (sym is ∙ h)
+pub status_or_either : {n k a b : ℕ} → n ≡ k → (n ≡ a) ⊎ (n ≡ b) → (k ≡ a) ⊎ (k ≡ b)
+status_or_either is (inl h) = inl (sym is ∙ h)
+status_or_either is (inr h) = inr (sym is ∙ h)
 
 -- what the words name is all that the parts mean
-pub words-are : (s : Settings) (transformer : Option Xor) → option_map (λ x. x.mask) transformer ≡ s.mask → words-mean s.operator transformer ≡ parts_of s
-words-are s transformer is = by s.operator transformer ∙ ap (parts s.operator) is
+pub words_are : (s : Settings) (transformer : Option Xor) → option_map (λ x. x.mask) transformer ≡ s.mask → words_mean s.operator transformer ≡ parts_of s
+words_are s transformer is = by s.operator transformer ∙ ap (parts s.operator) is
   where
     parts : Option NamedOperator → Option ℕ → Meaning
     parts operator mask = record { combine = option_map named operator; encode = changed mask; decode = changed mask }
 
-    by : (o : Option NamedOperator) (t : Option Xor) → words-mean o t ≡ parts o (option_map (λ x. x.mask) t)
+    by : (o : Option NamedOperator) (t : Option Xor) → words_mean o t ≡ parts o (option_map (λ x. x.mask) t)
     by None None = refl
     by None (Some x) = refl
     by (Some o) None = refl
     by (Some o) (Some x) = refl
 
-pub rules-are : (s : Settings) (transformer : Option Xor) → option_map (λ x. x.mask) transformer ≡ s.mask → run_rules s.options (words-mean s.operator transformer) (segments_of s) ≡ main_rules s
-rules-are s transformer is = ap (λ m. run_rules s.options m (segments_of s)) (words-are s transformer is)
+pub rules_are : (s : Settings) (transformer : Option Xor) → option_map (λ x. x.mask) transformer ≡ s.mask → run_rules s.options (words_mean s.operator transformer) (segments_of s) ≡ main_rules s
+rules_are s transformer is = ap (λ m. run_rules s.options m (segments_of s)) (words_are s transformer is)
 
 -- ---- words that name a script of the run's own
 
-pub same-generated : (o : Option Generated) (a b : Generated) → o ≡ Some a → o ≡ Some b → a ≡ b
-same-generated o a b h k = cc
+pub same_generated : (o : Option Generated) (a b : Generated) → o ≡ Some a → o ≡ Some b → a ≡ b
+same_generated o a b h k = cc
 
-pub generated-not-none : (o : Option Generated) (a : Generated) → o ≡ Some a → o ≡ None → ⊥
-generated-not-none o a h k = cc
+pub generated_not_none : (o : Option Generated) (a : Generated) → o ≡ Some a → o ≡ None → ⊥
+generated_not_none o a h k = cc
 
-pub one-script : {P : Type 0} (handed ws : List (List ℕ)) (g : Generated) (s : Settings) → read_generated handed ws ≡ Some g → read_words handed ws ≡ Some s → P
-one-script handed ws g s h k = absurd (some-not-none (read_words handed ws) s k (generated-alone handed ws g h))
+pub one_script : {P : Type 0} (handed ws : List (List ℕ)) (g : Generated) (s : Settings) → read_generated handed ws ≡ Some g → read_words handed ws ≡ Some s → P
+one_script handed ws g s h k = absurd (some_not_none (read_words handed ws) s k (generated_alone handed ws g h))
 
 -- what is read with the names of these policies
-pub read-as : {B C : Type 0} (result : C) (xs ys : List B) (name : B → List ℕ) (read : List (List ℕ) → C) → result ≡ read (map name xs) → xs ≡ ys → result ≡ read (map name ys)
-read-as result xs ys name read is same = is ∙ ap (λ zs. read (map name zs)) same
+pub read_as : {B C : Type 0} (result : C) (xs ys : List B) (name : B → List ℕ) (read : List (List ℕ) → C) → result ≡ read (map name xs) → xs ≡ ys → result ≡ read (map name ys)
+read_as result xs ys name read is same = is ∙ ap (λ zs. read (map name zs)) same

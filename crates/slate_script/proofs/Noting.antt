@@ -9,8 +9,8 @@ use Rattle.slate_txn.specs.declared.event.TranscriptStep.TheVariants as steps
 use Rattle.slate_txn.specs.Named.{find_named, update_named}
 use Rattle.slate_txn.specs.State.{State, Tx}
 use Rattle.slate_txn.specs.Step.{Reader, is_scan, noted, reader, reader_or_snapshot}
-use Rattle.slate_types.proofs.KeyOrder.{bytes_eq-same}
-use Rattle.slate_script.proofs.NamesLaws.{find_named-updated, update_same, update_twice}
+use Rattle.slate_types.proofs.KeyOrder.{bytes_eq_same}
+use Rattle.slate_script.proofs.NamesLaws.{find_named_updated, update_same, update_twice}
 use Rattle.slate_script.proofs.WalkLaws.{one_more, scans_more}
 
 pub noted_none : (s : State) (k : List ℕ) → s ≡ noted s k []
@@ -26,7 +26,7 @@ abbrev noting : List TranscriptStep → Tx → Tx
 noting ts t = record t { transcript = t.transcript ++ ts }
 
 noted_under : (s : State) (k q : List ℕ) (ts : List TranscriptStep) → find_named q (noted s k ts).txns ≡ cond (bytes_eq k q) (option_map (noting ts) (find_named q s.txns)) (find_named q s.txns)
-noted_under s k q ts = find_named-updated k q (noting ts) s.txns
+noted_under s k q ts = find_named_updated k q (noting ts) s.txns
 
 -- what reads goes on to
 pub noted_reads : (s : State) (k : List ℕ) (ts : List TranscriptStep) → IsSome (reader s k) → IsSome (reader (noted s k ts) k)
@@ -40,7 +40,7 @@ noted_reads s k ts some = subst (λ o. IsSome (reader_or_snapshot o (find_named 
 -- of a transaction's scans there are no fewer
 pub noted_scans : (s : State) (k : List ℕ) (ts : List TranscriptStep) (n : ℕ) → ((t : Tx) → find_named k s.txns ≡ Some t → n < count_by is_scan t.transcript) →
     (t : Tx) → find_named k (noted s k ts).txns ≡ Some t → n < count_by is_scan t.transcript
-noted_scans s k ts n below t found = by (find_named k s.txns) below (sym (noted_under s k k ts ∙ ap (λ b. cond b (option_map (noting ts) (find_named k s.txns)) (find_named k s.txns)) (bytes_eq-same k)) ∙ found)
+noted_scans s k ts n below t found = by (find_named k s.txns) below (sym (noted_under s k k ts ∙ ap (λ b. cond b (option_map (noting ts) (find_named k s.txns)) (find_named k s.txns)) (bytes_eq_same k)) ∙ found)
   where
     by : (o : Option Tx) → ((u : Tx) → o ≡ Some u → n < count_by is_scan u.transcript) → option_map (noting ts) o ≡ Some t → n < count_by is_scan t.transcript
     by None h is = cc
@@ -52,7 +52,7 @@ noted_scans s k ts n below t found = by (find_named k s.txns) below (sym (noted_
 pub noted_scan : (s : State) (k : List ℕ) (order : IterationOrder) (range : BytesRange) (from : Reader) → reader s k ≡ Some from →
     (t : Tx) → find_named k (noted s k (steps.Scan order range ∷ [])).txns ≡ Some t → from.scans < count_by is_scan t.transcript
 noted_scan s k order range from reads t found =
-    by (find_named k s.txns) (find_named k s.snapshots) reads (sym (noted_under s k k ts ∙ ap (λ b. cond b (option_map (noting ts) (find_named k s.txns)) (find_named k s.txns)) (bytes_eq-same k)) ∙ found)
+    by (find_named k s.txns) (find_named k s.snapshots) reads (sym (noted_under s k k ts ∙ ap (λ b. cond b (option_map (noting ts) (find_named k s.txns)) (find_named k s.txns)) (bytes_eq_same k)) ∙ found)
   where
     ts : List TranscriptStep
     ts = steps.Scan order range ∷ []

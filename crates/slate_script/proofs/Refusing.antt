@@ -16,84 +16,84 @@ use Rattle.slate_db.specs.Load.{weight}
 use Rattle.slate_db.specs.Log.{LIMIT}
 use Rattle.slate_language.specs.declared.reply.Answer.{Answer}
 use Rattle.slate_script.specs.Session.{SessionModel, IsLimit, IsRefusal}
-use Rattle.slate_script.proofs.SessionSteps.{some-error}
+use Rattle.slate_script.proofs.SessionSteps.{some_error}
 
-ttl-refuses : (k : List ℕ) (es : List (Option ℤ)) (e : SlateDBError) → first_refusal (ttl_refusal k es ∷ []) ≡ Some e → IsRefusal e
-ttl-refuses k [] e h = cc
-ttl-refuses k (x ∷ xs) e h = by (first_other x xs) h
+ttl_refuses : (k : List ℕ) (es : List (Option ℤ)) (e : SlateDBError) → first_refusal (ttl_refusal k es ∷ []) ≡ Some e → IsRefusal e
+ttl_refuses k [] e h = cc
+ttl_refuses k (x ∷ xs) e h = by (first_other x xs) h
   where
     by : (o : Option (Option ℤ)) → first_refusal (option_map (λ y. errors.IncompatibleMergeTtls k x y) o ∷ []) ≡ Some e → IsRefusal e
     by None is = cc
-    by (Some y) is = subst IsRefusal (some-error (errors.IncompatibleMergeTtls k x y) e is) tt
+    by (Some y) is = subst IsRefusal (some_error (errors.IncompatibleMergeTtls k x y) e is) tt
 
-segment-refuses : (segments : Segments) (k : List ℕ) (e : SlateDBError) → segment_refusal segments k ≡ Some e → IsRefusal e
-segment-refuses None k e h = cc
-segment-refuses (Some f) k e h = by (is_none (prefix_of_len k (f k))) h
+segment_refuses : (segments : Segments) (k : List ℕ) (e : SlateDBError) → segment_refusal segments k ≡ Some e → IsRefusal e
+segment_refuses None k e h = cc
+segment_refuses (Some f) k e h = by (is_none (prefix_of_len k (f k))) h
   where
     by : (b : Bool) → when b (errors.EmptySegmentPrefix k) ≡ Some e → IsRefusal e
-    by true is = subst IsRefusal (some-error (errors.EmptySegmentPrefix k) e is) tt
+    by true is = subst IsRefusal (some_error (errors.EmptySegmentPrefix k) e is) tt
     by false is = cc
 
-key-refuses : (segments : Segments) (default_millis : Option ℕ) (now : ℤ) (ops : Ops) (k : List ℕ) (e : SlateDBError) → key_refusal segments default_millis now ops k ≡ Some e → IsRefusal e
-key-refuses segments default_millis now ops k e h = by (segment_refusal segments k) (segment-refuses segments k e) h
+key_refuses : (segments : Segments) (default_millis : Option ℕ) (now : ℤ) (ops : Ops) (k : List ℕ) (e : SlateDBError) → key_refusal segments default_millis now ops k ≡ Some e → IsRefusal e
+key_refuses segments default_millis now ops k e h = by (segment_refusal segments k) (segment_refuses segments k e) h
   where
     by : (o : Option SlateDBError) → (o ≡ Some e → IsRefusal e) → first_refusal (o ∷ ttl_refusal k (reverse (map (op_expiry default_millis now) (kept ops k))) ∷ []) ≡ Some e → IsRefusal e
-    by None here is = ttl-refuses k (reverse (map (op_expiry default_millis now) (kept ops k))) e is
+    by None here is = ttl_refuses k (reverse (map (op_expiry default_millis now) (kept ops k))) e is
     by (Some x) here is = here is
 
-keys-refuse : (segments : Segments) (default_millis : Option ℕ) (now : ℤ) (ops : Ops) (ks : List (List ℕ)) (e : SlateDBError) → first_refusal (map (key_refusal segments default_millis now ops) ks) ≡ Some e → IsRefusal e
-keys-refuse segments default_millis now ops [] e h = cc
-keys-refuse segments default_millis now ops (k ∷ ks) e h = by (key_refusal segments default_millis now ops k) (key-refuses segments default_millis now ops k e) (keys-refuse segments default_millis now ops ks e) h
+keys_refuse : (segments : Segments) (default_millis : Option ℕ) (now : ℤ) (ops : Ops) (ks : List (List ℕ)) (e : SlateDBError) → first_refusal (map (key_refusal segments default_millis now ops) ks) ≡ Some e → IsRefusal e
+keys_refuse segments default_millis now ops [] e h = cc
+keys_refuse segments default_millis now ops (k ∷ ks) e h = by (key_refusal segments default_millis now ops k) (key_refuses segments default_millis now ops k e) (keys_refuse segments default_millis now ops ks e) h
   where
     by : (o : Option SlateDBError) → (o ≡ Some e → IsRefusal e) → (first_refusal (map (key_refusal segments default_millis now ops) ks) ≡ Some e → IsRefusal e) → first_refusal (o ∷ map (key_refusal segments default_millis now ops) ks) ≡ Some e → IsRefusal e
     by None here later is = later is
     by (Some x) here later is = here is
 
-nests-refuse : (all ps : List (List ℕ)) (e : SlateDBError) → first_refusal (map (nest_refusal all) ps) ≡ Some e → IsRefusal e
-nests-refuse all [] e h = cc
-nests-refuse all (p ∷ ps) e h = by (find (nest p) all) (nests-refuse all ps e) h
+nests_refuse : (all ps : List (List ℕ)) (e : SlateDBError) → first_refusal (map (nest_refusal all) ps) ≡ Some e → IsRefusal e
+nests_refuse all [] e h = cc
+nests_refuse all (p ∷ ps) e h = by (find (nest p) all) (nests_refuse all ps e) h
   where
     by : (o : Option (List ℕ)) → (first_refusal (map (nest_refusal all) ps) ≡ Some e → IsRefusal e) → first_refusal (option_map (λ q. errors.InvalidSegmentPrefix p q) o ∷ map (nest_refusal all) ps) ≡ Some e → IsRefusal e
     by None later is = later is
-    by (Some q) later is = subst IsRefusal (some-error (errors.InvalidSegmentPrefix p q) e is) tt
+    by (Some q) later is = subst IsRefusal (some_error (errors.InvalidSegmentPrefix p q) e is) tt
 
-either-refuses : (xs ys : List (Option SlateDBError)) (e : SlateDBError) → (first_refusal xs ≡ Some e → IsRefusal e) → (first_refusal ys ≡ Some e → IsRefusal e) → first_refusal (xs ++ ys) ≡ Some e → IsRefusal e
-either-refuses [] ys e f g h = g h
-either-refuses (None ∷ xs) ys e f g h = either-refuses xs ys e f g h
-either-refuses (Some x ∷ xs) ys e f g h = f h
+either_refuses : (xs ys : List (Option SlateDBError)) (e : SlateDBError) → (first_refusal xs ≡ Some e → IsRefusal e) → (first_refusal ys ≡ Some e → IsRefusal e) → first_refusal (xs ++ ys) ≡ Some e → IsRefusal e
+either_refuses [] ys e f g h = g h
+either_refuses (None ∷ xs) ys e f g h = either_refuses xs ys e f g h
+either_refuses (Some x ∷ xs) ys e f g h = f h
 
-tests-refuse : (has held : Bool) (segments : Segments) (recorded : List (List ℕ)) (default_millis : Option ℕ) (now : ℤ) (ops : Ops) (e : SlateDBError) →
+tests_refuse : (has held : Bool) (segments : Segments) (recorded : List (List ℕ)) (default_millis : Option ℕ) (now : ℤ) (ops : Ops) (e : SlateDBError) →
     first_refusal (test_refusals has held segments default_millis now ops ++ nest_refusals recorded (prefixes segments ops)) ≡ Some e → IsRefusal e
-tests-refuse has held segments recorded default_millis now ops e h =
-    either-refuses (test_refusals has held segments default_millis now ops) (nest_refusals recorded (prefixes segments ops)) e (by (held && not has))
-    (nests-refuse (keys_set (recorded ++ prefixes segments ops)) (keys_set (prefixes segments ops)) e) h
+tests_refuse has held segments recorded default_millis now ops e h =
+    either_refuses (test_refusals has held segments default_millis now ops) (nest_refusals recorded (prefixes segments ops)) e (by (held && not has))
+    (nests_refuse (keys_set (recorded ++ prefixes segments ops)) (keys_set (prefixes segments ops)) e) h
   where
     by : (b : Bool) → first_refusal (when b errors.MergeOperatorMissing ∷ map (key_refusal segments default_millis now ops) (batch_keys ops)) ≡ Some e → IsRefusal e
-    by true is = subst IsRefusal (some-error errors.MergeOperatorMissing e is) tt
-    by false is = keys-refuse segments default_millis now ops (batch_keys ops) e is
+    by true is = subst IsRefusal (some_error errors.MergeOperatorMissing e is) tt
+    by false is = keys_refuse segments default_millis now ops (batch_keys ops) e is
 
-conflict-refuses : (o : Option ℕ) (e : SlateDBError) → IsConflict o e → IsRefusal e
-conflict-refuses None e h = absurd h
-conflict-refuses (Some n) e h = subst IsRefusal (sym h) tt
+conflict_refuses : (o : Option ℕ) (e : SlateDBError) → IsConflict o e → IsRefusal e
+conflict_refuses None e h = absurd h
+conflict_refuses (Some n) e h = subst IsRefusal (sym h) tt
 
 -- error: that of the core; result: the session's
 abbrev IsPassedOn : SlateDBError → Result Answer SlateDBError → Type 0
 IsPassedOn error result = IfErr result (λ e. (e ≡ error) × (IsRefusal error → ⊥))
 
-pub write-cause : {B C : Type 0} (before after : Counts) (session : SessionModel) (combine : Option C) (segments : Segments) (recorded : List (List ℕ)) (default_millis : Option ℕ) (now : ℤ) (batch : BatchModel) (error : SlateDBError) (result : Result Answer SlateDBError) → IsPassedOn error result →
+pub write_cause : {B C : Type 0} (before after : Counts) (session : SessionModel) (combine : Option C) (segments : Segments) (recorded : List (List ℕ)) (default_millis : Option ℕ) (now : ℤ) (batch : BatchModel) (error : SlateDBError) (result : Result Answer SlateDBError) → IsPassedOn error result →
     IsCounted before after error ⊎ ((error ≡ errors.SequenceExhausted) × B) ⊎ ((error ≡ errors.LimitReached LIMIT) × (LIMIT < weight session.core + 1)) ⊎ (batch_refusal combine segments recorded default_millis now batch ≡ Some error) →
     IfErr result (λ e. IsCounted before after e ⊎ IsLimit session e)
-write-cause before after session combine segments recorded default_millis now batch error (Ok a) other cause = tt
-write-cause before after session combine segments recorded default_millis now batch error (Err x) other (inl fault) = inl (subst (IsCounted before after) (sym other.0) fault)
-write-cause before after session combine segments recorded default_millis now batch error (Err x) other (inr (inl exhausted)) = absurd (other.1 (subst IsRefusal (sym exhausted.0) tt))
-write-cause before after session combine segments recorded default_millis now batch error (Err x) other (inr (inr (inl (is, past)))) = inr (LIMIT, other.0 ∙ is, inl (omega (arith, past)))
-write-cause before after session combine segments recorded default_millis now batch error (Err x) other (inr (inr (inr refused))) = absurd (other.1 (tests-refuse (is_some combine) batch.held_merge segments recorded default_millis now batch.ops error refused))
+write_cause before after session combine segments recorded default_millis now batch error (Ok a) other cause = tt
+write_cause before after session combine segments recorded default_millis now batch error (Err x) other (inl fault) = inl (subst (IsCounted before after) (sym other.0) fault)
+write_cause before after session combine segments recorded default_millis now batch error (Err x) other (inr (inl exhausted)) = absurd (other.1 (subst IsRefusal (sym exhausted.0) tt))
+write_cause before after session combine segments recorded default_millis now batch error (Err x) other (inr (inr (inl (is, past)))) = inr (LIMIT, other.0 ∙ is, inl (omega (arith, past)))
+write_cause before after session combine segments recorded default_millis now batch error (Err x) other (inr (inr (inr refused))) = absurd (other.1 (tests_refuse (is_some combine) batch.held_merge segments recorded default_millis now batch.ops error refused))
 
-pub commit-cause : {B C : Type 0} (before after : Counts) (session : SessionModel) (conflict : Option ℕ) (combine : Option C) (segments : Segments) (recorded : List (List ℕ)) (default_millis : Option ℕ) (now : ℤ) (last : ℕ) (ops : Ops) (error : SlateDBError) (result : Result Answer SlateDBError) →
+pub commit_cause : {B C : Type 0} (before after : Counts) (session : SessionModel) (conflict : Option ℕ) (combine : Option C) (segments : Segments) (recorded : List (List ℕ)) (default_millis : Option ℕ) (now : ℤ) (last : ℕ) (ops : Ops) (error : SlateDBError) (result : Result Answer SlateDBError) →
     IsPassedOn error result → IsCounted before after error ⊎ IsConflict conflict error ⊎ ((error ≡ errors.SequenceExhausted) × B) ⊎ IsTestRefusal combine segments recorded default_millis now last conflict ops error →
     IfErr result (λ e. IsCounted before after e ⊎ IsLimit session e)
-commit-cause before after session conflict combine segments recorded default_millis now last ops error (Ok a) other cause = tt
-commit-cause before after session conflict combine segments recorded default_millis now last ops error (Err x) other (inl fault) = inl (subst (IsCounted before after) (sym other.0) fault)
-commit-cause before after session conflict combine segments recorded default_millis now last ops error (Err x) other (inr (inl clash)) = absurd (other.1 (conflict-refuses conflict error clash))
-commit-cause before after session conflict combine segments recorded default_millis now last ops error (Err x) other (inr (inr (inl exhausted))) = absurd (other.1 (subst IsRefusal (sym exhausted.0) tt))
-commit-cause before after session conflict combine segments recorded default_millis now last ops error (Err x) other (inr (inr (inr refused))) = absurd (other.1 (tests-refuse (is_some combine) (holds_merge ops) segments recorded default_millis now ops error refused.is))
+commit_cause before after session conflict combine segments recorded default_millis now last ops error (Ok a) other cause = tt
+commit_cause before after session conflict combine segments recorded default_millis now last ops error (Err x) other (inl fault) = inl (subst (IsCounted before after) (sym other.0) fault)
+commit_cause before after session conflict combine segments recorded default_millis now last ops error (Err x) other (inr (inl clash)) = absurd (other.1 (conflict_refuses conflict error clash))
+commit_cause before after session conflict combine segments recorded default_millis now last ops error (Err x) other (inr (inr (inl exhausted))) = absurd (other.1 (subst IsRefusal (sym exhausted.0) tt))
+commit_cause before after session conflict combine segments recorded default_millis now last ops error (Err x) other (inr (inr (inr refused))) = absurd (other.1 (tests_refuse (is_some combine) (holds_merge ops) segments recorded default_millis now ops error refused.is))

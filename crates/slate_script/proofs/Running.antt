@@ -21,27 +21,27 @@ use Rattle.slate_db.specs.Sound.{IsKept}
 use Rattle.slate_language.specs.declared.reply.Answer.{Answer}
 use Rattle.slate_language.specs.Parse.{parse}
 use Rattle.slate_language.specs.Answers.{as_shown, reply_of}
-use Rattle.slate_language.proofs.ShownLaws.{shown-line}
+use Rattle.slate_language.proofs.ShownLaws.{shown_line}
 use Rattle.slate_language.specs.Tally.{counted, tallied}
 use Rattle.slate_language.specs.declared.tally.Tally.{Tally}
-use Rattle.slate_language.proofs.TallyLaws.{counted-shown}
+use Rattle.slate_language.proofs.TallyLaws.{counted_shown}
 use Rattle.slate_language.specs.Replies.{is_silent, meanings, onto_meanings, reply_line, after_lines, replies_from}
 use Rattle.slate_script.specs.Run.{run_rules, Premises, is_line}
-use Rattle.slate_script.specs.Session.{SessionModel, StandsFor, AnswersAs, HasTables, IsSettled, IsRunning, has_moment}
+use Rattle.slate_script.specs.Session.{SessionModel, StandsFor, StepsAs, HasTables, IsSettled, IsRunning, has_moment}
 use Rattle.slate_language.specs.Grammar.{IsLine}
-use Rattle.slate_script.proofs.Answered.{one-reply}
-use Rattle.slate_language.proofs.ParseOnly.{parse-only}
+use Rattle.slate_script.proofs.Answered.{one_reply}
+use Rattle.slate_language.proofs.ParseOnly.{parse_only}
 
-pub is-settled : {policies : List Policy} {m : Meaning} {seg : Segments} {r : Rules} {parts : Meaning} {objects : Option Objects} {e : SessionModel} → IsRunning policies m seg r parts objects e → IsSettled policies parts seg objects e
-is-settled {policies = policies} {seg = seg} {objects = objects} {e = e} h = subst (λ (x : Meaning). IsSettled policies x seg objects e) (sym h.meaning) h.settled
+pub is_settled : {policies : List Policy} {m : Meaning} {seg : Segments} {r : Rules} {parts : Meaning} {objects : Option Objects} {e : SessionModel} → IsRunning policies m seg r parts objects e → IsSettled policies parts seg objects e
+is_settled {policies = policies} {seg = seg} {objects = objects} {e = e} h = subst (λ (x : Meaning). IsSettled policies x seg objects e) (sym h.meaning) h.settled
 
-pub its-rules : {policies : List Policy} {m : Meaning} {seg : Segments} {r : Rules} {parts : Meaning} {objects : Option Objects} {e : SessionModel} → IsRunning policies m seg r parts objects e → rules_in e.core.settings parts seg ≡ r
-its-rules {seg = seg} {e = e} h = ap (λ x. rules_in e.core.settings x seg) h.meaning ∙ h.rules
+pub its_rules : {policies : List Policy} {m : Meaning} {seg : Segments} {r : Rules} {parts : Meaning} {objects : Option Objects} {e : SessionModel} → IsRunning policies m seg r parts objects e → rules_in e.core.settings parts seg ≡ r
+its_rules {seg = seg} {e = e} h = ap (λ x. rules_in e.core.settings x seg) h.meaning ∙ h.rules
 
 -- a line later
-pub runs-on : {policies : List Policy} {m : Meaning} {seg : Segments} {r : Rules} {parts now : Meaning} {objects after : Option Objects} {e new : SessionModel} → IsRunning policies m seg r parts objects e → now ≡ parts → new.core.settings ≡ e.core.settings →
+pub runs_on : {policies : List Policy} {m : Meaning} {seg : Segments} {r : Rules} {parts now : Meaning} {objects after : Option Objects} {e new : SessionModel} → IsRunning policies m seg r parts objects e → now ≡ parts → new.core.settings ≡ e.core.settings →
     IsSettled policies parts seg after new → IsRunning policies m seg r now after new
-runs-on {policies = policies} {m = m} {seg = seg} {after = after} {new = new} h same settings settled = record {
+runs_on {policies = policies} {m = m} {seg = seg} {after = after} {new = new} h same settings settled = record {
   meaning = same ∙ h.meaning;
   rules = ap (λ x. rules_in x m seg) settings ∙ h.rules;
   settled = subst (λ (x : Meaning). IsSettled policies x seg after new) h.meaning settled;
@@ -49,35 +49,35 @@ runs-on {policies = policies} {m = m} {seg = seg} {after = after} {new = new} h 
 
 -- ---- one line
 
-pub silent-line : (l : List ℕ) → is_silent l ≡ true → IsTrue (is_line l)
-silent-line l silent = ap (λ b. b || is_some (parse l)) silent
+pub silent_line : (l : List ℕ) → is_silent l ≡ true → IsTrue (is_line l)
+silent_line l silent = ap (λ b. b || is_some (parse l)) silent
 
-pub silent-after : (r : Rules) (s : State) (l : List ℕ) → is_silent l ≡ true → s ≡ after_lines r s (l ∷ [])
-silent-after r s l silent = let none = sym silent in λ i. after r s (onto_meanings (none i) (parse l) [])
+pub silent_after : (r : Rules) (s : State) (l : List ℕ) → is_silent l ≡ true → s ≡ after_lines r s (l ∷ [])
+silent_after r s l silent = let none = sym silent in λ i. after r s (onto_meanings (none i) (parse l) [])
 
-pub silent-says : (r : Rules) (s : State) (l : List ℕ) → is_silent l ≡ true → [] ≡ replies_from r s (l ∷ [])
-silent-says r s l silent = let none = sym silent in λ i. flat_map reply_line (answers r s (onto_meanings (none i) (parse l) []))
+pub silent_says : (r : Rules) (s : State) (l : List ℕ) → is_silent l ≡ true → [] ≡ replies_from r s (l ∷ [])
+silent_says r s l silent = let none = sym silent in λ i. flat_map reply_line (answers r s (onto_meanings (none i) (parse l) []))
 
-one-after : (r : Rules) (s : State) (l : List ℕ) (line : Line) → is_silent l ≡ false → parse l ≡ Some line → after_lines r s (l ∷ []) ≡ (step r s line).0
-one-after r s l line loud is = λ i. after r s (onto_meanings (loud i) (is i) [])
+one_after : (r : Rules) (s : State) (l : List ℕ) (line : Line) → is_silent l ≡ false → parse l ≡ Some line → after_lines r s (l ∷ []) ≡ (step r s line).0
+one_after r s l line loud is = λ i. after r s (onto_meanings (loud i) (is i) [])
 
-pub line-stands : {policies : List Policy} {m : Meaning} {seg : Segments} {r : Rules} {parts : Meaning} {objects : Option Objects} {e new : SessionModel} (l : List ℕ) (line : Line) (a : Answer) → IsRunning policies m seg r parts objects e → is_silent l ≡ false → parse l ≡ Some line →
-    (IsSettled policies parts seg objects e → AnswersAs parts seg e new line (Ok a)) → (s : State) → StandsFor e s → StandsFor new (after_lines r s (l ∷ []))
-line-stands {r = r} {new = new} l line a h loud is steps s stands =
-    subst (StandsFor new) (sym (one-after r s l line loud is)) (subst (λ x. StandsFor new (step x s line).0) (its-rules h) (steps (is-settled h) s stands).0)
+pub line_stands : {policies : List Policy} {m : Meaning} {seg : Segments} {r : Rules} {parts : Meaning} {objects : Option Objects} {e new : SessionModel} (l : List ℕ) (line : Line) (a : Answer) → IsRunning policies m seg r parts objects e → is_silent l ≡ false → parse l ≡ Some line →
+    (IsSettled policies parts seg objects e → StepsAs parts seg e new line (Ok a)) → (s : State) → StandsFor e s → StandsFor new (after_lines r s (l ∷ []))
+line_stands {r = r} {new = new} l line a h loud is steps s stands =
+    subst (StandsFor new) (sym (one_after r s l line loud is)) (subst (λ x. StandsFor new (step x s line).0) (its_rules h) (steps (is_settled h) s stands).0)
 
-pub line-reply : {policies : List Policy} {m : Meaning} {seg : Segments} {r : Rules} {parts : Meaning} {objects : Option Objects} {e new : SessionModel} (l : List ℕ) (line : Line) (a : Answer) → IsRunning policies m seg r parts objects e → is_silent l ≡ false → parse l ≡ Some line →
-    (IsSettled policies parts seg objects e → AnswersAs parts seg e new line (Ok a)) → (s : State) → StandsFor e s → reply_line (reply_of a) ≡ replies_from r s (l ∷ [])
-line-reply {r = r} l line a h loud is steps s stands =
-    ap reply_line ((steps (is-settled h) s stands).1 ∙ ap (λ x. as_shown (step x s line).1) (its-rules h)) ∙ shown-line (step r s line).1 ∙ sym (one-reply r s l line loud is)
+pub line_reply : {policies : List Policy} {m : Meaning} {seg : Segments} {r : Rules} {parts : Meaning} {objects : Option Objects} {e new : SessionModel} (l : List ℕ) (line : Line) (a : Answer) → IsRunning policies m seg r parts objects e → is_silent l ≡ false → parse l ≡ Some line →
+    (IsSettled policies parts seg objects e → StepsAs parts seg e new line (Ok a)) → (s : State) → StandsFor e s → reply_line (reply_of a) ≡ replies_from r s (l ∷ [])
+line_reply {r = r} l line a h loud is steps s stands =
+    ap reply_line ((steps (is_settled h) s stands).1 ∙ ap (λ x. as_shown (step x s line).1) (its_rules h)) ∙ shown_line (step r s line).1 ∙ sym (one_reply r s l line loud is)
 
-pub silent-counts : (t : Tally) (r : Rules) (s : State) (l : List ℕ) → is_silent l ≡ true → t ≡ tallied t (answers r s (meanings (l ∷ [])))
-silent-counts t r s l silent = let none = sym silent in λ i. tallied t (answers r s (onto_meanings (none i) (parse l) []))
+pub silent_counts : (t : Tally) (r : Rules) (s : State) (l : List ℕ) → is_silent l ≡ true → t ≡ tallied t (answers r s (meanings (l ∷ [])))
+silent_counts t r s l silent = let none = sym silent in λ i. tallied t (answers r s (onto_meanings (none i) (parse l) []))
 
-pub line-counts : {policies : List Policy} {m : Meaning} {seg : Segments} {r : Rules} {parts : Meaning} {objects : Option Objects} {e new : SessionModel} (t : Tally) (l : List ℕ) (line : Line) (a : Answer) → IsRunning policies m seg r parts objects e → is_silent l ≡ false → parse l ≡ Some line →
-    (IsSettled policies parts seg objects e → AnswersAs parts seg e new line (Ok a)) → (s : State) → StandsFor e s → counted t (reply_of a) ≡ tallied t (answers r s (meanings (l ∷ [])))
-line-counts {r = r} t l line a h loud is steps s stands =
-    ap (counted t) ((steps (is-settled h) s stands).1 ∙ ap (λ x. as_shown (step x s line).1) (its-rules h)) ∙ counted-shown t (step r s line).1
+pub line_counts : {policies : List Policy} {m : Meaning} {seg : Segments} {r : Rules} {parts : Meaning} {objects : Option Objects} {e new : SessionModel} (t : Tally) (l : List ℕ) (line : Line) (a : Answer) → IsRunning policies m seg r parts objects e → is_silent l ≡ false → parse l ≡ Some line →
+    (IsSettled policies parts seg objects e → StepsAs parts seg e new line (Ok a)) → (s : State) → StandsFor e s → counted t (reply_of a) ≡ tallied t (answers r s (meanings (l ∷ [])))
+line_counts {r = r} t l line a h loud is steps s stands =
+    ap (counted t) ((steps (is_settled h) s stands).1 ∙ ap (λ x. as_shown (step x s line).1) (its_rules h)) ∙ counted_shown t (step r s line).1
     ∙ sym (λ i. tallied t (answers r s (onto_meanings (loud i) (is i) [])))
 
 -- ---- the beginning
@@ -98,8 +98,8 @@ begins policies m seg o objects e p settings none kept segmented = record {
 
 -- ---- of a line that means something, and of results
 
-pub one-moment : (l : List ℕ) (line : Line) → parse l ≡ Some line → IsTrue (has_moment line)
-one-moment l line h = by line (parse-only l line h)
+pub one_moment : (l : List ℕ) (line : Line) → parse l ≡ Some line → IsTrue (has_moment line)
+one_moment l line h = by line (parse_only l line h)
   where
     by : (x : Line) → IsLine l x → IsTrue (has_moment x)
     by (lines.Now m) is = is.1.1.0
@@ -124,19 +124,15 @@ pub always : {V E P : Type 0} (result : Result V E) → P → OnOk result P
 always (Ok v) p = p
 always (Err e) p = tt
 
-pub at-ok : {V E P Q : Type 0} (result : Result V E) → (P → Q) → OnOk result P → OnOk result Q
-at-ok (Ok v) f p = f p
-at-ok (Err e) f p = tt
+damage_outer : (before after : Counts) (e : SlateDBError) → IsCounted before after e → IsTableError e → ⊥
+damage_outer before after (ChecksumMismatch stored computed) h d = h
+damage_outer before after (InvalidRowFlags flags) h d = h
+damage_outer before after (CorruptTable place) h d = h
+damage_outer before after (InvalidFilterBlock len) h d = h
+damage_outer before after (InvalidSequenceOrder a b) h d = h
+damage_outer before after MergeOperatorMissing h d = h
+damage_outer before after e h d = d
 
-damage-outer : (before after : Counts) (e : SlateDBError) → IsCounted before after e → IsTableError e → ⊥
-damage-outer before after (ChecksumMismatch stored computed) h d = h
-damage-outer before after (InvalidRowFlags flags) h d = h
-damage-outer before after (CorruptTable place) h d = h
-damage-outer before after (InvalidFilterBlock len) h d = h
-damage-outer before after (InvalidSequenceOrder a b) h d = h
-damage-outer before after MergeOperatorMissing h d = h
-damage-outer before after e h d = d
-
-pub not-damage : {X : Type 0} (before after : Counts) (e : SlateDBError) → IsCounted before after e ⊎ ((n : ℕ) × (e ≡ LimitReached n) × X) → IsTableError e → ⊥
-not-damage before after e (inl h) d = damage-outer before after e h d
-not-damage before after e (inr h) d = subst IsTableError h.1 d
+pub not_damage : {X : Type 0} (before after : Counts) (e : SlateDBError) → IsCounted before after e ⊎ ((n : ℕ) × (e ≡ LimitReached n) × X) → IsTableError e → ⊥
+not_damage before after e (inl h) d = damage_outer before after e h d
+not_damage before after e (inr h) d = subst IsTableError h.1 d

@@ -38,16 +38,16 @@ use Rattle.slate_script.specs.Scanning.{Took, Fails, HasScanned, IsNoted}
 use Rattle.slate_script.specs.Walking.{Means, TakesStep, TakesSteps, Walks}
 use Rattle.slate_script.proofs.Answers.{answers_first, answers_sees}
 use Rattle.slate_script.proofs.Noting.{noted_none, noted_both, noted_reads, noted_scan, noted_scans}
-use Rattle.slate_script.proofs.SessionSteps.{named-of}
+use Rattle.slate_script.proofs.SessionSteps.{named_of}
 use Rattle.slate_script.proofs.WalkLaws.{first_ended, first_filled, first_one, handed_both, rest_all, rest_one, walks_all, walks_some, TakesFirst, TakesNext, TakesRest}
 
 abbrev given : Option KeyValue → List KeyValue
 given None = []
 given (Some row) = row ∷ []
 
-given-handed : (n : ℕ) (a : Option KeyValue) → handed (steps.Next n a ∷ []) ≡ given a
-given-handed n None = refl
-given-handed n (Some row) = refl
+given_handed : (n : ℕ) (a : Option KeyValue) → handed (steps.Next n a ∷ []) ≡ given a
+given_handed n None = refl
+given_handed n (Some row) = refl
 
 pub same_noted : (c d : CoreModel) (id : List ℕ) → d ≡ c → IsNoted c d id
 same_noted c d id same = ([], same ∙ ap (λ s. record c { state = s }) (noted_none c.state id))
@@ -64,15 +64,15 @@ noted_call (Err e) c d id ts is same = same_noted c d id same
 
 -- ---- no call, and calls one after the other
 
-same-scan : (x : TxnIterator) → IsScanOf (id_of x) (number_of x) (scan_of x).order (scan_of x).range x
-same-scan x = record { named = refl; number = refl; ordered = refl; ranged = refl }
+same_scan : (x : TxnIterator) → IsScanOf (id_of x) (number_of x) (scan_of x).order (scan_of x).range x
+same_scan x = record { named = refl; number = refl; ordered = refl; ranged = refl }
 
 pub took_none : (means : Means) (a : Reach) (c : CoreModel) (x : TxnIterator) (old : List KeyValue) → ((rows : List RowEntry) → means rows rows []) → Took means a a c c x x old old
 took_none means a c x old none = record {
   ts = [];
   notes = ap (λ s. record c { state = s }) (noted_none c.state (id_of x));
   hands = sym (append-nil old);
-  names = same-scan x;
+  names = same_scan x;
   rows = λ w rows leaves sees. (rows, leaves, none rows);
   later = ([], call_none a, λ later at e h. h);
   kept = λ m k. k;
@@ -128,7 +128,7 @@ took_next : (a b : Reach) (c d : CoreModel) (x y : TxnIterator) (answer : Option
 took_next a b c d x y answer old h = record {
   ts = steps.Next (number_of x) answer ∷ [];
   notes = h.notes;
-  hands = ap (λ rs. old ++ rs) (sym (given-handed (number_of x) answer));
+  hands = ap (λ rs. old ++ rs) (sym (given_handed (number_of x) answer));
   names = h.names;
   rows = λ w left leaves sees. let one = h.rows w left leaves sees in (drop 1 left, one.1, (refl, one.0, refl));
   later = h.later;
@@ -253,16 +253,16 @@ pub record Opened (policies : List Policy) (a b : Reach) (k l : CoreModel) (id :
   pub notes : l ≡ record k { state = noted k.state id (steps.Scan order range ∷ []) }
   pub names : IsScanOf id from.scans order range x
   pub left : (is : IsAnswered policies a b k) → LeavesIn is.os a.meaning x (rows_seen (rules_of k.settings a.meaning) k.state.commits from.at from.ops order range)
-  pub later : Made a b (λ reads. (later : List Act) (at : Option (List ℕ)) (e : SlateDBError) → ScanRefuses (scan_of x) a.meaning later at e → IsRefusedByScan a.meaning k (reads ++ later) e)
+  pub later : Made a b (λ reads. (later : List Act) (at : Option (List ℕ)) (e : SlateDBError) → ScanRefuses (scan_of x) a.meaning later at e → IsRefusedByScan a.meaning k (reads ++ later) at e)
   pub kept : (m : Meaning) → IsKept m k → IsKept m l
 
 pub opened_by : (policies : List Policy) (a b : Reach) (k l : CoreModel) (id : List ℕ) (order : IterationOrder) (range : BytesRange) (x : TxnIterator) → IsSome (reader k.state id) → l ≡ record k { state = noted k.state id (steps.Scan order range ∷ []) } →
     ((from : Reader) → reader k.state id ≡ Some from → IsScanOf id from.scans order range x) →
     ((from : Reader) → reader k.state id ≡ Some from → (is : IsAnswered policies a b k) → LeavesIn is.os a.meaning x (rows_seen (rules_of k.settings a.meaning) k.state.commits from.at from.ops order range)) →
-    Made a b (λ reads. (later : List Act) (at : Option (List ℕ)) (e : SlateDBError) → ScanRefuses (scan_of x) a.meaning later at e → IsRefusedByScan a.meaning k (reads ++ later) e) → ((m : Meaning) → IsKept m k → IsKept m l) →
+    Made a b (λ reads. (later : List Act) (at : Option (List ℕ)) (e : SlateDBError) → ScanRefuses (scan_of x) a.meaning later at e → IsRefusedByScan a.meaning k (reads ++ later) at e) → ((m : Meaning) → IsKept m k → IsKept m l) →
     Opened policies a b k l id order range x
 opened_by policies a b k l id order range x some notes names left later kept =
-    let from = named-of (reader k.state id) some in
+    let from = named_of (reader k.state id) some in
     record { from = from.value; found = from.is; notes = notes; names = names from.value from.is; left = left from.value from.is; later = later; kept = kept }
 
 pub opens_scan : (policies : List Policy) (a b : Reach) (k l : CoreModel) (id : List ℕ) (order : IterationOrder) (range : BytesRange) (x : TxnIterator) → Opened policies a b k l id order range x → IsOpenScan l x
@@ -290,7 +290,7 @@ scan_whole policies a b c k l m id order range sts x y rows some h f = record {
     answers seg is =
         ap (λ b. scan r k.state id order (cond b None (Some range)) sts (reader k.state id)) some
         ∙ ap (scan r k.state id order (Some range) sts) h.found
-        ∙ ap (scan_walked k.state id order range) (sym noted-is)
+        ∙ ap (scan_walked k.state id order range) (sym noted_is)
         ∙ (λ i. ((sym (ap (λ (v : CoreModel). v.state) notes)) i, RowsAre (sym f.hands i)))
       where
         r : Rules
@@ -306,8 +306,8 @@ scan_whole policies a b c k l m id order range sts x y rows some h f = record {
         taken = f.rows (h.left early).0 seen (h.left early).2
             (answers_sees (h.left early).0 is.os a b c h.later.0 f.later.0 h.later.1 f.later.1 (h.left early).1.meaning (h.left early).1.holds is.answers)
 
-        noted-is : f.ts ≡ walk order n seen sts
-        noted-is = taken.2 ∙ (λ i. walk (h.names.ordered i) (h.names.number i) seen sts)
+        noted_is : f.ts ≡ walk order n seen sts
+        noted_is = taken.2 ∙ (λ i. walk (h.names.ordered i) (h.names.number i) seen sts)
 
 pub scan_fault : (policies : List Policy) (a b c : Reach) (k l : CoreModel) (id : List ℕ) (order : IterationOrder) (range : BytesRange) (x : TxnIterator) (e : SlateDBError) → Opened policies a b k l id order range x → OnlyReads a b → Fails b c x e → IsAnswered policies a c k → IsFault a c e
 scan_fault policies a b c k l id order range x e h reads g is =
@@ -325,7 +325,7 @@ scan_cause policies a b c k l id order range x e h reads g = by g.cause.2
     by (inr (at, refuses)) = inr (
       h.later.0 ++ g.cause.0,
       call_both a b c h.later.0 g.cause.0 h.later.1 g.cause.1,
-      inl (h.later.2 g.cause.0 at e (subst (λ (p : Meaning). ScanRefuses (scan_of x) p g.cause.0 at e) h.later.1.meaning refuses)),
+      inl (at, h.later.2 g.cause.0 at e (subst (λ (p : Meaning). ScanRefuses (scan_of x) p g.cause.0 at e) h.later.1.meaning refuses)),
     )
 
 -- ---- by the result of a call

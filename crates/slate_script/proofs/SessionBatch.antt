@@ -15,34 +15,34 @@ pub record Batched (ops rest : Ops) (b : BatchModel) : Type 0 where
   pub batch : IsBatchOf done b
   pub fine : AreFine done
 
-pub batched-none : (ops : Ops) (b : BatchModel) → b ≡ no_ops → Batched ops ops b
-batched-none ops b is = record { done = []; split = refl; batch = subst (IsBatchOf []) (sym is) (refl, refl); fine = tt }
+pub batched_none : (ops : Ops) (b : BatchModel) → b ≡ no_ops → Batched ops ops b
+batched_none ops b is = record { done = []; split = refl; batch = subst (IsBatchOf []) (sym is) (refl, refl); fine = tt }
 
-fine-more : (ops : Ops) (k : List ℕ) (op : WriteOp) → AreFine ops → op_refusal k op ≡ None → AreFine (ops ++ ((k, op) ∷ []))
-fine-more [] k op h is = (is, tt)
-fine-more (o ∷ os) k op h is = (h.0, fine-more os k op h.1 is)
+fine_more : (ops : Ops) (k : List ℕ) (op : WriteOp) → AreFine ops → op_refusal k op ≡ None → AreFine (ops ++ ((k, op) ∷ []))
+fine_more [] k op h is = (is, tt)
+fine_more (o ∷ os) k op h is = (h.0, fine_more os k op h.1 is)
 
-pub batched-more : (ops rest : Ops) (k : List ℕ) (op : WriteOp) (b new : BatchModel) (old : Batched ops ((k, op) ∷ rest) b) → op_refusal k op ≡ None → IsBatchOf (old.done ++ ((k, op) ∷ [])) new → Batched ops rest new
-batched-more ops rest k op b new old fine batch = record {
+pub batched_more : (ops rest : Ops) (k : List ℕ) (op : WriteOp) (b new : BatchModel) (old : Batched ops ((k, op) ∷ rest) b) → op_refusal k op ≡ None → IsBatchOf (old.done ++ ((k, op) ∷ [])) new → Batched ops rest new
+batched_more ops rest k op b new old fine batch = record {
   done = old.done ++ ((k, op) ∷ []);
   split = append_assoc old.done ((k, op) ∷ []) rest ∙ old.split;
   batch = batch;
-  fine = fine-more old.done k op old.fine fine;
+  fine = fine_more old.done k op old.fine fine;
 }
 
-refused-behind : (done rest : Ops) (k : List ℕ) (op : WriteOp) (e : SlateDBError) → AreFine done → op_refusal k op ≡ Some e → first_refusal (map (λ o. op_refusal o.0 o.1) (done ++ ((k, op) ∷ rest))) ≡ Some e
-refused-behind [] rest k op e h is = ap (λ x. first_refusal (x ∷ map (λ o. op_refusal o.0 o.1) rest)) is
-refused-behind (o ∷ os) rest k op e h is = ap (λ x. first_refusal (x ∷ map (λ o. op_refusal o.0 o.1) (os ++ ((k, op) ∷ rest)))) h.0 ∙ refused-behind os rest k op e h.1 is
+refused_behind : (done rest : Ops) (k : List ℕ) (op : WriteOp) (e : SlateDBError) → AreFine done → op_refusal k op ≡ Some e → first_refusal (map (λ o. op_refusal o.0 o.1) (done ++ ((k, op) ∷ rest))) ≡ Some e
+refused_behind [] rest k op e h is = ap (λ x. first_refusal (x ∷ map (λ o. op_refusal o.0 o.1) rest)) is
+refused_behind (o ∷ os) rest k op e h is = ap (λ x. first_refusal (x ∷ map (λ o. op_refusal o.0 o.1) (os ++ ((k, op) ∷ rest)))) h.0 ∙ refused_behind os rest k op e h.1 is
 
-pub batched-refused : (ops rest : Ops) (k : List ℕ) (op : WriteOp) (b : BatchModel) (e : SlateDBError) → Batched ops ((k, op) ∷ rest) b → op_refusal k op ≡ Some e → first_refusal (map (λ o. op_refusal o.0 o.1) ops) ≡ Some e
-batched-refused ops rest k op b e old is = ap (λ os. first_refusal (map (λ o. op_refusal o.0 o.1) os)) (sym old.split) ∙ refused-behind old.done rest k op e old.fine is
+pub batched_refused : (ops rest : Ops) (k : List ℕ) (op : WriteOp) (b : BatchModel) (e : SlateDBError) → Batched ops ((k, op) ∷ rest) b → op_refusal k op ≡ Some e → first_refusal (map (λ o. op_refusal o.0 o.1) ops) ≡ Some e
+batched_refused ops rest k op b e old is = ap (λ os. first_refusal (map (λ o. op_refusal o.0 o.1) os)) (sym old.split) ∙ refused_behind old.done rest k op e old.fine is
 
-pub batched-all : (ops : Ops) (b : BatchModel) → Batched ops [] b → IsBatchOf ops b
-batched-all ops b h = subst (λ os. IsBatchOf os b) (sym (append-nil h.done) ∙ h.split) h.batch
+pub batched_all : (ops : Ops) (b : BatchModel) → Batched ops [] b → IsBatchOf ops b
+batched_all ops b h = subst (λ os. IsBatchOf os b) (sym (append-nil h.done) ∙ h.split) h.batch
 
-pub fine-all : (ops : Ops) (b : BatchModel) → Batched ops [] b → AreFine ops
-fine-all ops b h = subst AreFine (sym (append-nil h.done) ∙ h.split) h.fine
+pub fine_all : (ops : Ops) (b : BatchModel) → Batched ops [] b → AreFine ops
+fine_all ops b h = subst AreFine (sym (append-nil h.done) ∙ h.split) h.fine
 
-pub or-refused : {A B C : Type 0} → A ⊎ B → (B → C) → A ⊎ C
-or-refused (inl a) f = inl a
-or-refused (inr b) f = inr (f b)
+pub or_refused : {A B C : Type 0} → A ⊎ B → (B → C) → A ⊎ C
+or_refused (inl a) f = inl a
+or_refused (inr b) f = inr (f b)

@@ -14,12 +14,9 @@ use Rattle.slate_txn.specs.Reply.{Reply}
 use Rattle.slate_db.specs.Model.{CoreModel}
 use Rattle.slate_db.specs.Operated.{operated}
 use Rattle.slate_script.specs.Session.{NamesStand}
-use Rattle.slate_script.proofs.NamesLaws.{find_named-set, find_named-without, none-found, without-none}
+use Rattle.slate_script.proofs.NamesLaws.{find_named_set, find_named_without, without_none}
 use Rattle.slate_script.proofs.OpenNames.{Names, apart_changed, apart_first, apart_given, apart_last, apart_swap, apart_taken, names_changed, names_given, names_kept, names_taken}
-
-neither : (a b : Bool) → (a || b) ≡ false → (a ≡ false) × (b ≡ false)
-neither true b h = cc
-neither false b h = (refl, h)
+use Rattle.slate_types.proofs.Plain.{neither, none_by_test}
 
 -- ---- a begin that is answered
 
@@ -29,8 +26,8 @@ pub record Fresh (r : Rules) (c t : State) (id : List ℕ) (level : IsolationLev
   pub is : t ≡ record c { txns = set_named id (begun level (last r c)) c.txns }
   pub at : n ≡ last r c
 
-pub opens-fresh : (r : Rules) (c t : State) (id : List ℕ) (level : IsolationLevel) (n : ℕ) → step r c (lines.Begin id level) ≡ (t, replies.Begun id n) → Fresh r c t id level n
-opens-fresh r c t id level n h = by (is_open c id) refl h
+pub opens_fresh : (r : Rules) (c t : State) (id : List ℕ) (level : IsolationLevel) (n : ℕ) → step r c (lines.Begin id level) ≡ (t, replies.Begun id n) → Fresh r c t id level n
+opens_fresh r c t id level n h = by (is_open c id) refl h
   where
     clash : (e : _) → replies.Refused e ≡ replies.Begun id n → ⊥
     clash e h = cc
@@ -42,32 +39,32 @@ opens-fresh r c t id level n h = by (is_open c id) refl h
         ◌≡◌ {A = State × Reply} (cond b (c, replies.Refused (errors.DuplicateTransaction id)) (record c { txns = set_named id (begun level (last r c)) c.txns }, replies.Begun id (last r c))) (t, replies.Begun id n) → Fresh r c t id level n
     by true e h = absurd (clash _ (ap (λ p. p.1) h))
     by false e h = record {
-      none = none-found (find_named id c.txns) (neither _ _ e).0;
-      unshown = none-found (find_named id c.snapshots) (neither _ _ e).1;
+      none = none_by_test (find_named id c.txns) (neither _ _ e).0;
+      unshown = none_by_test (find_named id c.snapshots) (neither _ _ e).1;
       is = sym (ap (λ p. p.0) h);
       at = same (last r c) (ap (λ p. p.1) h);
     }
 
 -- the names stand as they did
-pub names-begun : {r : Rules} {c t : State} {id : List ℕ} {level : IsolationLevel} {n : ℕ} (names shown : Names) → Fresh r c t id level n → NamesStand names shown c.txns c.snapshots → NamesStand names shown t.txns t.snapshots
-names-begun {r} {c} {t} {id} {level} {n} names shown fresh h = subst (λ (s : State). NamesStand names shown s.txns s.snapshots) (sym fresh.is) (record {
+pub names_begun : {r : Rules} {c t : State} {id : List ℕ} {level : IsolationLevel} {n : ℕ} (names shown : Names) → Fresh r c t id level n → NamesStand names shown c.txns c.snapshots → NamesStand names shown t.txns t.snapshots
+names_begun {r} {c} {t} {id} {level} {n} names shown fresh h = subst (λ (s : State). NamesStand names shown s.txns s.snapshots) (sym fresh.is) (record {
   transactions = names_kept id tx names c.txns fresh.none h.transactions;
   shown = h.shown;
   names_apart = h.names_apart;
-  ids_apart = apart_given id (Some tx) c.txns (set_named id tx c.txns) c.snapshots fresh.unshown (λ q. find_named-set id q tx c.txns fresh.none) h.ids_apart;
+  ids_apart = apart_given id (Some tx) c.txns (set_named id tx c.txns) c.snapshots fresh.unshown (λ q. find_named_set id q tx c.txns fresh.none) h.ids_apart;
 })
   where
     tx : Tx
     tx = begun level (last r c)
 
 -- one name more stands for the new id
-pub names-opened : {r : Rules} {c t : State} {id : List ℕ} {level : IsolationLevel} {n : ℕ} (name : List ℕ) (names more shown : Names) → Fresh r c t id level n → find_named name shown ≡ None →
+pub names_opened : {r : Rules} {c t : State} {id : List ℕ} {level : IsolationLevel} {n : ℕ} (name : List ℕ) (names more shown : Names) → Fresh r c t id level n → find_named name shown ≡ None →
     ((q : List ℕ) → find_named q more ≡ cond (bytes_eq name q) (Some id) (find_named q names)) → NamesStand names shown c.txns c.snapshots → NamesStand more shown t.txns t.snapshots
-names-opened {r} {c} {t} {id} {level} {n} name names more shown fresh gone updates h = subst (λ (s : State). NamesStand more shown s.txns s.snapshots) (sym fresh.is) (record {
+names_opened {r} {c} {t} {id} {level} {n} name names more shown fresh gone updates h = subst (λ (s : State). NamesStand more shown s.txns s.snapshots) (sym fresh.is) (record {
   transactions = names_given name id tx names more c.txns fresh.none h.transactions updates;
   shown = h.shown;
   names_apart = apart_given name (Some id) names more shown gone updates h.names_apart;
-  ids_apart = apart_given id (Some tx) c.txns (set_named id tx c.txns) c.snapshots fresh.unshown (λ q. find_named-set id q tx c.txns fresh.none) h.ids_apart;
+  ids_apart = apart_given id (Some tx) c.txns (set_named id tx c.txns) c.snapshots fresh.unshown (λ q. find_named_set id q tx c.txns fresh.none) h.ids_apart;
 })
   where
     tx : Tx
@@ -81,8 +78,8 @@ pub record FreshSnapshot (r : Rules) (c t : State) (id : List ℕ) (n : ℕ) : T
   pub is : t ≡ record c { snapshots = set_named id (last r c) c.snapshots }
   pub at : n ≡ last r c
 
-pub opens-snapshot : (r : Rules) (c t : State) (id : List ℕ) (n : ℕ) → step r c (lines.Snapshot id) ≡ (t, replies.SnapshotAt id n) → FreshSnapshot r c t id n
-opens-snapshot r c t id n h = by (is_open c id) refl h
+pub opens_snapshot : (r : Rules) (c t : State) (id : List ℕ) (n : ℕ) → step r c (lines.Snapshot id) ≡ (t, replies.SnapshotAt id n) → FreshSnapshot r c t id n
+opens_snapshot r c t id n h = by (is_open c id) refl h
   where
     clash : (e : _) → replies.Refused e ≡ replies.SnapshotAt id n → ⊥
     clash e h = cc
@@ -94,29 +91,29 @@ opens-snapshot r c t id n h = by (is_open c id) refl h
         ◌≡◌ {A = State × Reply} (cond b (c, replies.Refused (errors.DuplicateTransaction id)) (record c { snapshots = set_named id (last r c) c.snapshots }, replies.SnapshotAt id (last r c))) (t, replies.SnapshotAt id n) → FreshSnapshot r c t id n
     by true e h = absurd (clash _ (ap (λ p. p.1) h))
     by false e h = record {
-      none = none-found (find_named id c.snapshots) (neither _ _ e).1;
-      unbegun = none-found (find_named id c.txns) (neither _ _ e).0;
+      none = none_by_test (find_named id c.snapshots) (neither _ _ e).1;
+      unbegun = none_by_test (find_named id c.txns) (neither _ _ e).0;
       is = sym (ap (λ p. p.0) h);
       at = same (last r c) (ap (λ p. p.1) h);
     }
 
 -- the names stand as they did
-pub names-shown : {r : Rules} {c t : State} {id : List ℕ} {n : ℕ} (names shown : Names) → FreshSnapshot r c t id n → NamesStand names shown c.txns c.snapshots → NamesStand names shown t.txns t.snapshots
-names-shown {r} {c} {t} {id} {n} names shown fresh h = subst (λ (s : State). NamesStand names shown s.txns s.snapshots) (sym fresh.is) (record {
+pub names_shown : {r : Rules} {c t : State} {id : List ℕ} {n : ℕ} (names shown : Names) → FreshSnapshot r c t id n → NamesStand names shown c.txns c.snapshots → NamesStand names shown t.txns t.snapshots
+names_shown {r} {c} {t} {id} {n} names shown fresh h = subst (λ (s : State). NamesStand names shown s.txns s.snapshots) (sym fresh.is) (record {
   transactions = h.transactions;
   shown = names_kept id (last r c) shown c.snapshots fresh.none h.shown;
   names_apart = h.names_apart;
-  ids_apart = apart_swap _ c.txns (apart_given id (Some (last r c)) c.snapshots (set_named id (last r c) c.snapshots) c.txns fresh.unbegun (λ q. find_named-set id q (last r c) c.snapshots fresh.none) (apart_swap c.txns c.snapshots h.ids_apart));
+  ids_apart = apart_swap _ c.txns (apart_given id (Some (last r c)) c.snapshots (set_named id (last r c) c.snapshots) c.txns fresh.unbegun (λ q. find_named_set id q (last r c) c.snapshots fresh.none) (apart_swap c.txns c.snapshots h.ids_apart));
 })
 
 -- one name more stands for the new id
-pub names-snapshot : {r : Rules} {c t : State} {id : List ℕ} {n : ℕ} (name : List ℕ) (names shown more : Names) → FreshSnapshot r c t id n → find_named name names ≡ None →
+pub names_snapshot : {r : Rules} {c t : State} {id : List ℕ} {n : ℕ} (name : List ℕ) (names shown more : Names) → FreshSnapshot r c t id n → find_named name names ≡ None →
     ((q : List ℕ) → find_named q more ≡ cond (bytes_eq name q) (Some id) (find_named q shown)) → NamesStand names shown c.txns c.snapshots → NamesStand names more t.txns t.snapshots
-names-snapshot {r} {c} {t} {id} {n} name names shown more fresh gone updates h = subst (λ (s : State). NamesStand names more s.txns s.snapshots) (sym fresh.is) (record {
+names_snapshot {r} {c} {t} {id} {n} name names shown more fresh gone updates h = subst (λ (s : State). NamesStand names more s.txns s.snapshots) (sym fresh.is) (record {
   transactions = h.transactions;
   shown = names_given name id (last r c) shown more c.snapshots fresh.none h.shown updates;
   names_apart = apart_swap more names (apart_given name (Some id) shown more names gone updates (apart_swap names shown h.names_apart));
-  ids_apart = apart_swap _ c.txns (apart_given id (Some (last r c)) c.snapshots (set_named id (last r c) c.snapshots) c.txns fresh.unbegun (λ q. find_named-set id q (last r c) c.snapshots fresh.none) (apart_swap c.txns c.snapshots h.ids_apart));
+  ids_apart = apart_swap _ c.txns (apart_given id (Some (last r c)) c.snapshots (set_named id (last r c) c.snapshots) c.txns fresh.unbegun (λ q. find_named_set id q (last r c) c.snapshots fresh.none) (apart_swap c.txns c.snapshots h.ids_apart));
 })
 
 -- ---- a rollback that is answered
@@ -132,54 +129,54 @@ closes r c t id h = by (is_open c id) h
     by false h = absurd (clash _ (ap (λ p. p.1) h))
 
 -- of a transaction: no snapshot has its id
-pub closes-txn : {names shown : Names} (r : Rules) (c t : State) (name id : List ℕ) → step r c (lines.Rollback id) ≡ (t, replies.Done) → NamesStand names shown c.txns c.snapshots → find_named name names ≡ Some id →
+pub closes_txn : {names shown : Names} (r : Rules) (c t : State) (name id : List ℕ) → step r c (lines.Rollback id) ≡ (t, replies.Done) → NamesStand names shown c.txns c.snapshots → find_named name names ≡ Some id →
     t ≡ record c { txns = without id c.txns }
-closes-txn r c t name id h stand known =
+closes_txn r c t name id h stand known =
     closes r c t id h
-    ∙ ap (λ ss. record c { txns = without id c.txns; snapshots = ss }) (without-none id c.snapshots (apart_first c.txns c.snapshots id stand.ids_apart (stand.transactions.opened name id known)))
+    ∙ ap (λ ss. record c { txns = without id c.txns; snapshots = ss }) (without_none id c.snapshots (apart_first c.txns c.snapshots id stand.ids_apart (stand.transactions.opened name id known)))
 
 -- of a snapshot: no transaction has its id
-pub closes-snapshot : {names shown : Names} (r : Rules) (c t : State) (name id : List ℕ) → step r c (lines.Rollback id) ≡ (t, replies.Done) → NamesStand names shown c.txns c.snapshots → find_named name shown ≡ Some id →
+pub closes_snapshot : {names shown : Names} (r : Rules) (c t : State) (name id : List ℕ) → step r c (lines.Rollback id) ≡ (t, replies.Done) → NamesStand names shown c.txns c.snapshots → find_named name shown ≡ Some id →
     t ≡ record c { snapshots = without id c.snapshots }
-closes-snapshot r c t name id h stand known =
+closes_snapshot r c t name id h stand known =
     closes r c t id h
-    ∙ ap (λ ts. record c { txns = ts; snapshots = without id c.snapshots }) (without-none id c.txns (apart_last c.txns c.snapshots id stand.ids_apart (stand.shown.opened name id known)))
+    ∙ ap (λ ts. record c { txns = ts; snapshots = without id c.snapshots }) (without_none id c.txns (apart_last c.txns c.snapshots id stand.ids_apart (stand.shown.opened name id known)))
 
-pub names-closed : (name id : List ℕ) (names fewer shown : Names) (txns : List (List ℕ × Tx)) (snapshots : List (List ℕ × ℕ)) → NamesStand names shown txns snapshots → find_named name names ≡ Some id →
+pub names_closed : (name id : List ℕ) (names fewer shown : Names) (txns : List (List ℕ × Tx)) (snapshots : List (List ℕ × ℕ)) → NamesStand names shown txns snapshots → find_named name names ≡ Some id →
     ((q : List ℕ) → find_named q fewer ≡ cond (bytes_eq name q) None (find_named q names)) → NamesStand fewer shown (without id txns) snapshots
-names-closed name id names fewer shown txns snapshots h is updates = record {
+names_closed name id names fewer shown txns snapshots h is updates = record {
   transactions = names_taken name id names fewer txns h.transactions is updates;
   shown = h.shown;
   names_apart = apart_taken name names fewer shown updates h.names_apart;
-  ids_apart = apart_taken id txns (without id txns) snapshots (λ q. find_named-without id q txns h.transactions.once) h.ids_apart;
+  ids_apart = apart_taken id txns (without id txns) snapshots (λ q. find_named_without id q txns h.transactions.once) h.ids_apart;
 }
 
-pub names-released : (name id : List ℕ) (names shown fewer : Names) (txns : List (List ℕ × Tx)) (snapshots : List (List ℕ × ℕ)) → NamesStand names shown txns snapshots → find_named name shown ≡ Some id →
+pub names_released : (name id : List ℕ) (names shown fewer : Names) (txns : List (List ℕ × Tx)) (snapshots : List (List ℕ × ℕ)) → NamesStand names shown txns snapshots → find_named name shown ≡ Some id →
     ((q : List ℕ) → find_named q fewer ≡ cond (bytes_eq name q) None (find_named q shown)) → NamesStand names fewer txns (without id snapshots)
-names-released name id names shown fewer txns snapshots h is updates = record {
+names_released name id names shown fewer txns snapshots h is updates = record {
   transactions = h.transactions;
   shown = names_taken name id shown fewer snapshots h.shown is updates;
   names_apart = apart_swap fewer names (apart_taken name shown fewer names updates (apart_swap names shown h.names_apart));
-  ids_apart = apart_swap (without id snapshots) txns (apart_taken id snapshots (without id snapshots) txns (λ q. find_named-without id q snapshots h.shown.once) (apart_swap txns snapshots h.ids_apart));
+  ids_apart = apart_swap (without id snapshots) txns (apart_taken id snapshots (without id snapshots) txns (λ q. find_named_without id q snapshots h.shown.once) (apart_swap txns snapshots h.ids_apart));
 }
 
 -- ---- a change of a transaction
 
-pub names-updated : (id : List ℕ) (f : Tx → Tx) (names shown : Names) (txns : List (List ℕ × Tx)) (snapshots : List (List ℕ × ℕ)) → NamesStand names shown txns snapshots → NamesStand names shown (update_named id f txns) snapshots
-names-updated id f names shown txns snapshots h = record {
+pub names_updated : (id : List ℕ) (f : Tx → Tx) (names shown : Names) (txns : List (List ℕ × Tx)) (snapshots : List (List ℕ × ℕ)) → NamesStand names shown txns snapshots → NamesStand names shown (update_named id f txns) snapshots
+names_updated id f names shown txns snapshots h = record {
   transactions = names_changed id f names txns h.transactions;
   shown = h.shown;
   names_apart = h.names_apart;
   ids_apart = apart_changed id f txns snapshots h.ids_apart;
 }
 
-pub names-ran : {T : Type 0} (ran : Result T SlateDBError) (old new : CoreModel) (id : List ℕ) (f : Tx → Tx) (names shown : Names) → OnOk ran (new ≡ operated old id f) → OnErr ran (new ≡ old) →
+pub names_ran : {T : Type 0} (ran : Result T SlateDBError) (old new : CoreModel) (id : List ℕ) (f : Tx → Tx) (names shown : Names) → OnOk ran (new ≡ operated old id f) → OnErr ran (new ≡ old) →
     NamesStand names shown old.state.txns old.state.snapshots → NamesStand names shown new.state.txns new.state.snapshots
-names-ran (Ok t) old new id f names shown is same h = subst (λ (c : CoreModel). NamesStand names shown c.state.txns c.state.snapshots) (sym is) (names-updated id f names shown old.state.txns old.state.snapshots h)
-names-ran (Err x) old new id f names shown is same h = subst (λ (c : CoreModel). NamesStand names shown c.state.txns c.state.snapshots) (sym same) h
+names_ran (Ok t) old new id f names shown is same h = subst (λ (c : CoreModel). NamesStand names shown c.state.txns c.state.snapshots) (sym is) (names_updated id f names shown old.state.txns old.state.snapshots h)
+names_ran (Err x) old new id f names shown is same h = subst (λ (c : CoreModel). NamesStand names shown c.state.txns c.state.snapshots) (sym same) h
 
 -- ---- what is open stays as it is
 
-pub names-same : (old new : CoreModel) (names shown : Names) → new.state.txns ≡ old.state.txns → new.state.snapshots ≡ old.state.snapshots →
+pub names_same : (old new : CoreModel) (names shown : Names) → new.state.txns ≡ old.state.txns → new.state.snapshots ≡ old.state.snapshots →
     NamesStand names shown old.state.txns old.state.snapshots → NamesStand names shown new.state.txns new.state.snapshots
-names-same old new names shown txns snapshots h = subst (λ ts. NamesStand names shown ts new.state.snapshots) (sym txns) (subst (λ ss. NamesStand names shown old.state.txns ss) (sym snapshots) h)
+names_same old new names shown txns snapshots h = subst (λ ts. NamesStand names shown ts new.state.snapshots) (sym txns) (subst (λ ss. NamesStand names shown old.state.txns ss) (sym snapshots) h)

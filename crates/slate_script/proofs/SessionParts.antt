@@ -16,51 +16,51 @@ use Rattle.slate_db.specs.Readable.{IsAnswered, IsReadError, IsRefusedBy}
 use Rattle.slate_db.specs.Model.{CoreModel, Rows}
 use Rattle.slate_db.specs.Shown.{Asking}
 use Rattle.slate_db.proofs.Shown.{refused_kind}
-use Rattle.slate_script.proofs.Running.{not-damage}
+use Rattle.slate_script.proofs.Running.{not_damage}
 use Rattle.slate_db.specs.Parts.{IsTableError}
 use Rattle.slate_db.specs.Log.{LIMIT}
 use Rattle.slate_script.specs.Session.{SessionModel, IsLimit, IsSettled, IsSettledIn, held_load}
 
-two-at-most : (active : Rows) (layers : List Rows) → events_of_flush active layers ≤ 2
-two-at-most [] [] = omega arith
-two-at-most [] (rows ∷ layers) = omega arith
-two-at-most (r ∷ rs) layers = omega arith
+two_at_most : (active : Rows) (layers : List Rows) → events_of_flush active layers ≤ 2
+two_at_most [] [] = omega arith
+two_at_most [] (rows ∷ layers) = omega arith
+two_at_most (r ∷ rs) layers = omega arith
 
-pub flush-cause : (before after : Reach) (layout : Layout) (session : SessionModel) (e : SlateDBError) → IsFlushError layout before after session.core e → IsFault before after e ⊎ IsLimit session e ⊎ (e ≡ MergeOperatorMissing)
-flush-cause before after layout session e (inl fault) = inl fault
-flush-cause before after layout session e (inr (inl (is, more))) = inr (inl (LIMIT, is, inl (omega (arith, more, two-at-most session.core.active session.core.frozen))))
-flush-cause before after layout session e (inr (inr (inl (rows, folded, order, large, much)))) = let full : 2 ^ 32 - 1 < held_load session = omega (arith, much) in inr (inl (max_blocks, large.large.is, inr full))
-flush-cause before after layout session e (inr (inr (inr wants))) = inr (inr wants.0)
+pub flush_cause : (before after : Reach) (layout : Layout) (session : SessionModel) (e : SlateDBError) → IsFlushError layout before after session.core e → IsFault before after e ⊎ IsLimit session e ⊎ (e ≡ MergeOperatorMissing)
+flush_cause before after layout session e (inl fault) = inl fault
+flush_cause before after layout session e (inr (inl (is, more))) = inr (inl (LIMIT, is, inl (omega (arith, more, two_at_most session.core.active session.core.frozen))))
+flush_cause before after layout session e (inr (inr (inl (rows, folded, order, large, much)))) = let full : 2 ^ 32 - 1 < held_load session = omega (arith, much) in inr (inl (max_blocks, large.large.is, inr full))
+flush_cause before after layout session e (inr (inr (inr wants))) = inr (inr wants.0)
 
 -- where an operator isn't wanted
-pub operable-cause : (before after : Reach) (session : SessionModel) (e : SlateDBError) → e ≢ MergeOperatorMissing → IsFault before after e ⊎ IsLimit session e ⊎ (e ≡ MergeOperatorMissing) → IsFault before after e ⊎ IsLimit session e
-operable-cause before after session e operable (inl fault) = inl fault
-operable-cause before after session e operable (inr (inl limit)) = inr limit
-operable-cause before after session e operable (inr (inr wants)) = absurd (operable wants)
+pub operable_cause : (before after : Reach) (session : SessionModel) (e : SlateDBError) → e ≢ MergeOperatorMissing → IsFault before after e ⊎ IsLimit session e ⊎ (e ≡ MergeOperatorMissing) → IsFault before after e ⊎ IsLimit session e
+operable_cause before after session e operable (inl fault) = inl fault
+operable_cause before after session e operable (inr (inl limit)) = inr limit
+operable_cause before after session e operable (inr (inr wants)) = absurd (operable wants)
 
 -- what isn't refused has room
-pub has-room : (n events txns more : ℕ) (r : Result ℕ SlateDBError) (seq : ℕ) (e : SlateDBError) → r ≡ Ok seq → (n < events + txns + more → r ≡ Err e) → events ≤ n
-has-room n events txns more r seq e ok limit = let below : events < suc n = lt_of_not-le passed in omega (arith, below)
+pub has_room : (n events txns more : ℕ) (r : Result ℕ SlateDBError) (seq : ℕ) (e : SlateDBError) → r ≡ Ok seq → (n < events + txns + more → r ≡ Err e) → events ≤ n
+has_room n events txns more r seq e ok limit = let below : events < suc n = lt_of_not-le passed in omega (arith, below)
   where
     passed : suc n ≤ events → ⊥
     passed over = let clash : Ok seq ≡ Err e = sym ok ∙ limit (omega (arith, over)) in cc
 
-pub get-cause : (by : Asking) (before after : Reach) (c : CoreModel) (e : SlateDBError) → IsReadError by before after c e → IsFault before after e ⊎ IsTableError e
-get-cause by before after c e (inl fault) = inl fault
-get-cause by before after c e (inr made) = inr (refused_kind by before.meaning c made.0 e made.2)
+pub get_cause : (by : Asking) (before after : Reach) (c : CoreModel) (e : SlateDBError) → IsReadError by before after c e → IsFault before after e ⊎ IsTableError e
+get_cause by before after c e (inl fault) = inl fault
+get_cause by before after c e (inr made) = inr (refused_kind by before.meaning c made.0 e made.2)
 
 -- what isn't a fault is shown
-pub get-shown : (by : Asking) (before after : Reach) (c : CoreModel) (e : SlateDBError) → IsReadError by before after c e → IsTableError e → Made before after (λ reads. IsRefusedBy by before.meaning c reads e)
-get-shown by before after c e (inl fault) error = absurd (not-damage {X = Unit {0}} before.faults after.faults e (inl fault) error)
-get-shown by before after c e (inr made) error = made
+pub get_shown : (by : Asking) (before after : Reach) (c : CoreModel) (e : SlateDBError) → IsReadError by before after c e → IsTableError e → Made before after (λ reads. IsRefusedBy by before.meaning c reads e)
+get_shown by before after c e (inl fault) error = absurd (not_damage {X = Unit {0}} before.faults after.faults e (inl fault) error)
+get_shown by before after c e (inr made) error = made
 
 -- ---- what a settled session reads
 
-pub true-answered : (policies : List Policy) {seg : Segments} (before after : Reach) (os : Objects) (e : SessionModel) → IsSettled policies before.meaning seg (Some os) e → AnswersFrom os before after → IsAnswered policies before after e.core
-true-answered policies before after os e settled answers = record { os = os; readable = record { lawful = settled.lawful; lawful_policies = settled.lawful_policies; filtered = settled.filtered; kept = settled.kept; holds = settled.tables.holds }; answers = answers }
+pub true_answered : (policies : List Policy) {seg : Segments} (before after : Reach) (os : Objects) (e : SessionModel) → IsSettled policies before.meaning seg (Some os) e → AnswersFrom os before after → IsAnswered policies before after e.core
+true_answered policies before after os e settled answers = record { os = os; readable = record { lawful = settled.lawful; lawful_policies = settled.lawful_policies; filtered = settled.filtered; kept = settled.kept; holds = settled.tables.holds }; answers = answers }
 
-pub settled-answered : (policies : List Policy) {seg : Segments} (before after : Reach) (e : SessionModel) → IsSettledIn policies seg before e → IsAnswered policies before after e.core
-settled-answered policies before after e settled = by before.objects refl settled.tables.holds
+pub settled_answered : (policies : List Policy) {seg : Segments} (before after : Reach) (e : SessionModel) → IsSettledIn policies seg before e → IsAnswered policies before after e.core
+settled_answered policies before after e settled = by before.objects refl settled.tables.holds
   where
     by : (objects : Option Objects) → before.objects ≡ objects → HoldsTables objects e.core.events → IsAnswered policies before after e.core
     by None is held = absurd held

@@ -9,7 +9,7 @@ use Rattle.slate_types.specs.declared.error.SlateDBError.TheVariants as errors
 use Rattle.slate_types.specs.declared.iter.IterationOrder.{IterationOrder}
 use Rattle.slate_types.specs.declared.types.KeyValue.{KeyValue}
 use Rattle.slate_types.specs.Keys.{behind, is_refused, prefix_end, prefix_start, prefix_subrange, range_of}
-use Rattle.slate_script.proofs.BeginsLaws.{begins-in}
+use Rattle.slate_script.proofs.BeginsLaws.{begins_in}
 use Rattle.slate_types.specs.Outside.{IsFault, Reach}
 use Rattle.slate_types.specs.World.{Made}
 use Rattle.slate_mem.specs.KeyTests.{Segments}
@@ -33,8 +33,8 @@ use Rattle.slate_language.specs.declared.reply.Answer.TheVariants as answers
 use Rattle.slate_language.specs.Answers.{reply_of}
 use Rattle.slate_script.specs.Scanning.{BeginsWith, EndsBelow, ScansAs}
 use Rattle.slate_script.specs.Session.{SessionModel, IsLimit, IsStep, NamesStand, reader_id, reader_under}
-use Rattle.slate_script.proofs.Running.{not-damage}
-use Rattle.slate_script.proofs.SessionSteps.{ReadsAs, ReadsUnder, reads-as}
+use Rattle.slate_script.proofs.Running.{not_damage}
+use Rattle.slate_script.proofs.SessionSteps.{ReadsAs, ReadsUnder, reads_as}
 
 -- ---- the ranges of lines
 
@@ -61,20 +61,20 @@ pub begins_behind : (p : List ℕ) (start end : Bound (List ℕ)) (given : Optio
 begins_behind p start end given None asked is = tt
 begins_behind p start end given (Some r) asked is = λ q k e within.
     let here = subst (λ (x : Option (List ℕ)). IfSome x (λ q. (q ≡ p) × EndsBelow q)) e asked in
-    begins-in q start end r k here.1 (ap (λ x. prefix_subrange x start end) here.0 ∙ sym is) within
+    begins_in q start end r k here.1 (ap (λ x. prefix_subrange x start end) here.0 ∙ sym is) within
 
 -- ---- scans
 
-pub scan-refused : (m : Meaning) (seg : Segments) (e : SessionModel) (name : List ℕ) (order : IterationOrder) (range : Option BytesRange) (sts : List ScanStep) (o : Option (List ℕ)) → ReadsUnder e name o → o ≡ None →
+pub scan_refused : (m : Meaning) (seg : Segments) (e : SessionModel) (name : List ℕ) (order : IterationOrder) (range : Option BytesRange) (sts : List ScanStep) (o : Option (List ℕ)) → ReadsUnder e name o → o ≡ None →
     ScansAs m seg e e name order range sts (Ok (answers.Refused (errors.UnknownTransaction name)))
-scan-refused m seg e name order range sts o reads none s h =
+scan_refused m seg e name order range sts o reads none s h =
     subst (λ p. IsStep e (scan (rules_in e.core.settings m seg) s name order range sts p) (answers.Refused (errors.UnknownTransaction name)))
     (sym (reads s h ∙ ap (reader_under e.core.state) none)) (h, refl)
 
 -- a range that is none
-pub range-refused : (m : Meaning) (seg : Segments) (e : SessionModel) (name id : List ℕ) (order : IterationOrder) (given : Option BytesRange) (sts : List ScanStep) (o : Option (List ℕ)) → ReadsUnder e name o → IfSome o (λ i. IsSome (reader e.core.state i)) → o ≡ Some id → given ≡ None →
+pub range_refused : (m : Meaning) (seg : Segments) (e : SessionModel) (name id : List ℕ) (order : IterationOrder) (given : Option BytesRange) (sts : List ScanStep) (o : Option (List ℕ)) → ReadsUnder e name o → IfSome o (λ i. IsSome (reader e.core.state i)) → o ≡ Some id → given ≡ None →
     ScansAs m seg e e name order given sts (Ok (answers.Refused errors.InvalidRange))
-range-refused m seg e name id order given sts o reads live is none s h = by (reader e.core.state id) refl (subst (λ p. IfSome p (λ i. IsSome (reader e.core.state i))) is live)
+range_refused m seg e name id order given sts o reads live is none s h = by (reader e.core.state id) refl (subst (λ p. IfSome p (λ i. IsSome (reader e.core.state i))) is live)
   where
     by : (p : Option Reader) → reader e.core.state id ≡ p → IsSome p → IsStep e (scan (rules_in e.core.settings m seg) s name order given sts (reader s name)) (answers.Refused errors.InvalidRange)
     by None there some = cc
@@ -83,15 +83,15 @@ range-refused m seg e name id order given sts o reads live is none s h = by (rea
         (subst (λ range. IsStep e (scan (rules_in e.core.settings m seg) s name order range sts (Some from)) (answers.Refused errors.InvalidRange)) (sym none) (h, refl))
 
 -- the core's answer is the model's
-pub scan-found : (m : Meaning) (seg : Segments) (e : SessionModel) (core : CoreModel) (name id : List ℕ) (order : IterationOrder) (given : Option BytesRange) (range : BytesRange) (sts : List ScanStep) (rows : List KeyValue) (a : Answer) →
+pub scan_found : (m : Meaning) (seg : Segments) (e : SessionModel) (core : CoreModel) (name id : List ℕ) (order : IterationOrder) (given : Option BytesRange) (range : BytesRange) (sts : List ScanStep) (rows : List KeyValue) (a : Answer) →
     NamesStand e.names e.snapshot_names e.core.state.txns e.core.state.snapshots → reader_id e name ≡ Some id → given ≡ Some range → is_refused range.start range.end ≡ false →
     step (rules_in e.core.settings m seg) e.core.state (lines.Scan id order range.start range.end sts) ≡ (core.state, replies.RowsAre rows) → reply_of a ≡ replies.RowsAre rows →
     ScansAs m seg e (record e { core = core }) name order given sts (Ok a)
-scan-found m seg e core name id order given range sts rows a stand known some fits stepped is s h =
+scan_found m seg e core name id order given range sts rows a stand known some fits stepped is s h =
     subst (λ o. IsStep after (scan r s name order given sts o) a) (sym reads.here)
     (subst (λ q. IsStep after (scan r s name order q sts (Some reads.from)) a) (sym some) (
-      reads.notes (steps.Scan order range ∷ taken s.commits) core (sym (ap (λ p. p.0) core-step) ∙ noted-same),
-      is ∙ sym (ap (λ p. p.1) core-step) ∙ ap (λ cs. replies.RowsAre (handed (taken cs))) (sym h.commits),
+      reads.notes (steps.Scan order range ∷ taken s.commits) core (sym (ap (λ p. p.0) core_step) ∙ noted_same),
+      is ∙ sym (ap (λ p. p.1) core_step) ∙ ap (λ cs. replies.RowsAre (handed (taken cs))) (sym h.commits),
     ))
   where
     r : Rules
@@ -104,28 +104,28 @@ scan-found m seg e core name id order given range sts rows a stand known some fi
     after = record e { core = core }
 
     reads : ReadsAs e s name id
-    reads = reads-as e s name id h stand known
+    reads = reads_as e s name id h stand known
 
     taken : List Commit → List TranscriptStep
     taken cs = walk order reads.from.scans (rows_seen r cs reads.from.at reads.from.ops order range) sts
 
-    core-step : scan_walked c id order range (taken c.commits) ≡ (core.state, replies.RowsAre rows)
-    core-step =
+    core_step : scan_walked c id order range (taken c.commits) ≡ (core.state, replies.RowsAre rows)
+    core_step =
         sym (ap (λ q. scan r c id order q sts (reader c id)) (range_same range fits)
         ∙ ap (scan r c id order (Some range) sts) reads.there)
         ∙ stepped
 
-    noted-same : noted c id (steps.Scan order range ∷ taken c.commits) ≡ noted c id (steps.Scan order range ∷ taken s.commits)
-    noted-same = ap (λ cs. noted c id (steps.Scan order range ∷ taken cs)) (sym h.commits)
+    noted_same : noted c id (steps.Scan order range ∷ taken c.commits) ≡ noted c id (steps.Scan order range ∷ taken s.commits)
+    noted_same = ap (λ cs. noted c id (steps.Scan order range ∷ taken cs)) (sym h.commits)
 
 -- ---- why it is refused
 
-pub scan-limit : {V : Type 0} (policies : List Policy) (result : Result V SlateDBError) (before after : Reach) (e : SessionModel) → IfErr result (IsScanError policies before after e.core) → IfErr result (λ x. IsFault before after x ⊎ IsLimit e x ⊎ IsTableError x)
-scan-limit policies (Ok v) before after e cause = tt
-scan-limit policies (Err x) before after e (inl fault) = inl fault
-scan-limit policies (Err x) before after e (inr made) = inr (inr (in_scan_kind policies before.meaning e.core made.0 x made.2))
+pub scan_limit : {V : Type 0} (policies : List Policy) (result : Result V SlateDBError) (before after : Reach) (e : SessionModel) → IfErr result (IsScanError policies before after e.core) → IfErr result (λ x. IsFault before after x ⊎ IsLimit e x ⊎ IsTableError x)
+scan_limit policies (Ok v) before after e cause = tt
+scan_limit policies (Err x) before after e (inl fault) = inl fault
+scan_limit policies (Err x) before after e (inr made) = inr (inr (in_scan_kind policies before.meaning e.core made.0 x made.2))
 
-pub scan-shown : {V : Type 0} (policies : List Policy) (result : Result V SlateDBError) (before after : Reach) (e : SessionModel) → IfErr result (IsScanError policies before after e.core) → IfErr result (λ x. IsTableError x → Made before after (λ reads. IsRefusedInScan policies before.meaning e.core reads x))
-scan-shown policies (Ok v) before after e cause = tt
-scan-shown policies (Err x) before after e (inl fault) = λ error. absurd (not-damage {X = Unit {0}} before.faults after.faults x (inl fault) error)
-scan-shown policies (Err x) before after e (inr made) = λ error. made
+pub scan_shown : {V : Type 0} (policies : List Policy) (result : Result V SlateDBError) (before after : Reach) (e : SessionModel) → IfErr result (IsScanError policies before after e.core) → IfErr result (λ x. IsTableError x → Made before after (λ reads. IsRefusedInScan policies before.meaning e.core reads x))
+scan_shown policies (Ok v) before after e cause = tt
+scan_shown policies (Err x) before after e (inl fault) = λ error. absurd (not_damage {X = Unit {0}} before.faults after.faults x (inl fault) error)
+scan_shown policies (Err x) before after e (inr made) = λ error. made

@@ -25,15 +25,15 @@ use Rattle.slate_db.proofs.Runs.{are_placed}
 use Rattle.slate_db.proofs.RunsOf.{runs_more, runs_same, tables_are}
 use Rattle.slate_db.proofs.Logs.{numbered_more, tables_more, tables_same}
 use Rattle.slate_db.proofs.PathsApart.{IsEarlier, earlier_all, holds_puts}
-use Rattle.slate_script.proofs.SessionLeaves.{leaves-frozen}
+use Rattle.slate_script.proofs.SessionLeaves.{leaves_frozen}
 
-pub same-tables : (es fs : List Event) → runs_of es ≡ runs_of fs → tables_of es ≡ tables_of fs
-same-tables es fs same = tables_are es ∙ ap (flat_map (λ (ts : List (Ulid × List ℕ)). ts)) same ∙ sym (tables_are fs)
+pub same_tables : (es fs : List Event) → runs_of es ≡ runs_of fs → tables_of es ≡ tables_of fs
+same_tables es fs same = tables_are es ∙ ap (flat_map (λ (ts : List (Ulid × List ℕ)). ts)) same ∙ sym (tables_are fs)
 
 -- a freeze installs nothing
-frozen-tables : (old mid : CoreModel) (objects : Option Objects) → IsFrozen old mid → HasTables objects old.events → HasTables objects mid.events
-frozen-tables old mid objects (inl same) h = subst (λ (c : CoreModel). HasTables objects c.events) (sym same.1) h
-frozen-tables old mid objects (inr frozen) h = subst (λ (c : CoreModel). HasTables objects c.events) (sym frozen.1) (record {
+frozen_tables : (old mid : CoreModel) (objects : Option Objects) → IsFrozen old mid → HasTables objects old.events → HasTables objects mid.events
+frozen_tables old mid objects (inl same) h = subst (λ (c : CoreModel). HasTables objects c.events) (sym same.1) h
+frozen_tables old mid objects (inr frozen) h = subst (λ (c : CoreModel). HasTables objects c.events) (sym frozen.1) (record {
   holds = by objects h.holds;
   numbered = subst (NumberedFrom 1) (sym runs) h.numbered;
   few = let n : length (old.events ++ (events.Freeze ∷ [])) ≡ length old.events + 1 = length-append old.events (events.Freeze ∷ []) in subst (λ rs. length rs ≤ length (old.events ++ (events.Freeze ∷ []))) (sym runs) (omega (arith, n, h.few));
@@ -49,16 +49,16 @@ frozen-tables old mid objects (inr frozen) h = subst (λ (c : CoreModel). HasTab
     by None holds = holds
     by (Some os) holds = subst (Holds os) (sym same) holds
 
-frozen-length : (old mid : CoreModel) → IsFrozen old mid → length mid.events ≤ length old.events + 1
-frozen-length old mid (inl same) = subst (λ (c : CoreModel). length c.events ≤ length old.events + 1) (sym same.1) (omega arith)
-frozen-length old mid (inr frozen) = subst (λ (c : CoreModel). length c.events ≤ length old.events + 1) (sym frozen.1) (let n : length (old.events ++ (events.Freeze ∷ [])) ≡ length old.events + 1 = length-append old.events (events.Freeze ∷ []) in omega (arith, n))
+frozen_length : (old mid : CoreModel) → IsFrozen old mid → length mid.events ≤ length old.events + 1
+frozen_length old mid (inl same) = subst (λ (c : CoreModel). length c.events ≤ length old.events + 1) (sym same.1) (omega arith)
+frozen_length old mid (inr frozen) = subst (λ (c : CoreModel). length c.events ≤ length old.events + 1) (sym frozen.1) (let n : length (old.events ++ (events.Freeze ∷ [])) ≡ length old.events + 1 = length-append old.events (events.Freeze ∷ []) in omega (arith, n))
 
 -- a flush puts what it installs
-pub flushed-tables : (m : Meaning) (layout : Layout) (old mid new : CoreModel) (n : ℕ) (before after : Option Objects) → IsFrozen old mid → IsFlushed m layout mid new n before after → length old.events ≤ LIMIT → HasTables before old.events → HasTables after new.events
-flushed-tables m layout old mid new n before after frozen flushed room h = by flushed (frozen-tables old mid before frozen h)
+pub flushed_tables : (m : Meaning) (layout : Layout) (old mid new : CoreModel) (n : ℕ) (before after : Option Objects) → IsFrozen old mid → IsFlushed m layout mid new n before after → length old.events ≤ LIMIT → HasTables before old.events → HasTables after new.events
+flushed_tables m layout old mid new n before after frozen flushed room h = by flushed (frozen_tables old mid before frozen h)
   where
     size : length mid.events ≤ 9223372036854775808
-    size = let a : length mid.events ≤ length old.events + 1 = frozen-length old mid frozen in let b : length old.events ≤ 9223372036854775807 = room in omega arith
+    size = let a : length mid.events ≤ length old.events + 1 = frozen_length old mid frozen in let b : length old.events ≤ 9223372036854775807 = room in omega arith
 
     put : (o : Option Objects) (ts : List (Ulid × List ℕ)) → HasTables o mid.events → ArePlaced (length (runs_of mid.events) + 1) 0 ts → IfSome o (λ os. after ≡ Some (with_tables os ts)) → HasTables after (mid.events ++ (events.Install n ts ∷ []))
     put None ts k places takes = absurd k.holds
@@ -84,30 +84,30 @@ flushed-tables m layout old mid new n before after frozen flushed room h = by fl
 
 -- ---- with the filters of the policies
 
-filtered-both : (encode : Encode) (policies : List Policy) (ts us : List (Ulid × List ℕ)) → AreFiltered encode policies ts → AreFiltered encode policies us → AreFiltered encode policies (ts ++ us)
-filtered-both encode policies [] us h k = k
-filtered-both encode policies (t ∷ ts) us h k = (h.0, filtered-both encode policies ts us h.1 k)
+filtered_both : (encode : Encode) (policies : List Policy) (ts us : List (Ulid × List ℕ)) → AreFiltered encode policies ts → AreFiltered encode policies us → AreFiltered encode policies (ts ++ us)
+filtered_both encode policies [] us h k = k
+filtered_both encode policies (t ∷ ts) us h k = (h.0, filtered_both encode policies ts us h.1 k)
 
-built-filtered : (encode : Encode) (layout : Layout) (n p : ℕ) (parts : List Rows) (ts : List (Ulid × List ℕ)) → AreTablesAt encode layout n p parts ts → AreFiltered encode layout.policies ts
-built-filtered encode layout n p [] [] h = tt
-built-filtered encode layout n p (rows ∷ parts) (t ∷ ts) h = (
+built_filtered : (encode : Encode) (layout : Layout) (n p : ℕ) (parts : List Rows) (ts : List (Ulid × List ℕ)) → AreTablesAt encode layout n p parts ts → AreFiltered encode layout.policies ts
+built_filtered encode layout n p [] [] h = tt
+built_filtered encode layout n p (rows ∷ parts) (t ∷ ts) h = (
   record {
     version = layout.version;
     min = layout.min_filter_keys;
     blocks = cut layout.block_size layout.version rows;
     is = subst (λ (rs : Rows). IsTableOf encode t.1 layout.version t.0.0 (cut layout.block_size layout.version rows) (filters_of layout.policies layout.min_filter_keys rs)) (sym (cut_keeps layout.block_size layout.version rows)) h.0.built;
   },
-  built-filtered encode layout n (p + 1) parts ts h.1,
+  built_filtered encode layout n (p + 1) parts ts h.1,
 )
-built-filtered encode layout n p [] (t ∷ ts) h = absurd h
-built-filtered encode layout n p (rows ∷ parts) [] h = absurd h
+built_filtered encode layout n p [] (t ∷ ts) h = absurd h
+built_filtered encode layout n p (rows ∷ parts) [] h = absurd h
 
-flushed-filtered : (m : Meaning) (layout : Layout) (old mid new : CoreModel) (n : ℕ) (before after : Option Objects) → IsFrozen old mid → IsFlushed m layout mid new n before after →
+flushed_filtered : (m : Meaning) (layout : Layout) (old mid new : CoreModel) (n : ℕ) (before after : Option Objects) → IsFrozen old mid → IsFlushed m layout mid new n before after →
     AreFiltered m.encode layout.policies (tables_of old.events) → AreFiltered m.encode layout.policies (tables_of new.events)
-flushed-filtered m layout old mid new n before after frozen flushed h = by flushed
+flushed_filtered m layout old mid new n before after frozen flushed h = by flushed
   where
     same : tables_of mid.events ≡ tables_of old.events
-    same = same-tables mid.events old.events (leaves-frozen old mid frozen).runs
+    same = same_tables mid.events old.events (leaves_frozen old mid frozen).runs
 
     here : AreFiltered m.encode layout.policies (tables_of mid.events)
     here = subst (AreFiltered m.encode layout.policies) (sym same) h
@@ -116,25 +116,25 @@ flushed-filtered m layout old mid new n before after frozen flushed h = by flush
     by (idle none is untouched) = subst (λ (c : CoreModel). AreFiltered m.encode layout.policies (tables_of c.events)) (sym is) here
     by (stored ts is made takes) =
         subst (AreFiltered m.encode layout.policies) (sym (ap (λ (c : CoreModel). tables_of c.events) is ∙ tables_more mid.events (events.Install n ts)))
-        (filtered-both m.encode layout.policies (tables_of mid.events) ts here (built-filtered m.encode layout _ 0 made.parts ts made.built))
+        (filtered_both m.encode layout.policies (tables_of mid.events) ts here (built_filtered m.encode layout _ 0 made.parts ts made.built))
 
-pub flush-settled : (m : Meaning) (seg : Segments) (layout : Layout) (objects after : Option Objects) (e : SessionModel) (mid core : CoreModel) (n : ℕ) → IsFrozen e.core mid → IsFlushed m layout mid core n objects after → length e.core.events ≤ LIMIT →
+pub flush_settled : (m : Meaning) (seg : Segments) (layout : Layout) (objects after : Option Objects) (e : SessionModel) (mid core : CoreModel) (n : ℕ) → IsFrozen e.core mid → IsFlushed m layout mid core n objects after → length e.core.events ≤ LIMIT →
     (IsKept m e.core → IsKept m core) → (IsSegmented seg e.core → IsSegmented seg core) → IsSettled layout.policies m seg objects e → IsSettled layout.policies m seg after (record e { core = core })
-flush-settled m seg layout objects after e mid core n frozen flushed room kept segmented h = record {
+flush_settled m seg layout objects after e mid core n frozen flushed room kept segmented h = record {
   lawful_policies = h.lawful_policies;
   lawful = h.lawful;
   kept = kept h.kept;
   segmented = segmented h.segmented;
-  tables = flushed-tables m layout e.core mid core n objects after frozen flushed room h.tables;
-  filtered = flushed-filtered m layout e.core mid core n objects after frozen flushed h.filtered;
+  tables = flushed_tables m layout e.core mid core n objects after frozen flushed room h.tables;
+  filtered = flushed_filtered m layout e.core mid core n objects after frozen flushed h.filtered;
 }
 
 -- what a line leaves that stores nothing
-pub tables-still : {m : Meaning} {seg : Segments} (e new : SessionModel) → StoresNothing m seg e new → tables_of new.core.events ≡ tables_of e.core.events
-tables-still e new s = same-tables new.core.events e.core.events s.runs
+pub tables_still : {m : Meaning} {seg : Segments} (e new : SessionModel) → StoresNothing m seg e new → tables_of new.core.events ≡ tables_of e.core.events
+tables_still e new s = same_tables new.core.events e.core.events s.runs
 
-pub stays-settled : (policies : List Policy) (m : Meaning) (seg : Segments) (objects : Option Objects) (e new : SessionModel) → StoresNothing m seg e new → IsSettled policies m seg objects e → IsSettled policies m seg objects new
-stays-settled policies m seg objects e new s h = record {
+pub stays_settled : (policies : List Policy) (m : Meaning) (seg : Segments) (objects : Option Objects) (e new : SessionModel) → StoresNothing m seg e new → IsSettled policies m seg objects e → IsSettled policies m seg objects new
+stays_settled policies m seg objects e new s h = record {
   lawful_policies = h.lawful_policies;
   lawful = h.lawful;
   kept = s.kept h.kept;
@@ -144,9 +144,9 @@ stays-settled policies m seg objects e new s h = record {
     numbered = subst (NumberedFrom 1) (sym s.runs) h.tables.numbered;
     few = let a : length (runs_of new.core.events) ≡ length (runs_of e.core.events) = ap length s.runs in omega (arith, a, h.tables.few, s.later);
   };
-  filtered = subst (AreFiltered m.encode policies) (sym (tables-still e new s)) h.filtered;
+  filtered = subst (AreFiltered m.encode policies) (sym (tables_still e new s)) h.filtered;
 }
   where
     by : (o : Option Objects) → HoldsTables o e.core.events → HoldsTables o new.core.events
     by None holds = holds
-    by (Some os) holds = subst (Holds os) (sym (tables-still e new s)) holds
+    by (Some os) holds = subst (Holds os) (sym (tables_still e new s)) holds

@@ -16,14 +16,14 @@ use Rattle.slate_language.specs.Replies.{meanings, after_lines, replies_from, re
 use Rattle.slate_txn.specs.Step.{answers}
 use Rattle.slate_script.specs.Session.{SessionModel, StandsFor}
 use Rattle.slate_script.specs.Run.{is_line, first_other, is_too_long, lines_taken, error_of, script_error, AreLines}
-use Rattle.slate_script.proofs.Answered.{lines-more, replies-append, state-append, tally-append, other-none, none-other, lines-formed, formed-lines}
+use Rattle.slate_script.proofs.Answered.{lines_more, replies_append, state_append, tally_append, other_none, none_other, lines_formed, formed_lines}
 
 -- whole lines: the last has its LF
 abbrev pub IsCut : List ℕ → Type 0
 IsCut bytes = whole_part bytes ≡ bytes
 
-cut-append : (a b : List ℕ) → IsCut a → IsCut b → IsCut (a ++ b)
-cut-append a b h k = whole_parts_join a b h ∙ ap (λ c. a ++ c) k
+cut_append : (a b : List ℕ) → IsCut a → IsCut b → IsCut (a ++ b)
+cut_append a b h k = whole_parts_join a b h ∙ ap (λ c. a ++ c) k
 
 -- what is left; where the last line had no LF that is nothing
 pub record Stands (script done left : List ℕ) : Type 0 where
@@ -33,47 +33,47 @@ pub record Stands (script done left : List ℕ) : Type 0 where
 
 -- ---- scripts that are too long, and others
 
-pub long-is : (script : List ℕ) → script_limit ≤ length script → is_too_long script ≡ true
-long-is script h = lt-ltb (script_limit - 1) (length script) (omega arith)
+pub long_is : (script : List ℕ) → script_limit ≤ length script → is_too_long script ≡ true
+long_is script h = lt-ltb (script_limit - 1) (length script) (omega arith)
 
-pub short-is : (script : List ℕ) → length script < script_limit → is_too_long script ≡ false
-short-is script h = le-ltb (script_limit - 1) (length script) (omega arith)
+pub short_is : (script : List ℕ) → length script < script_limit → is_too_long script ≡ false
+short_is script h = le-ltb (script_limit - 1) (length script) (omega arith)
 
-pub short-than : (script : List ℕ) → is_too_long script ≡ false → length script < script_limit
-short-than script h = let k : length script ≤ script_limit - 1 = ltb-false (script_limit - 1) (length script) h in omega arith
+pub short_than : (script : List ℕ) → is_too_long script ≡ false → length script < script_limit
+short_than script h = let k : length script ≤ script_limit - 1 = ltb-false (script_limit - 1) (length script) h in omega arith
 
-taken-by : Bool → List ℕ → List (List ℕ)
-taken-by long script = cond long (lines_of (whole_part (take script_limit script))) (lines_of script)
+taken_by : Bool → List ℕ → List (List ℕ)
+taken_by long script = cond long (lines_of (whole_part (take script_limit script))) (lines_of script)
 
 -- ---- the lines that a run can take begin with those that were given
 
-take-front : (n : ℕ) (done left : List ℕ) → length done ≤ n → take n (done ++ left) ≡ done ++ take (n - length done) left
-take-front n done left h =
+take_front : (n : ℕ) (done left : List ℕ) → length done ≤ n → take n (done ++ left) ≡ done ++ take (n - length done) left
+take_front n done left h =
     let sum : n ≡ length done + (n - length done) = omega arith in
     ap (λ m. take m (done ++ left)) sum ∙ take-append-add done left (n - length done)
 
-cut-lines : (n : ℕ) (done left : List ℕ) → IsCut done → length done ≤ n → lines_of (whole_part (take n (done ++ left))) ≡ lines_of done ++ lines_of (whole_part (take (n - length done) left))
-cut-lines n done left cut h =
-    ap (λ bs. lines_of (whole_part bs)) (take-front n done left h)
+cut_lines : (n : ℕ) (done left : List ℕ) → IsCut done → length done ≤ n → lines_of (whole_part (take n (done ++ left))) ≡ lines_of done ++ lines_of (whole_part (take (n - length done) left))
+cut_lines n done left cut h =
+    ap (λ bs. lines_of (whole_part bs)) (take_front n done left h)
     ∙ ap lines_of (whole_parts_join done (take (n - length done) left) cut)
     ∙ whole_lines_join done (whole_part (take (n - length done) left)) cut
 
-pub taken-first : (script done left : List ℕ) → Stands script done left → (later : List (List ℕ)) × (lines_taken script ≡ lines_of done ++ later)
-taken-first script done left h = by h.whole
+pub taken_first : (script done left : List ℕ) → Stands script done left → (later : List (List ℕ)) × (lines_taken script ≡ lines_of done ++ later)
+taken_first script done left h = by h.whole
   where
-    cut-by : (t : Bool) → IsCut done → (later : List (List ℕ)) × (cond t (lines_of (whole_part (take script_limit script))) (lines_of script) ≡ lines_of done ++ later)
-    cut-by true cut = (lines_of (whole_part (take (script_limit - length done) left)), ap (λ bs. lines_of (whole_part (take script_limit bs))) h.split ∙ cut-lines script_limit done left cut h.within)
-    cut-by false cut = (lines_of left, ap lines_of h.split ∙ whole_lines_join done left cut)
+    cut_by : (t : Bool) → IsCut done → (later : List (List ℕ)) × (cond t (lines_of (whole_part (take script_limit script))) (lines_of script) ≡ lines_of done ++ later)
+    cut_by true cut = (lines_of (whole_part (take (script_limit - length done) left)), ap (λ bs. lines_of (whole_part (take script_limit bs))) h.split ∙ cut_lines script_limit done left cut h.within)
+    cut_by false cut = (lines_of left, ap lines_of h.split ∙ whole_lines_join done left cut)
 
     by : IsCut done ⊎ ((left ≡ []) × (length done < script_limit)) → (later : List (List ℕ)) × (lines_taken script ≡ lines_of done ++ later)
-    by (inl cut) = cut-by (is_too_long script) cut
+    by (inl cut) = cut_by (is_too_long script) cut
     by (inr all) =
         let same : script ≡ done = h.split ∙ ap (λ bs. done ++ bs) all.0 ∙ append-nil done in
         let short : length script < script_limit = rw same all.1 in
-        ([], ap (λ t. cond t (lines_of (whole_part (take script_limit script))) (lines_of script)) (short-is script short) ∙ ap lines_of same ∙ sym (append-nil (lines_of done)))
+        ([], ap (λ t. cond t (lines_of (whole_part (take script_limit script))) (lines_of script)) (short_is script short) ∙ ap lines_of same ∙ sym (append-nil (lines_of done)))
 
-pub lines-begin : (script done left : List ℕ) → Stands script done left → (later : List (List ℕ)) × (lines_of script ≡ lines_of done ++ later)
-lines-begin script done left h = by h.whole
+pub lines_begin : (script done left : List ℕ) → Stands script done left → (later : List (List ℕ)) × (lines_of script ≡ lines_of done ++ later)
+lines_begin script done left h = by h.whole
   where
     by : IsCut done ⊎ ((left ≡ []) × (length done < script_limit)) → (later : List (List ℕ)) × (lines_of script ≡ lines_of done ++ later)
     by (inl cut) = (lines_of left, ap lines_of h.split ∙ whole_lines_join done left cut)
@@ -87,9 +87,9 @@ pub record Grown (script done line left : List ℕ) (given : ℕ) : Type 0 where
   pub lines : lines_of more ≡ lines_of done ++ (line ∷ [])
   pub counts : given ≡ length more
 
-not-empty : (line after : List ℕ) → [] ≡ line ++ (10 ∷ after) → ⊥
-not-empty [] after h = cc
-not-empty (b ∷ line) after h = cc
+not_empty : (line after : List ℕ) → [] ≡ line ++ (10 ∷ after) → ⊥
+not_empty [] after h = cc
+not_empty (b ∷ line) after h = cc
 
 pub grow : (script done line left rest : List ℕ) (old new : LinesModel) → Stands script done (old.held ++ left) → old.given ≡ length done
     → GivesLine line old left new rest → new.given ≤ script_limit → Grown script done line (new.held ++ rest) new.given
@@ -101,8 +101,8 @@ grow script done line left rest old new h counts gives within = by h.whole gives
     after : List ℕ
     after = new.held ++ rest
 
-    by-end : IsCut done → before ≡ line ++ (10 ∷ after) → Grown script done line after new.given
-    by-end cut is =
+    by_end : IsCut done → before ≡ line ++ (10 ∷ after) → Grown script done line after new.given
+    by_end cut is =
         let size : length before ≡ length line + suc (length after) = ap length is ∙ length-append line (10 ∷ after) in
         let sum : length (done ++ (line ++ (10 ∷ []))) ≡ length done + (length line + 1) = length-append done (line ++ (10 ∷ [])) ∙ ap (λ n. length done + n) (length-append line (10 ∷ [])) in
         let given : new.given ≡ length (done ++ (line ++ (10 ∷ []))) = omega (arith, gives.counts, sum, size, counts) in
@@ -111,14 +111,14 @@ grow script done line left rest old new h counts gives within = by h.whole gives
           stands = record {
             split = h.split ∙ ap (λ bs. done ++ bs) (is ∙ sym (append_assoc line (10 ∷ []) after)) ∙ sym (append_assoc done (line ++ (10 ∷ [])) after);
             within = omega arith;
-            whole = inl (cut-append done (line ++ (10 ∷ [])) cut (end_makes_whole line));
+            whole = inl (cut_append done (line ++ (10 ∷ [])) cut (end_makes_whole line));
           };
           lines = whole_lines_join done (line ++ (10 ∷ [])) cut ∙ ap (λ ls. lines_of done ++ ls) (taken_line_is_first line (line ++ (10 ∷ [])) [] (gives.takes.0, inl refl));
           counts = given;
         }
 
-    by-last : IsCut done → (before ≡ line) × (0 < length line) × (after ≡ []) → Grown script done line after new.given
-    by-last cut is =
+    by_last : IsCut done → (before ≡ line) × (0 < length line) × (after ≡ []) → Grown script done line after new.given
+    by_last cut is =
         let size : length before ≡ length line = ap length is.0 in
         let none : length after ≡ 0 = ap length is.2 in
         let sum : length (done ++ line) ≡ length done + length line = length-append done line in
@@ -135,9 +135,9 @@ grow script done line left rest old new h counts gives within = by h.whole gives
         }
 
     by : IsCut done ⊎ ((before ≡ []) × (length done < script_limit)) → (before ≡ line ++ (10 ∷ after)) ⊎ ((before ≡ line) × (0 < length line) × (after ≡ [])) → Grown script done line after new.given
-    by (inl cut) (inl is) = by-end cut is
-    by (inl cut) (inr is) = by-last cut is
-    by (inr all) (inl is) = absurd (not-empty line after (sym all.0 ∙ is))
+    by (inl cut) (inl is) = by_end cut is
+    by (inl cut) (inr is) = by_last cut is
+    by (inr all) (inl is) = absurd (not_empty line after (sym all.0 ∙ is))
     by (inr all) (inr is) =
         let none : length line ≡ 0 = ap length (sym is.0 ∙ all.0) in
         let some : 0 < length line = is.1 in
@@ -156,14 +156,14 @@ ends script done left rest old new h counts is =
     second [] b h = h
     second (x ∷ a) b h = cc
 
-pub first-empty : (a b : List ℕ) → a ++ b ≡ [] → a ≡ []
-first-empty [] b h = refl
-first-empty (x ∷ a) b h = cc
+pub first_empty : (a b : List ℕ) → a ++ b ≡ [] → a ≡ []
+first_empty [] b h = refl
+first_empty (x ∷ a) b h = cc
 
 -- where as many bytes were taken as may be
-pub too-long : (script done left rest : List ℕ) (old new : LinesModel) → Stands script done (old.held ++ left) → old.given ≡ length done → KeepsAll old left new rest
+pub too_long : (script done left rest : List ℕ) (old new : LinesModel) → Stands script done (old.held ++ left) → old.given ≡ length done → KeepsAll old left new rest
     → new.given + length new.held ≡ script_limit → HasNoEnd new.held → (is_too_long script ≡ true) × (lines_taken script ≡ lines_of done)
-too-long script done left rest old new h counts keeps full none = by h.whole
+too_long script done left rest old new h counts keeps full none = by h.whole
   where
     held : List ℕ
     held = new.held
@@ -180,36 +180,36 @@ too-long script done left rest old new h counts keeps full none = by h.whole
         ∙ ap (λ n. take n ((done ++ held) ++ rest)) (sym (length-append done held ∙ size)) ∙ take-append_seam (done ++ held) rest
 
     long : is_too_long script ≡ true
-    long = long-is script (omega (arith, ap length split, length-append done (held ++ rest), length-append held rest, size))
+    long = long_is script (omega (arith, ap length split, length-append done (held ++ rest), length-append held rest, size))
 
     by : IsCut done ⊎ ((old.held ++ left ≡ []) × (length done < script_limit)) → (is_too_long script ≡ true) × (lines_taken script ≡ lines_of done)
     by (inl cut) =
         (long, ap (λ t. cond t (lines_of (whole_part (take script_limit script))) (lines_of script)) long ∙ ap (λ bs. lines_of (whole_part bs)) taken ∙ ap lines_of (partial_line_is_not_whole done held none cut))
     by (inr all) =
-        let nothing : length held ≡ 0 = ap length (first-empty held rest (keeps.bytes ∙ all.0)) in
+        let nothing : length held ≡ 0 = ap length (first_empty held rest (keeps.bytes ∙ all.0)) in
         absurd (omega (arith, all.1, size, nothing))
 
 -- ---- a script's error
 
-none-error : (o : Option ℕ) (long : Bool) → error_of o long ≡ None → (o ≡ None) × (long ≡ false)
-none-error None true h = cc
-none-error None false h = (refl, refl)
-none-error (Some n) long h = cc
+none_error : (o : Option ℕ) (long : Bool) → error_of o long ≡ None → (o ≡ None) × (long ≡ false)
+none_error None true h = cc
+none_error None false h = (refl, refl)
+none_error (Some n) long h = cc
 
-pub no_error-formed : (script : List ℕ) → script_error script ≡ None → IsWellFormed script
-no_error-formed script h =
-    let parts = none-error (first_other (lines_taken script)) (is_too_long script) h in
+pub no_error_formed : (script : List ℕ) → script_error script ≡ None → IsWellFormed script
+no_error_formed script h =
+    let parts = none_error (first_other (lines_taken script)) (is_too_long script) h in
     let taken : lines_taken script ≡ lines_of script = ap (λ t. cond t (lines_of (whole_part (take script_limit script))) (lines_of script)) parts.1 in
-    (short-than script parts.1, lines-formed (lines_of script) (none-other (lines_of script) (ap first_other (sym taken) ∙ parts.0)))
+    (short_than script parts.1, lines_formed (lines_of script) (none_other (lines_of script) (ap first_other (sym taken) ∙ parts.0)))
 
-pub lines-no_error : (script : List ℕ) → length script < script_limit → AreLines (lines_of script) → script_error script ≡ None
-lines-no_error script short h =
-    let long : is_too_long script ≡ false = short-is script short in
+pub lines_no_error : (script : List ℕ) → length script < script_limit → AreLines (lines_of script) → script_error script ≡ None
+lines_no_error script short h =
+    let long : is_too_long script ≡ false = short_is script short in
     (λ i. error_of (first_other (cond (long i) (lines_of (whole_part (take script_limit script))) (lines_of script))) (long i))
-    ∙ ap (λ o. error_of o false) (other-none (lines_of script) h)
+    ∙ ap (λ o. error_of o false) (other_none (lines_of script) h)
 
-pub formed-no_error : (script : List ℕ) → IsWellFormed script → script_error script ≡ None
-formed-no_error script h = lines-no_error script h.0 (formed-lines (lines_of script) h.1)
+pub formed_no_error : (script : List ℕ) → IsWellFormed script → script_error script ≡ None
+formed_no_error script h = lines_no_error script h.0 (formed_lines (lines_of script) h.1)
 
 -- ---- a run
 
@@ -254,9 +254,9 @@ begin P r script source told first m e is held given opens = record {
   counts = λ p. refl;
 }
 
-pub take-line : (P : Type 0) (r : Rules) (script line : List ℕ) (source told sink after : Option (List ℕ)) (first tally : Tally) (old new : LinesModel) (number : ℕ) (e : SessionModel) (at : IsAt P r script source told sink first tally old number e) (rest : List ℕ)
+pub take_line : (P : Type 0) (r : Rules) (script line : List ℕ) (source told sink after : Option (List ℕ)) (first tally : Tally) (old new : LinesModel) (number : ℕ) (e : SessionModel) (at : IsAt P r script source told sink first tally old number e) (rest : List ℕ)
     → after ≡ Some rest → GivesLine line old at.left new rest → new.given ≤ script_limit → Took P r script after told sink first tally new line (number + 1) e
-take-line P r script line source told sink after first tally old new number e at rest is gives within =
+take_line P r script line source told sink after first tally old new number e at rest is gives within =
     let g = grow script at.done line at.left rest old new at.stands at.given gives within in
     record {
       left = rest;
@@ -273,47 +273,47 @@ take-line P r script line source told sink after first tally old new number e at
       counts = at.counts;
     }
 
-one-more : (ls : List (List ℕ)) (l : List ℕ) → length ls + 1 ≡ length (ls ++ (l ∷ []))
-one-more ls l = sym (length-append ls (l ∷ []))
+one_more : (ls : List (List ℕ)) (l : List ℕ) → length ls + 1 ≡ length (ls ++ (l ∷ []))
+one_more ls l = sym (length-append ls (l ∷ []))
 
-pub answer-it : (P : Type 0) (r : Rules) (script line : List ℕ) (source told sink after : Option (List ℕ)) (first tally next : Tally) (m : LinesModel) (number : ℕ) (e new : SessionModel) → Took P r script source told sink first tally m line number e
+pub answer_it : (P : Type 0) (r : Rules) (script line : List ℕ) (source told sink after : Option (List ℕ)) (first tally next : Tally) (m : LinesModel) (number : ℕ) (e new : SessionModel) → Took P r script source told sink first tally m line number e
     → IsTrue (is_line line) → (P → (s : State) → StandsFor e s → StandsFor new (after_lines r s (line ∷ [])))
     → (P → (s : State) (before : List ℕ) → StandsFor e s → sink ≡ Some before → after ≡ Some (before ++ replies_from r s (line ∷ [])))
     → (P → (s : State) → StandsFor e s → next ≡ tallied tally (answers r s (meanings (line ∷ []))))
     → IsAt P r script source told after first next m number new
-answer-it P r script line source told sink after first tally next m number e new took is stands says counts = record {
+answer_it P r script line source told sink after first tally next m number e new took is stands says counts = record {
   left = took.left;
   rest = took.rest;
   done = took.more;
   stands = took.stands;
   given = took.given;
-  meant = rw took.lines (lines-more (lines_of took.done) (line ∷ []) took.meant (is, tt));
-  count = took.count ∙ one-more (lines_of took.done) line ∙ ap length (sym took.lines);
-  session = λ p. subst (StandsFor new) (sym (ap (after_lines r opening) took.lines ∙ state-append r opening (lines_of took.done) (line ∷ []) took.meant)) (stands p _ (took.session p));
+  meant = rw took.lines (lines_more (lines_of took.done) (line ∷ []) took.meant (is, tt));
+  count = took.count ∙ one_more (lines_of took.done) line ∙ ap length (sym took.lines);
+  session = λ p. subst (StandsFor new) (sym (ap (after_lines r opening) took.lines ∙ state_append r opening (lines_of took.done) (line ∷ []) took.meant)) (stands p _ (took.session p));
   said = λ p before is.
       says p _ (before ++ replies_to r (lines_of took.done)) (took.session p) (took.said p before is)
       ∙ ap Some (append_assoc before (replies_to r (lines_of took.done)) (replies_from r (after_lines r opening (lines_of took.done)) (line ∷ []))
-      ∙ ap (λ bs. before ++ bs) (sym (ap (replies_to r) took.lines ∙ replies-append r opening (lines_of took.done) (line ∷ []) took.meant)));
+      ∙ ap (λ bs. before ++ bs) (sym (ap (replies_to r) took.lines ∙ replies_append r opening (lines_of took.done) (line ∷ []) took.meant)));
   counts = λ p.
       counts p _ (took.session p) ∙ ap (λ t. tallied t (answers r (after_lines r opening (lines_of took.done)) (meanings (line ∷ [])))) (took.counts p)
-      ∙ sym (ap (λ ls. tallied first (answers r opening (meanings ls))) took.lines ∙ tally-append first r opening (lines_of took.done) (line ∷ []) took.meant);
+      ∙ sym (ap (λ ls. tallied first (answers r opening (meanings ls))) took.lines ∙ tally_append first r opening (lines_of took.done) (line ∷ []) took.meant);
 }
 
 -- ---- what the reader answered
 
-pub took-told : {V P : Type 0} {r : Rules} {script : List ℕ} {source told sink : Option (List ℕ)} {first tally : Tally} {old : LinesModel} {number : ℕ} {e : SessionModel} (items : V → List ℕ) (o : Option V) (v : V) (line : List ℕ) (after : Option (List ℕ)) (new : LinesModel)
+pub took_told : {V P : Type 0} {r : Rules} {script : List ℕ} {source told sink : Option (List ℕ)} {first tally : Tally} {old : LinesModel} {number : ℕ} {e : SessionModel} (items : V → List ℕ) (o : Option V) (v : V) (line : List ℕ) (after : Option (List ℕ)) (new : LinesModel)
     → ((left : List ℕ) → source ≡ Some left → (rest : List ℕ) × (after ≡ Some rest) × MatchOption o (IsEnd old left new rest) (λ l. GivesLine (items l) old left new rest))
     → new.given + length new.held ≤ script_limit → o ≡ Some v → line ≡ items v → IsAt P r script source told sink first tally old number e → Took P r script after told sink first tally new line (number + 1) e
-took-told {P = P} {r = r} {script = script} {source = source} {told = told} {sink = sink} {first = first} {tally = tally} {old = old} {number = number} {e = e} items o v line after new tells within some is at =
+took_told {P = P} {r = r} {script = script} {source = source} {told = told} {sink = sink} {first = first} {tally = tally} {old = old} {number = number} {e = e} items o v line after new tells within some is at =
     let gave = tells at.left at.rest in
     let gives : GivesLine line old at.left new gave.0 =
     subst (λ l. GivesLine l old at.left new gave.0) (sym is) (subst (λ p. MatchOption p (IsEnd old at.left new gave.0) (λ l. GivesLine (items l) old at.left new gave.0)) some gave.2) in
     let bound : new.given ≤ script_limit = omega arith in
-    take-line P r script line source told sink after first tally old new number e at gave.0 gave.1 gives bound
+    take_line P r script line source told sink after first tally old new number e at gave.0 gave.1 gives bound
 
-pub end-told : {V P : Type 0} {r : Rules} {script : List ℕ} {source told sink : Option (List ℕ)} {first tally : Tally} {old : LinesModel} {number : ℕ} {e : SessionModel} (items : V → List ℕ) (o : Option V) (after : Option (List ℕ)) (new : LinesModel)
+pub end_told : {V P : Type 0} {r : Rules} {script : List ℕ} {source told sink : Option (List ℕ)} {first tally : Tally} {old : LinesModel} {number : ℕ} {e : SessionModel} (items : V → List ℕ) (o : Option V) (after : Option (List ℕ)) (new : LinesModel)
     → ((left : List ℕ) → source ≡ Some left → (rest : List ℕ) × (after ≡ Some rest) × MatchOption o (IsEnd old left new rest) (λ l. GivesLine (items l) old left new rest))
     → o ≡ None → (at : IsAt P r script source told sink first tally old number e) → (rest : List ℕ) × (after ≡ Some rest) × IsEnd old at.left new rest
-end-told {old = old} items o after new tells none at =
+end_told {old = old} items o after new tells none at =
     let gave = tells at.left at.rest in
     (gave.0, gave.1, subst (λ p. MatchOption p (IsEnd old at.left new gave.0) (λ l. GivesLine (items l) old at.left new gave.0)) none gave.2)

@@ -4,7 +4,7 @@ use Rattle.std.specs.Prelude.{count_by, Option}
 use Rattle.std.proofs.Math.Seq.{drop-cons, drop-nil}
 use Rattle.std.proofs.lemmas.Bool.Decides.{nat_tests}
 use Rattle.std.proofs.lemmas.Bool.{lt-ltb, ltb-true, ltb-false}
-use Rattle.std.proofs.lemmas.List.{take_all, drop_all, length-drop, length-take-le}
+use Rattle.std.proofs.lemmas.List.{take_all, drop_all, length-drop, length-take-le, nil_from_length}
 use Rattle.std.proofs.lemmas.List.Elements.{filter_map-append}
 use Rattle.std.proofs.lemmas.List.Sums.{sum_by-append}
 use Rattle.slate_types.specs.declared.bytes_range.BytesRange.{BytesRange}
@@ -33,42 +33,42 @@ TakesRest n order sts i rows left ts = ts ++ steps_walk order n left (drop i sts
 pub handed_both : (ts us : List TranscriptStep) → handed (ts ++ us) ≡ handed ts ++ handed us
 handed_both ts us = filter_map-append answer_of ts us
 
-handed-many : (n : ℕ) (rows : List RowEntry) → length (handed (nexts n rows)) ≡ length rows
-handed-many n [] = refl
-handed-many n (r ∷ rs) = ap suc (handed-many n rs)
+handed_many : (n : ℕ) (rows : List RowEntry) → length (handed (nexts n rows)) ≡ length rows
+handed_many n [] = refl
+handed_many n (r ∷ rs) = ap suc (handed_many n rs)
 
 -- ---- one row more
 
-none-some : {X : Type 0} {Q : Type 0} (x : X) → Some x ≡ None → Q
-none-some x e = cc
+none_some : {X : Type 0} {Q : Type 0} (x : X) → Some x ≡ None → Q
+none_some x e = cc
 
-some-same : {X : Type 0} (x y : X) → Some x ≡ Some y → x ≡ y
-some-same x y e = cc
+some_same : {X : Type 0} (x y : X) → Some x ≡ Some y → x ≡ y
+some_same x y e = cc
 
-next-one : (n i : ℕ) (rows : List RowEntry) (row : KeyValue) → Some row ≡ first_left (drop i rows) → (nexts n (take i rows) ++ (steps.Next n (Some row) ∷ []) ≡ nexts n (take (i + 1) rows)) × (i + 1 ≤ length rows)
-next-one n zero [] row e = none-some row e
-next-one n zero (r ∷ rs) row e = (ap (λ a. steps.Next n (Some a) ∷ []) (some-same row (key_value r) e), omega arith)
-next-one n (suc i) [] row e = none-some row e
-next-one n (suc i) (r ∷ rs) row e = let rest = next-one n i rs row e in
+next_one : (n i : ℕ) (rows : List RowEntry) (row : KeyValue) → Some row ≡ first_left (drop i rows) → (nexts n (take i rows) ++ (steps.Next n (Some row) ∷ []) ≡ nexts n (take (i + 1) rows)) × (i + 1 ≤ length rows)
+next_one n zero [] row e = none_some row e
+next_one n zero (r ∷ rs) row e = (ap (λ a. steps.Next n (Some a) ∷ []) (some_same row (key_value r) e), omega arith)
+next_one n (suc i) [] row e = none_some row e
+next_one n (suc i) (r ∷ rs) row e = let rest = next_one n i rs row e in
     let same : suc (i + 1) ≡ suc i + 1 = omega arith in
     (ap (λ ts. steps.Next n (Some (key_value r)) ∷ ts) rest.0 ∙ ap (λ k. nexts n (take k (r ∷ rs))) same, omega (arith, rest.1))
 
-drop-more : {A : Type 0} (i : ℕ) (l : List A) → drop (i + 1) l ≡ drop 1 (drop i l)
-drop-more zero l = refl
-drop-more (suc i) [] = drop-nil (suc i + 1)
-drop-more (suc i) (x ∷ l) = let same : suc i + 1 ≡ suc (i + 1) = omega arith in ap (λ k. drop k (x ∷ l)) same ∙ drop-more i l
+drop_more : {A : Type 0} (i : ℕ) (l : List A) → drop (i + 1) l ≡ drop 1 (drop i l)
+drop_more zero l = refl
+drop_more (suc i) [] = drop-nil (suc i + 1)
+drop_more (suc i) (x ∷ l) = let same : suc i + 1 ≡ suc (i + 1) = omega arith in ap (λ k. drop k (x ∷ l)) same ∙ drop_more i l
 
 pub first_none : (n : ℕ) (rows : List RowEntry) → TakesFirst n 0 rows rows []
 first_none n rows = (refl, refl, omega arith)
 
 pub first_one : (n i : ℕ) (row : KeyValue) (rows mid left : List RowEntry) (ts us : List TranscriptStep) → TakesFirst n i rows mid ts → TakesNext n (Some row) mid left us → TakesFirst n (i + 1) rows left (ts ++ us)
 first_one n i row rows mid left ts us (noted, behind, within) (next, first, later) =
-    let one = next-one n i rows row (first ∙ ap first_left behind) in
-    ((λ k. noted k ++ next k) ∙ one.0, later ∙ ap (drop 1) behind ∙ sym (drop-more i rows), one.1)
+    let one = next_one n i rows row (first ∙ ap first_left behind) in
+    ((λ k. noted k ++ next k) ∙ one.0, later ∙ ap (drop 1) behind ∙ sym (drop_more i rows), one.1)
 
-nothing-left : (rows : List RowEntry) → None ≡ first_left rows → rows ≡ []
-nothing-left [] e = refl
-nothing-left (r ∷ rs) e = none-some (key_value r) (sym e)
+nothing_left : (rows : List RowEntry) → None ≡ first_left rows → rows ≡ []
+nothing_left [] e = refl
+nothing_left (r ∷ rs) e = none_some (key_value r) (sym e)
 
 -- the end was met where fewer rows were left than were asked for
 pub first_ended : (n i count : ℕ) (order : IterationOrder) (rows mid left : List RowEntry) (ts us : List TranscriptStep) → i < count → TakesFirst n i rows mid ts → TakesNext n None mid left us → TakesStep n order (Rows count) rows left (ts ++ us)
@@ -79,7 +79,7 @@ first_ended n i count order rows mid left ts us below (noted, behind, within) (n
 )
   where
     none : mid ≡ []
-    none = nothing-left mid first
+    none = nothing_left mid first
 
     few : length rows ≤ i
     few = let l : length (drop i rows) ≡ length rows - i = length-drop i rows in
@@ -112,7 +112,7 @@ walks_all n count order rows left ts few (noted, behind) = by (ltb (length rows)
     by false e =
         let some : count ≤ length rows = ltb-false (length rows) count e in
         let is : ts ≡ nexts n (take count rows) = noted ∙ (λ k. nexts n (take count rows) ++ cond (e k) (steps.Next n None ∷ []) []) ∙ append-nil (nexts n (take count rows)) in
-        let many : length (handed ts) ≡ count = ap (λ us. length (handed us)) is ∙ handed-many n (take count rows) ∙ length-take-le count rows some in
+        let many : length (handed ts) ≡ count = ap (λ us. length (handed us)) is ∙ handed_many n (take count rows) ∙ length-take-le count rows some in
         absurd (omega (arith, many, few))
 
 -- ---- one step more
@@ -149,12 +149,8 @@ one_more ts order range =
 
 -- ---- how long a list is
 
-no-length : {A : Type 0} (xs : List A) → length xs ≡ 0 → xs ≡ []
-no-length [] h = refl
-no-length (x ∷ xs) h = absurd (omega (arith, h))
-
 pub none_at_all : {A : Type 0} (xs : List A) → (length xs == 0) ≡ true → xs ≡ []
-none_at_all xs h = let none : length xs ≡ 0 = grind (arith, nat_tests) in no-length xs none
+none_at_all xs h = let none : length xs ≡ 0 = grind (arith, nat_tests) in nil_from_length xs none
 
 pub some_at_all : {A : Type 0} (xs : List A) → (length xs == 0) ≡ false → 0 < length xs
 some_at_all xs h = grind (arith, nat_tests)

@@ -8,7 +8,7 @@
 --     AreUnder named names ps      of the model's names each has what is open under its id
 --     StandsFor e s      the session answers as the model does in the state s
 --     IsStep e stepped a      an answer is the model's, as it is shown, and what the session becomes is the model's too
---     AnswersAs m seg before after line result      so is the answer to the line, for what the parts and the segments mean
+--     StepsAs m seg before after line result      so is the answer to the line, for what the parts and the segments mean
 --     HasTables objects es      the store holds the journal's tables, and no two lie at one path
 --     IsTableUpTo m layout n o      an object is a table that a flush put, and there were no more flushes than these
 --     HasTablesAlone m layout objects runs      the store holds nothing but the tables of these installs, and for each key its rows by sequence are theirs
@@ -106,8 +106,8 @@ pub record StandsFor (e : SessionModel) (s : State) : Type 0 where
 abbrev pub IsStep : SessionModel → State × Reply → Answer → Type 0
 IsStep e stepped a = StandsFor e stepped.0 × (reply_of a ≡ as_shown stepped.1)
 
-abbrev pub AnswersAs : Meaning → Segments → SessionModel → SessionModel → Line → Result Answer SlateDBError → Type 0
-AnswersAs m seg before after line result = (s : State) → StandsFor before s → IfOk result (IsStep after (step (rules_in before.core.settings m seg) s line))
+abbrev pub StepsAs : Meaning → Segments → SessionModel → SessionModel → Line → Result Answer SlateDBError → Type 0
+StepsAs m seg before after line result = (s : State) → StandsFor before s → IfOk result (IsStep after (step (rules_in before.core.settings m seg) s line))
 
 -- objects: what the store tells; flushes are numbered, and the tables of each have places
 pub record HasTables (objects : Option Objects) (es : List Event) : Type 0 where

@@ -30,6 +30,7 @@ use Rattle.slate_db.specs.Model.{CoreModel}
 use Rattle.slate_db.specs.Readable.{IsRefusedBy}
 use Rattle.slate_db.specs.Scans.{IsRefusedInScan}
 use Rattle.slate_db.specs.Shown.{Asking}
+use Rattle.slate_db.specs.Sound.{IsKept}
 use Rattle.slate_script.specs.Session.{SessionModel, IsSettled}
 
 abbrev pub after_act : Objects → Act → Objects
@@ -71,11 +72,12 @@ IsRefusedAt policies (lines.Scan name order start end sts) m c reads e = IsRefus
 IsRefusedAt policies (lines.Prefix name order p start end sts) m c reads e = IsRefusedInScan policies m c reads e
 IsRefusedAt policies line m c reads e = ⊥
 
--- core: as it was before the reads
+-- core: as it was before the reads, where what is kept of its rows holds: without an operator none in memory is an operand
 pub record IsShown (policies : List Policy) (m : Meaning) (before after : Option (List Act)) (e : SlateDBError) : Type 0 where
   pub core : CoreModel
   pub reads : List Act
   pub each : AllByRecursion IsReadAct reads
+  pub kept : IsKept m core
   pub refused : IsShownBy policies m core reads e
   pub last : (known : List Act) → before ≡ Some known → (earlier : List Act) × (after ≡ Some ((known ++ earlier) ++ reads)) × ArePut earlier (tables_of core.events)
 

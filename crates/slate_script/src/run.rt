@@ -42,9 +42,10 @@ use std::alloc::Global;
 /// where that object's count of faults rose in this call, and a source's or a sink's count that rose is never passed
 /// over. Damage is answered only where the store isn't honest, wasn't empty, or a part or a policy isn't lawful; where
 /// these are lawful and the store tells its acts, only where a read was answered otherwise than by what this run had put. It is shown
-/// by the last reads of the run, of a table that the run had put, but a scan's `MergeOperatorMissing`, which shows that there is no
-/// operator, and its `InvalidSequenceOrder`, which shows two sequences that rise. No limit is reached: of a script no more bytes are taken
-/// than the least of them.
+/// by the last reads of the run, of a table that the run had put, but a scan's `MergeOperatorMissing`, which shows an operand where there
+/// is no operator, and its `InvalidSequenceOrder`, which shows an operand and a row of its key with a greater sequence: rows in memory, of
+/// an open transaction's own, or of such a table by these reads. No limit is reached: of a script no more bytes are taken than the least of
+/// them.
 ///
 /// What is written at an error is replies: at one of the script those to all lines before it, at `ReadFault` those to
 /// all whole lines that the source gave, or to the whole script, at `WriteFault` those to some first lines and a front

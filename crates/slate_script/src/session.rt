@@ -30,7 +30,7 @@ ghost use Rattle.slate_db.specs.Sound.{IsKept, IsOperable};
 ghost use Rattle.slate_db.specs.StoredState.{StoresState};
 ghost use Rattle.slate_db.specs.Log.{AreFine};
 ghost use Rattle.slate_language.specs.Answers.{reply_of};
-ghost use Rattle.slate_script.specs.Session.{StandsFor, AnswersAs, HasTablesAlone, Grows, IsDone, IsSettled, IsSettledIn, IsLimit, IsRefusal, StoresNothing, has_moment, held_load, line_load, reader_id, reader_under};
+ghost use Rattle.slate_script.specs.Session.{StandsFor, StepsAs, HasTablesAlone, Grows, IsDone, IsSettled, IsSettledIn, IsLimit, IsRefusal, StoresNothing, has_moment, held_load, line_load, reader_id, reader_under};
 ghost use Rattle.slate_script.specs.Scanning.{BeginsWith, EndsBelow, ScansAs};
 ghost use Rattle.slate_script.specs.Told.{Follows, IsRefusedAt, IsUntrue, PutsTables, asking_for};
 
@@ -118,7 +118,7 @@ impl Session {
         ensures step { let reach = ⟦<EnvOf<S, M, T> as Outside>⟧.reach in
             let policies = map (λ p. meaning (p.vtable, p.value)) laws.now.policies.items in
             IsSettledIn policies (segments_by X.lengths laws.now.segments) (reach env.old) self.old →
-            AnswersAs (reach env.old).meaning (segments_by X.lengths laws.now.segments) self.old self.new line result }
+            StepsAs (reach env.old).meaning (segments_by X.lengths laws.now.segments) self.old self.new line result }
         ensures settings { OnOk result (self.new.core.settings ≡ self.old.core.settings) }
         ensures grows { OnOk result (Grows line self.old self.new) }
         ensures kept { let reach = ⟦<EnvOf<S, M, T> as Outside>⟧.reach in
@@ -187,7 +187,7 @@ impl Session {
         requires no_write { (ops : Ops) → line ≢ Line.Write ops }
         requires no_merge { (name key value : List ℕ) (ttl : Ttl) → line ≢ Line.Merge name key value ttl }
         requires no_commit { (name : List ℕ) → line ≢ Line.Commit name }
-        ensures step { (m : Meaning) (seg : Segments) → AnswersAs m seg self.old self.new line result }
+        ensures step { (m : Meaning) (seg : Segments) → StepsAs m seg self.old self.new line result }
         ensures stores { OnOk result ((m : Meaning) (seg : Segments) → StoresNothing m seg self.old self.new) }
         ensures grows { OnOk result (Grows line self.old self.new) }
         ensures cause { IfErr result (λ e. (e ≡ SlateDBError.OutOfMemory) ⊎ IsLimit self.old e) }
@@ -237,7 +237,7 @@ impl Session {
 
     /// Opens the name at the last commit, as a transaction.
     fn begin(&mut self, name: Bytes, level: IsolationLevel) -> Result<Answer, SlateDBError>
-        ensures step { (m : Meaning) (seg : Segments) → AnswersAs m seg self.old self.new (Line.Begin name level) result }
+        ensures step { (m : Meaning) (seg : Segments) → StepsAs m seg self.old self.new (Line.Begin name level) result }
         ensures stores { OnOk result ((m : Meaning) (seg : Segments) → StoresNothing m seg self.old self.new) }
         ensures grows { OnOk result (Grows (Line.Begin name level) self.old self.new) }
         ensures cause { IfErr result (λ e. (e ≡ SlateDBError.OutOfMemory) ⊎ IsLimit self.old e) }
@@ -253,7 +253,7 @@ impl Session {
 
     /// Opens the name at the last commit, as a snapshot.
     fn snapshot(&mut self, name: Bytes) -> Result<Answer, SlateDBError>
-        ensures step { (m : Meaning) (seg : Segments) → AnswersAs m seg self.old self.new (Line.Snapshot name) result }
+        ensures step { (m : Meaning) (seg : Segments) → StepsAs m seg self.old self.new (Line.Snapshot name) result }
         ensures stores { OnOk result ((m : Meaning) (seg : Segments) → StoresNothing m seg self.old self.new) }
         ensures grows { OnOk result (Grows (Line.Snapshot name) self.old self.new) }
         ensures cause { IfErr result (λ e. (e ≡ SlateDBError.OutOfMemory) ⊎ IsLimit self.old e) }
@@ -278,7 +278,7 @@ impl Session {
         ensures step { let reach = ⟦<EnvOf<S, M, T> as Outside>⟧.reach in
             let policies = map (λ p. meaning (p.vtable, p.value)) laws.now.policies.items in
             IsAnswered policies (reach env.old) (reach env.new) self.old.core →
-            (seg : Segments) → AnswersAs (reach env.old).meaning seg self.old self.new (Line.Get name key) result }
+            (seg : Segments) → StepsAs (reach env.old).meaning seg self.old self.new (Line.Get name key) result }
         ensures stores { OnOk result ((m : Meaning) (seg : Segments) → StoresNothing m seg self.old self.new) }
         ensures grows { OnOk result (Grows (Line.Get name key) self.old self.new) }
         ensures cause { let reach = ⟦<EnvOf<S, M, T> as Outside>⟧.reach in
@@ -315,7 +315,7 @@ impl Session {
         ensures step { let reach = ⟦<EnvOf<S, M, T> as Outside>⟧.reach in
             let policies = map (λ p. meaning (p.vtable, p.value)) laws.now.policies.items in
             IsAnswered policies (reach env.old) (reach env.new) self.old.core →
-            (seg : Segments) → AnswersAs (reach env.old).meaning seg self.old self.new (Line.Scan name order start end steps) result }
+            (seg : Segments) → StepsAs (reach env.old).meaning seg self.old self.new (Line.Scan name order start end steps) result }
         ensures stores { OnOk result ((m : Meaning) (seg : Segments) → StoresNothing m seg self.old self.new) }
         ensures grows { OnOk result (Grows (Line.Scan name order start end steps) self.old self.new) }
         ensures cause { let reach = ⟦<EnvOf<S, M, T> as Outside>⟧.reach in
@@ -346,7 +346,7 @@ impl Session {
         ensures step { let reach = ⟦<EnvOf<S, M, T> as Outside>⟧.reach in
             let policies = map (λ p. meaning (p.vtable, p.value)) laws.now.policies.items in
             IsAnswered policies (reach env.old) (reach env.new) self.old.core →
-            (seg : Segments) → AnswersAs (reach env.old).meaning seg self.old self.new (Line.Prefix name order prefix start end steps) result }
+            (seg : Segments) → StepsAs (reach env.old).meaning seg self.old self.new (Line.Prefix name order prefix start end steps) result }
         ensures stores { OnOk result ((m : Meaning) (seg : Segments) → StoresNothing m seg self.old self.new) }
         ensures grows { OnOk result (Grows (Line.Prefix name order prefix start end steps) self.old self.new) }
         ensures cause { let reach = ⟦<EnvOf<S, M, T> as Outside>⟧.reach in
@@ -428,7 +428,7 @@ impl Session {
 
     /// Closes the name: its transaction ends, or its snapshot is released.
     fn rollback(&mut self, name: Bytes) -> Answer
-        ensures step { (m : Meaning) (seg : Segments) → AnswersAs m seg self.old self.new (Line.Rollback name) (Ok result) }
+        ensures step { (m : Meaning) (seg : Segments) → StepsAs m seg self.old self.new (Line.Rollback name) (Ok result) }
         ensures stores { (m : Meaning) (seg : Segments) → StoresNothing m seg self.old self.new }
         ensures grows { Grows (Line.Rollback name) self.old self.new }
     {
@@ -442,7 +442,7 @@ impl Session {
     /// Closes the name, which is no transaction's.
     fn release(&mut self, name: Bytes) -> Answer
         requires { find_named name self.old.names ≡ None }
-        ensures step { (m : Meaning) (seg : Segments) → AnswersAs m seg self.old self.new (Line.Rollback name) (Ok result) }
+        ensures step { (m : Meaning) (seg : Segments) → StepsAs m seg self.old self.new (Line.Rollback name) (Ok result) }
         ensures stores { (m : Meaning) (seg : Segments) → StoresNothing m seg self.old self.new }
         ensures grows { Grows (Line.Rollback name) self.old self.new }
     {
@@ -461,7 +461,7 @@ impl Session {
         value: Bytes,
         ttl: Ttl,
     ) -> Result<Answer, SlateDBError>
-        ensures step { (m : Meaning) (seg : Segments) → AnswersAs m seg self.old self.new (Line.Put name key value ttl) result }
+        ensures step { (m : Meaning) (seg : Segments) → StepsAs m seg self.old self.new (Line.Put name key value ttl) result }
         ensures stores { OnOk result ((m : Meaning) (seg : Segments) → StoresNothing m seg self.old self.new) }
         ensures grows { OnOk result (Grows (Line.Put name key value ttl) self.old self.new) }
         ensures cause { IfErr result (λ e. (e ≡ SlateDBError.OutOfMemory) ⊎ IsLimit self.old e) }
@@ -488,7 +488,7 @@ impl Session {
         ttl: Ttl,
         env: &mut Env<'_, S, M, T>,
     ) -> Result<Answer, SlateDBError>
-        ensures step { let reach = ⟦<EnvOf<S, M, T> as Outside>⟧.reach in (seg : Segments) → AnswersAs (reach env.old).meaning seg self.old self.new (Line.Merge name key value ttl) result }
+        ensures step { let reach = ⟦<EnvOf<S, M, T> as Outside>⟧.reach in (seg : Segments) → StepsAs (reach env.old).meaning seg self.old self.new (Line.Merge name key value ttl) result }
         ensures stores { let reach = ⟦<EnvOf<S, M, T> as Outside>⟧.reach in OnOk result ((seg : Segments) → StoresNothing (reach env.old).meaning seg self.old self.new) }
         ensures grows { OnOk result (Grows (Line.Merge name key value ttl) self.old self.new) }
         ensures cause { let reach = ⟦<EnvOf<S, M, T> as Outside>⟧.reach in IfErr result (λ e. IsFault (reach env.old) (reach env.new) e ⊎ IsLimit self.old e) }
@@ -513,7 +513,7 @@ impl Session {
 
     /// Puts a delete of the key among the own operations of the name's transaction.
     fn delete(&mut self, name: Bytes, key: Bytes) -> Result<Answer, SlateDBError>
-        ensures step { (m : Meaning) (seg : Segments) → AnswersAs m seg self.old self.new (Line.Delete name key) result }
+        ensures step { (m : Meaning) (seg : Segments) → StepsAs m seg self.old self.new (Line.Delete name key) result }
         ensures stores { OnOk result ((m : Meaning) (seg : Segments) → StoresNothing m seg self.old self.new) }
         ensures grows { OnOk result (Grows (Line.Delete name key) self.old self.new) }
         ensures cause { IfErr result (λ e. (e ≡ SlateDBError.OutOfMemory) ⊎ IsLimit self.old e) }
@@ -531,7 +531,7 @@ impl Session {
 
     /// Makes the keys part of what the commit of the name's transaction conflicts by.
     fn mark(&mut self, name: Bytes, keys: KeyList) -> Result<Answer, SlateDBError>
-        ensures step { (m : Meaning) (seg : Segments) → AnswersAs m seg self.old self.new (Line.Mark name keys) result }
+        ensures step { (m : Meaning) (seg : Segments) → StepsAs m seg self.old self.new (Line.Mark name keys) result }
         ensures stores { OnOk result ((m : Meaning) (seg : Segments) → StoresNothing m seg self.old self.new) }
         ensures grows { OnOk result (Grows (Line.Mark name keys) self.old self.new) }
         ensures cause { IfErr result (λ e. (e ≡ SlateDBError.OutOfMemory) ⊎ IsLimit self.old e) }
@@ -549,7 +549,7 @@ impl Session {
 
     /// Takes the keys out of what the commit of the name's transaction tracks.
     fn unmark(&mut self, name: Bytes, keys: KeyList) -> Result<Answer, SlateDBError>
-        ensures step { (m : Meaning) (seg : Segments) → AnswersAs m seg self.old self.new (Line.Unmark name keys) result }
+        ensures step { (m : Meaning) (seg : Segments) → StepsAs m seg self.old self.new (Line.Unmark name keys) result }
         ensures stores { OnOk result ((m : Meaning) (seg : Segments) → StoresNothing m seg self.old self.new) }
         ensures grows { OnOk result (Grows (Line.Unmark name keys) self.old self.new) }
         ensures cause { IfErr result (λ e. (e ≡ SlateDBError.OutOfMemory) ⊎ IsLimit self.old e) }
@@ -573,7 +573,7 @@ impl Session {
         laws: &Laws<X>,
     ) -> Result<Answer, SlateDBError>
         ensures step { let reach = ⟦<EnvOf<S, M, T> as Outside>⟧.reach in IsOperable (reach env.old).meaning self.old.core →
-            IsSegmented (segments_by X.lengths laws.now.segments) self.old.core → AnswersAs (reach env.old).meaning (segments_by X.lengths laws.now.segments) self.old self.new (Line.Commit name) result }
+            IsSegmented (segments_by X.lengths laws.now.segments) self.old.core → StepsAs (reach env.old).meaning (segments_by X.lengths laws.now.segments) self.old self.new (Line.Commit name) result }
         ensures stores { let reach = ⟦<EnvOf<S, M, T> as Outside>⟧.reach in OnOk result (StoresNothing (reach env.old).meaning (segments_by X.lengths laws.now.segments) self.old self.new) }
         ensures grows { OnOk result (Grows (Line.Commit name) self.old self.new) }
         ensures cause { let reach = ⟦<EnvOf<S, M, T> as Outside>⟧.reach in IfErr result (λ e. IsFault (reach env.old) (reach env.new) e ⊎ IsLimit self.old e) }
@@ -591,7 +591,7 @@ impl Session {
 
     /// The commits so far.
     fn journal(&self) -> Result<Answer, SlateDBError>
-        ensures step { (m : Meaning) (seg : Segments) → AnswersAs m seg self.entry.now self.entry.now Line.Journal result }
+        ensures step { (m : Meaning) (seg : Segments) → StepsAs m seg self.entry.now self.entry.now Line.Journal result }
         ensures cause { IsOkUnless result SlateDBError.OutOfMemory }
     {
         let entries = entries(self.alloc, self.core.journal().as_slice())?;
@@ -607,7 +607,7 @@ impl Session {
     ) -> Result<Answer, SlateDBError>
         ensures step { let reach = ⟦<EnvOf<S, M, T> as Outside>⟧.reach in
             let seg = segments_by X.lengths laws.now.segments in
-            IsSegmented seg self.old.core → AnswersAs (reach env.old).meaning seg self.old self.new (Line.Write ops) result }
+            IsSegmented seg self.old.core → StepsAs (reach env.old).meaning seg self.old self.new (Line.Write ops) result }
         ensures stores { let reach = ⟦<EnvOf<S, M, T> as Outside>⟧.reach in OnOk result (StoresNothing (reach env.old).meaning (segments_by X.lengths laws.now.segments) self.old self.new) }
         ensures grows { OnOk result (Grows (Line.Write ops) self.old self.new) }
         ensures cause { let reach = ⟦<EnvOf<S, M, T> as Outside>⟧.reach in IfErr result (λ e. IsFault (reach env.old) (reach env.new) e ⊎ IsLimit self.old e) }
@@ -625,7 +625,7 @@ impl Session {
 
     /// Moves the rows in memory aside for a flush.
     fn freeze(&mut self) -> Result<Answer, SlateDBError>
-        ensures step { (m : Meaning) (seg : Segments) → AnswersAs m seg self.old self.new Line.Freeze result }
+        ensures step { (m : Meaning) (seg : Segments) → StepsAs m seg self.old self.new Line.Freeze result }
         ensures stores { OnOk result ((m : Meaning) (seg : Segments) → StoresNothing m seg self.old self.new) }
         ensures grows { OnOk result (Grows Line.Freeze self.old self.new) }
         ensures cause { IfErr result (λ e. (e ≡ SlateDBError.OutOfMemory) ⊎ IsLimit self.old e) }
@@ -642,7 +642,7 @@ impl Session {
     ) -> Result<Answer, SlateDBError>
         requires valid { IsValid laws.now.options }
         requires names { AreValidNames (map (λ p. (meaning (p.vtable, p.value)).name) laws.now.policies.items) }
-        ensures step { (m : Meaning) (seg : Segments) → AnswersAs m seg self.old self.new Line.Flush result }
+        ensures step { (m : Meaning) (seg : Segments) → StepsAs m seg self.old self.new Line.Flush result }
         ensures settings { OnOk result (self.new.core.settings ≡ self.old.core.settings) }
         ensures grows { OnOk result (Grows Line.Flush self.old self.new) }
         ensures kept { let reach = ⟦<EnvOf<S, M, T> as Outside>⟧.reach in

@@ -9,6 +9,6 @@ use Rattle.slate_types.specs.Fold.{KeepsShort}
 abbrev pub appended : Option (List ℕ) → List ℕ → List ℕ
 appended u v = take (2 ^ 32 - 1) (unwrap_or u [] ++ v)
 
-pub appended-short : KeepsShort appended
-appended-short u v h k =
+pub appended_short : KeepsShort appended
+appended_short u v h k =
     subst (λ n. n ≤ 2 ^ 32 - 1) (sym (length-take (2 ^ 32 - 1) (unwrap_or u [] ++ v))) (min-le_left (2 ^ 32 - 1) (length (unwrap_or u [] ++ v)))

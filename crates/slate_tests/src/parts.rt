@@ -1,5 +1,5 @@
 // An operator of one's own.
-ghost use Rattle.slate_tests.specs.Parts.{appended, appended-short};
+ghost use Rattle.slate_tests.specs.Parts.{appended, appended_short};
 
 use crate::listing::{is_bytes, one};
 use bytes::Bytes;
@@ -15,7 +15,7 @@ impl MergeOperator for Concat {
 
     ghost faults = { λ _. 0 };
 
-    ghost short = { λ _ _. appended-short };
+    ghost short = { λ _ _. appended_short };
 
     fn merge(
         &mut self,

@@ -6,11 +6,11 @@ use Rattle.slate_db.specs.Meaning.{segments_by}
 use Rattle.slate_language.specs.Generate.{generate, summary}
 use Rattle.slate_language.specs.Replies.{meanings, IsWellFormed}
 use Rattle.slate_language.specs.Tally.{tallied, tally_text}
-use Rattle.slate_language.proofs.RoundLaws.{generated-formed}
-use Rattle.slate_language.proofs.TallyLaws.{tally-summary}
+use Rattle.slate_language.proofs.RoundLaws.{generated_formed}
+use Rattle.slate_language.proofs.TallyLaws.{tally_summary}
 use Rattle.slate_script.specs.Run.{run_rules, HasTold, IsOutside}
-use Rattle.slate_script.proofs.GeneratedEnds.{formed-outside, lines-cause, lines-none, never-rose, only-cause, only-kinds, only-memory-left, told-none}
-use Rattle.slate_script.proofs.LineEnds.{writing-no-damage, writing-no-error}
+use Rattle.slate_script.proofs.GeneratedEnds.{formed_outside, lines_cause, lines_none, never_rose, only_cause, only_kinds, only_memory_left, told_none}
+use Rattle.slate_script.proofs.LineEnds.{writing_no_damage, writing_no_error}
 use Rattle.slate_script.proofs.Running.{always}
 use Rattle.slate_script.proofs.generated.run_generated.Goals as goal
 use Rattle.slate_script.proofs.MeaningOf.{meaning_of}
@@ -21,19 +21,19 @@ returns-in-Ok g c =
     let r = run_rules c.args.laws.now.options m (segments_by g.X.PrefixExtractor.lengths c.args.laws.now.segments) in
     let script = generate c.args.rounds c.args.seed in
     let left : Some c.new-source.result ≡ Some script = ap Some (c.new-source.ensures ∙ c.in_ok-script.ensures.script) in
-    let formed : IsWellFormed script = generated-formed c.args.rounds c.args.seed c.requires.few in
+    let formed : IsWellFormed script = generated_formed c.args.rounds c.args.seed c.requires.few in
     record {
       told = (λ before told premises.
           let line : tally_text c.answer_lines.new.tally ≡ summary r script =
-          ap tally_text (c.in-Ok.ensures.counted script left premises ∙ ap (λ t. tallied t (answers r opening (meanings (lines_of script)))) c.new-tally.ensures) ∙ tally-summary r script formed in
+          ap tally_text (c.in-Ok.ensures.counted script left premises ∙ ap (λ t. tallied t (answers r opening (meanings (lines_of script)))) c.new-tally.ensures) ∙ tally_summary r script formed in
           subst (λ bs. HasTold bs before (g.W.Sink.content c.write_tally.new.sink) c.write_tally.result) line (c.write_tally.ensures.told before told));
       stored = λ premises. always c.write_tally.result (c.in-Ok.ensures.stored script left premises);
-      outside = only-kinds c.write_tally.result c.write_tally.ensures.cause;
-      cause = only-cause _ _ c.write_tally.result c.write_tally.ensures.cause c.write_tally.ensures.write_fault;
-      undamaged = λ premises. writing-no-damage ⊥ c.write_tally.result c.write_tally.ensures.cause;
-      untrue = λ lawful_policies lawful. writing-no-damage _ c.write_tally.result c.write_tally.ensures.cause;
-      shown = writing-no-error _ c.write_tally.result c.write_tally.ensures.cause;
-      complete = λ premises none. only-memory-left _ _ c.write_tally.result c.write_tally.ensures.cause c.write_tally.ensures.write_fault none;
+      outside = only_kinds c.write_tally.result c.write_tally.ensures.cause;
+      cause = only_cause _ _ c.write_tally.result c.write_tally.ensures.cause c.write_tally.ensures.write_fault;
+      undamaged = λ premises. writing_no_damage ⊥ c.write_tally.result c.write_tally.ensures.cause;
+      untrue = λ lawful_policies lawful. writing_no_damage _ c.write_tally.result c.write_tally.ensures.cause;
+      shown = writing_no_error _ c.write_tally.result c.write_tally.ensures.cause;
+      complete = λ premises none. only_memory_left _ _ c.write_tally.result c.write_tally.ensures.cause c.write_tally.ensures.write_fault none;
       unwritten = c.write_tally.ensures.unwritten;
       sink_still = c.write_tally.ensures.sink_still;
       later = c.write_tally.ensures.later;
@@ -46,17 +46,17 @@ returns g c =
     let r = run_rules c.args.laws.now.options m (segments_by g.X.PrefixExtractor.lengths c.args.laws.now.segments) in
     let script = generate c.args.rounds c.args.seed in
     let left : Some c.new-source.result ≡ Some script = ap Some (c.new-source.ensures ∙ c.in_ok-script.ensures.script) in
-    let formed : IsWellFormed script = generated-formed c.args.rounds c.args.seed c.requires.few in
-    let outside : IsOutside c.in-Err.error = formed-outside script c.in-Err.error formed (c.in-Err.ensures.read script left).error in
+    let formed : IsWellFormed script = generated_formed c.args.rounds c.args.seed c.requires.few in
+    let outside : IsOutside c.in-Err.error = formed_outside script c.in-Err.error formed (c.in-Err.ensures.read script left).error in
     record {
-      told = λ before told premises. told-none (summary r script) before (g.W.Sink.content c.args.sink.now) c.in-Err.error (λ is. never-rose (c.in-Err.ensures.cause.write_fault (ap Err is)));
+      told = λ before told premises. told_none (summary r script) before (g.W.Sink.content c.args.sink.now) c.in-Err.error (λ is. never_rose (c.in-Err.ensures.cause.write_fault (ap Err is)));
       stored = λ premises. tt;
       outside = outside;
-      cause = lines-cause _ _ c.in-Err.error outside c.in-Err.ensures.cause;
+      cause = lines_cause _ _ c.in-Err.error outside c.in-Err.ensures.cause;
       undamaged = c.in-Err.ensures.undamaged;
       untrue = c.in-Err.ensures.untrue;
       shown = c.in-Err.ensures.shown;
-      complete = λ premises none. c.in-Err.ensures.complete script left formed premises (lines-none _ _ none);
+      complete = λ premises none. c.in-Err.ensures.complete script left formed premises (lines_none _ _ none);
       unwritten = inr refl;
       sink_still = inr refl;
       later = omega arith;

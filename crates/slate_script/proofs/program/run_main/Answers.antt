@@ -2,7 +2,7 @@ use Rattle.std.proofs.Common.{[], ◌≡◌, ◌≤◌, ◌++◌, ℕ, List, Opt
 use Rattle.slate_types.specs.declared.error.SlateDBError.TheVariants.{ReadFault, WriteFault}
 use Rattle.slate_script.specs.Program.{segments_of, status}
 use Rattle.slate_script.specs.Run.{run_rules, script_error}
-use Rattle.slate_script.proofs.Statuses.{is-status, is-ended, is-read, is-write, is-store, is-too_long, is-syntax, is-damage, is-part, damage-between, its-own, status-or}
+use Rattle.slate_script.proofs.Statuses.{is_status, is_ended, is_read, is_write, is_store, is_too_long, is_syntax, is_damage, is_part, damage_between, its_own, status_or}
 use Rattle.slate_language.specs.declared.words.Settings.{Settings}
 use Rattle.slate_script.specs.Program.{segments_of, main_rules, parts_of, IsShownStatus}
 use Rattle.slate_language.specs.Replies.{after_lines, replies, replies_to}
@@ -21,42 +21,42 @@ use Rattle.slate_language.specs.Generate.{generate, summary}
 use Rattle.slate_filter.specs.Policy.{Policy}
 use Rattle.slate_language.specs.Words.{read_generated, read_words, used}
 use Rattle.slate_language.specs.declared.words.Generated.{Generated}
-use Rattle.slate_script.proofs.Mains.{generated-not-none, one-script, read-as, same-generated}
-use Rattle.slate_script.proofs.Used.{lawful-kept, valid-used}
-use Rattle.slate_script.proofs.Statuses.{generated-not, generated-status}
-use Rattle.slate_script.proofs.Mains.{lawful, premises, none-rose, rules-are, same-settings, status-or-either, words-are, some-not-none, neither}
-use Rattle.slate_script.proofs.RunEnds.{unless-error}
+use Rattle.slate_script.proofs.Mains.{generated_not_none, one_script, read_as, same_generated}
+use Rattle.slate_script.proofs.Used.{lawful_kept, valid_used}
+use Rattle.slate_script.proofs.Statuses.{generated_not, generated_status}
+use Rattle.slate_script.proofs.Mains.{lawful, premises, none_rose, rules_are, same_settings, status_or_either, words_are, some_not_none, neither}
+use Rattle.slate_script.proofs.RunEnds.{unless_error}
 use Rattle.slate_script.proofs.program.run_main.Goals as goal
 
 -- the names of those that are kept
 pub main_generated-requires-clause-names : goal.main_generated-requires-clause-names
-main_generated-requires-clause-names g c = valid-used (map string_bytes c.args.words.now) c.args.policies.items c.keep_used-kept.result.items (λ p. (goal.FilterPolicy-dyn g (p.vtable, p.value)).meaning p.value) c.keep_used-kept.ensures c.requires.names
+main_generated-requires-clause-names g c = valid_used (map string_bytes c.args.words.now) c.args.policies.items c.keep_used-kept.result.items (λ p. (goal.FilterPolicy-dyn g (p.vtable, p.value)).meaning p.value) c.keep_used-kept.ensures c.requires.names
 
 pub run_script-ran-requires-clause-names : goal.run_script-ran-requires-clause-names
-run_script-ran-requires-clause-names g c = λ κs lives. valid-used (map string_bytes c.args.words.now) c.args.policies.items c.keep_used-kept-2.result.items (λ p. (goal.FilterPolicy-dyn g (p.vtable, p.value)).meaning p.value) c.keep_used-kept-2.ensures c.requires.names
+run_script-ran-requires-clause-names g c = λ κs lives. valid_used (map string_bytes c.args.words.now) c.args.policies.items c.keep_used-kept-2.result.items (λ p. (goal.FilterPolicy-dyn g (p.vtable, p.value)).meaning p.value) c.keep_used-kept-2.ensures c.requires.names
 
 pub returns-in-Ok : goal.returns-in-Ok
 returns-in-Ok g c =
     let ws : List (List ℕ) = map string_bytes c.args.words.now in
     let handed : List (List ℕ) = map (λ p. ((goal.FilterPolicy-dyn g (p.vtable, p.value)).meaning p.value).name) c.args.policies.items in
-    let generated : c.parse_generated.result ≡ read_generated handed ws = read-as c.parse_generated.result c.as_slice.result.now c.args.policies.items (λ p. ((goal.FilterPolicy-dyn g (p.vtable, p.value)).meaning p.value).name) (λ names. read_generated names ws) c.parse_generated.ensures.generated c.as_slice.ensures.value in
-    let settings : c.parse_words.result ≡ read_words handed ws = read-as c.parse_words.result c.as_slice-2.result.now c.args.policies.items (λ p. ((goal.FilterPolicy-dyn g (p.vtable, p.value)).meaning p.value).name) (λ names. read_words names ws) c.parse_words.ensures.settings c.as_slice-2.ensures.value in
-    let fit = lawful-kept ws c.args.policies.items c.keep_used-kept-2.result.items (λ p. (goal.FilterPolicy-dyn g (p.vtable, p.value)).meaning p.value) c.keep_used-kept-2.ensures in
-    let no-generated : (x : Generated) → read_generated handed ws ≡ Some x → ⊥ = λ x named. generated-not-none c.parse_generated.result x (generated ∙ named) c.in_default.is in
+    let generated : c.parse_generated.result ≡ read_generated handed ws = read_as c.parse_generated.result c.as_slice.result.now c.args.policies.items (λ p. ((goal.FilterPolicy-dyn g (p.vtable, p.value)).meaning p.value).name) (λ names. read_generated names ws) c.parse_generated.ensures.generated c.as_slice.ensures.value in
+    let settings : c.parse_words.result ≡ read_words handed ws = read_as c.parse_words.result c.as_slice-2.result.now c.args.policies.items (λ p. ((goal.FilterPolicy-dyn g (p.vtable, p.value)).meaning p.value).name) (λ names. read_words names ws) c.parse_words.ensures.settings c.as_slice-2.ensures.value in
+    let fit = lawful_kept ws c.args.policies.items c.keep_used-kept-2.result.items (λ p. (goal.FilterPolicy-dyn g (p.vtable, p.value)).meaning p.value) c.keep_used-kept-2.ensures in
+    let no_generated : (x : Generated) → read_generated handed ws ≡ Some x → ⊥ = λ x named. generated_not_none c.parse_generated.result x (generated ∙ named) c.in_default.is in
     record {
       statuses = inl refl;
-      unknown = λ none other. absurd (some-not-none c.parse_words.result c.in-Some-parse_words.settings c.in-Some-parse_words.is (settings ∙ none));
+      unknown = λ none other. absurd (some_not_none c.parse_words.result c.in-Some-parse_words.settings c.in-Some-parse_words.is (settings ∙ none));
       known = λ s named two. absurd (omega (arith, two));
       unread = λ two. absurd (omega (arith, two));
       unwritten = λ two. absurd (omega (arith, two));
       unstored = λ two. absurd (omega (arith, two));
       answered = (λ s script before named is told lawful_policies empty zero.
-          let same : c.in-Some-parse_words.settings ≡ s = same-settings c.parse_words.result c.in-Some-parse_words.settings s c.in-Some-parse_words.is (settings ∙ named) in
+          let same : c.in-Some-parse_words.settings ≡ s = same_settings c.parse_words.result c.in-Some-parse_words.settings s c.in-Some-parse_words.is (settings ∙ named) in
           subst (λ (t : Settings). g.W.Sink.content c.run_script-ran.new.sink ≡ Some (before ++ replies (main_rules t) script)) same
-          (subst (λ (r : Rules). g.W.Sink.content c.run_script-ran.new.sink ≡ Some (before ++ replies r script)) (rules-are c.in-Some-parse_words.settings c.transformer_of.result c.transformer_of.ensures)
+          (subst (λ (r : Rules). g.W.Sink.content c.run_script-ran.new.sink ≡ Some (before ++ replies r script)) (rules_are c.in-Some-parse_words.settings c.transformer_of.result c.transformer_of.ensures)
           (c.in-Ok.ensures.said script before is told (premises _ c.in-Some-parse_words.settings.operator c.transformer_of.result _ (fit lawful_policies) empty)).whole));
       stored = (λ s script named is lawful_policies empty zero.
-          let same : c.in-Some-parse_words.settings ≡ s = same-settings c.parse_words.result c.in-Some-parse_words.settings s c.in-Some-parse_words.is (settings ∙ named) in
+          let same : c.in-Some-parse_words.settings ≡ s = same_settings c.parse_words.result c.in-Some-parse_words.settings s c.in-Some-parse_words.is (settings ∙ named) in
           let given : List Policy = map (λ p. (goal.FilterPolicy-dyn g (p.vtable, p.value)).meaning p.value) c.args.policies.items in
           let kept : List Policy = map (λ p. (goal.FilterPolicy-dyn g (p.vtable, p.value)).meaning p.value) c.keep_used-kept-2.result.items in
           let ends = λ (x : Meaning) (t : Settings) (ps : List Policy) (objects : Option Objects). IsStoredState x (main_rules t) (layout_of t.options ps (segments_of t)) objects (after_lines (main_rules t) opening (lines_of script)) in
@@ -64,7 +64,7 @@ returns-in-Ok g c =
           subst (λ t. ends (parts_of s) s (used ws given) (g.S.Store.objects t)) (sym (c.store-1.given.1 (sym c.in-Ok.ensures.puts.store)))
           (subst (λ (ps : List Policy). ends (parts_of s) s ps objects) c.keep_used-kept-2.ensures
           (subst (λ (t : Settings). ends (parts_of t) t kept objects) same
-          (subst (λ (x : Meaning). IsStoredState x (run_rules c.in-Some-parse_words.settings.options x (segments_of c.in-Some-parse_words.settings)) (layout_of c.in-Some-parse_words.settings.options kept (segments_of c.in-Some-parse_words.settings)) objects (after_lines (run_rules c.in-Some-parse_words.settings.options x (segments_of c.in-Some-parse_words.settings)) opening (lines_of script))) (words-are c.in-Some-parse_words.settings c.transformer_of.result c.transformer_of.ensures)
+          (subst (λ (x : Meaning). IsStoredState x (run_rules c.in-Some-parse_words.settings.options x (segments_of c.in-Some-parse_words.settings)) (layout_of c.in-Some-parse_words.settings.options kept (segments_of c.in-Some-parse_words.settings)) objects (after_lines (run_rules c.in-Some-parse_words.settings.options x (segments_of c.in-Some-parse_words.settings)) opening (lines_of script))) (words_are c.in-Some-parse_words.settings c.transformer_of.result c.transformer_of.ensures)
           (c.in-Ok.ensures.stored script is (premises _ c.in-Some-parse_words.settings.operator c.transformer_of.result _ (fit lawful_policies) empty))))));
       read = λ script other is zero. (c.in-Ok.ensures.read script is).whole;
       no_error = λ script other is zero. (c.in-Ok.ensures.read script is).no_error;
@@ -73,12 +73,12 @@ returns-in-Ok g c =
       read_fault = λ five. absurd (omega (arith, five));
       write_fault = λ six. absurd (omega (arith, six));
       store_fault = λ seven. absurd (omega (arith, seven));
-      undamaged = λ lawful_policies empty which. absurd (omega (arith, (damage-between 0 which).0));
-      untrue = λ lawful_policies which. absurd (omega (arith, (damage-between 0 which).0));
-      shown = λ s named which. absurd (omega (arith, (damage-between 0 which).0));
+      undamaged = λ lawful_policies empty which. absurd (omega (arith, (damage_between 0 which).0));
+      untrue = λ lawful_policies which. absurd (omega (arith, (damage_between 0 which).0));
+      shown = λ s named which. absurd (omega (arith, (damage_between 0 which).0));
       complete = λ s script named is formed lawful_policies empty no-read no-write no-store. inl refl;
-      source_still = inr (unless-error _ ReadFault c.in-Ok.ensures.source_still);
-      sink_still = inr (unless-error _ WriteFault c.in-Ok.ensures.sink_still);
+      source_still = inr (unless_error _ ReadFault c.in-Ok.ensures.source_still);
+      sink_still = inr (unless_error _ WriteFault c.in-Ok.ensures.sink_still);
       by_script = λ s script before named is told lawful_policies empty which. neither (λ h. omega (arith, h)) (λ h. omega (arith, h)) which;
       by_source = λ s script before named is told lawful_policies empty five. absurd (omega (arith, five));
       by_sink = λ s script before named is told lawful_policies empty six. absurd (omega (arith, six));
@@ -86,14 +86,14 @@ returns-in-Ok g c =
       all = λ script is four. absurd (omega (arith, four));
       taken = λ script is. (c.run_script-ran.ensures.read script is).taken;
       later = c.run_script-ran.ensures.later;
-      summed = λ named-g before named told lawful_policies empty zero. absurd (no-generated named-g named);
-      summed_stored = λ named-g named lawful_policies empty zero. absurd (no-generated named-g named);
-      summed_kinds = λ named-g named. absurd (no-generated named-g named);
-      summed_alone = λ named-g named. absurd (no-generated named-g named);
-      summed_complete = λ named-g named lawful_policies empty no-write no-store. absurd (no-generated named-g named);
-      summed_shown = λ named-g named which. absurd (no-generated named-g named);
-      summed_begun = λ named-g before named told lawful_policies empty six. absurd (no-generated named-g named);
-      summed_unwritten = λ named-g named. absurd (no-generated named-g named);
+      summed = λ named-g before named told lawful_policies empty zero. absurd (no_generated named-g named);
+      summed_stored = λ named-g named lawful_policies empty zero. absurd (no_generated named-g named);
+      summed_kinds = λ named-g named. absurd (no_generated named-g named);
+      summed_alone = λ named-g named. absurd (no_generated named-g named);
+      summed_complete = λ named-g named lawful_policies empty no-write no-store. absurd (no_generated named-g named);
+      summed_shown = λ named-g named which. absurd (no_generated named-g named);
+      summed_begun = λ named-g before named told lawful_policies empty six. absurd (no_generated named-g named);
+      summed_unwritten = λ named-g named. absurd (no_generated named-g named);
     }
 
 -- ---- where an error ended the run
@@ -102,43 +102,43 @@ pub returns-in-Err : goal.returns-in-Err
 returns-in-Err g c =
     let ws : List (List ℕ) = map string_bytes c.args.words.now in
     let handed : List (List ℕ) = map (λ p. ((goal.FilterPolicy-dyn g (p.vtable, p.value)).meaning p.value).name) c.args.policies.items in
-    let generated : c.parse_generated.result ≡ read_generated handed ws = read-as c.parse_generated.result c.as_slice.result.now c.args.policies.items (λ p. ((goal.FilterPolicy-dyn g (p.vtable, p.value)).meaning p.value).name) (λ names. read_generated names ws) c.parse_generated.ensures.generated c.as_slice.ensures.value in
-    let settings : c.parse_words.result ≡ read_words handed ws = read-as c.parse_words.result c.as_slice-2.result.now c.args.policies.items (λ p. ((goal.FilterPolicy-dyn g (p.vtable, p.value)).meaning p.value).name) (λ names. read_words names ws) c.parse_words.ensures.settings c.as_slice-2.ensures.value in
-    let fit = lawful-kept ws c.args.policies.items c.keep_used-kept-2.result.items (λ p. (goal.FilterPolicy-dyn g (p.vtable, p.value)).meaning p.value) c.keep_used-kept-2.ensures in
-    let no-generated : (x : Generated) → read_generated handed ws ≡ Some x → ⊥ = λ x named. generated-not-none c.parse_generated.result x (generated ∙ named) c.in_default.is in
+    let generated : c.parse_generated.result ≡ read_generated handed ws = read_as c.parse_generated.result c.as_slice.result.now c.args.policies.items (λ p. ((goal.FilterPolicy-dyn g (p.vtable, p.value)).meaning p.value).name) (λ names. read_generated names ws) c.parse_generated.ensures.generated c.as_slice.ensures.value in
+    let settings : c.parse_words.result ≡ read_words handed ws = read_as c.parse_words.result c.as_slice-2.result.now c.args.policies.items (λ p. ((goal.FilterPolicy-dyn g (p.vtable, p.value)).meaning p.value).name) (λ names. read_words names ws) c.parse_words.ensures.settings c.as_slice-2.ensures.value in
+    let fit = lawful_kept ws c.args.policies.items c.keep_used-kept-2.result.items (λ p. (goal.FilterPolicy-dyn g (p.vtable, p.value)).meaning p.value) c.keep_used-kept-2.ensures in
+    let no_generated : (x : Generated) → read_generated handed ws ≡ Some x → ⊥ = λ x named. generated_not_none c.parse_generated.result x (generated ∙ named) c.in_default.is in
     record {
-      statuses = rw c.status_of-status.ensures (is-status c.in-Err.error c.in-Err.ensures.cause.kinds (λ message h. none-rose c.in-Some-parse_words.settings.operator c.run_script-ran.new.env.operator (c.in-Err.ensures.cause.operator_fault message (ap Err h))) (λ h. none-rose c.transformer_of.result c.run_script-ran.new.env.transformer (c.in-Err.ensures.cause.transform_fault (ap Err h))));
-      unknown = λ none other. absurd (some-not-none c.parse_words.result c.in-Some-parse_words.settings c.in-Some-parse_words.is (settings ∙ none));
-      known = λ s is two. is-ended c.in-Err.error c.in-Err.ensures.cause.kinds (inr (sym c.status_of-status.ensures ∙ two));
-      unread = λ two. absurd (is-ended c.in-Err.error c.in-Err.ensures.cause.kinds (inr (sym c.status_of-status.ensures ∙ two)));
-      unwritten = λ two. absurd (is-ended c.in-Err.error c.in-Err.ensures.cause.kinds (inr (sym c.status_of-status.ensures ∙ two)));
-      unstored = λ two. absurd (is-ended c.in-Err.error c.in-Err.ensures.cause.kinds (inr (sym c.status_of-status.ensures ∙ two)));
-      answered = λ s script before named is told lawful_policies empty zero. absurd (is-ended c.in-Err.error c.in-Err.ensures.cause.kinds (inl (sym c.status_of-status.ensures ∙ zero)));
-      stored = λ s script named is lawful_policies empty zero. absurd (is-ended c.in-Err.error c.in-Err.ensures.cause.kinds (inl (sym c.status_of-status.ensures ∙ zero)));
-      read = λ script other is zero. absurd (is-ended c.in-Err.error c.in-Err.ensures.cause.kinds (inl (sym c.status_of-status.ensures ∙ zero)));
-      no_error = λ script other is zero. absurd (is-ended c.in-Err.error c.in-Err.ensures.cause.kinds (inl (sym c.status_of-status.ensures ∙ zero)));
+      statuses = rw c.status_of-status.ensures (is_status c.in-Err.error c.in-Err.ensures.cause.kinds (λ message h. none_rose c.in-Some-parse_words.settings.operator c.run_script-ran.new.env.operator (c.in-Err.ensures.cause.operator_fault message (ap Err h))) (λ h. none_rose c.transformer_of.result c.run_script-ran.new.env.transformer (c.in-Err.ensures.cause.transform_fault (ap Err h))));
+      unknown = λ none other. absurd (some_not_none c.parse_words.result c.in-Some-parse_words.settings c.in-Some-parse_words.is (settings ∙ none));
+      known = λ s is two. is_ended c.in-Err.error c.in-Err.ensures.cause.kinds (inr (sym c.status_of-status.ensures ∙ two));
+      unread = λ two. absurd (is_ended c.in-Err.error c.in-Err.ensures.cause.kinds (inr (sym c.status_of-status.ensures ∙ two)));
+      unwritten = λ two. absurd (is_ended c.in-Err.error c.in-Err.ensures.cause.kinds (inr (sym c.status_of-status.ensures ∙ two)));
+      unstored = λ two. absurd (is_ended c.in-Err.error c.in-Err.ensures.cause.kinds (inr (sym c.status_of-status.ensures ∙ two)));
+      answered = λ s script before named is told lawful_policies empty zero. absurd (is_ended c.in-Err.error c.in-Err.ensures.cause.kinds (inl (sym c.status_of-status.ensures ∙ zero)));
+      stored = λ s script named is lawful_policies empty zero. absurd (is_ended c.in-Err.error c.in-Err.ensures.cause.kinds (inl (sym c.status_of-status.ensures ∙ zero)));
+      read = λ script other is zero. absurd (is_ended c.in-Err.error c.in-Err.ensures.cause.kinds (inl (sym c.status_of-status.ensures ∙ zero)));
+      no_error = λ script other is zero. absurd (is_ended c.in-Err.error c.in-Err.ensures.cause.kinds (inl (sym c.status_of-status.ensures ∙ zero)));
       syntax = (λ script is three.
           let which = sym c.status_of-status.ensures ∙ three in
-          let kind = is-syntax c.in-Err.error c.in-Err.ensures.cause.kinds which in
-          (kind.0, its-own (script_error script) c.in-Err.error (c.in-Err.ensures.read script is).error (inl which) ∙ ap Some kind.1));
+          let kind = is_syntax c.in-Err.error c.in-Err.ensures.cause.kinds which in
+          (kind.0, its_own (script_error script) c.in-Err.error (c.in-Err.ensures.read script is).error (inl which) ∙ ap Some kind.1));
       too_long = (λ script is four.
           let which = sym c.status_of-status.ensures ∙ four in
-          its-own (script_error script) c.in-Err.error (c.in-Err.ensures.read script is).error (inr which) ∙ ap Some (is-too_long c.in-Err.error c.in-Err.ensures.cause.kinds which));
-      read_fault = λ five. c.in-Err.ensures.cause.read_fault (ap Err (is-read c.in-Err.error c.in-Err.ensures.cause.kinds (sym c.status_of-status.ensures ∙ five)));
-      write_fault = λ six. c.in-Err.ensures.cause.write_fault (ap Err (is-write c.in-Err.error c.in-Err.ensures.cause.kinds (sym c.status_of-status.ensures ∙ six)));
+          its_own (script_error script) c.in-Err.error (c.in-Err.ensures.read script is).error (inr which) ∙ ap Some (is_too_long c.in-Err.error c.in-Err.ensures.cause.kinds which));
+      read_fault = λ five. c.in-Err.ensures.cause.read_fault (ap Err (is_read c.in-Err.error c.in-Err.ensures.cause.kinds (sym c.status_of-status.ensures ∙ five)));
+      write_fault = λ six. c.in-Err.ensures.cause.write_fault (ap Err (is_write c.in-Err.error c.in-Err.ensures.cause.kinds (sym c.status_of-status.ensures ∙ six)));
       store_fault = (λ seven.
-          let rose = c.in-Err.ensures.cause.store_fault (ap Err (is-store c.in-Err.error c.in-Err.ensures.cause.kinds (sym c.status_of-status.ensures ∙ seven))) in
+          let rose = c.in-Err.ensures.cause.store_fault (ap Err (is_store c.in-Err.error c.in-Err.ensures.cause.kinds (sym c.status_of-status.ensures ∙ seven))) in
           subst (λ t. Rose (g.S.Store.faults c.args.store.now) (g.S.Store.faults t)) (sym (c.store-1.given.1 (sym c.in-Err.ensures.puts.store))) rose);
       undamaged = (λ lawful_policies empty which.
-          let within = subst (λ (n : ℕ). (12 ≤ n) × (n ≤ 19)) c.status_of-status.ensures (damage-between c.status_of-status.result which) in
-          c.in-Err.ensures.undamaged (premises _ c.in-Some-parse_words.settings.operator c.transformer_of.result _ (fit lawful_policies) empty) (is-damage c.in-Err.error c.in-Err.ensures.cause.kinds within.0 within.1));
+          let within = subst (λ (n : ℕ). (12 ≤ n) × (n ≤ 19)) c.status_of-status.ensures (damage_between c.status_of-status.result which) in
+          c.in-Err.ensures.undamaged (premises _ c.in-Some-parse_words.settings.operator c.transformer_of.result _ (fit lawful_policies) empty) (is_damage c.in-Err.error c.in-Err.ensures.cause.kinds within.0 within.1));
       untrue = (λ lawful_policies which.
-          let within = subst (λ (n : ℕ). (12 ≤ n) × (n ≤ 19)) c.status_of-status.ensures (damage-between c.status_of-status.result which) in
+          let within = subst (λ (n : ℕ). (12 ≤ n) × (n ≤ 19)) c.status_of-status.ensures (damage_between c.status_of-status.result which) in
           subst (λ t. IsUntrue [] (g.S.Store.acts c.args.store.now) (g.S.Store.acts t)) (sym (c.store-1.given.1 (sym c.in-Err.ensures.puts.store)))
-          (c.in-Err.ensures.untrue (fit lawful_policies) (lawful c.in-Some-parse_words.settings.operator c.transformer_of.result) (is-damage c.in-Err.error c.in-Err.ensures.cause.kinds within.0 within.1)));
+          (c.in-Err.ensures.untrue (fit lawful_policies) (lawful c.in-Some-parse_words.settings.operator c.transformer_of.result) (is_damage c.in-Err.error c.in-Err.ensures.cause.kinds within.0 within.1)));
       shown = (λ s named which.
-          let same : c.in-Some-parse_words.settings ≡ s = same-settings c.parse_words.result c.in-Some-parse_words.settings s c.in-Some-parse_words.is (settings ∙ named) in
-          let within = subst (λ (n : ℕ). (12 ≤ n) × (n ≤ 19)) c.status_of-status.ensures (damage-between c.status_of-status.result which) in
+          let same : c.in-Some-parse_words.settings ≡ s = same_settings c.parse_words.result c.in-Some-parse_words.settings s c.in-Some-parse_words.is (settings ∙ named) in
+          let within = subst (λ (n : ℕ). (12 ≤ n) × (n ≤ 19)) c.status_of-status.ensures (damage_between c.status_of-status.result which) in
           let given : List Policy = map (λ p. (goal.FilterPolicy-dyn g (p.vtable, p.value)).meaning p.value) c.args.policies.items in
           let kept : List Policy = map (λ p. (goal.FilterPolicy-dyn g (p.vtable, p.value)).meaning p.value) c.keep_used-kept-2.result.items in
           let acts = g.S.Store.acts in
@@ -148,57 +148,57 @@ returns-in-Err g c =
             sym c.status_of-status.ensures,
             subst (λ (ps : List Policy). IsShown ps (parts_of s) (acts c.args.store.now) told c.in-Err.error) c.keep_used-kept-2.ensures
                 (subst (λ (t : Settings). IsShown kept (parts_of t) (acts c.args.store.now) told c.in-Err.error) same
-                (subst (λ (m : Meaning). IsShown kept m (acts c.args.store.now) told c.in-Err.error) (words-are c.in-Some-parse_words.settings c.transformer_of.result c.transformer_of.ensures)
-                (c.in-Err.ensures.shown (is-damage c.in-Err.error c.in-Err.ensures.cause.kinds within.0 within.1)))),
+                (subst (λ (m : Meaning). IsShown kept m (acts c.args.store.now) told c.in-Err.error) (words_are c.in-Some-parse_words.settings c.transformer_of.result c.transformer_of.ensures)
+                (c.in-Err.ensures.shown (is_damage c.in-Err.error c.in-Err.ensures.cause.kinds within.0 within.1)))),
           ));
       complete = (λ s script named is formed lawful_policies empty no-read no-write no-store.
-          inr (c.status_of-status.ensures ∙ ap status (c.in-Err.ensures.complete script is formed (premises _ c.in-Some-parse_words.settings.operator c.transformer_of.result _ (fit lawful_policies) empty) (record { source_still = no-read; sink_still = no-write; store = λ h. no-store (subst (λ t. Rose (g.S.Store.faults c.args.store.now) (g.S.Store.faults t)) (sym (c.store-1.given.1 (sym c.in-Err.ensures.puts.store))) h); operator = none-rose c.in-Some-parse_words.settings.operator c.run_script-ran.new.env.operator; transformer = none-rose c.transformer_of.result c.run_script-ran.new.env.transformer }))));
-      source_still = status-or c.in-Err.error ReadFault c.status_of-status.result _ c.status_of-status.ensures refl c.in-Err.ensures.source_still;
-      sink_still = status-or c.in-Err.error WriteFault c.status_of-status.result _ c.status_of-status.ensures refl c.in-Err.ensures.sink_still;
+          inr (c.status_of-status.ensures ∙ ap status (c.in-Err.ensures.complete script is formed (premises _ c.in-Some-parse_words.settings.operator c.transformer_of.result _ (fit lawful_policies) empty) (record { source_still = no-read; sink_still = no-write; store = λ h. no-store (subst (λ t. Rose (g.S.Store.faults c.args.store.now) (g.S.Store.faults t)) (sym (c.store-1.given.1 (sym c.in-Err.ensures.puts.store))) h); operator = none_rose c.in-Some-parse_words.settings.operator c.run_script-ran.new.env.operator; transformer = none_rose c.transformer_of.result c.run_script-ran.new.env.transformer }))));
+      source_still = status_or c.in-Err.error ReadFault c.status_of-status.result _ c.status_of-status.ensures refl c.in-Err.ensures.source_still;
+      sink_still = status_or c.in-Err.error WriteFault c.status_of-status.result _ c.status_of-status.ensures refl c.in-Err.ensures.sink_still;
       by_script = (λ s script before named is told lawful_policies empty which.
-          let same : c.in-Some-parse_words.settings ≡ s = same-settings c.parse_words.result c.in-Some-parse_words.settings s c.in-Some-parse_words.is (settings ∙ named) in
+          let same : c.in-Some-parse_words.settings ≡ s = same_settings c.parse_words.result c.in-Some-parse_words.settings s c.in-Some-parse_words.is (settings ∙ named) in
           subst (λ (t : Settings). g.W.Sink.content c.run_script-ran.new.sink ≡ Some (before ++ replies_to (main_rules t) (lines_taken script))) same
-          (subst (λ (r : Rules). g.W.Sink.content c.run_script-ran.new.sink ≡ Some (before ++ replies_to r (lines_taken script))) (rules-are c.in-Some-parse_words.settings c.transformer_of.result c.transformer_of.ensures)
-          ((c.in-Err.ensures.said script before is told (premises _ c.in-Some-parse_words.settings.operator c.transformer_of.result _ (fit lawful_policies) empty)).by_script (its-own (script_error script) c.in-Err.error (c.in-Err.ensures.read script is).error (status-or-either c.status_of-status.ensures which)))));
+          (subst (λ (r : Rules). g.W.Sink.content c.run_script-ran.new.sink ≡ Some (before ++ replies_to r (lines_taken script))) (rules_are c.in-Some-parse_words.settings c.transformer_of.result c.transformer_of.ensures)
+          ((c.in-Err.ensures.said script before is told (premises _ c.in-Some-parse_words.settings.operator c.transformer_of.result _ (fit lawful_policies) empty)).by_script (its_own (script_error script) c.in-Err.error (c.in-Err.ensures.read script is).error (status_or_either c.status_of-status.ensures which)))));
       by_source = (λ s script before named is told lawful_policies empty five.
-          let same : c.in-Some-parse_words.settings ≡ s = same-settings c.parse_words.result c.in-Some-parse_words.settings s c.in-Some-parse_words.is (settings ∙ named) in
+          let same : c.in-Some-parse_words.settings ≡ s = same_settings c.parse_words.result c.in-Some-parse_words.settings s c.in-Some-parse_words.is (settings ∙ named) in
           subst (λ (t : Settings). (left : List ℕ) × (said : List ℕ) × (g.R.Source.left c.run_script-ran.new.source ≡ Some left) × (g.W.Sink.content c.run_script-ran.new.sink ≡ Some (before ++ said)) × HasAnsweredAll (main_rules t) script left said) same
-          (subst (λ (r : Rules). (left : List ℕ) × (said : List ℕ) × (g.R.Source.left c.run_script-ran.new.source ≡ Some left) × (g.W.Sink.content c.run_script-ran.new.sink ≡ Some (before ++ said)) × HasAnsweredAll r script left said) (rules-are c.in-Some-parse_words.settings c.transformer_of.result c.transformer_of.ensures)
-          ((c.in-Err.ensures.said script before is told (premises _ c.in-Some-parse_words.settings.operator c.transformer_of.result _ (fit lawful_policies) empty)).by_source (ap Err (is-read c.in-Err.error c.in-Err.ensures.cause.kinds (sym c.status_of-status.ensures ∙ five))))));
+          (subst (λ (r : Rules). (left : List ℕ) × (said : List ℕ) × (g.R.Source.left c.run_script-ran.new.source ≡ Some left) × (g.W.Sink.content c.run_script-ran.new.sink ≡ Some (before ++ said)) × HasAnsweredAll r script left said) (rules_are c.in-Some-parse_words.settings c.transformer_of.result c.transformer_of.ensures)
+          ((c.in-Err.ensures.said script before is told (premises _ c.in-Some-parse_words.settings.operator c.transformer_of.result _ (fit lawful_policies) empty)).by_source (ap Err (is_read c.in-Err.error c.in-Err.ensures.cause.kinds (sym c.status_of-status.ensures ∙ five))))));
       by_sink = (λ s script before named is told lawful_policies empty six.
-          let same : c.in-Some-parse_words.settings ≡ s = same-settings c.parse_words.result c.in-Some-parse_words.settings s c.in-Some-parse_words.is (settings ∙ named) in
+          let same : c.in-Some-parse_words.settings ≡ s = same_settings c.parse_words.result c.in-Some-parse_words.settings s c.in-Some-parse_words.is (settings ∙ named) in
           subst (λ (t : Settings). (said : List ℕ) × (g.W.Sink.content c.run_script-ran.new.sink ≡ Some (before ++ said)) × HasBegun (main_rules t) script said) same
-          (subst (λ (r : Rules). (said : List ℕ) × (g.W.Sink.content c.run_script-ran.new.sink ≡ Some (before ++ said)) × HasBegun r script said) (rules-are c.in-Some-parse_words.settings c.transformer_of.result c.transformer_of.ensures)
-          ((c.in-Err.ensures.said script before is told (premises _ c.in-Some-parse_words.settings.operator c.transformer_of.result _ (fit lawful_policies) empty)).by_sink (ap Err (is-write c.in-Err.error c.in-Err.ensures.cause.kinds (sym c.status_of-status.ensures ∙ six))))));
+          (subst (λ (r : Rules). (said : List ℕ) × (g.W.Sink.content c.run_script-ran.new.sink ≡ Some (before ++ said)) × HasBegun r script said) (rules_are c.in-Some-parse_words.settings c.transformer_of.result c.transformer_of.ensures)
+          ((c.in-Err.ensures.said script before is told (premises _ c.in-Some-parse_words.settings.operator c.transformer_of.result _ (fit lawful_policies) empty)).by_sink (ap Err (is_write c.in-Err.error c.in-Err.ensures.cause.kinds (sym c.status_of-status.ensures ∙ six))))));
       by_part = (λ s script before named is told lawful_policies empty which.
-          let same : c.in-Some-parse_words.settings ≡ s = same-settings c.parse_words.result c.in-Some-parse_words.settings s c.in-Some-parse_words.is (settings ∙ named) in
+          let same : c.in-Some-parse_words.settings ≡ s = same_settings c.parse_words.result c.in-Some-parse_words.settings s c.in-Some-parse_words.is (settings ∙ named) in
           subst (λ (t : Settings). (said : List ℕ) × (g.W.Sink.content c.run_script-ran.new.sink ≡ Some (before ++ said)) × HasAnswered (main_rules t) script said) same
-          (subst (λ (r : Rules). (said : List ℕ) × (g.W.Sink.content c.run_script-ran.new.sink ≡ Some (before ++ said)) × HasAnswered r script said) (rules-are c.in-Some-parse_words.settings c.transformer_of.result c.transformer_of.ensures)
-          ((c.in-Err.ensures.said script before is told (premises _ c.in-Some-parse_words.settings.operator c.transformer_of.result _ (fit lawful_policies) empty)).by_part (is-part c.in-Err.error c.in-Err.ensures.cause.kinds (status-or-either c.status_of-status.ensures which)))));
-      all = λ script is four. (c.in-Err.ensures.read script is).too_long (ap Err (is-too_long c.in-Err.error c.in-Err.ensures.cause.kinds (sym c.status_of-status.ensures ∙ four)));
+          (subst (λ (r : Rules). (said : List ℕ) × (g.W.Sink.content c.run_script-ran.new.sink ≡ Some (before ++ said)) × HasAnswered r script said) (rules_are c.in-Some-parse_words.settings c.transformer_of.result c.transformer_of.ensures)
+          ((c.in-Err.ensures.said script before is told (premises _ c.in-Some-parse_words.settings.operator c.transformer_of.result _ (fit lawful_policies) empty)).by_part (is_part c.in-Err.error c.in-Err.ensures.cause.kinds (status_or_either c.status_of-status.ensures which)))));
+      all = λ script is four. (c.in-Err.ensures.read script is).too_long (ap Err (is_too_long c.in-Err.error c.in-Err.ensures.cause.kinds (sym c.status_of-status.ensures ∙ four)));
       taken = λ script is. (c.run_script-ran.ensures.read script is).taken;
       later = c.run_script-ran.ensures.later;
-      summed = λ named-g before named told lawful_policies empty zero. absurd (no-generated named-g named);
-      summed_stored = λ named-g named lawful_policies empty zero. absurd (no-generated named-g named);
-      summed_kinds = λ named-g named. absurd (no-generated named-g named);
-      summed_alone = λ named-g named. absurd (no-generated named-g named);
-      summed_complete = λ named-g named lawful_policies empty no-write no-store. absurd (no-generated named-g named);
-      summed_shown = λ named-g named which. absurd (no-generated named-g named);
-      summed_begun = λ named-g before named told lawful_policies empty six. absurd (no-generated named-g named);
-      summed_unwritten = λ named-g named. absurd (no-generated named-g named);
+      summed = λ named-g before named told lawful_policies empty zero. absurd (no_generated named-g named);
+      summed_stored = λ named-g named lawful_policies empty zero. absurd (no_generated named-g named);
+      summed_kinds = λ named-g named. absurd (no_generated named-g named);
+      summed_alone = λ named-g named. absurd (no_generated named-g named);
+      summed_complete = λ named-g named lawful_policies empty no-write no-store. absurd (no_generated named-g named);
+      summed_shown = λ named-g named which. absurd (no_generated named-g named);
+      summed_begun = λ named-g before named told lawful_policies empty six. absurd (no_generated named-g named);
+      summed_unwritten = λ named-g named. absurd (no_generated named-g named);
     }
 
 pub returns-in_default-parse_words : goal.returns-in_default-parse_words
 returns-in_default-parse_words g c =
     let ws : List (List ℕ) = map string_bytes c.args.words.now in
     let handed : List (List ℕ) = map (λ p. ((goal.FilterPolicy-dyn g (p.vtable, p.value)).meaning p.value).name) c.args.policies.items in
-    let generated : c.parse_generated.result ≡ read_generated handed ws = read-as c.parse_generated.result c.as_slice.result.now c.args.policies.items (λ p. ((goal.FilterPolicy-dyn g (p.vtable, p.value)).meaning p.value).name) (λ names. read_generated names ws) c.parse_generated.ensures.generated c.as_slice.ensures.value in
-    let settings : c.parse_words.result ≡ read_words handed ws = read-as c.parse_words.result c.as_slice-2.result.now c.args.policies.items (λ p. ((goal.FilterPolicy-dyn g (p.vtable, p.value)).meaning p.value).name) (λ names. read_words names ws) c.parse_words.ensures.settings c.as_slice-2.ensures.value in
-    let no-generated : (x : Generated) → read_generated handed ws ≡ Some x → ⊥ = λ x named. generated-not-none c.parse_generated.result x (generated ∙ named) c.in_default.is in
+    let generated : c.parse_generated.result ≡ read_generated handed ws = read_as c.parse_generated.result c.as_slice.result.now c.args.policies.items (λ p. ((goal.FilterPolicy-dyn g (p.vtable, p.value)).meaning p.value).name) (λ names. read_generated names ws) c.parse_generated.ensures.generated c.as_slice.ensures.value in
+    let settings : c.parse_words.result ≡ read_words handed ws = read_as c.parse_words.result c.as_slice-2.result.now c.args.policies.items (λ p. ((goal.FilterPolicy-dyn g (p.vtable, p.value)).meaning p.value).name) (λ names. read_words names ws) c.parse_words.ensures.settings c.as_slice-2.ensures.value in
+    let no_generated : (x : Generated) → read_generated handed ws ≡ Some x → ⊥ = λ x named. generated_not_none c.parse_generated.result x (generated ∙ named) c.in_default.is in
     record {
       statuses = inr (inl refl);
       unknown = λ none other. refl;
-      known = λ s named two. absurd (some-not-none c.parse_words.result s (settings ∙ named) c.in_default-parse_words.is);
+      known = λ s named two. absurd (some_not_none c.parse_words.result s (settings ∙ named) c.in_default-parse_words.is);
       unread = λ two. refl;
       unwritten = λ two. refl;
       unstored = λ two. refl;
@@ -211,10 +211,10 @@ returns-in_default-parse_words g c =
       read_fault = λ five. absurd (omega (arith, five));
       write_fault = λ six. absurd (omega (arith, six));
       store_fault = λ seven. absurd (omega (arith, seven));
-      undamaged = λ lawful_policies empty which. absurd (omega (arith, (damage-between 2 which).0));
-      untrue = λ lawful_policies which. absurd (omega (arith, (damage-between 2 which).0));
-      shown = λ s named which. absurd (omega (arith, (damage-between 2 which).0));
-      complete = λ s script named is formed lawful_policies empty no-read no-write no-store. absurd (some-not-none c.parse_words.result s (settings ∙ named) c.in_default-parse_words.is);
+      undamaged = λ lawful_policies empty which. absurd (omega (arith, (damage_between 2 which).0));
+      untrue = λ lawful_policies which. absurd (omega (arith, (damage_between 2 which).0));
+      shown = λ s named which. absurd (omega (arith, (damage_between 2 which).0));
+      complete = λ s script named is formed lawful_policies empty no-read no-write no-store. absurd (some_not_none c.parse_words.result s (settings ∙ named) c.in_default-parse_words.is);
       source_still = inr refl;
       sink_still = inr refl;
       by_script = λ s script before named is told lawful_policies empty which. neither (λ h. omega (arith, h)) (λ h. omega (arith, h)) which;
@@ -224,53 +224,53 @@ returns-in_default-parse_words g c =
       all = λ script is four. absurd (omega (arith, four));
       taken = λ script is. (0, omega arith, is);
       later = (omega arith, omega arith);
-      summed = λ named-g before named told lawful_policies empty zero. absurd (no-generated named-g named);
-      summed_stored = λ named-g named lawful_policies empty zero. absurd (no-generated named-g named);
-      summed_kinds = λ named-g named. absurd (no-generated named-g named);
-      summed_alone = λ named-g named. absurd (no-generated named-g named);
-      summed_complete = λ named-g named lawful_policies empty no-write no-store. absurd (no-generated named-g named);
-      summed_shown = λ named-g named which. absurd (no-generated named-g named);
-      summed_begun = λ named-g before named told lawful_policies empty six. absurd (no-generated named-g named);
-      summed_unwritten = λ named-g named. absurd (no-generated named-g named);
+      summed = λ named-g before named told lawful_policies empty zero. absurd (no_generated named-g named);
+      summed_stored = λ named-g named lawful_policies empty zero. absurd (no_generated named-g named);
+      summed_kinds = λ named-g named. absurd (no_generated named-g named);
+      summed_alone = λ named-g named. absurd (no_generated named-g named);
+      summed_complete = λ named-g named lawful_policies empty no-write no-store. absurd (no_generated named-g named);
+      summed_shown = λ named-g named which. absurd (no_generated named-g named);
+      summed_begun = λ named-g before named told lawful_policies empty six. absurd (no_generated named-g named);
+      summed_unwritten = λ named-g named. absurd (no_generated named-g named);
     }
 
 pub returns-in-Some : goal.returns-in-Some
 returns-in-Some g c =
     let ws : List (List ℕ) = map string_bytes c.args.words.now in
     let handed : List (List ℕ) = map (λ p. ((goal.FilterPolicy-dyn g (p.vtable, p.value)).meaning p.value).name) c.args.policies.items in
-    let generated : c.parse_generated.result ≡ read_generated handed ws = read-as c.parse_generated.result c.as_slice.result.now c.args.policies.items (λ p. ((goal.FilterPolicy-dyn g (p.vtable, p.value)).meaning p.value).name) (λ names. read_generated names ws) c.parse_generated.ensures.generated c.as_slice.ensures.value in
-    let fit = lawful-kept ws c.args.policies.items c.keep_used-kept.result.items (λ p. (goal.FilterPolicy-dyn g (p.vtable, p.value)).meaning p.value) c.keep_used-kept.ensures in
+    let generated : c.parse_generated.result ≡ read_generated handed ws = read_as c.parse_generated.result c.as_slice.result.now c.args.policies.items (λ p. ((goal.FilterPolicy-dyn g (p.vtable, p.value)).meaning p.value).name) (λ names. read_generated names ws) c.parse_generated.ensures.generated c.as_slice.ensures.value in
+    let fit = lawful_kept ws c.args.policies.items c.keep_used-kept.result.items (λ p. (goal.FilterPolicy-dyn g (p.vtable, p.value)).meaning p.value) c.keep_used-kept.ensures in
     let its : Generated = c.in-Some.generated in
     let read : read_generated handed ws ≡ Some its = sym generated ∙ c.in-Some.is in
     let own = c.main_generated.ensures.kinds in
-    let same = λ (x : Generated) (named : read_generated handed ws ≡ Some x). same-generated (read_generated handed ws) its x read named in
+    let same = λ (x : Generated) (named : read_generated handed ws ≡ Some x). same_generated (read_generated handed ws) its x read named in
     record {
-      statuses = generated-status c.main_generated.result own;
-      unknown = λ none other. absurd (generated-not-none (read_generated handed ws) its read other);
-      known = λ s named two. one-script handed ws its s read named;
+      statuses = generated_status c.main_generated.result own;
+      unknown = λ none other. absurd (generated_not_none (read_generated handed ws) its read other);
+      known = λ s named two. one_script handed ws its s read named;
       unread = λ two. refl;
-      unwritten = λ two. generated-not c.main_generated.result 2 own two (omega arith) (omega arith);
-      unstored = λ two. generated-not c.main_generated.result 2 own two (omega arith) (omega arith);
-      answered = λ s script before named is told lawful_policies empty zero. one-script handed ws its s read named;
-      stored = λ s script named is lawful_policies empty zero. one-script handed ws its s read named;
-      read = λ script other is zero. absurd (generated-not-none (read_generated handed ws) its read other);
-      no_error = λ script other is zero. absurd (generated-not-none (read_generated handed ws) its read other);
-      syntax = λ script is three. generated-not c.main_generated.result 3 own three (omega arith) (omega arith);
-      too_long = λ script is four. generated-not c.main_generated.result 4 own four (omega arith) (omega arith);
-      read_fault = λ five. generated-not c.main_generated.result 5 own five (omega arith) (omega arith);
+      unwritten = λ two. generated_not c.main_generated.result 2 own two (omega arith) (omega arith);
+      unstored = λ two. generated_not c.main_generated.result 2 own two (omega arith) (omega arith);
+      answered = λ s script before named is told lawful_policies empty zero. one_script handed ws its s read named;
+      stored = λ s script named is lawful_policies empty zero. one_script handed ws its s read named;
+      read = λ script other is zero. absurd (generated_not_none (read_generated handed ws) its read other);
+      no_error = λ script other is zero. absurd (generated_not_none (read_generated handed ws) its read other);
+      syntax = λ script is three. generated_not c.main_generated.result 3 own three (omega arith) (omega arith);
+      too_long = λ script is four. generated_not c.main_generated.result 4 own four (omega arith) (omega arith);
+      read_fault = λ five. generated_not c.main_generated.result 5 own five (omega arith) (omega arith);
       write_fault = c.main_generated.ensures.write_fault;
       store_fault = c.main_generated.ensures.store_fault;
       undamaged = λ lawful_policies. c.main_generated.ensures.undamaged (fit lawful_policies);
       untrue = λ lawful_policies. c.main_generated.ensures.untrue (fit lawful_policies);
-      shown = λ s named which. one-script handed ws its s read named;
-      complete = λ s script named is formed lawful_policies empty no-read no-write no-store. one-script handed ws its s read named;
+      shown = λ s named which. one_script handed ws its s read named;
+      complete = λ s script named is formed lawful_policies empty no-read no-write no-store. one_script handed ws its s read named;
       source_still = inr refl;
       sink_still = c.main_generated.ensures.sink_still;
-      by_script = λ s script before named is told lawful_policies empty which. one-script handed ws its s read named;
-      by_source = λ s script before named is told lawful_policies empty five. one-script handed ws its s read named;
-      by_sink = λ s script before named is told lawful_policies empty six. one-script handed ws its s read named;
-      by_part = λ s script before named is told lawful_policies empty which. one-script handed ws its s read named;
-      all = λ script is four. generated-not c.main_generated.result 4 own four (omega arith) (omega arith);
+      by_script = λ s script before named is told lawful_policies empty which. one_script handed ws its s read named;
+      by_source = λ s script before named is told lawful_policies empty five. one_script handed ws its s read named;
+      by_sink = λ s script before named is told lawful_policies empty six. one_script handed ws its s read named;
+      by_part = λ s script before named is told lawful_policies empty which. one_script handed ws its s read named;
+      all = λ script is four. generated_not c.main_generated.result 4 own four (omega arith) (omega arith);
       taken = λ script is. (0, omega arith, is);
       later = (omega arith, c.main_generated.ensures.later);
       summed = (λ x before named told lawful_policies empty zero.

@@ -7,18 +7,19 @@ use Rattle.slate_language.specs.Answers.{reply_of}
 use Rattle.slate_language.specs.Replies.{replies_from, reply_line}
 use Rattle.slate_script.specs.Run.{IsPartCause}
 use Rattle.slate_script.specs.Session.{HasTablesAlone, line_load, StandsFor}
-use Rattle.slate_script.proofs.LineEnds.{parse-error, parse-cause, parse-no-part, parse-no-damage, parse-wrote, session-cause, session-part, session-wrote, writing-cause, writing-no-part, writing-no-damage, writing-no-error, error-of, meant-line}
-use Rattle.slate_script.proofs.LineLoads.{line-load}
-use Rattle.slate_script.proofs.RunEnds.{is-no-error}
-use Rattle.slate_script.proofs.ToldLaws.{follows-itself, line-shown, stores-itself}
-use Rattle.slate_script.proofs.Running.{line-stands, line-reply, runs-on, is-settled, one-moment, always, at-ok, not-damage, silent-line, silent-after, silent-says, silent-counts, line-counts}
+use Rattle.slate_script.proofs.LineEnds.{parse_error, parse_cause, parse_no_part, parse_no_damage, parse_wrote, session_cause, session_part, session_wrote, writing_cause, writing_no_part, writing_no_damage, writing_no_error, error_of, meant_line}
+use Rattle.slate_script.proofs.LineLoads.{load_of_line}
+use Rattle.slate_script.proofs.RunEnds.{is_no_error}
+use Rattle.slate_script.proofs.ToldLaws.{follows_itself, line_shown, stores_itself}
+use Rattle.slate_script.proofs.Running.{line_stands, line_reply, runs_on, is_settled, one_moment, always, not_damage, silent_line, silent_after, silent_says, silent_counts, line_counts}
 use Rattle.slate_script.proofs.run.answer_line.Goals as goal
 use Rattle.slate_script.proofs.MeaningOf.{meaning_of, counts_of}
+use Rattle.slate_types.proofs.Exits.{on_ok_weaker}
 
 pub answer-requires-clause-moment : goal.answer-requires-clause-moment
 answer-requires-clause-moment g c = λ κs lives.
     let meant = rw c.in-Ok-Some.field-0-is at c.in-Ok-Some.ensures.meant in
-    one-moment c.args.line.now c.in-Ok-Some.meaning meant.1
+    one_moment c.args.line.now c.in-Ok-Some.meaning meant.1
 
 pub returns-in-Err-answer : goal.returns-in-Err-answer
 returns-in-Err-answer g c =
@@ -31,16 +32,16 @@ returns-in-Err-answer g c =
       counted = λ m r running s stands. tt;
       grows = tt;
       alone = λ m r running alone. tt;
-      cause = session-cause _ _ c.args.number c.args.line.now c.args.session.now c.in-Err-answer.error c.in-Err-answer.ensures.cause;
-      part = session-part _ _ c.args.session.now c.in-Err-answer.error c.in-Err-answer.ensures.cause;
-      undamaged = λ m r running. not-damage _ _ c.in-Err-answer.error (c.in-Err-answer.ensures.undamaged (is-settled running));
+      cause = session_cause _ _ c.args.number c.args.line.now c.args.session.now c.in-Err-answer.error c.in-Err-answer.ensures.cause;
+      part = session_part _ _ c.args.session.now c.in-Err-answer.error c.in-Err-answer.ensures.cause;
+      undamaged = λ m r running. not_damage _ _ c.in-Err-answer.error (c.in-Err-answer.ensures.undamaged (is_settled running));
       follows = λ os settled. tt;
       untrue = λ os settled. c.in-Err-answer.ensures.untrue os settled;
       tables = tt;
       core_kept = λ kept. tt;
-      shown = λ kept. line-shown policies c.in-Ok-Some.meaning _ _ c.args.session.now.core c.in-Err-answer.error (c.in-Err-answer.ensures.shown kept);
-      write_fault = λ is. absurd (session-wrote _ _ c.args.session.now c.in-Err-answer.error c.in-Err-answer.ensures.cause (error-of c.in-Err-answer.error is));
-      begun = λ m r running s before stands told is. absurd (session-wrote _ _ c.args.session.now c.in-Err-answer.error c.in-Err-answer.ensures.cause (error-of c.in-Err-answer.error is));
+      shown = λ kept. line_shown policies c.in-Ok-Some.meaning _ _ c.args.session.now.core c.in-Err-answer.error (c.in-Err-answer.ensures.shown kept);
+      write_fault = λ is. absurd (session_wrote _ _ c.args.session.now c.in-Err-answer.error c.in-Err-answer.ensures.cause (error_of c.in-Err-answer.error is));
+      begun = λ m r running s before stands told is. absurd (session_wrote _ _ c.args.session.now c.in-Err-answer.error c.in-Err-answer.ensures.cause (error_of c.in-Err-answer.error is));
       still = tt;
       puts = c.answer.ensures.puts;
       uncounted = inr refl;
@@ -53,38 +54,38 @@ returns-in-Ok g c =
     let policies = map (λ p. (goal.FilterPolicy-dyn g (p.vtable, p.value)).meaning p.value) c.args.laws.now.policies.items in
     record {
       meant = (let meant = rw c.in-Ok-Some.field-0-is at c.in-Ok-Some.ensures.meant in
-          always c.write_reply.result (meant-line c.args.line.now c.in-Ok-Some.meaning meant.1));
-      running = λ m r running. always c.write_reply.result (runs-on running c.answer.ensures.puts.meaning c.in-Ok.ensures.settings (c.in-Ok.ensures.kept (is-settled running)));
+          always c.write_reply.result (meant_line c.args.line.now c.in-Ok-Some.meaning meant.1));
+      running = λ m r running. always c.write_reply.result (runs_on running c.answer.ensures.puts.meaning c.in-Ok.ensures.settings (c.in-Ok.ensures.kept (is_settled running)));
       stands = (λ m r running s stands.
           let meant = rw c.in-Ok-Some.field-0-is at c.in-Ok-Some.ensures.meant in
-          always c.write_reply.result (line-stands c.args.line.now c.in-Ok-Some.meaning c.in-Ok.answer running meant.0 meant.1 c.in-Ok.ensures.step s stands));
+          always c.write_reply.result (line_stands c.args.line.now c.in-Ok-Some.meaning c.in-Ok.answer running meant.0 meant.1 c.in-Ok.ensures.step s stands));
       answered = (λ m r running s before stands told.
           let meant = rw c.in-Ok-Some.field-0-is at c.in-Ok-Some.ensures.meant in
-          let text : reply_line (reply_of c.in-Ok.answer) ≡ replies_from r s (c.args.line.now ∷ []) = line-reply c.args.line.now c.in-Ok-Some.meaning c.in-Ok.answer running meant.0 meant.1 c.in-Ok.ensures.step s stands in
-          at-ok c.write_reply.result (λ is. is ∙ ap (λ bs. Some (before ++ bs)) text) (c.write_reply.ensures.ok before told));
+          let text : reply_line (reply_of c.in-Ok.answer) ≡ replies_from r s (c.args.line.now ∷ []) = line_reply c.args.line.now c.in-Ok-Some.meaning c.in-Ok.answer running meant.0 meant.1 c.in-Ok.ensures.step s stands in
+          on_ok_weaker c.write_reply.result (λ is. is ∙ ap (λ bs. Some (before ++ bs)) text) (c.write_reply.ensures.ok before told));
       counted = (λ m r running s stands.
           let meant = rw c.in-Ok-Some.field-0-is at c.in-Ok-Some.ensures.meant in
-          always c.write_reply.result (c.count.ensures ∙ line-counts c.args.tally.now c.args.line.now c.in-Ok-Some.meaning c.in-Ok.answer running meant.0 meant.1 c.in-Ok.ensures.step s stands));
+          always c.write_reply.result (c.count.ensures ∙ line_counts c.args.tally.now c.args.line.now c.in-Ok-Some.meaning c.in-Ok.answer running meant.0 meant.1 c.in-Ok.ensures.step s stands));
       grows = (let meant = rw c.in-Ok-Some.field-0-is at c.in-Ok-Some.ensures.meant in
-          always c.write_reply.result (c.in-Ok.ensures.grows.0, let few : line_load c.in-Ok-Some.meaning ≤ length c.args.line.now = line-load c.args.line.now c.in-Ok-Some.meaning meant.1 in omega (arith, c.in-Ok.ensures.grows.1, few)));
+          always c.write_reply.result (c.in-Ok.ensures.grows.0, let few : line_load c.in-Ok-Some.meaning ≤ length c.args.line.now = load_of_line c.args.line.now c.in-Ok-Some.meaning meant.1 in omega (arith, c.in-Ok.ensures.grows.1, few)));
       alone = (λ m r running alone.
           let layout = layout_of c.args.laws.now.options policies (segments_by g.X.PrefixExtractor.lengths c.args.laws.now.segments) in
           always c.write_reply.result (subst (λ (x : Meaning). HasTablesAlone x layout (g.S.Store.objects c.answer.new.env.store.now) (runs_of c.answer.new.self.core.events)) running.meaning
-          (c.in-Ok.ensures.alone (is-settled running) (subst (λ (x : Meaning). HasTablesAlone x layout (g.S.Store.objects c.args.env.now.store.now) (runs_of c.args.session.now.core.events)) (sym running.meaning) alone))));
-      cause = writing-cause c.write_reply.result c.args.number c.args.line.now c.args.session.now c.write_reply.ensures.cause;
-      part = writing-no-part (IsPartCause (counts_of (g.S.Store.faults c.args.env.now.store.now) g.M.MergeOperator.faults g.T.BlockTransformer.faults c.args.env.now.operator c.args.env.now.transformer) (counts_of (g.S.Store.faults c.answer.new.env.store.now) g.M.MergeOperator.faults g.T.BlockTransformer.faults c.answer.new.env.operator c.answer.new.env.transformer)) c.write_reply.result c.write_reply.ensures.cause;
-      undamaged = λ m r running. writing-no-damage _ c.write_reply.result c.write_reply.ensures.cause;
+          (c.in-Ok.ensures.alone (is_settled running) (subst (λ (x : Meaning). HasTablesAlone x layout (g.S.Store.objects c.args.env.now.store.now) (runs_of c.args.session.now.core.events)) (sym running.meaning) alone))));
+      cause = writing_cause c.write_reply.result c.args.number c.args.line.now c.args.session.now c.write_reply.ensures.cause;
+      part = writing_no_part (IsPartCause (counts_of (g.S.Store.faults c.args.env.now.store.now) g.M.MergeOperator.faults g.T.BlockTransformer.faults c.args.env.now.operator c.args.env.now.transformer) (counts_of (g.S.Store.faults c.answer.new.env.store.now) g.M.MergeOperator.faults g.T.BlockTransformer.faults c.answer.new.env.operator c.answer.new.env.transformer)) c.write_reply.result c.write_reply.ensures.cause;
+      undamaged = λ m r running. writing_no_damage _ c.write_reply.result c.write_reply.ensures.cause;
       follows = λ os settled. always c.write_reply.result (c.in-Ok.ensures.follows os settled);
-      untrue = λ os settled. writing-no-damage _ c.write_reply.result c.write_reply.ensures.cause;
+      untrue = λ os settled. writing_no_damage _ c.write_reply.result c.write_reply.ensures.cause;
       tables = always c.write_reply.result c.in-Ok.ensures.tables;
       core_kept = λ kept. always c.write_reply.result (c.in-Ok.ensures.core_kept kept);
-      shown = λ kept. writing-no-error _ c.write_reply.result c.write_reply.ensures.cause;
+      shown = λ kept. writing_no_error _ c.write_reply.result c.write_reply.ensures.cause;
       write_fault = (λ is.
           let meant = rw c.in-Ok-Some.field-0-is at c.in-Ok-Some.ensures.meant in
-          (c.write_reply.ensures.write_fault is, meant-line c.args.line.now c.in-Ok-Some.meaning meant.1));
+          (c.write_reply.ensures.write_fault is, meant_line c.args.line.now c.in-Ok-Some.meaning meant.1));
       begun = (λ m r running s before stands told is.
           let meant = rw c.in-Ok-Some.field-0-is at c.in-Ok-Some.ensures.meant in
-          let text : reply_line (reply_of c.in-Ok.answer) ≡ replies_from r s (c.args.line.now ∷ []) = line-reply c.args.line.now c.in-Ok-Some.meaning c.in-Ok.answer running meant.0 meant.1 c.in-Ok.ensures.step s stands in
+          let text : reply_line (reply_of c.in-Ok.answer) ≡ replies_from r s (c.args.line.now ∷ []) = line_reply c.args.line.now c.in-Ok-Some.meaning c.in-Ok.answer running meant.0 meant.1 c.in-Ok.ensures.step s stands in
           subst (λ bs. (n : ℕ) × (n < length bs) × (g.W.Sink.content c.write_reply.new.sink ≡ Some (before ++ take n bs))) text (c.write_reply.ensures.part before told is));
       still = c.write_reply.ensures.still;
       puts = c.answer.ensures.puts;
@@ -103,29 +104,29 @@ returns-in-Err g c =
       counted = λ m r running s stands. tt;
       grows = tt;
       alone = λ m r running alone. tt;
-      cause = (let by = parse-error c.args.number c.args.line.now c.in-Err.error c.at_line.result c.in-Err.ensures.cause c.at_line.ensures.memory c.at_line.ensures.syntax in
-          parse-cause c.args.number c.args.line.now c.args.session.now c.at_line.result by);
+      cause = (let by = parse_error c.args.number c.args.line.now c.in-Err.error c.at_line.result c.in-Err.ensures.cause c.at_line.ensures.memory c.at_line.ensures.syntax in
+          parse_cause c.args.number c.args.line.now c.args.session.now c.at_line.result by);
       part = (λ part.
-          let by = parse-error c.args.number c.args.line.now c.in-Err.error c.at_line.result c.in-Err.ensures.cause c.at_line.ensures.memory c.at_line.ensures.syntax in
-          absurd (parse-no-part c.args.number c.args.line.now c.at_line.result by part));
+          let by = parse_error c.args.number c.args.line.now c.in-Err.error c.at_line.result c.in-Err.ensures.cause c.at_line.ensures.memory c.at_line.ensures.syntax in
+          absurd (parse_no_part c.args.number c.args.line.now c.at_line.result by part));
       undamaged = (λ m r running.
-          let by = parse-error c.args.number c.args.line.now c.in-Err.error c.at_line.result c.in-Err.ensures.cause c.at_line.ensures.memory c.at_line.ensures.syntax in
-          parse-no-damage c.args.number c.args.line.now c.at_line.result by);
+          let by = parse_error c.args.number c.args.line.now c.in-Err.error c.at_line.result c.in-Err.ensures.cause c.at_line.ensures.memory c.at_line.ensures.syntax in
+          parse_no_damage c.args.number c.args.line.now c.at_line.result by);
       follows = λ os settled. tt;
       untrue = (λ os settled damage.
-          let by = parse-error c.args.number c.args.line.now c.in-Err.error c.at_line.result c.in-Err.ensures.cause c.at_line.ensures.memory c.at_line.ensures.syntax in
-          absurd (parse-no-damage c.args.number c.args.line.now c.at_line.result by damage));
+          let by = parse_error c.args.number c.args.line.now c.in-Err.error c.at_line.result c.in-Err.ensures.cause c.at_line.ensures.memory c.at_line.ensures.syntax in
+          absurd (parse_no_damage c.args.number c.args.line.now c.at_line.result by damage));
       tables = tt;
       core_kept = λ kept. tt;
       shown = (λ kept damage.
-          let by = parse-error c.args.number c.args.line.now c.in-Err.error c.at_line.result c.in-Err.ensures.cause c.at_line.ensures.memory c.at_line.ensures.syntax in
-          absurd (parse-no-damage c.args.number c.args.line.now c.at_line.result by damage));
+          let by = parse_error c.args.number c.args.line.now c.in-Err.error c.at_line.result c.in-Err.ensures.cause c.at_line.ensures.memory c.at_line.ensures.syntax in
+          absurd (parse_no_damage c.args.number c.args.line.now c.at_line.result by damage));
       write_fault = (λ is.
-          let by = parse-error c.args.number c.args.line.now c.in-Err.error c.at_line.result c.in-Err.ensures.cause c.at_line.ensures.memory c.at_line.ensures.syntax in
-          absurd (parse-wrote c.args.number c.args.line.now c.at_line.result by (error-of c.at_line.result is)));
+          let by = parse_error c.args.number c.args.line.now c.in-Err.error c.at_line.result c.in-Err.ensures.cause c.at_line.ensures.memory c.at_line.ensures.syntax in
+          absurd (parse_wrote c.args.number c.args.line.now c.at_line.result by (error_of c.at_line.result is)));
       begun = (λ m r running s before stands told is.
-          let by = parse-error c.args.number c.args.line.now c.in-Err.error c.at_line.result c.in-Err.ensures.cause c.at_line.ensures.memory c.at_line.ensures.syntax in
-          absurd (parse-wrote c.args.number c.args.line.now c.at_line.result by (error-of c.at_line.result is)));
+          let by = parse_error c.args.number c.args.line.now c.in-Err.error c.at_line.result c.in-Err.ensures.cause c.at_line.ensures.memory c.at_line.ensures.syntax in
+          absurd (parse_wrote c.args.number c.args.line.now c.at_line.result by (error_of c.at_line.result is)));
       still = tt;
       puts = puts_none _;
       uncounted = inr refl;
@@ -137,23 +138,23 @@ pub returns-in-Ok-None : goal.returns-in-Ok-None
 returns-in-Ok-None g c =
     let policies = map (λ p. (goal.FilterPolicy-dyn g (p.vtable, p.value)).meaning p.value) c.args.laws.now.policies.items in
     record {
-      meant = silent-line c.args.line.now (c.in-Ok-None.ensures.silent (ap Ok c.in-Ok-None.field-0-is));
+      meant = silent_line c.args.line.now (c.in-Ok-None.ensures.silent (ap Ok c.in-Ok-None.field-0-is));
       running = λ m r running. running;
-      stands = λ m r running s stands. subst (StandsFor c.args.session.now) (silent-after r s c.args.line.now (c.in-Ok-None.ensures.silent (ap Ok c.in-Ok-None.field-0-is))) stands;
-      answered = λ m r running s before stands told. told ∙ ap Some (sym (append-nil before)) ∙ ap (λ bs. Some (before ++ bs)) (silent-says r s c.args.line.now (c.in-Ok-None.ensures.silent (ap Ok c.in-Ok-None.field-0-is)));
-      counted = λ m r running s stands. silent-counts c.args.tally.now r s c.args.line.now (c.in-Ok-None.ensures.silent (ap Ok c.in-Ok-None.field-0-is));
+      stands = λ m r running s stands. subst (StandsFor c.args.session.now) (silent_after r s c.args.line.now (c.in-Ok-None.ensures.silent (ap Ok c.in-Ok-None.field-0-is))) stands;
+      answered = λ m r running s before stands told. told ∙ ap Some (sym (append-nil before)) ∙ ap (λ bs. Some (before ++ bs)) (silent_says r s c.args.line.now (c.in-Ok-None.ensures.silent (ap Ok c.in-Ok-None.field-0-is)));
+      counted = λ m r running s stands. silent_counts c.args.tally.now r s c.args.line.now (c.in-Ok-None.ensures.silent (ap Ok c.in-Ok-None.field-0-is));
       grows = (omega arith, omega arith);
       alone = λ m r running alone. alone;
       cause = tt;
       part = tt;
       undamaged = λ m r running. tt;
-      follows = λ os settled. follows-itself policies (meaning_of g.M.MergeOperator.combine g.T.BlockTransformer.encoded g.T.BlockTransformer.decoded c.args.env.now.operator c.args.env.now.transformer) (segments_by g.X.PrefixExtractor.lengths c.args.laws.now.segments) os c.args.session.now (g.S.Store.acts c.args.env.now.store.now) settled;
+      follows = λ os settled. follows_itself policies (meaning_of g.M.MergeOperator.combine g.T.BlockTransformer.encoded g.T.BlockTransformer.decoded c.args.env.now.operator c.args.env.now.transformer) (segments_by g.X.PrefixExtractor.lengths c.args.laws.now.segments) os c.args.session.now (g.S.Store.acts c.args.env.now.store.now) settled;
       untrue = λ os settled. tt;
-      tables = stores-itself (tables_of c.args.session.now.core.events) (g.S.Store.acts c.args.env.now.store.now);
+      tables = stores_itself (tables_of c.args.session.now.core.events) (g.S.Store.acts c.args.env.now.store.now);
       core_kept = λ kept. kept;
       shown = λ kept. tt;
-      write_fault = λ is. absurd (is-no-error is);
-      begun = λ m r running s before stands told is. absurd (is-no-error is);
+      write_fault = λ is. absurd (is_no_error is);
+      begun = λ m r running s before stands told is. absurd (is_no_error is);
       still = refl;
       puts = puts_none _;
       uncounted = tt;

@@ -13,31 +13,31 @@ use Rattle.slate_script.specs.Run.{run_rules, Premises, IsPartError}
 use Rattle.slate_store.specs.Lines.{lines_of}
 use Rattle.slate_store.specs.Reach.{reach_of}
 use Rattle.slate_types.proofs.Reaching.{puts_none, puts_then}
-use Rattle.slate_script.proofs.Taken.{begin, answer-it, took-told, end-told}
+use Rattle.slate_script.proofs.Taken.{begin, answer_it, took_told, end_told}
 use Rattle.slate_script.proofs.Running.{begins}
-use Rattle.slate_script.proofs.TablesAlone.{begins-alone, stored-state}
-use Rattle.slate_script.proofs.RunEnds.{LineError, unless-error, is-no-error, rose-from, line-cause, no-part, only-memory, store-rose, operator-rose, transformer-rose, reader-no-part, reader-not-write, reader-undamaged, reader-error, reader-complete, reader-kinds, reader-read, reader-full, line-not-long, line-not-read, line-kinds, line-read, line-complete, untouched, reader-script, reader-source, reader-memory, line-error, line-script, line-sink, line-memory, end-there, end-read, end-answered, end-formed, end-no_error}
+use Rattle.slate_script.proofs.TablesAlone.{begins_alone, stored_state}
+use Rattle.slate_script.proofs.RunEnds.{LineError, unless_error, is_no_error, rose_from, line_cause, no_part, only_memory, store_rose, operator_rose, transformer_rose, reader_no_part, reader_not_write, reader_undamaged, reader_error, reader_complete, reader_kinds, reader_read, reader_full, line_not_long, line_not_read, line_kinds, line_read, line_complete, untouched, reader_script, reader_source, reader_memory, line_error, line_script, line_sink, line_memory, end_there, end_read, end_answered, end_formed, end_no_error}
 use Rattle.slate_types.specs.Outside.{Objects}
 use Rattle.slate_db.specs.Meaning.{Meaning, segments_by}
 use Rattle.slate_db.specs.Sound.{IsKept}
 use Rattle.slate_script.specs.Session.{IsSettled}
 use Rattle.slate_script.specs.Told.{Follows, IsUntrue, PutsTables}
-use Rattle.slate_script.proofs.ToldLaws.{follows-itself, follows-on, shown-at-end, stores-itself, stores-on, untrue-on}
+use Rattle.slate_script.proofs.ToldLaws.{follows_itself, follows_on, shown_at_end, stores_itself, stores_on, untrue_on}
 use Rattle.slate_script.proofs.run.answer_lines.Given as given
 use Rattle.slate_script.proofs.run.answer_lines.Goals as goal
 use Rattle.slate_script.proofs.MeaningOf.{meaning_of, counts_of}
 
-same-error : {T : Type 0} (e f : SlateDBError) (r : Result T SlateDBError) → r ≡ Err e → r ≡ Err f → e ≡ f
-same-error e f r is was = cc
+same_error : {T : Type 0} (e f : SlateDBError) (r : Result T SlateDBError) → r ≡ Err e → r ≡ Err f → e ≡ f
+same_error e f r is was = cc
 
 -- an error of a step is the run's, and else no count rose
-error-or : {A B P Q : Type 0} (e f : SlateDBError) (step : Result A SlateDBError) (run : Result B SlateDBError) → step ≡ Err e → run ≡ Err e → (step ≡ Err f) ⊎ P → (P → Q) → (run ≡ Err f) ⊎ Q
-error-or e f step run was is (inl h) next = inl (is ∙ ap Err (same-error e f step was h))
-error-or e f step run was is (inr h) next = inr (next h)
+error_or : {A B P Q : Type 0} (e f : SlateDBError) (step : Result A SlateDBError) (run : Result B SlateDBError) → step ≡ Err e → run ≡ Err e → (step ≡ Err f) ⊎ P → (P → Q) → (run ≡ Err f) ⊎ Q
+error_or e f step run was is (inl h) next = inl (is ∙ ap Err (same_error e f step was h))
+error_or e f step run was is (inr h) next = inr (next h)
 
-error-is-or : {B P Q : Type 0} (e f : SlateDBError) (run : Result B SlateDBError) → run ≡ Err e → (e ≡ f) ⊎ P → (P → Q) → (run ≡ Err f) ⊎ Q
-error-is-or e f run is (inl h) next = inl (is ∙ ap Err h)
-error-is-or e f run is (inr h) next = inr (next h)
+error_is_or : {B P Q : Type 0} (e f : SlateDBError) (run : Result B SlateDBError) → run ≡ Err e → (e ≡ f) ⊎ P → (P → Q) → (run ≡ Err f) ⊎ Q
+error_is_or e f run is (inl h) next = inl (is ∙ ap Err h)
+error_is_or e f run is (inr h) next = inr (next h)
 
 -- ---- the beginning
 
@@ -53,10 +53,10 @@ loop-line-init g c =
       loads = omega (arith, c.new-session.ensures.holds.1);
       running = λ premises. begins policies (meaning_of g.M.MergeOperator.combine g.T.BlockTransformer.encoded g.T.BlockTransformer.decoded c.args.env.now.operator c.args.env.now.transformer) (segments_by g.X.PrefixExtractor.lengths c.args.laws.now.segments) c.args.laws.now.options (g.S.Store.objects c.args.env.now.store.now) c.new-session.result premises c.new-session.ensures.settings c.new-session.ensures.events c.new-session.ensures.kept c.new-session.ensures.segmented;
       kept = c.new-session.ensures.kept (meaning_of g.M.MergeOperator.combine g.T.BlockTransformer.encoded g.T.BlockTransformer.decoded c.args.env.now.operator c.args.env.now.transformer);
-      alone = λ premises. begins-alone (meaning_of g.M.MergeOperator.combine g.T.BlockTransformer.encoded g.T.BlockTransformer.decoded c.args.env.now.operator c.args.env.now.transformer) (layout_of c.args.laws.now.options policies (segments_by g.X.PrefixExtractor.lengths c.args.laws.now.segments)) (g.S.Store.objects c.args.env.now.store.now) c.new-session.result premises.empty c.new-session.ensures.events;
-      followed = λ lawful_policies lawful. follows-itself policies (meaning_of g.M.MergeOperator.combine g.T.BlockTransformer.encoded g.T.BlockTransformer.decoded c.args.env.now.operator c.args.env.now.transformer) (segments_by g.X.PrefixExtractor.lengths c.args.laws.now.segments) [] c.new-session.result (g.S.Store.acts c.args.env.now.store.now)
+      alone = λ premises. begins_alone (meaning_of g.M.MergeOperator.combine g.T.BlockTransformer.encoded g.T.BlockTransformer.decoded c.args.env.now.operator c.args.env.now.transformer) (layout_of c.args.laws.now.options policies (segments_by g.X.PrefixExtractor.lengths c.args.laws.now.segments)) (g.S.Store.objects c.args.env.now.store.now) c.new-session.result premises.empty c.new-session.ensures.events;
+      followed = λ lawful_policies lawful. follows_itself policies (meaning_of g.M.MergeOperator.combine g.T.BlockTransformer.encoded g.T.BlockTransformer.decoded c.args.env.now.operator c.args.env.now.transformer) (segments_by g.X.PrefixExtractor.lengths c.args.laws.now.segments) [] c.new-session.result (g.S.Store.acts c.args.env.now.store.now)
           (begins policies (meaning_of g.M.MergeOperator.combine g.T.BlockTransformer.encoded g.T.BlockTransformer.decoded c.args.env.now.operator c.args.env.now.transformer) (segments_by g.X.PrefixExtractor.lengths c.args.laws.now.segments) c.args.laws.now.options (Some []) c.new-session.result (record { lawful_policies = lawful_policies; lawful = lawful; empty = refl }) c.new-session.ensures.settings c.new-session.ensures.events c.new-session.ensures.kept c.new-session.ensures.segmented).settled;
-      stored = subst (λ (es : List Event). PutsTables [] (tables_of es) (g.S.Store.acts c.args.env.now.store.now) (g.S.Store.acts c.args.env.now.store.now)) (sym c.new-session.ensures.events) (stores-itself [] (g.S.Store.acts c.args.env.now.store.now));
+      stored = subst (λ (es : List Event). PutsTables [] (tables_of es) (g.S.Store.acts c.args.env.now.store.now) (g.S.Store.acts c.args.env.now.store.now)) (sym c.new-session.ensures.events) (stores_itself [] (g.S.Store.acts c.args.env.now.store.now));
       source_later = omega arith;
       sink_later = omega arith;
       source_still = refl;
@@ -73,16 +73,16 @@ returns-in-Err g c =
         whole = (tt);
         by_script = (let at = c.loop-line.invariant.told script is in
             let told = c.in-Err.ensures.told at.left at.rest in
-            (λ by. reader-script c.next.new.self told.0 before c.in-Err.error at told.2 (λ h. c.in-Err.ensures.too_long (ap Err h)) c.in-Err.ensures.cause premises told-is by));
+            (λ by. reader_script c.next.new.self told.0 before c.in-Err.error at told.2 (λ h. c.in-Err.ensures.too_long (ap Err h)) c.in-Err.ensures.cause premises told-is by));
         by_source = (λ fault.
-            let kind : c.in-Err.error ≡ ReadFault = same-error c.in-Err.error ReadFault (Err c.in-Err.error) refl fault in
+            let kind : c.in-Err.error ≡ ReadFault = same_error c.in-Err.error ReadFault (Err c.in-Err.error) refl fault in
             let at = c.loop-line.invariant.told script is in
             let told = c.in-Err.ensures.told at.left at.rest in
-            (told.0, replies_to (run_rules c.args.laws.now.options (meaning_of g.M.MergeOperator.combine g.T.BlockTransformer.encoded g.T.BlockTransformer.decoded c.args.env.now.operator c.args.env.now.transformer) (segments_by g.X.PrefixExtractor.lengths c.args.laws.now.segments)) (lines_of at.done), told.1, at.said premises before told-is, reader-source c.next.new.self told.0 at told.2 (c.in-Err.ensures.read_fault (ap Err kind)).1));
+            (told.0, replies_to (run_rules c.args.laws.now.options (meaning_of g.M.MergeOperator.combine g.T.BlockTransformer.encoded g.T.BlockTransformer.decoded c.args.env.now.operator c.args.env.now.transformer) (segments_by g.X.PrefixExtractor.lengths c.args.laws.now.segments)) (lines_of at.done), told.1, at.said premises before told-is, reader_source c.next.new.self told.0 at told.2 (c.in-Err.ensures.read_fault (ap Err kind)).1));
         by_sink = (λ fault.
-            absurd (reader-not-write c.in-Err.error c.in-Err.ensures.cause (same-error c.in-Err.error WriteFault (Err c.in-Err.error) refl fault)));
+            absurd (reader_not_write c.in-Err.error c.in-Err.ensures.cause (same_error c.in-Err.error WriteFault (Err c.in-Err.error) refl fault)));
         by_part = (let at = c.loop-line.invariant.told script is in
-            (λ which. (replies_to (run_rules c.args.laws.now.options (meaning_of g.M.MergeOperator.combine g.T.BlockTransformer.encoded g.T.BlockTransformer.decoded c.args.env.now.operator c.args.env.now.transformer) (segments_by g.X.PrefixExtractor.lengths c.args.laws.now.segments)) (lines_of at.done), at.said premises before told-is, reader-memory at)));
+            (λ which. (replies_to (run_rules c.args.laws.now.options (meaning_of g.M.MergeOperator.combine g.T.BlockTransformer.encoded g.T.BlockTransformer.decoded c.args.env.now.operator c.args.env.now.transformer) (segments_by g.X.PrefixExtractor.lengths c.args.laws.now.segments)) (lines_of at.done), at.said premises before told-is, reader_memory at)));
       };
       counted = λ script is premises. tt;
       stored = λ script is premises. tt;
@@ -91,40 +91,40 @@ returns-in-Err g c =
         no_error = (tt);
         error = (let at = c.loop-line.invariant.told script is in
             let told = c.in-Err.ensures.told at.left at.rest in
-            (reader-error c.next.new.self told.0 c.in-Err.error at told.2 (λ h. c.in-Err.ensures.too_long (ap Err h)) c.in-Err.ensures.cause));
+            (reader_error c.next.new.self told.0 c.in-Err.error at told.2 (λ h. c.in-Err.ensures.too_long (ap Err h)) c.in-Err.ensures.cause));
         too_long = (λ long.
-            let kind : c.in-Err.error ≡ ScriptTooLong = same-error c.in-Err.error ScriptTooLong (Err c.in-Err.error) refl long in
+            let kind : c.in-Err.error ≡ ScriptTooLong = same_error c.in-Err.error ScriptTooLong (Err c.in-Err.error) refl long in
             let at = c.loop-line.invariant.told script is in
             let told = c.in-Err.ensures.told at.left at.rest in
-            reader-full c.next.new.self told.0 (g.R.Source.left c.next.new.source) at told.2 (c.in-Err.ensures.too_long (ap Err kind)).0 told.1);
+            reader_full c.next.new.self told.0 (g.R.Source.left c.next.new.source) at told.2 (c.in-Err.ensures.too_long (ap Err kind)).0 told.1);
         taken = (let at = c.loop-line.invariant.told script is in
             let told = c.in-Err.ensures.told at.left at.rest in
-            reader-read c.next.new.self told.0 (g.R.Source.left c.next.new.source) at told.2 c.in-Err.ensures.within told.1);
+            reader_read c.next.new.self told.0 (g.R.Source.left c.next.new.source) at told.2 c.in-Err.ensures.within told.1);
       };
       cause = record {
-        kinds = (reader-kinds c.in-Err.error c.in-Err.ensures.cause);
+        kinds = (reader_kinds c.in-Err.error c.in-Err.ensures.cause);
         read_fault = (λ fault.
-            rose-from _ _ _ c.loop-line.invariant.source_later (c.in-Err.ensures.read_fault (ap Err (same-error c.in-Err.error ReadFault (Err c.in-Err.error) refl fault))).0);
+            rose_from _ _ _ c.loop-line.invariant.source_later (c.in-Err.ensures.read_fault (ap Err (same_error c.in-Err.error ReadFault (Err c.in-Err.error) refl fault))).0);
         write_fault = (λ fault.
-            absurd (reader-not-write c.in-Err.error c.in-Err.ensures.cause (same-error c.in-Err.error WriteFault (Err c.in-Err.error) refl fault)));
+            absurd (reader_not_write c.in-Err.error c.in-Err.ensures.cause (same_error c.in-Err.error WriteFault (Err c.in-Err.error) refl fault)));
         store_fault = (λ fault.
-            absurd (reader-no-part c.in-Err.error c.in-Err.ensures.cause (subst IsPartError (sym (same-error c.in-Err.error StoreFault (Err c.in-Err.error) refl fault)) tt)));
+            absurd (reader_no_part c.in-Err.error c.in-Err.ensures.cause (subst IsPartError (sym (same_error c.in-Err.error StoreFault (Err c.in-Err.error) refl fault)) tt)));
         operator_fault = (λ message fault.
-            absurd (reader-no-part c.in-Err.error c.in-Err.ensures.cause (subst IsPartError (sym (same-error c.in-Err.error (Callback message) (Err c.in-Err.error) refl fault)) tt)));
+            absurd (reader_no_part c.in-Err.error c.in-Err.ensures.cause (subst IsPartError (sym (same_error c.in-Err.error (Callback message) (Err c.in-Err.error) refl fault)) tt)));
         transform_fault = (λ fault.
-            absurd (reader-no-part c.in-Err.error c.in-Err.ensures.cause (subst IsPartError (sym (same-error c.in-Err.error BlockTransformError (Err c.in-Err.error) refl fault)) tt)));
+            absurd (reader_no_part c.in-Err.error c.in-Err.ensures.cause (subst IsPartError (sym (same_error c.in-Err.error BlockTransformError (Err c.in-Err.error) refl fault)) tt)));
       };
       undamaged = (λ premises.
-          (reader-undamaged c.in-Err.error c.in-Err.ensures.cause));
+          (reader_undamaged c.in-Err.error c.in-Err.ensures.cause));
       untrue = (λ lawful_policies lawful.
-          (λ damage. absurd (reader-undamaged c.in-Err.error c.in-Err.ensures.cause damage)));
-      shown = λ damage. absurd (reader-undamaged c.in-Err.error c.in-Err.ensures.cause damage);
+          (λ damage. absurd (reader_undamaged c.in-Err.error c.in-Err.ensures.cause damage)));
+      shown = λ damage. absurd (reader_undamaged c.in-Err.error c.in-Err.ensures.cause damage);
       complete = (λ script is formed premises none.
           let at = c.loop-line.invariant.told script is in
           let told = c.in-Err.ensures.told at.left at.rest in
-          let by = reader-error c.next.new.self told.0 c.in-Err.error at told.2 (λ h. c.in-Err.ensures.too_long (ap Err h)) c.in-Err.ensures.cause in
-          (reader-complete script c.in-Err.error by c.in-Err.ensures.cause formed (λ h. none.source_still (rose-from _ _ _ c.loop-line.invariant.source_later (c.in-Err.ensures.read_fault (ap Err h)).0))));
-      source_still = error-or c.in-Err.error ReadFault _ (Err c.in-Err.error) refl refl c.in-Err.ensures.still (λ h. h ∙ c.loop-line.invariant.source_still);
+          let by = reader_error c.next.new.self told.0 c.in-Err.error at told.2 (λ h. c.in-Err.ensures.too_long (ap Err h)) c.in-Err.ensures.cause in
+          (reader_complete script c.in-Err.error by c.in-Err.ensures.cause formed (λ h. none.source_still (rose_from _ _ _ c.loop-line.invariant.source_later (c.in-Err.ensures.read_fault (ap Err h)).0))));
+      source_still = error_or c.in-Err.error ReadFault _ (Err c.in-Err.error) refl refl c.in-Err.ensures.still (λ h. h ∙ c.loop-line.invariant.source_still);
       sink_still = inr c.loop-line.invariant.sink_still;
       later = (omega (arith, c.loop-line.invariant.source_later, c.next.ensures.later), c.loop-line.invariant.sink_later);
       puts = c.loop-line.invariant.puts;
@@ -133,9 +133,9 @@ returns-in-Err g c =
 -- ---- at a line that isn't answered
 
 -- no limit ended the line
-its-cause : (g : given.Over) (c : goal.After-drop-lines-inside-in-Err-answer_line-2 g) → LineError (c.loop-line.number + 1) c.as_slice.result.now c.in-Err-answer_line.error
-its-cause g c =
-    line-cause c.loop-line.session c.loop-line.number c.loop-line.lines.given c.in-Err-answer_line.error c.loop-line.invariant.weighs c.loop-line.invariant.loads c.loop-line.invariant.counted c.loop-line.invariant.within
+its_cause : (g : given.Over) (c : goal.After-drop-lines-inside-in-Err-answer_line-2 g) → LineError (c.loop-line.number + 1) c.as_slice.result.now c.in-Err-answer_line.error
+its_cause g c =
+    line_cause c.loop-line.session c.loop-line.number c.loop-line.lines.given c.in-Err-answer_line.error c.loop-line.invariant.weighs c.loop-line.invariant.loads c.loop-line.invariant.counted c.loop-line.invariant.within
     c.in-Err-answer_line.ensures.cause
 
 pub returns-in-Err-answer_line : goal.returns-in-Err-answer_line
@@ -144,24 +144,24 @@ returns-in-Err-answer_line g c =
     record {
       said = λ script before is told-is premises. record {
         whole = (tt);
-        by_script = (let took = took-told (λ v. v.items) c.in-Ok-Some.field-0 c.in-Ok-Some.line c.as_slice.result.now (g.R.Source.left c.next.new.source) c.next.new.self c.in-Ok-Some.ensures.told c.in-Ok-Some.ensures.within c.in-Ok-Some.field-0-is c.as_slice.ensures.value (c.loop-line.invariant.told script is) in
-            (λ by. line-script (g.W.Sink.content c.answer_line.new.sink) before c.in-Err-answer_line.error took (its-cause g c) c.in-Err-answer_line.ensures.unanswered premises told-is by));
+        by_script = (let took = took_told (λ v. v.items) c.in-Ok-Some.field-0 c.in-Ok-Some.line c.as_slice.result.now (g.R.Source.left c.next.new.source) c.next.new.self c.in-Ok-Some.ensures.told c.in-Ok-Some.ensures.within c.in-Ok-Some.field-0-is c.as_slice.ensures.value (c.loop-line.invariant.told script is) in
+            (λ by. line_script (g.W.Sink.content c.answer_line.new.sink) before c.in-Err-answer_line.error took (its_cause g c) c.in-Err-answer_line.ensures.unanswered premises told-is by));
         by_source = (λ fault.
-            absurd (line-not-read (c.loop-line.number + 1) c.as_slice.result.now c.in-Err-answer_line.error (its-cause g c) (same-error c.in-Err-answer_line.error ReadFault (Err c.in-Err-answer_line.error) refl fault)));
+            absurd (line_not_read (c.loop-line.number + 1) c.as_slice.result.now c.in-Err-answer_line.error (its_cause g c) (same_error c.in-Err-answer_line.error ReadFault (Err c.in-Err-answer_line.error) refl fault)));
         by_sink = (λ fault.
-            let kind : c.in-Err-answer_line.error ≡ WriteFault = same-error c.in-Err-answer_line.error WriteFault (Err c.in-Err-answer_line.error) refl fault in
-            let took = took-told (λ v. v.items) c.in-Ok-Some.field-0 c.in-Ok-Some.line c.as_slice.result.now (g.R.Source.left c.next.new.source) c.next.new.self c.in-Ok-Some.ensures.told c.in-Ok-Some.ensures.within c.in-Ok-Some.field-0-is c.as_slice.ensures.value (c.loop-line.invariant.told script is) in
+            let kind : c.in-Err-answer_line.error ≡ WriteFault = same_error c.in-Err-answer_line.error WriteFault (Err c.in-Err-answer_line.error) refl fault in
+            let took = took_told (λ v. v.items) c.in-Ok-Some.field-0 c.in-Ok-Some.line c.as_slice.result.now (g.R.Source.left c.next.new.source) c.next.new.self c.in-Ok-Some.ensures.told c.in-Ok-Some.ensures.within c.in-Ok-Some.field-0-is c.as_slice.ensures.value (c.loop-line.invariant.told script is) in
             let done = replies_to (run_rules c.args.laws.now.options (meaning_of g.M.MergeOperator.combine g.T.BlockTransformer.encoded g.T.BlockTransformer.decoded c.args.env.now.operator c.args.env.now.transformer) (segments_by g.X.PrefixExtractor.lengths c.args.laws.now.segments)) (lines_of took.done) in
             let state = after_lines (run_rules c.args.laws.now.options (meaning_of g.M.MergeOperator.combine g.T.BlockTransformer.encoded g.T.BlockTransformer.decoded c.args.env.now.operator c.args.env.now.transformer) (segments_by g.X.PrefixExtractor.lengths c.args.laws.now.segments)) opening (lines_of took.done) in
             let reply = replies_from (run_rules c.args.laws.now.options (meaning_of g.M.MergeOperator.combine g.T.BlockTransformer.encoded g.T.BlockTransformer.decoded c.args.env.now.operator c.args.env.now.transformer) (segments_by g.X.PrefixExtractor.lengths c.args.laws.now.segments)) state (c.as_slice.result.now ∷ []) in
             let begun : (n : ℕ) × (n < length reply) × (g.W.Sink.content c.answer_line.new.sink ≡ Some ((before ++ done) ++ take n reply)) =
             c.in-Err-answer_line.ensures.begun (meaning_of g.M.MergeOperator.combine g.T.BlockTransformer.encoded g.T.BlockTransformer.decoded c.args.env.now.operator c.args.env.now.transformer) (run_rules c.args.laws.now.options (meaning_of g.M.MergeOperator.combine g.T.BlockTransformer.encoded g.T.BlockTransformer.decoded c.args.env.now.operator c.args.env.now.transformer) (segments_by g.X.PrefixExtractor.lengths c.args.laws.now.segments)) (c.loop-line.invariant.running premises) state (before ++ done) (took.session premises) (took.said premises before told-is) (ap Err kind) in
-            (done ++ take begun.0 reply, begun.2 ∙ ap Some (append_assoc before done (take begun.0 reply)), line-sink begun.0 took (c.in-Err-answer_line.ensures.write_fault (ap Err kind)).1 begun.1));
-        by_part = (let took = took-told (λ v. v.items) c.in-Ok-Some.field-0 c.in-Ok-Some.line c.as_slice.result.now (g.R.Source.left c.next.new.source) c.next.new.self c.in-Ok-Some.ensures.told c.in-Ok-Some.ensures.within c.in-Ok-Some.field-0-is c.as_slice.ensures.value (c.loop-line.invariant.told script is) in
+            (done ++ take begun.0 reply, begun.2 ∙ ap Some (append_assoc before done (take begun.0 reply)), line_sink begun.0 took (c.in-Err-answer_line.ensures.write_fault (ap Err kind)).1 begun.1));
+        by_part = (let took = took_told (λ v. v.items) c.in-Ok-Some.field-0 c.in-Ok-Some.line c.as_slice.result.now (g.R.Source.left c.next.new.source) c.next.new.self c.in-Ok-Some.ensures.told c.in-Ok-Some.ensures.within c.in-Ok-Some.field-0-is c.as_slice.ensures.value (c.loop-line.invariant.told script is) in
             (λ which. (
               replies_to (run_rules c.args.laws.now.options (meaning_of g.M.MergeOperator.combine g.T.BlockTransformer.encoded g.T.BlockTransformer.decoded c.args.env.now.operator c.args.env.now.transformer) (segments_by g.X.PrefixExtractor.lengths c.args.laws.now.segments)) (lines_of took.done),
               untouched c.in-Err-answer_line.error (g.W.Sink.content c.loop-line.sink) (g.W.Sink.content c.answer_line.new.sink) c.in-Err-answer_line.ensures.unanswered which ∙ took.said premises before told-is,
-              line-memory took,
+              line_memory took,
             )));
       };
       counted = λ script is premises. tt;
@@ -169,43 +169,43 @@ returns-in-Err-answer_line g c =
       read = λ script is. record {
         whole = (tt);
         no_error = (tt);
-        error = (let took = took-told (λ v. v.items) c.in-Ok-Some.field-0 c.in-Ok-Some.line c.as_slice.result.now (g.R.Source.left c.next.new.source) c.next.new.self c.in-Ok-Some.ensures.told c.in-Ok-Some.ensures.within c.in-Ok-Some.field-0-is c.as_slice.ensures.value (c.loop-line.invariant.told script is) in
-            (line-error c.in-Err-answer_line.error took (its-cause g c)));
+        error = (let took = took_told (λ v. v.items) c.in-Ok-Some.field-0 c.in-Ok-Some.line c.as_slice.result.now (g.R.Source.left c.next.new.source) c.next.new.self c.in-Ok-Some.ensures.told c.in-Ok-Some.ensures.within c.in-Ok-Some.field-0-is c.as_slice.ensures.value (c.loop-line.invariant.told script is) in
+            (line_error c.in-Err-answer_line.error took (its_cause g c)));
         too_long = (λ long.
-            let kind : c.in-Err-answer_line.error ≡ ScriptTooLong = same-error c.in-Err-answer_line.error ScriptTooLong (Err c.in-Err-answer_line.error) refl long in
-            absurd (line-not-long (c.loop-line.number + 1) c.as_slice.result.now c.in-Err-answer_line.error (its-cause g c) kind));
-        taken = (let took = took-told (λ v. v.items) c.in-Ok-Some.field-0 c.in-Ok-Some.line c.as_slice.result.now (g.R.Source.left c.next.new.source) c.next.new.self c.in-Ok-Some.ensures.told c.in-Ok-Some.ensures.within c.in-Ok-Some.field-0-is c.as_slice.ensures.value (c.loop-line.invariant.told script is) in
-            line-read took c.in-Ok-Some.ensures.within);
+            let kind : c.in-Err-answer_line.error ≡ ScriptTooLong = same_error c.in-Err-answer_line.error ScriptTooLong (Err c.in-Err-answer_line.error) refl long in
+            absurd (line_not_long (c.loop-line.number + 1) c.as_slice.result.now c.in-Err-answer_line.error (its_cause g c) kind));
+        taken = (let took = took_told (λ v. v.items) c.in-Ok-Some.field-0 c.in-Ok-Some.line c.as_slice.result.now (g.R.Source.left c.next.new.source) c.next.new.self c.in-Ok-Some.ensures.told c.in-Ok-Some.ensures.within c.in-Ok-Some.field-0-is c.as_slice.ensures.value (c.loop-line.invariant.told script is) in
+            line_read took c.in-Ok-Some.ensures.within);
       };
       cause = record {
-        kinds = (line-kinds (c.loop-line.number + 1) c.as_slice.result.now c.in-Err-answer_line.error (its-cause g c));
-        read_fault = λ fault. absurd (line-not-read (c.loop-line.number + 1) c.as_slice.result.now c.in-Err-answer_line.error (its-cause g c) (same-error c.in-Err-answer_line.error ReadFault (Err c.in-Err-answer_line.error) refl fault));
-        write_fault = λ fault. rose-from _ _ _ c.loop-line.invariant.sink_later (c.in-Err-answer_line.ensures.write_fault (ap Err (same-error c.in-Err-answer_line.error WriteFault (Err c.in-Err-answer_line.error) refl fault))).0;
+        kinds = (line_kinds (c.loop-line.number + 1) c.as_slice.result.now c.in-Err-answer_line.error (its_cause g c));
+        read_fault = λ fault. absurd (line_not_read (c.loop-line.number + 1) c.as_slice.result.now c.in-Err-answer_line.error (its_cause g c) (same_error c.in-Err-answer_line.error ReadFault (Err c.in-Err-answer_line.error) refl fault));
+        write_fault = λ fault. rose_from _ _ _ c.loop-line.invariant.sink_later (c.in-Err-answer_line.ensures.write_fault (ap Err (same_error c.in-Err-answer_line.error WriteFault (Err c.in-Err-answer_line.error) refl fault))).0;
         store_fault = (λ fault.
-            let kind : c.in-Err-answer_line.error ≡ StoreFault = same-error c.in-Err-answer_line.error StoreFault (Err c.in-Err-answer_line.error) refl fault in
-            rose-from _ _ _ c.loop-line.invariant.puts.later.store (store-rose (counts_of (g.S.Store.faults c.loop-line.env.store.now) g.M.MergeOperator.faults g.T.BlockTransformer.faults c.loop-line.env.operator c.loop-line.env.transformer) (counts_of (g.S.Store.faults c.answer_line.new.env.store.now) g.M.MergeOperator.faults g.T.BlockTransformer.faults c.answer_line.new.env.operator c.answer_line.new.env.transformer) c.in-Err-answer_line.error kind (c.in-Err-answer_line.ensures.part (subst IsPartError (sym kind) tt))));
+            let kind : c.in-Err-answer_line.error ≡ StoreFault = same_error c.in-Err-answer_line.error StoreFault (Err c.in-Err-answer_line.error) refl fault in
+            rose_from _ _ _ c.loop-line.invariant.puts.later.store (store_rose (counts_of (g.S.Store.faults c.loop-line.env.store.now) g.M.MergeOperator.faults g.T.BlockTransformer.faults c.loop-line.env.operator c.loop-line.env.transformer) (counts_of (g.S.Store.faults c.answer_line.new.env.store.now) g.M.MergeOperator.faults g.T.BlockTransformer.faults c.answer_line.new.env.operator c.answer_line.new.env.transformer) c.in-Err-answer_line.error kind (c.in-Err-answer_line.ensures.part (subst IsPartError (sym kind) tt))));
         operator_fault = (λ message fault.
-            let kind : c.in-Err-answer_line.error ≡ (Callback message) = same-error c.in-Err-answer_line.error (Callback message) (Err c.in-Err-answer_line.error) refl fault in
-            rose-from _ _ _ c.loop-line.invariant.puts.later.operator (operator-rose (counts_of (g.S.Store.faults c.loop-line.env.store.now) g.M.MergeOperator.faults g.T.BlockTransformer.faults c.loop-line.env.operator c.loop-line.env.transformer) (counts_of (g.S.Store.faults c.answer_line.new.env.store.now) g.M.MergeOperator.faults g.T.BlockTransformer.faults c.answer_line.new.env.operator c.answer_line.new.env.transformer) c.in-Err-answer_line.error message kind (c.in-Err-answer_line.ensures.part (subst IsPartError (sym kind) tt))));
+            let kind : c.in-Err-answer_line.error ≡ (Callback message) = same_error c.in-Err-answer_line.error (Callback message) (Err c.in-Err-answer_line.error) refl fault in
+            rose_from _ _ _ c.loop-line.invariant.puts.later.operator (operator_rose (counts_of (g.S.Store.faults c.loop-line.env.store.now) g.M.MergeOperator.faults g.T.BlockTransformer.faults c.loop-line.env.operator c.loop-line.env.transformer) (counts_of (g.S.Store.faults c.answer_line.new.env.store.now) g.M.MergeOperator.faults g.T.BlockTransformer.faults c.answer_line.new.env.operator c.answer_line.new.env.transformer) c.in-Err-answer_line.error message kind (c.in-Err-answer_line.ensures.part (subst IsPartError (sym kind) tt))));
         transform_fault = (λ fault.
-            let kind : c.in-Err-answer_line.error ≡ BlockTransformError = same-error c.in-Err-answer_line.error BlockTransformError (Err c.in-Err-answer_line.error) refl fault in
-            rose-from _ _ _ c.loop-line.invariant.puts.later.transformer (transformer-rose (counts_of (g.S.Store.faults c.loop-line.env.store.now) g.M.MergeOperator.faults g.T.BlockTransformer.faults c.loop-line.env.operator c.loop-line.env.transformer) (counts_of (g.S.Store.faults c.answer_line.new.env.store.now) g.M.MergeOperator.faults g.T.BlockTransformer.faults c.answer_line.new.env.operator c.answer_line.new.env.transformer) c.in-Err-answer_line.error kind (c.in-Err-answer_line.ensures.part (subst IsPartError (sym kind) tt))));
+            let kind : c.in-Err-answer_line.error ≡ BlockTransformError = same_error c.in-Err-answer_line.error BlockTransformError (Err c.in-Err-answer_line.error) refl fault in
+            rose_from _ _ _ c.loop-line.invariant.puts.later.transformer (transformer_rose (counts_of (g.S.Store.faults c.loop-line.env.store.now) g.M.MergeOperator.faults g.T.BlockTransformer.faults c.loop-line.env.operator c.loop-line.env.transformer) (counts_of (g.S.Store.faults c.answer_line.new.env.store.now) g.M.MergeOperator.faults g.T.BlockTransformer.faults c.answer_line.new.env.operator c.answer_line.new.env.transformer) c.in-Err-answer_line.error kind (c.in-Err-answer_line.ensures.part (subst IsPartError (sym kind) tt))));
       };
       undamaged = (λ premises.
           (c.in-Err-answer_line.ensures.undamaged (meaning_of g.M.MergeOperator.combine g.T.BlockTransformer.encoded g.T.BlockTransformer.decoded c.args.env.now.operator c.args.env.now.transformer) (run_rules c.args.laws.now.options (meaning_of g.M.MergeOperator.combine g.T.BlockTransformer.encoded g.T.BlockTransformer.decoded c.args.env.now.operator c.args.env.now.transformer) (segments_by g.X.PrefixExtractor.lengths c.args.laws.now.segments)) (c.loop-line.invariant.running premises)));
       untrue = (λ lawful_policies lawful.
-          (λ damage. untrue-on policies (meaning_of g.M.MergeOperator.combine g.T.BlockTransformer.encoded g.T.BlockTransformer.decoded c.args.env.now.operator c.args.env.now.transformer) (segments_by g.X.PrefixExtractor.lengths c.args.laws.now.segments) c.loop-line.session (g.S.Store.acts c.args.env.now.store.now) (g.S.Store.acts c.loop-line.env.store.now) (g.S.Store.acts c.answer_line.new.env.store.now) (c.loop-line.invariant.followed lawful_policies lawful)
+          (λ damage. untrue_on policies (meaning_of g.M.MergeOperator.combine g.T.BlockTransformer.encoded g.T.BlockTransformer.decoded c.args.env.now.operator c.args.env.now.transformer) (segments_by g.X.PrefixExtractor.lengths c.args.laws.now.segments) c.loop-line.session (g.S.Store.acts c.args.env.now.store.now) (g.S.Store.acts c.loop-line.env.store.now) (g.S.Store.acts c.answer_line.new.env.store.now) (c.loop-line.invariant.followed lawful_policies lawful)
           (subst (λ (m : Meaning). (os : Objects) → IsSettled policies m (segments_by g.X.PrefixExtractor.lengths c.args.laws.now.segments) (Some os) c.loop-line.session → IsUntrue os (g.S.Store.acts c.loop-line.env.store.now) (g.S.Store.acts c.answer_line.new.env.store.now)) c.loop-line.invariant.puts.meaning (λ os settled. c.in-Err-answer_line.ensures.untrue os settled damage))));
-      shown = λ damage. shown-at-end policies (reach_of g.S.Store g.M.MergeOperator g.T.BlockTransformer c.args.env.now) (reach_of g.S.Store g.M.MergeOperator g.T.BlockTransformer c.loop-line.env) (reach_of g.S.Store g.M.MergeOperator g.T.BlockTransformer c.answer_line.new.env) c.loop-line.session.core c.in-Err-answer_line.error c.loop-line.invariant.puts.meaning c.loop-line.invariant.stored
+      shown = λ damage. shown_at_end policies (reach_of g.S.Store g.M.MergeOperator g.T.BlockTransformer c.args.env.now) (reach_of g.S.Store g.M.MergeOperator g.T.BlockTransformer c.loop-line.env) (reach_of g.S.Store g.M.MergeOperator g.T.BlockTransformer c.answer_line.new.env) c.loop-line.session.core c.in-Err-answer_line.error c.loop-line.invariant.puts.meaning c.loop-line.invariant.kept c.loop-line.invariant.stored
           (c.in-Err-answer_line.ensures.shown (subst (λ (x : Meaning). IsKept x c.loop-line.session.core) (sym c.loop-line.invariant.puts.meaning) c.loop-line.invariant.kept) damage);
       complete = (λ script is formed premises none.
-          let took = took-told (λ v. v.items) c.in-Ok-Some.field-0 c.in-Ok-Some.line c.as_slice.result.now (g.R.Source.left c.next.new.source) c.next.new.self c.in-Ok-Some.ensures.told c.in-Ok-Some.ensures.within c.in-Ok-Some.field-0-is c.as_slice.ensures.value (c.loop-line.invariant.told script is) in
-          let by = line-error c.in-Err-answer_line.error took (its-cause g c) in
-          (only-memory c.in-Err-answer_line.error (line-complete script c.as_slice.result.now (c.loop-line.number + 1) c.in-Err-answer_line.error by (its-cause g c) formed (λ h. none.sink_still (rose-from _ _ _ c.loop-line.invariant.sink_later (c.in-Err-answer_line.ensures.write_fault (ap Err h)).0)))
-          (λ part. no-part (counts_of (g.S.Store.faults c.loop-line.env.store.now) g.M.MergeOperator.faults g.T.BlockTransformer.faults c.loop-line.env.operator c.loop-line.env.transformer) (counts_of (g.S.Store.faults c.answer_line.new.env.store.now) g.M.MergeOperator.faults g.T.BlockTransformer.faults c.answer_line.new.env.operator c.answer_line.new.env.transformer) c.in-Err-answer_line.error (λ h. none.store (rose-from _ _ _ c.loop-line.invariant.puts.later.store h)) (λ h. none.operator (rose-from _ _ _ c.loop-line.invariant.puts.later.operator h)) (λ h. none.transformer (rose-from _ _ _ c.loop-line.invariant.puts.later.transformer h))
+          let took = took_told (λ v. v.items) c.in-Ok-Some.field-0 c.in-Ok-Some.line c.as_slice.result.now (g.R.Source.left c.next.new.source) c.next.new.self c.in-Ok-Some.ensures.told c.in-Ok-Some.ensures.within c.in-Ok-Some.field-0-is c.as_slice.ensures.value (c.loop-line.invariant.told script is) in
+          let by = line_error c.in-Err-answer_line.error took (its_cause g c) in
+          (only_memory c.in-Err-answer_line.error (line_complete script c.as_slice.result.now (c.loop-line.number + 1) c.in-Err-answer_line.error by (its_cause g c) formed (λ h. none.sink_still (rose_from _ _ _ c.loop-line.invariant.sink_later (c.in-Err-answer_line.ensures.write_fault (ap Err h)).0)))
+          (λ part. no_part (counts_of (g.S.Store.faults c.loop-line.env.store.now) g.M.MergeOperator.faults g.T.BlockTransformer.faults c.loop-line.env.operator c.loop-line.env.transformer) (counts_of (g.S.Store.faults c.answer_line.new.env.store.now) g.M.MergeOperator.faults g.T.BlockTransformer.faults c.answer_line.new.env.operator c.answer_line.new.env.transformer) c.in-Err-answer_line.error (λ h. none.store (rose_from _ _ _ c.loop-line.invariant.puts.later.store h)) (λ h. none.operator (rose_from _ _ _ c.loop-line.invariant.puts.later.operator h)) (λ h. none.transformer (rose_from _ _ _ c.loop-line.invariant.puts.later.transformer h))
           (c.in-Err-answer_line.ensures.undamaged (meaning_of g.M.MergeOperator.combine g.T.BlockTransformer.encoded g.T.BlockTransformer.decoded c.args.env.now.operator c.args.env.now.transformer) (run_rules c.args.laws.now.options (meaning_of g.M.MergeOperator.combine g.T.BlockTransformer.encoded g.T.BlockTransformer.decoded c.args.env.now.operator c.args.env.now.transformer) (segments_by g.X.PrefixExtractor.lengths c.args.laws.now.segments)) (c.loop-line.invariant.running premises)) part (c.in-Err-answer_line.ensures.part part))));
-      source_still = inr (unless-error c.in-Ok-Some.field-0 ReadFault c.in-Ok-Some.ensures.still ∙ c.loop-line.invariant.source_still);
-      sink_still = error-is-or c.in-Err-answer_line.error WriteFault (Err c.in-Err-answer_line.error) refl c.in-Err-answer_line.ensures.uncounted (λ h. h ∙ c.loop-line.invariant.sink_still);
+      source_still = inr (unless_error c.in-Ok-Some.field-0 ReadFault c.in-Ok-Some.ensures.still ∙ c.loop-line.invariant.source_still);
+      sink_still = error_is_or c.in-Err-answer_line.error WriteFault (Err c.in-Err-answer_line.error) refl c.in-Err-answer_line.ensures.uncounted (λ h. h ∙ c.loop-line.invariant.sink_still);
       later = (omega (arith, c.loop-line.invariant.source_later, c.next.ensures.later), omega (arith, c.loop-line.invariant.sink_later, c.answer_line.ensures.later));
       puts = puts_then _ _ _ c.loop-line.invariant.puts c.answer_line.ensures.puts;
     }
@@ -217,9 +217,9 @@ loop-line-preserved g c =
     let policies = map (λ p. (goal.FilterPolicy-dyn g (p.vtable, p.value)).meaning p.value) c.args.laws.now.policies.items in
     record {
       told = λ script is.
-          answer-it (Premises policies (meaning_of g.M.MergeOperator.combine g.T.BlockTransformer.encoded g.T.BlockTransformer.decoded c.args.env.now.operator c.args.env.now.transformer) (g.S.Store.objects c.args.env.now.store.now)) (run_rules c.args.laws.now.options (meaning_of g.M.MergeOperator.combine g.T.BlockTransformer.encoded g.T.BlockTransformer.decoded c.args.env.now.operator c.args.env.now.transformer) (segments_by g.X.PrefixExtractor.lengths c.args.laws.now.segments)) script c.as_slice.result.now (g.R.Source.left c.next.new.source) (g.W.Sink.content c.args.sink.now) (g.W.Sink.content c.loop-line.sink) (g.W.Sink.content c.answer_line.new.sink)
+          answer_it (Premises policies (meaning_of g.M.MergeOperator.combine g.T.BlockTransformer.encoded g.T.BlockTransformer.decoded c.args.env.now.operator c.args.env.now.transformer) (g.S.Store.objects c.args.env.now.store.now)) (run_rules c.args.laws.now.options (meaning_of g.M.MergeOperator.combine g.T.BlockTransformer.encoded g.T.BlockTransformer.decoded c.args.env.now.operator c.args.env.now.transformer) (segments_by g.X.PrefixExtractor.lengths c.args.laws.now.segments)) script c.as_slice.result.now (g.R.Source.left c.next.new.source) (g.W.Sink.content c.args.sink.now) (g.W.Sink.content c.loop-line.sink) (g.W.Sink.content c.answer_line.new.sink)
           c.args.tally.now c.loop-line.tally c.answer_line.new.tally c.next.new.self (c.loop-line.number + 1) c.loop-line.session c.answer_line.new.session
-          (took-told (λ v. v.items) c.in-Ok-Some.field-0 c.in-Ok-Some.line c.as_slice.result.now (g.R.Source.left c.next.new.source) c.next.new.self c.in-Ok-Some.ensures.told c.in-Ok-Some.ensures.within c.in-Ok-Some.field-0-is c.as_slice.ensures.value (c.loop-line.invariant.told script is))
+          (took_told (λ v. v.items) c.in-Ok-Some.field-0 c.in-Ok-Some.line c.as_slice.result.now (g.R.Source.left c.next.new.source) c.next.new.self c.in-Ok-Some.ensures.told c.in-Ok-Some.ensures.within c.in-Ok-Some.field-0-is c.as_slice.ensures.value (c.loop-line.invariant.told script is))
           c.in-Ok.ensures.meant
           (λ premises. c.in-Ok.ensures.stands (meaning_of g.M.MergeOperator.combine g.T.BlockTransformer.encoded g.T.BlockTransformer.decoded c.args.env.now.operator c.args.env.now.transformer) (run_rules c.args.laws.now.options (meaning_of g.M.MergeOperator.combine g.T.BlockTransformer.encoded g.T.BlockTransformer.decoded c.args.env.now.operator c.args.env.now.transformer) (segments_by g.X.PrefixExtractor.lengths c.args.laws.now.segments)) (c.loop-line.invariant.running premises))
           (λ premises. c.in-Ok.ensures.answered (meaning_of g.M.MergeOperator.combine g.T.BlockTransformer.encoded g.T.BlockTransformer.decoded c.args.env.now.operator c.args.env.now.transformer) (run_rules c.args.laws.now.options (meaning_of g.M.MergeOperator.combine g.T.BlockTransformer.encoded g.T.BlockTransformer.decoded c.args.env.now.operator c.args.env.now.transformer) (segments_by g.X.PrefixExtractor.lengths c.args.laws.now.segments)) (c.loop-line.invariant.running premises))
@@ -237,12 +237,12 @@ loop-line-preserved g c =
       kept = subst (λ (x : Meaning). IsKept x c.answer_line.new.session.core) c.loop-line.invariant.puts.meaning
           (c.in-Ok.ensures.core_kept (subst (λ (x : Meaning). IsKept x c.loop-line.session.core) (sym c.loop-line.invariant.puts.meaning) c.loop-line.invariant.kept));
       alone = λ premises. c.in-Ok.ensures.alone (meaning_of g.M.MergeOperator.combine g.T.BlockTransformer.encoded g.T.BlockTransformer.decoded c.args.env.now.operator c.args.env.now.transformer) (run_rules c.args.laws.now.options (meaning_of g.M.MergeOperator.combine g.T.BlockTransformer.encoded g.T.BlockTransformer.decoded c.args.env.now.operator c.args.env.now.transformer) (segments_by g.X.PrefixExtractor.lengths c.args.laws.now.segments)) (c.loop-line.invariant.running premises) (c.loop-line.invariant.alone premises);
-      followed = λ lawful_policies lawful. follows-on policies (meaning_of g.M.MergeOperator.combine g.T.BlockTransformer.encoded g.T.BlockTransformer.decoded c.args.env.now.operator c.args.env.now.transformer) (segments_by g.X.PrefixExtractor.lengths c.args.laws.now.segments) c.loop-line.session c.answer_line.new.session (g.S.Store.acts c.args.env.now.store.now) (g.S.Store.acts c.loop-line.env.store.now) (g.S.Store.acts c.answer_line.new.env.store.now) (c.loop-line.invariant.followed lawful_policies lawful)
+      followed = λ lawful_policies lawful. follows_on policies (meaning_of g.M.MergeOperator.combine g.T.BlockTransformer.encoded g.T.BlockTransformer.decoded c.args.env.now.operator c.args.env.now.transformer) (segments_by g.X.PrefixExtractor.lengths c.args.laws.now.segments) c.loop-line.session c.answer_line.new.session (g.S.Store.acts c.args.env.now.store.now) (g.S.Store.acts c.loop-line.env.store.now) (g.S.Store.acts c.answer_line.new.env.store.now) (c.loop-line.invariant.followed lawful_policies lawful)
           (subst (λ (m : Meaning). (os : Objects) → IsSettled policies m (segments_by g.X.PrefixExtractor.lengths c.args.laws.now.segments) (Some os) c.loop-line.session → Follows policies m (segments_by g.X.PrefixExtractor.lengths c.args.laws.now.segments) os c.answer_line.new.session (g.S.Store.acts c.loop-line.env.store.now) (g.S.Store.acts c.answer_line.new.env.store.now)) c.loop-line.invariant.puts.meaning c.in-Ok.ensures.follows);
-      stored = stores-on (tables_of c.loop-line.session.core.events) (tables_of c.answer_line.new.session.core.events) _ _ _ c.loop-line.invariant.stored c.in-Ok.ensures.tables;
+      stored = stores_on (tables_of c.loop-line.session.core.events) (tables_of c.answer_line.new.session.core.events) _ _ _ c.loop-line.invariant.stored c.in-Ok.ensures.tables;
       source_later = omega (arith, c.next.ensures.later);
       sink_later = omega (arith, c.answer_line.ensures.later);
-      source_still = unless-error c.in-Ok-Some.field-0 ReadFault c.in-Ok-Some.ensures.still ∙ c.loop-line.invariant.source_still;
+      source_still = unless_error c.in-Ok-Some.field-0 ReadFault c.in-Ok-Some.ensures.still ∙ c.loop-line.invariant.source_still;
       sink_still = c.in-Ok.ensures.still ∙ c.loop-line.invariant.sink_still;
       puts = puts_then _ _ _ c.loop-line.invariant.puts c.answer_line.ensures.puts;
     }
@@ -255,58 +255,58 @@ returns g c =
     record {
       said = λ script before is told-is premises. record {
         whole = (let at = c.loop-line.invariant.told script is in
-            let end = end-told (λ v. v.items) c.in-Ok-None.field-0 (g.R.Source.left c.next.new.source) c.next.new.self c.in-Ok-None.ensures.told c.in-Ok-None.field-0-is at in
-            end-answered c.next.new.self end.0 before at end.2 premises told-is);
+            let end = end_told (λ v. v.items) c.in-Ok-None.field-0 (g.R.Source.left c.next.new.source) c.next.new.self c.in-Ok-None.ensures.told c.in-Ok-None.field-0-is at in
+            end_answered c.next.new.self end.0 before at end.2 premises told-is);
         by_script = (tt);
         by_source = (λ fault.
-            absurd (is-no-error fault));
+            absurd (is_no_error fault));
         by_sink = (λ fault.
-            absurd (is-no-error fault));
+            absurd (is_no_error fault));
         by_part = (tt);
       };
       counted = (λ script is premises.
           let r = run_rules c.args.laws.now.options (meaning_of g.M.MergeOperator.combine g.T.BlockTransformer.encoded g.T.BlockTransformer.decoded c.args.env.now.operator c.args.env.now.transformer) (segments_by g.X.PrefixExtractor.lengths c.args.laws.now.segments) in
           let at = c.loop-line.invariant.told script is in
-          let end = end-told (λ v. v.items) c.in-Ok-None.field-0 (g.R.Source.left c.next.new.source) c.next.new.self c.in-Ok-None.ensures.told c.in-Ok-None.field-0-is at in
-          subst (λ bs. c.loop-line.tally ≡ tallied c.args.tally.now (answers r opening (meanings (lines_of bs)))) (sym (end-there c.next.new.self end.0 at end.2).0) (at.counts premises));
+          let end = end_told (λ v. v.items) c.in-Ok-None.field-0 (g.R.Source.left c.next.new.source) c.next.new.self c.in-Ok-None.ensures.told c.in-Ok-None.field-0-is at in
+          subst (λ bs. c.loop-line.tally ≡ tallied c.args.tally.now (answers r opening (meanings (lines_of bs)))) (sym (end_there c.next.new.self end.0 at end.2).0) (at.counts premises));
       stored = (λ script is premises.
           let m = meaning_of g.M.MergeOperator.combine g.T.BlockTransformer.encoded g.T.BlockTransformer.decoded c.args.env.now.operator c.args.env.now.transformer in
           let r = run_rules c.args.laws.now.options m (segments_by g.X.PrefixExtractor.lengths c.args.laws.now.segments) in
           let at = c.loop-line.invariant.told script is in
-          let end = end-told (λ v. v.items) c.in-Ok-None.field-0 (g.R.Source.left c.next.new.source) c.next.new.self c.in-Ok-None.ensures.told c.in-Ok-None.field-0-is at in
+          let end = end_told (λ v. v.items) c.in-Ok-None.field-0 (g.R.Source.left c.next.new.source) c.next.new.self c.in-Ok-None.ensures.told c.in-Ok-None.field-0-is at in
           let running = c.loop-line.invariant.running premises in
-          stored-state m (segments_by g.X.PrefixExtractor.lengths c.args.laws.now.segments) r (layout_of c.args.laws.now.options policies (segments_by g.X.PrefixExtractor.lengths c.args.laws.now.segments)) (g.S.Store.objects c.loop-line.env.store.now) c.loop-line.session (after_lines r opening (lines_of script)) running.rules
+          stored_state m (segments_by g.X.PrefixExtractor.lengths c.args.laws.now.segments) r (layout_of c.args.laws.now.options policies (segments_by g.X.PrefixExtractor.lengths c.args.laws.now.segments)) (g.S.Store.objects c.loop-line.env.store.now) c.loop-line.session (after_lines r opening (lines_of script)) running.rules
           (c.close-2.ensures.stores m running.settled.lawful running.settled.kept)
-          (subst (λ bs. StandsFor c.loop-line.session (after_lines r opening (lines_of bs))) (sym (end-there c.next.new.self end.0 at end.2).0) (at.session premises))
+          (subst (λ bs. StandsFor c.loop-line.session (after_lines r opening (lines_of bs))) (sym (end_there c.next.new.self end.0 at end.2).0) (at.session premises))
           (c.loop-line.invariant.alone premises));
       read = λ script is. record {
         whole = (let at = c.loop-line.invariant.told script is in
-            let end = end-told (λ v. v.items) c.in-Ok-None.field-0 (g.R.Source.left c.next.new.source) c.next.new.self c.in-Ok-None.ensures.told c.in-Ok-None.field-0-is at in
-            (end-formed c.next.new.self end.0 at end.2, end.1 ∙ ap Some (end-there c.next.new.self end.0 at end.2).2));
+            let end = end_told (λ v. v.items) c.in-Ok-None.field-0 (g.R.Source.left c.next.new.source) c.next.new.self c.in-Ok-None.ensures.told c.in-Ok-None.field-0-is at in
+            (end_formed c.next.new.self end.0 at end.2, end.1 ∙ ap Some (end_there c.next.new.self end.0 at end.2).2));
         no_error = (let at = c.loop-line.invariant.told script is in
-            let end = end-told (λ v. v.items) c.in-Ok-None.field-0 (g.R.Source.left c.next.new.source) c.next.new.self c.in-Ok-None.ensures.told c.in-Ok-None.field-0-is at in
-            end-no_error c.next.new.self end.0 at end.2);
+            let end = end_told (λ v. v.items) c.in-Ok-None.field-0 (g.R.Source.left c.next.new.source) c.next.new.self c.in-Ok-None.ensures.told c.in-Ok-None.field-0-is at in
+            end_no_error c.next.new.self end.0 at end.2);
         error = (tt);
         too_long = (λ long.
-            absurd (is-no-error long));
+            absurd (is_no_error long));
         taken = (let at = c.loop-line.invariant.told script is in
-            let end = end-told (λ v. v.items) c.in-Ok-None.field-0 (g.R.Source.left c.next.new.source) c.next.new.self c.in-Ok-None.ensures.told c.in-Ok-None.field-0-is at in
-            end-read c.next.new.self end.0 (g.R.Source.left c.next.new.source) at end.2 c.in-Ok-None.ensures.within end.1);
+            let end = end_told (λ v. v.items) c.in-Ok-None.field-0 (g.R.Source.left c.next.new.source) c.next.new.self c.in-Ok-None.ensures.told c.in-Ok-None.field-0-is at in
+            end_read c.next.new.self end.0 (g.R.Source.left c.next.new.source) at end.2 c.in-Ok-None.ensures.within end.1);
       };
       cause = record {
         kinds = tt;
-        read_fault = λ fault. absurd (is-no-error fault);
-        write_fault = λ fault. absurd (is-no-error fault);
-        store_fault = λ fault. absurd (is-no-error fault);
-        operator_fault = λ message fault. absurd (is-no-error fault);
-        transform_fault = λ fault. absurd (is-no-error fault);
+        read_fault = λ fault. absurd (is_no_error fault);
+        write_fault = λ fault. absurd (is_no_error fault);
+        store_fault = λ fault. absurd (is_no_error fault);
+        operator_fault = λ message fault. absurd (is_no_error fault);
+        transform_fault = λ fault. absurd (is_no_error fault);
       };
       undamaged = λ premises. tt;
       untrue = λ lawful_policies lawful. tt;
       shown = tt;
       complete = (λ script is formed premises none.
           tt);
-      source_still = inr (unless-error c.in-Ok-None.field-0 ReadFault c.in-Ok-None.ensures.still ∙ c.loop-line.invariant.source_still);
+      source_still = inr (unless_error c.in-Ok-None.field-0 ReadFault c.in-Ok-None.ensures.still ∙ c.loop-line.invariant.source_still);
       sink_still = inr c.loop-line.invariant.sink_still;
       later = (omega (arith, c.loop-line.invariant.source_later, c.next.ensures.later), c.loop-line.invariant.sink_later);
       puts = c.loop-line.invariant.puts;

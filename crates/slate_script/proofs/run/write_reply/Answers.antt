@@ -5,17 +5,17 @@ use Rattle.slate_types.specs.declared.error.SlateDBError.TheVariants.{OutOfMemor
 use Rattle.slate_types.specs.declared.error.SlateDBError.{SlateDBError}
 use Rattle.slate_language.specs.Answers.{reply_of}
 use Rattle.slate_language.specs.Replies.{reply_line}
-use Rattle.slate_script.proofs.Running.{at-ok}
 use Rattle.slate_script.proofs.run.write_reply.Goals as goal
+use Rattle.slate_types.proofs.Exits.{on_ok_weaker}
 
-no-fault : {T : Type 0} (r : Result T SlateDBError) → r ≡ Err OutOfMemory → r ≡ Err WriteFault → ⊥
-no-fault r h k = cc
+no_fault : {T : Type 0} (r : Result T SlateDBError) → r ≡ Err OutOfMemory → r ≡ Err WriteFault → ⊥
+no_fault r h k = cc
 
 pub returns : goal.returns
 returns g c =
     record {
       ok = (λ before told.
-          at-ok c.write_all.result (λ is. is ∙ ap (λ bs. Some (before ++ bs)) (c.as_slice.ensures.value ∙ c.in_ok-text.ensures.text)) (c.write_all.ensures.ok before told));
+          on_ok_weaker c.write_all.result (λ is. is ∙ ap (λ bs. Some (before ++ bs)) (c.as_slice.ensures.value ∙ c.in_ok-text.ensures.text)) (c.write_all.ensures.ok before told));
       part = (λ before told is.
           let text : c.as_slice.result.now ≡ reply_line (reply_of c.args.answer) = c.as_slice.ensures.value ∙ c.in_ok-text.ensures.text in
           let part : (n : ℕ) × (n < length c.as_slice.result.now) × (g.W.Sink.content c.write_all.new.sink ≡ Some (before ++ take n c.as_slice.result.now)) =
@@ -34,9 +34,9 @@ returns-in_err-text g c =
     let p = err_from_is_err_and c.from_residual.result c.from_residual.ensures.1 in
     record {
       ok = λ before told. IfOk-from_err c.from_residual.result _ c.from_residual.ensures.0;
-      part = λ before told is. let p = err_from_is_err_and c.from_residual.result c.from_residual.ensures.1 in absurd (no-fault _ (p.1 ∙ ap Err p.2) is);
+      part = λ before told is. let p = err_from_is_err_and c.from_residual.result c.from_residual.ensures.1 in absurd (no_fault _ (p.1 ∙ ap Err p.2) is);
       cause = rw (p.1, p.2) (inl refl);
-      write_fault = λ is. let p = err_from_is_err_and c.from_residual.result c.from_residual.ensures.1 in absurd (no-fault _ (p.1 ∙ ap Err p.2) is);
+      write_fault = λ is. let p = err_from_is_err_and c.from_residual.result c.from_residual.ensures.1 in absurd (no_fault _ (p.1 ∙ ap Err p.2) is);
       still = IfOk-from_err c.from_residual.result _ c.from_residual.ensures.0;
       uncounted = rw (p.1, p.2) (inr refl);
       unanswered = rw (p.1, p.2) (inr refl);

@@ -8,18 +8,18 @@ use Rattle.slate_txn.specs.declared.event.Event.TheVariants as events
 use Rattle.slate_txn.specs.declared.line.Line.TheVariants as lines
 use Rattle.slate_db.specs.Meaning.{Meaning, rules_in}
 use Rattle.slate_language.specs.declared.reply.Answer.TheVariants as answers
-use Rattle.slate_script.specs.Session.{SessionModel, AnswersAs, Grows, NamesStand, StoresNothing, reader_id}
-use Rattle.slate_script.proofs.NamesLaws.{named-after}
-use Rattle.slate_script.proofs.SessionNames.{opens-fresh, names-begun, names-opened}
-use Rattle.slate_script.proofs.SessionSteps.{ReadsUnder, begin-refused, begin-opens, plain-meaning, unnamed}
-use Rattle.slate_script.proofs.SessionLeaves.{leaves-event, stores}
-use Rattle.slate_script.proofs.Growth.{grows, takes-event, opened-more, opened-own}
+use Rattle.slate_script.specs.Session.{SessionModel, StepsAs, Grows, NamesStand, StoresNothing, reader_id}
+use Rattle.slate_script.proofs.NamesLaws.{named_after}
+use Rattle.slate_script.proofs.SessionNames.{opens_fresh, names_begun, names_opened}
+use Rattle.slate_script.proofs.SessionSteps.{ReadsUnder, begin_refused, begin_opens, plain_meaning, unnamed}
+use Rattle.slate_script.proofs.SessionLeaves.{leaves_event, stores}
+use Rattle.slate_script.proofs.Growth.{grows, takes_event, opened_more, opened_own}
 use Rattle.slate_script.proofs.session.Session.begin.Goals as goal
 
 pub returns-then-is_some : goal.returns-then-is_some
 returns-then-is_some c =
     record {
-      step = λ m seg. begin-refused m seg c.args.self.now c.args.name c.args.level c.reader_id.result c.reader_id.ensures.reads c.reader_id.ensures.known (sym c.if-is_some.ensures);
+      step = λ m seg. begin_refused m seg c.args.self.now c.args.name c.args.level c.reader_id.result c.reader_id.ensures.reads c.reader_id.ensures.known (sym c.if-is_some.ensures);
       stores = λ m seg. record { settings = refl; runs = refl; later = omega arith; kept = λ k. k; segmented = λ k. k };
       grows = (omega arith, omega arith);
       cause = tt;
@@ -28,15 +28,15 @@ returns-then-is_some c =
 pub invariant_of-self-in_err-insert : goal.invariant_of-self-in_err-insert
 invariant_of-self-in_err-insert c =
     let old : NamesStand c.self.inside.names.entries c.self.inside.snapshot_names.entries c.begin.new.self.state.txns c.begin.new.self.state.snapshots =
-    names-begun c.self.inside.names.entries c.self.inside.snapshot_names.entries (opens-fresh (rules_in c.self.inside.core.settings plain-meaning None) c.self.inside.core.state c.begin.new.self.state c.in_ok-id.id c.args.level c.in_ok-id.start (c.in_ok-id.ensures.step plain-meaning None)) c.self.invariant.0 in
+    names_begun c.self.inside.names.entries c.self.inside.snapshot_names.entries (opens_fresh (rules_in c.self.inside.core.settings plain_meaning None) c.self.inside.core.state c.begin.new.self.state c.in_ok-id.id c.args.level c.in_ok-id.start (c.in_ok-id.ensures.step plain_meaning None)) c.self.invariant.0 in
     (subst (λ es. NamesStand es c.self.inside.snapshot_names.entries c.begin.new.self.state.txns c.begin.new.self.state.snapshots) (sym c.in_err-insert.ensures.err) old, c.self.invariant.1)
 
 pub invariant_of-self-2 : goal.invariant_of-self-2
 invariant_of-self-2 c =
     let before : SessionModel = record { core = c.self.inside.core; names = c.self.inside.names.entries; snapshot_names = c.self.inside.snapshot_names.entries; now = c.self.inside.now } in
     let shut = unnamed before c.args.name c.reader_id.result (c.reader_id.ensures.id ∙ ap (λ (v : SessionModel). reader_id v c.args.name) (sym c.self.view_is)) (sym c.if-is_some.ensures) in (
-      names-opened c.args.name before.names c.insert.new.self.entries before.snapshot_names (opens-fresh (rules_in c.self.inside.core.settings plain-meaning None) c.self.inside.core.state c.begin.new.self.state c.in_ok-id.id c.args.level c.in_ok-id.start (c.in_ok-id.ensures.step plain-meaning None)) shut.1
-          (λ q. named-after c.args.name q (Some c.in_ok-id.id) before.names c.insert.new.self.entries
+      names_opened c.args.name before.names c.insert.new.self.entries before.snapshot_names (opens_fresh (rules_in c.self.inside.core.settings plain_meaning None) c.self.inside.core.state c.begin.new.self.state c.in_ok-id.id c.args.level c.in_ok-id.start (c.in_ok-id.ensures.step plain_meaning None)) shut.1
+          (λ q. named_after c.args.name q (Some c.in_ok-id.id) before.names c.insert.new.self.entries
           (c.in_ok-insert.ensures.updates.0 q ∙ ap (λ k. cond (is_at (key_cmp k) q) (Some c.in_ok-id.id) (lookup (is_at (key_cmp q)) before.names)) c.in_ok-key.ensures.cases)) c.self.invariant.0,
       c.self.invariant.1,
     )
@@ -46,22 +46,22 @@ returns c =
     record {
       step = (λ m seg.
           let before : SessionModel = record { core = c.self.inside.core; names = c.self.inside.names.entries; snapshot_names = c.self.inside.snapshot_names.entries; now = c.self.inside.now } in
-          subst (λ (v : SessionModel). AnswersAs m seg v (record before { core = c.begin.new.self; names = c.insert.new.self.entries }) (lines.Begin c.args.name c.args.level) (Ok (answers.Begun c.args.name c.in_ok-id.start))) c.self.view_is
-          (begin-opens m seg before c.begin.new.self c.insert.new.self.entries c.args.name c.in_ok-id.id c.args.level c.in_ok-id.start c.reader_id.result c.self.invariant.0
+          subst (λ (v : SessionModel). StepsAs m seg v (record before { core = c.begin.new.self; names = c.insert.new.self.entries }) (lines.Begin c.args.name c.args.level) (Ok (answers.Begun c.args.name c.in_ok-id.start))) c.self.view_is
+          (begin_opens m seg before c.begin.new.self c.insert.new.self.entries c.args.name c.in_ok-id.id c.args.level c.in_ok-id.start c.reader_id.result c.self.invariant.0
           (c.reader_id.ensures.id ∙ ap (λ (v : SessionModel). reader_id v c.args.name) (sym c.self.view_is)) (subst (λ (v : SessionModel). ReadsUnder v c.args.name c.reader_id.result) (sym c.self.view_is) c.reader_id.ensures.reads) (sym c.if-is_some.ensures)
-          (opens-fresh (rules_in before.core.settings m seg) before.core.state c.begin.new.self.state c.in_ok-id.id c.args.level c.in_ok-id.start (c.in_ok-id.ensures.step m seg))
-          (λ q. named-after c.args.name q (Some c.in_ok-id.id) before.names c.insert.new.self.entries
+          (opens_fresh (rules_in before.core.settings m seg) before.core.state c.begin.new.self.state c.in_ok-id.id c.args.level c.in_ok-id.start (c.in_ok-id.ensures.step m seg))
+          (λ q. named_after c.args.name q (Some c.in_ok-id.id) before.names c.insert.new.self.entries
           (c.in_ok-insert.ensures.updates.0 q ∙ ap (λ k. cond (is_at (key_cmp k) q) (Some c.in_ok-id.id) (lookup (is_at (key_cmp q)) before.names)) c.in_ok-key.ensures.cases))));
       stores = (let before : SessionModel = record { core = c.self.inside.core; names = c.self.inside.names.entries; snapshot_names = c.self.inside.snapshot_names.entries; now = c.self.inside.now } in
           subst (λ (v : SessionModel). (m : Meaning) (seg : Segments) → StoresNothing m seg v (record before { core = c.begin.new.self; names = c.insert.new.self.entries })) c.self.view_is
           (stores before c.begin.new.self c.insert.new.self.entries before.snapshot_names before.now
-          (leaves-event c.self.inside.core c.begin.new.self (events.Begin c.in_ok-id.id c.args.level c.in_ok-id.start) c.in_ok-id.ensures.event refl) c.in_ok-id.ensures.kept c.in_ok-id.ensures.segmented));
+          (leaves_event c.self.inside.core c.begin.new.self (events.Begin c.in_ok-id.id c.args.level c.in_ok-id.start) c.in_ok-id.ensures.event refl) c.in_ok-id.ensures.kept c.in_ok-id.ensures.segmented));
       grows = (let before : SessionModel = record { core = c.self.inside.core; names = c.self.inside.names.entries; snapshot_names = c.self.inside.snapshot_names.entries; now = c.self.inside.now } in
           subst (λ (v : SessionModel). Grows (lines.Begin c.args.name c.args.level) v (record before { core = c.begin.new.self; names = c.insert.new.self.entries })) c.self.view_is
           (grows before c.begin.new.self c.insert.new.self.entries before.snapshot_names before.now (lines.Begin c.args.name c.args.level) 0 (omega arith)
-          (takes-event c.self.inside.core c.begin.new.self (events.Begin c.in_ok-id.id c.args.level c.in_ok-id.start) c.in_ok-id.ensures.event
-          (opened-more (rules_in c.self.inside.core.settings plain-meaning None) c.self.inside.core.state c.begin.new.self.state c.in_ok-id.id c.args.level c.in_ok-id.start (opens-fresh (rules_in c.self.inside.core.settings plain-meaning None) c.self.inside.core.state c.begin.new.self.state c.in_ok-id.id c.args.level c.in_ok-id.start (c.in_ok-id.ensures.step plain-meaning None)))
-          (opened-own (rules_in c.self.inside.core.settings plain-meaning None) c.self.inside.core.state c.begin.new.self.state c.in_ok-id.id c.args.level c.in_ok-id.start (opens-fresh (rules_in c.self.inside.core.settings plain-meaning None) c.self.inside.core.state c.begin.new.self.state c.in_ok-id.id c.args.level c.in_ok-id.start (c.in_ok-id.ensures.step plain-meaning None))))));
+          (takes_event c.self.inside.core c.begin.new.self (events.Begin c.in_ok-id.id c.args.level c.in_ok-id.start) c.in_ok-id.ensures.event
+          (opened_more (rules_in c.self.inside.core.settings plain_meaning None) c.self.inside.core.state c.begin.new.self.state c.in_ok-id.id c.args.level c.in_ok-id.start (opens_fresh (rules_in c.self.inside.core.settings plain_meaning None) c.self.inside.core.state c.begin.new.self.state c.in_ok-id.id c.args.level c.in_ok-id.start (c.in_ok-id.ensures.step plain_meaning None)))
+          (opened_own (rules_in c.self.inside.core.settings plain_meaning None) c.self.inside.core.state c.begin.new.self.state c.in_ok-id.id c.args.level c.in_ok-id.start (opens_fresh (rules_in c.self.inside.core.settings plain_meaning None) c.self.inside.core.state c.begin.new.self.state c.in_ok-id.id c.args.level c.in_ok-id.start (c.in_ok-id.ensures.step plain_meaning None))))));
       cause = tt;
     }
 

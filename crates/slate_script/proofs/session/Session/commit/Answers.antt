@@ -16,14 +16,14 @@ use Rattle.slate_language.specs.declared.reply.Answer.{Answer}
 use Rattle.slate_language.specs.declared.reply.Answer.TheVariants as answers
 use Rattle.slate_types.specs.declared.error.SlateDBError.{SlateDBError}
 use Rattle.slate_types.specs.declared.error.SlateDBError.TheVariants as errors
-use Rattle.slate_script.specs.Session.{SessionModel, AnswersAs, Grows, IsLimit, NamesStand, StoresNothing}
-use Rattle.slate_script.proofs.NamesLaws.{find_named-lookup, named-after}
-use Rattle.slate_script.proofs.SessionNames.{names-closed}
-use Rattle.slate_script.proofs.SessionSteps.{IsNamed, given-moment, named-of}
-use Rattle.slate_script.proofs.SessionOperations.{commit-unknown, commit-as, commit-moment, refused-as, refused-moment}
-use Rattle.slate_script.proofs.SessionLeaves.{Closes, closes-committed, closes-ended, leaves-closed, stores-by}
-use Rattle.slate_script.proofs.Refusing.{commit-cause}
-use Rattle.slate_script.proofs.Growth.{grows, takes-closed}
+use Rattle.slate_script.specs.Session.{SessionModel, StepsAs, Grows, IsLimit, NamesStand, StoresNothing}
+use Rattle.slate_script.proofs.NamesLaws.{find_named_lookup, named_after}
+use Rattle.slate_script.proofs.SessionNames.{names_closed}
+use Rattle.slate_script.proofs.SessionSteps.{IsNamed, given_moment, named_of}
+use Rattle.slate_script.proofs.SessionOperations.{commit_unknown, commit_as, commit_moment, refused_as, refused_moment}
+use Rattle.slate_script.proofs.SessionLeaves.{Closes, closes_committed, closes_ended, leaves_closed, stores_by}
+use Rattle.slate_script.proofs.Refusing.{commit_cause}
+use Rattle.slate_script.proofs.Growth.{grows, takes_closed}
 use Rattle.slate_script.proofs.Running.{always}
 use Rattle.slate_script.proofs.session.Session.commit.Goals as goal
 use Rattle.slate_script.proofs.session.Session.commit.Goals.{in-Ok, in-Err}
@@ -36,10 +36,10 @@ returns-in_default g c =
           let seg = (segments_by g.X.PrefixExtractor.lengths c.args.laws.now.segments) in
           let m = meaning_of g.M.MergeOperator.combine g.T.BlockTransformer.encoded g.T.BlockTransformer.decoded c.args.env.now.operator c.args.env.now.transformer in
           let before : SessionModel = record { core = c.self.inside.core; names = c.self.inside.names.entries; snapshot_names = c.self.inside.snapshot_names.entries; now = c.self.inside.now } in
-          let none : find_named c.args.name before.names ≡ None = find_named-lookup c.args.name before.names ∙ sym c.in_default.ensures.value in
-          subst (λ (v : SessionModel). AnswersAs m seg v (record before { names = c.remove.new.self.entries }) (lines.Commit c.args.name) (Ok (answers.Refused (errors.UnknownTransaction c.args.name)))) c.self.view_is
-          (subst (λ (ns : List (List ℕ × List ℕ)). AnswersAs m seg before (record before { names = ns }) (lines.Commit c.args.name) (Ok (answers.Refused (errors.UnknownTransaction c.args.name)))) (sym c.in_default.ensures.unchanged)
-          (commit-unknown m seg before c.args.name none)));
+          let none : find_named c.args.name before.names ≡ None = find_named_lookup c.args.name before.names ∙ sym c.in_default.ensures.value in
+          subst (λ (v : SessionModel). StepsAs m seg v (record before { names = c.remove.new.self.entries }) (lines.Commit c.args.name) (Ok (answers.Refused (errors.UnknownTransaction c.args.name)))) c.self.view_is
+          (subst (λ (ns : List (List ℕ × List ℕ)). StepsAs m seg before (record before { names = ns }) (lines.Commit c.args.name) (Ok (answers.Refused (errors.UnknownTransaction c.args.name)))) (sym c.in_default.ensures.unchanged)
+          (commit_unknown m seg before c.args.name none)));
       stores = (let same : length c.self.inside.core.events ≡ length c.args.self.now.core.events = ap (λ (v : SessionModel). length v.core.events) c.self.view_is in
           record {
             settings = ap (λ (v : SessionModel). v.core.settings) c.self.view_is;
@@ -55,22 +55,22 @@ returns-in_default g c =
     }
 
 pub commit-requires : goal.commit-requires
-commit-requires g c = (search, (search, c.self.invariant.0.transactions.opened c.args.name c.in-Some.id (find_named-lookup c.args.name c.self.inside.names.entries ∙ sym c.in-Some.ensures.value)))
+commit-requires g c = (search, (search, c.self.invariant.0.transactions.opened c.args.name c.in-Some.id (find_named_lookup c.args.name c.self.inside.names.entries ∙ sym c.in-Some.ensures.value)))
 
 pub invariant_of-self-2 : goal.invariant_of-self-2
 invariant_of-self-2 g c =
     let before : SessionModel = record { core = c.self.inside.core; names = c.self.inside.names.entries; snapshot_names = c.self.inside.snapshot_names.entries; now = c.self.inside.now } in
     let id = c.in-Some.id in
-    let known : find_named c.args.name before.names ≡ Some id = find_named-lookup c.args.name before.names ∙ sym c.in-Some.ensures.value in
-    let t : IsNamed (find_named id before.core.state.txns) = named-of (find_named id before.core.state.txns) (c.self.invariant.0.transactions.opened c.args.name id known) in
+    let known : find_named c.args.name before.names ≡ Some id = find_named_lookup c.args.name before.names ∙ sym c.in-Some.ensures.value in
+    let t : IsNamed (find_named id before.core.state.txns) = named_of (find_named id before.core.state.txns) (c.self.invariant.0.transactions.opened c.args.name id known) in
     let closed : Closes before.core c.commit.new.self id = elim c.match-commit.branch [
-      | in-Ok w ↦ closes-committed before.core c.commit.new.self id w.in-Ok.seq _ t.value (w.in-Ok.ensures.event t.value t.is)
-      | in-Err w ↦ closes-ended before.core c.commit.new.self id w.in-Err.ensures.ended
+      | in-Ok w ↦ closes_committed before.core c.commit.new.self id w.in-Ok.seq _ t.value (w.in-Ok.ensures.event t.value t.is)
+      | in-Err w ↦ closes_ended before.core c.commit.new.self id w.in-Err.ensures.ended
     ] in
-    let updates : (q : List ℕ) → find_named q c.remove.new.self.entries ≡ cond (bytes_eq c.args.name q) None (find_named q before.names) = λ q. named-after c.args.name q None before.names c.remove.new.self.entries (c.remove.ensures.updates.0 q) in (
+    let updates : (q : List ℕ) → find_named q c.remove.new.self.entries ≡ cond (bytes_eq c.args.name q) None (find_named q before.names) = λ q. named_after c.args.name q None before.names c.remove.new.self.entries (c.remove.ensures.updates.0 q) in (
       subst (λ (ts : List (List ℕ × Tx)). NamesStand c.remove.new.self.entries before.snapshot_names ts c.commit.new.self.state.snapshots) (sym closed.txns)
           (subst (λ (ss : List (List ℕ × ℕ)). NamesStand c.remove.new.self.entries before.snapshot_names (without id before.core.state.txns) ss) (sym closed.snapshots)
-          (names-closed c.args.name id before.names c.remove.new.self.entries before.snapshot_names before.core.state.txns before.core.state.snapshots c.self.invariant.0 known updates)),
+          (names_closed c.args.name id before.names c.remove.new.self.entries before.snapshot_names before.core.state.txns before.core.state.snapshots c.self.invariant.0 known updates)),
       c.self.invariant.1,
     )
 
@@ -78,29 +78,29 @@ pub returns-clause-step : goal.returns-clause-step
 returns-clause-step g c = λ operable segmented.
     let seg = (segments_by g.X.PrefixExtractor.lengths c.args.laws.now.segments) in
     let m = meaning_of g.M.MergeOperator.combine g.T.BlockTransformer.encoded g.T.BlockTransformer.decoded c.args.env.now.operator c.args.env.now.transformer in
-    let old-counts = counts_of (g.S.Store.faults c.args.env.now.store.now) g.M.MergeOperator.faults g.T.BlockTransformer.faults c.args.env.now.operator c.args.env.now.transformer in
-    let new-counts = counts_of (g.S.Store.faults c.commit.new.env.store.now) g.M.MergeOperator.faults g.T.BlockTransformer.faults c.commit.new.env.operator c.commit.new.env.transformer in
+    let old_counts = counts_of (g.S.Store.faults c.args.env.now.store.now) g.M.MergeOperator.faults g.T.BlockTransformer.faults c.args.env.now.operator c.args.env.now.transformer in
+    let new_counts = counts_of (g.S.Store.faults c.commit.new.env.store.now) g.M.MergeOperator.faults g.T.BlockTransformer.faults c.commit.new.env.operator c.commit.new.env.transformer in
     let before : SessionModel = record { core = c.self.inside.core; names = c.self.inside.names.entries; snapshot_names = c.self.inside.snapshot_names.entries; now = c.self.inside.now } in
     let held : IsSegmented seg before.core = subst (λ (v : SessionModel). IsSegmented seg v.core) (sym c.self.view_is) segmented in
     let id = c.in-Some.id in
-    let known : find_named c.args.name before.names ≡ Some id = find_named-lookup c.args.name before.names ∙ sym c.in-Some.ensures.value in
-    let t : IsNamed (find_named id before.core.state.txns) = named-of (find_named id before.core.state.txns) (c.self.invariant.0.transactions.opened c.args.name id known) in
+    let known : find_named c.args.name before.names ≡ Some id = find_named_lookup c.args.name before.names ∙ sym c.in-Some.ensures.value in
+    let t : IsNamed (find_named id before.core.state.txns) = named_of (find_named id before.core.state.txns) (c.self.invariant.0.transactions.opened c.args.name id known) in
     let closed : Closes before.core c.commit.new.self id = elim c.match-commit.branch [
-      | in-Ok w ↦ closes-committed before.core c.commit.new.self id w.in-Ok.seq _ t.value (w.in-Ok.ensures.event t.value t.is)
-      | in-Err w ↦ closes-ended before.core c.commit.new.self id w.in-Err.ensures.ended
+      | in-Ok w ↦ closes_committed before.core c.commit.new.self id w.in-Ok.seq _ t.value (w.in-Ok.ensures.event t.value t.is)
+      | in-Err w ↦ closes_ended before.core c.commit.new.self id w.in-Err.ensures.ended
     ] in
-    let updates : (q : List ℕ) → find_named q c.remove.new.self.entries ≡ cond (bytes_eq c.args.name q) None (find_named q before.names) = λ q. named-after c.args.name q None before.names c.remove.new.self.entries (c.remove.ensures.updates.0 q) in
+    let updates : (q : List ℕ) → find_named q c.remove.new.self.entries ≡ cond (bytes_eq c.args.name q) None (find_named q before.names) = λ q. named_after c.args.name q None before.names c.remove.new.self.entries (c.remove.ensures.updates.0 q) in
     let after : SessionModel = record before { core = c.commit.new.self; names = c.remove.new.self.entries } in
-    subst (λ (v : SessionModel). AnswersAs m seg v after (lines.Commit c.args.name) c.match-commit.result) c.self.view_is
+    subst (λ (v : SessionModel). StepsAs m seg v after (lines.Commit c.args.name) c.match-commit.result) c.self.view_is
     (elim c.match-commit.branch [
-      | in-Ok w ↦ subst (λ (r : Result Answer SlateDBError). AnswersAs m seg before after (lines.Commit c.args.name) r) (sym w.result-is)
-          (commit-as m seg before c.commit.new.self c.remove.new.self.entries c.args.name id (answers.Committed w.in-Ok.seq) c.self.invariant.0 known closed.txns closed.snapshots closed.flushed updates
-          (commit-moment (rules_in before.core.settings m seg) before.core c.commit.new.self id (Committed w.in-Ok.seq) (given-moment c.self.inside.now c.self.invariant.1) (w.in-Ok.ensures.step held)))
-      | in-Err w ↦ subst (λ (r : Result Answer SlateDBError). AnswersAs m seg before after (lines.Commit c.args.name) r) (sym w.result-is)
-          (refused-as m seg old-counts new-counts before c.commit.new.self c.remove.new.self.entries c.args.name id w.in-Err.error w.refused.result
-          (λ a. commit-as m seg before c.commit.new.self c.remove.new.self.entries c.args.name id a c.self.invariant.0 known closed.txns closed.snapshots closed.flushed updates)
+      | in-Ok w ↦ subst (λ (r : Result Answer SlateDBError). StepsAs m seg before after (lines.Commit c.args.name) r) (sym w.result-is)
+          (commit_as m seg before c.commit.new.self c.remove.new.self.entries c.args.name id (answers.Committed w.in-Ok.seq) c.self.invariant.0 known closed.txns closed.snapshots closed.flushed updates
+          (commit_moment (rules_in before.core.settings m seg) before.core c.commit.new.self id (Committed w.in-Ok.seq) (given_moment c.self.inside.now c.self.invariant.1) (w.in-Ok.ensures.step held)))
+      | in-Err w ↦ subst (λ (r : Result Answer SlateDBError). StepsAs m seg before after (lines.Commit c.args.name) r) (sym w.result-is)
+          (refused_as m seg old_counts new_counts before c.commit.new.self c.remove.new.self.entries c.args.name id w.in-Err.error w.refused.result
+          (λ a. commit_as m seg before c.commit.new.self c.remove.new.self.entries c.args.name id a c.self.invariant.0 known closed.txns closed.snapshots closed.flushed updates)
           w.refused.ensures.reply w.refused.ensures.answered
-          (refused-moment m seg before.core c.commit.new.self id w.in-Err.error (given-moment c.self.inside.now c.self.invariant.1)
+          (refused_moment m seg before.core c.commit.new.self id w.in-Err.error (given_moment c.self.inside.now c.self.invariant.1)
           (w.in-Err.ensures.refused (subst (λ (v : SessionModel). IsOperable m v.core) (sym c.self.view_is) operable) held)))
     ])
 
@@ -109,36 +109,36 @@ returns-clause-stores g c =
     let seg = (segments_by g.X.PrefixExtractor.lengths c.args.laws.now.segments) in
     let before : SessionModel = record { core = c.self.inside.core; names = c.self.inside.names.entries; snapshot_names = c.self.inside.snapshot_names.entries; now = c.self.inside.now } in
     let id = c.in-Some.id in
-    let known : find_named c.args.name before.names ≡ Some id = find_named-lookup c.args.name before.names ∙ sym c.in-Some.ensures.value in
-    let t : IsNamed (find_named id before.core.state.txns) = named-of (find_named id before.core.state.txns) (c.self.invariant.0.transactions.opened c.args.name id known) in
+    let known : find_named c.args.name before.names ≡ Some id = find_named_lookup c.args.name before.names ∙ sym c.in-Some.ensures.value in
+    let t : IsNamed (find_named id before.core.state.txns) = named_of (find_named id before.core.state.txns) (c.self.invariant.0.transactions.opened c.args.name id known) in
     let closed : Closes before.core c.commit.new.self id = elim c.match-commit.branch [
-      | in-Ok w ↦ closes-committed before.core c.commit.new.self id w.in-Ok.seq _ t.value (w.in-Ok.ensures.event t.value t.is)
-      | in-Err w ↦ closes-ended before.core c.commit.new.self id w.in-Err.ensures.ended
+      | in-Ok w ↦ closes_committed before.core c.commit.new.self id w.in-Ok.seq _ t.value (w.in-Ok.ensures.event t.value t.is)
+      | in-Err w ↦ closes_ended before.core c.commit.new.self id w.in-Err.ensures.ended
     ] in
     let m = meaning_of g.M.MergeOperator.combine g.T.BlockTransformer.encoded g.T.BlockTransformer.decoded c.args.env.now.operator c.args.env.now.transformer in
     subst (λ (v : SessionModel). OnOk c.match-commit.result (StoresNothing m seg v (record before { core = c.commit.new.self; names = c.remove.new.self.entries }))) c.self.view_is
-    (always c.match-commit.result (stores-by m seg before c.commit.new.self c.remove.new.self.entries before.snapshot_names before.now (leaves-closed before.core c.commit.new.self id closed) c.commit.ensures.kept c.commit.ensures.segmented))
+    (always c.match-commit.result (stores_by m seg before c.commit.new.self c.remove.new.self.entries before.snapshot_names before.now (leaves_closed before.core c.commit.new.self id closed) c.commit.ensures.kept c.commit.ensures.segmented))
 
 pub returns-clause-grows : goal.returns-clause-grows
 returns-clause-grows g c =
     let before : SessionModel = record { core = c.self.inside.core; names = c.self.inside.names.entries; snapshot_names = c.self.inside.snapshot_names.entries; now = c.self.inside.now } in
     let id = c.in-Some.id in
-    let known : find_named c.args.name before.names ≡ Some id = find_named-lookup c.args.name before.names ∙ sym c.in-Some.ensures.value in
-    let t : IsNamed (find_named id before.core.state.txns) = named-of (find_named id before.core.state.txns) (c.self.invariant.0.transactions.opened c.args.name id known) in
+    let known : find_named c.args.name before.names ≡ Some id = find_named_lookup c.args.name before.names ∙ sym c.in-Some.ensures.value in
+    let t : IsNamed (find_named id before.core.state.txns) = named_of (find_named id before.core.state.txns) (c.self.invariant.0.transactions.opened c.args.name id known) in
     let closed : Closes before.core c.commit.new.self id = elim c.match-commit.branch [
-      | in-Ok w ↦ closes-committed before.core c.commit.new.self id w.in-Ok.seq _ t.value (w.in-Ok.ensures.event t.value t.is)
-      | in-Err w ↦ closes-ended before.core c.commit.new.self id w.in-Err.ensures.ended
+      | in-Ok w ↦ closes_committed before.core c.commit.new.self id w.in-Ok.seq _ t.value (w.in-Ok.ensures.event t.value t.is)
+      | in-Err w ↦ closes_ended before.core c.commit.new.self id w.in-Err.ensures.ended
     ] in
     subst (λ (v : SessionModel). OnOk c.match-commit.result (Grows (lines.Commit c.args.name) v (record before { core = c.commit.new.self; names = c.remove.new.self.entries }))) c.self.view_is
     (always c.match-commit.result (grows before c.commit.new.self c.remove.new.self.entries before.snapshot_names before.now (lines.Commit c.args.name) 0 (omega arith)
-    (takes-closed before.core c.commit.new.self id t.value closed t.is (c.commit.ensures.load t.value t.is))))
+    (takes_closed before.core c.commit.new.self id t.value closed t.is (c.commit.ensures.load t.value t.is))))
 
 pub returns-clause-cause : goal.returns-clause-cause
 returns-clause-cause g c =
     let before : SessionModel = record { core = c.self.inside.core; names = c.self.inside.names.entries; snapshot_names = c.self.inside.snapshot_names.entries; now = c.self.inside.now } in
     let id = c.in-Some.id in
-    let known : find_named c.args.name before.names ≡ Some id = find_named-lookup c.args.name before.names ∙ sym c.in-Some.ensures.value in
-    let t : IsNamed (find_named id before.core.state.txns) = named-of (find_named id before.core.state.txns) (c.self.invariant.0.transactions.opened c.args.name id known) in
+    let known : find_named c.args.name before.names ≡ Some id = find_named_lookup c.args.name before.names ∙ sym c.in-Some.ensures.value in
+    let t : IsNamed (find_named id before.core.state.txns) = named_of (find_named id before.core.state.txns) (c.self.invariant.0.transactions.opened c.args.name id known) in
     let m = meaning_of g.M.MergeOperator.combine g.T.BlockTransformer.encoded g.T.BlockTransformer.decoded c.args.env.now.operator c.args.env.now.transformer in
     let old = counts_of (g.S.Store.faults c.args.env.now.store.now) g.M.MergeOperator.faults g.T.BlockTransformer.faults c.args.env.now.operator c.args.env.now.transformer in
     let new = counts_of (g.S.Store.faults c.commit.new.env.store.now) g.M.MergeOperator.faults g.T.BlockTransformer.faults c.commit.new.env.operator c.commit.new.env.transformer in
@@ -146,7 +146,7 @@ returns-clause-cause g c =
     (elim c.match-commit.branch [
       | in-Ok w ↦ subst (λ (r : Result Answer SlateDBError). IfErr r (λ e. IsCounted old new e ⊎ IsLimit before e)) (sym w.result-is) tt
       | in-Err w ↦ subst (λ (r : Result Answer SlateDBError). IfErr r (λ e. IsCounted old new e ⊎ IsLimit before e)) (sym w.result-is)
-          (commit-cause old new before (conflict before.core.state.commits t.value) m.combine _ _ _ _ _ t.value.ops w.in-Err.error w.refused.result w.refused.ensures.other (w.in-Err.ensures.cause t.value t.is))
+          (commit_cause old new before (conflict before.core.state.commits t.value) m.combine _ _ _ _ _ t.value.ops w.in-Err.error w.refused.result w.refused.ensures.other (w.in-Err.ensures.cause t.value t.is))
     ])
 
 pub returns-clause-reads : goal.returns-clause-reads

@@ -14,12 +14,12 @@ use Rattle.slate_db.specs.Meaning.{Meaning, rules_in}
 use Rattle.slate_db.specs.Model.{CoreModel}
 use Rattle.slate_db.specs.Readable.{IsAnswered, IsReadError}
 use Rattle.slate_language.specs.declared.reply.Answer.TheVariants as answers
-use Rattle.slate_script.specs.Session.{SessionModel, AnswersAs, Grows, NamesStand, StoresNothing, reader_id}
+use Rattle.slate_script.specs.Session.{SessionModel, StepsAs, Grows, NamesStand, StoresNothing, reader_id}
 use Rattle.slate_script.specs.Told.{asking_for}
-use Rattle.slate_script.proofs.SessionLeaves.{segmented-noted}
-use Rattle.slate_script.proofs.SessionNames.{names-updated}
-use Rattle.slate_script.proofs.SessionSteps.{get-refused, get-found}
-use Rattle.slate_script.proofs.Growth.{grows, takes-noted}
+use Rattle.slate_script.proofs.SessionLeaves.{segmented_noted}
+use Rattle.slate_script.proofs.SessionNames.{names_updated}
+use Rattle.slate_script.proofs.SessionSteps.{get_refused, found_by_get}
+use Rattle.slate_script.proofs.Growth.{grows, takes_noted}
 use Rattle.slate_script.proofs.session.Session.get.Goals as goal
 use Rattle.slate_script.proofs.MeaningOf.{meaning_of}
 
@@ -28,7 +28,7 @@ returns-in_default g c =
     record {
       step = (λ is seg.
           let m = meaning_of g.M.MergeOperator.combine g.T.BlockTransformer.encoded g.T.BlockTransformer.decoded c.args.env.now.operator c.args.env.now.transformer in
-          get-refused m seg c.args.self.now c.args.name c.args.key c.reader_id.result c.reader_id.ensures.reads c.in_default.is);
+          get_refused m seg c.args.self.now c.args.name c.args.key c.reader_id.result c.reader_id.ensures.reads c.in_default.is);
       stores = λ m seg. record { settings = refl; runs = refl; later = omega arith; kept = λ k. k; segmented = λ k. k };
       grows = (omega arith, omega arith);
       cause = tt;
@@ -44,7 +44,7 @@ get-read-requires g c =
 pub invariant_of-self-2 : goal.invariant_of-self-2
 invariant_of-self-2 g c = (
   subst (λ (v : CoreModel). NamesStand c.self.inside.names.entries c.self.inside.snapshot_names.entries v.state.txns v.state.snapshots) (sym c.in_ok-row.ensures.noted)
-      (names-updated c.in-Some.id _ c.self.inside.names.entries c.self.inside.snapshot_names.entries c.self.inside.core.state.txns c.self.inside.core.state.snapshots c.self.invariant.0),
+      (names_updated c.in-Some.id _ c.self.inside.names.entries c.self.inside.snapshot_names.entries c.self.inside.core.state.txns c.self.inside.core.state.snapshots c.self.invariant.0),
   c.self.invariant.1,
 )
 
@@ -58,17 +58,17 @@ returns g c =
           let old = reach_of g.S.Store g.M.MergeOperator g.T.BlockTransformer c.args.env.now in
           let new = reach_of g.S.Store g.M.MergeOperator g.T.BlockTransformer c.get-read.new.env in
           let stepped = c.in_ok-row.ensures.read.answer (subst (λ (v : SessionModel). IsAnswered policies old new v.core) (sym c.self.view_is) is) seg in
-          subst (λ (v : SessionModel). AnswersAs m seg v (record before { core = c.get-read.new.self }) (lines.Get c.args.name c.args.key) (Ok (answers.Found c.in_ok-row.row))) c.self.view_is
-          (get-found m seg before c.get-read.new.self c.args.name c.in-Some.id c.args.key c.in_ok-row.row c.self.invariant.0 (ap (λ (v : SessionModel). reader_id v c.args.name) c.self.view_is ∙ sym c.reader_id.ensures.id ∙ c.in-Some.is)
+          subst (λ (v : SessionModel). StepsAs m seg v (record before { core = c.get-read.new.self }) (lines.Get c.args.name c.args.key) (Ok (answers.Found c.in_ok-row.row))) c.self.view_is
+          (found_by_get m seg before c.get-read.new.self c.args.name c.in-Some.id c.args.key c.in_ok-row.row c.self.invariant.0 (ap (λ (v : SessionModel). reader_id v c.args.name) c.self.view_is ∙ sym c.reader_id.ensures.id ∙ c.in-Some.is)
           (subst (λ (k : List ℕ). ◌≡◌ {A = State × Reply} (step (rules_in c.self.inside.core.settings m seg) c.self.inside.core.state (lines.Get c.in-Some.id k)) (c.get-read.new.self.state, replies.Found c.in_ok-row.row)) c.as_slice.ensures stepped)));
       stores = (let before : SessionModel = record { core = c.self.inside.core; names = c.self.inside.names.entries; snapshot_names = c.self.inside.snapshot_names.entries; now = c.self.inside.now } in
           let same : length c.get-read.new.self.events ≡ length c.self.inside.core.events = ap (λ (v : CoreModel). length v.events) c.in_ok-row.ensures.noted in
           subst (λ (v : SessionModel). (m : Meaning) (seg : Segments) → StoresNothing m seg v (record before { core = c.get-read.new.self })) c.self.view_is
-          (λ m seg. record { settings = c.get-read.ensures.settings; runs = ap (λ (v : CoreModel). runs_of v.events) c.in_ok-row.ensures.noted; later = omega (arith, same); kept = c.get-read.ensures.kept m; segmented = segmented-noted c.self.inside.core c.get-read.new.self c.in-Some.id _ c.in_ok-row.ensures.noted seg }));
+          (λ m seg. record { settings = c.get-read.ensures.settings; runs = ap (λ (v : CoreModel). runs_of v.events) c.in_ok-row.ensures.noted; later = omega (arith, same); kept = c.get-read.ensures.kept m; segmented = segmented_noted c.self.inside.core c.get-read.new.self c.in-Some.id _ c.in_ok-row.ensures.noted seg }));
       grows = (let before : SessionModel = record { core = c.self.inside.core; names = c.self.inside.names.entries; snapshot_names = c.self.inside.snapshot_names.entries; now = c.self.inside.now } in
           subst (λ (v : SessionModel). Grows (lines.Get c.args.name c.args.key) v (record before { core = c.get-read.new.self })) c.self.view_is
           (grows before c.get-read.new.self before.names before.snapshot_names before.now (lines.Get c.args.name c.args.key) 0 (omega arith)
-          (takes-noted c.self.inside.core c.get-read.new.self c.in-Some.id _ c.in_ok-row.ensures.noted)));
+          (takes_noted c.self.inside.core c.get-read.new.self c.in-Some.id _ c.in_ok-row.ensures.noted)));
       cause = tt;
       undamaged = λ is. tt;
       reads = c.get-read.ensures.read.reads;

@@ -10,12 +10,12 @@ use Rattle.slate_txn.specs.declared.line.Line.TheVariants as lines
 use Rattle.slate_db.specs.Meaning.{Meaning, rules_in}
 use Rattle.slate_language.specs.declared.reply.Answer.TheVariants as answers
 use Rattle.slate_types.specs.declared.error.SlateDBError.TheVariants as errors
-use Rattle.slate_script.specs.Session.{SessionModel, AnswersAs, Grows, NamesStand, StoresNothing}
-use Rattle.slate_script.proofs.NamesLaws.{find_named-lookup, named-after}
-use Rattle.slate_script.proofs.SessionNames.{closes-snapshot, names-released}
-use Rattle.slate_script.proofs.SessionSteps.{rollback-refused, rollback-releases, plain-meaning}
-use Rattle.slate_script.proofs.SessionLeaves.{leaves-event, stores}
-use Rattle.slate_script.proofs.Growth.{grows, released-fewer, released-own, takes-event}
+use Rattle.slate_script.specs.Session.{SessionModel, StepsAs, Grows, NamesStand, StoresNothing}
+use Rattle.slate_script.proofs.NamesLaws.{find_named_lookup, named_after}
+use Rattle.slate_script.proofs.SessionNames.{closes_snapshot, names_released}
+use Rattle.slate_script.proofs.SessionSteps.{rollback_refused, rollback_releases, plain_meaning}
+use Rattle.slate_script.proofs.SessionLeaves.{leaves_event, stores}
+use Rattle.slate_script.proofs.Growth.{grows, released_fewer, released_own, takes_event}
 use Rattle.slate_script.proofs.session.Session.release.Goals as goal
 
 pub returns-in_default : goal.returns-in_default
@@ -24,10 +24,10 @@ returns-in_default c =
       step = (λ m seg.
           let before : SessionModel = record { core = c.self.inside.core; names = c.self.inside.names.entries; snapshot_names = c.self.inside.snapshot_names.entries; now = c.self.inside.now } in
           let none : find_named c.args.name before.names ≡ None = ap (λ (v : SessionModel). find_named c.args.name v.names) c.self.view_is ∙ c.requires in
-          let unshown : find_named c.args.name before.snapshot_names ≡ None = find_named-lookup c.args.name before.snapshot_names ∙ sym c.in_default.ensures.value in
-          subst (λ (v : SessionModel). AnswersAs m seg v (record before { snapshot_names = c.remove.new.self.entries }) (lines.Rollback c.args.name) (Ok (answers.Refused (errors.UnknownTransaction c.args.name)))) c.self.view_is
-          (subst (λ (ns : List (List ℕ × List ℕ)). AnswersAs m seg before (record before { snapshot_names = ns }) (lines.Rollback c.args.name) (Ok (answers.Refused (errors.UnknownTransaction c.args.name)))) (sym c.in_default.ensures.unchanged)
-          (rollback-refused m seg before c.args.name none unshown)));
+          let unshown : find_named c.args.name before.snapshot_names ≡ None = find_named_lookup c.args.name before.snapshot_names ∙ sym c.in_default.ensures.value in
+          subst (λ (v : SessionModel). StepsAs m seg v (record before { snapshot_names = c.remove.new.self.entries }) (lines.Rollback c.args.name) (Ok (answers.Refused (errors.UnknownTransaction c.args.name)))) c.self.view_is
+          (subst (λ (ns : List (List ℕ × List ℕ)). StepsAs m seg before (record before { snapshot_names = ns }) (lines.Rollback c.args.name) (Ok (answers.Refused (errors.UnknownTransaction c.args.name)))) (sym c.in_default.ensures.unchanged)
+          (rollback_refused m seg before c.args.name none unshown)));
       stores = (let same : length c.self.inside.core.events ≡ length c.args.self.now.core.events = ap (λ (v : SessionModel). length v.core.events) c.self.view_is in
           λ m seg. record {
             settings = ap (λ (v : SessionModel). v.core.settings) c.self.view_is;
@@ -41,16 +41,16 @@ returns-in_default c =
     }
 
 pub release-requires : goal.release-requires
-release-requires c = c.self.invariant.0.shown.opened c.args.name c.in-Some.id (find_named-lookup c.args.name c.self.inside.snapshot_names.entries ∙ sym c.in-Some.ensures.value)
+release-requires c = c.self.invariant.0.shown.opened c.args.name c.in-Some.id (find_named_lookup c.args.name c.self.inside.snapshot_names.entries ∙ sym c.in-Some.ensures.value)
 
 pub invariant_of-self-2 : goal.invariant_of-self-2
 invariant_of-self-2 c =
     let before : SessionModel = record { core = c.self.inside.core; names = c.self.inside.names.entries; snapshot_names = c.self.inside.snapshot_names.entries; now = c.self.inside.now } in
-    let known : find_named c.args.name before.snapshot_names ≡ Some c.in-Some.id = find_named-lookup c.args.name before.snapshot_names ∙ sym c.in-Some.ensures.value in (
+    let known : find_named c.args.name before.snapshot_names ≡ Some c.in-Some.id = find_named_lookup c.args.name before.snapshot_names ∙ sym c.in-Some.ensures.value in (
       subst (λ (s : State). NamesStand before.names c.remove.new.self.entries s.txns s.snapshots)
-          (sym (closes-snapshot (rules_in before.core.settings plain-meaning None) before.core.state c.release.new.self.state c.args.name c.in-Some.id (c.release.ensures.step plain-meaning None) c.self.invariant.0 known))
-          (names-released c.args.name c.in-Some.id before.names before.snapshot_names c.remove.new.self.entries before.core.state.txns before.core.state.snapshots c.self.invariant.0 known
-          (λ q. named-after c.args.name q None before.snapshot_names c.remove.new.self.entries (c.remove.ensures.updates.0 q))),
+          (sym (closes_snapshot (rules_in before.core.settings plain_meaning None) before.core.state c.release.new.self.state c.args.name c.in-Some.id (c.release.ensures.step plain_meaning None) c.self.invariant.0 known))
+          (names_released c.args.name c.in-Some.id before.names before.snapshot_names c.remove.new.self.entries before.core.state.txns before.core.state.snapshots c.self.invariant.0 known
+          (λ q. named_after c.args.name q None before.snapshot_names c.remove.new.self.entries (c.remove.ensures.updates.0 q))),
       c.self.invariant.1,
     )
 
@@ -59,19 +59,19 @@ returns c =
     record {
       step = (λ m seg.
           let before : SessionModel = record { core = c.self.inside.core; names = c.self.inside.names.entries; snapshot_names = c.self.inside.snapshot_names.entries; now = c.self.inside.now } in
-          let known : find_named c.args.name before.snapshot_names ≡ Some c.in-Some.id = find_named-lookup c.args.name before.snapshot_names ∙ sym c.in-Some.ensures.value in
-          subst (λ (v : SessionModel). AnswersAs m seg v (record before { core = c.release.new.self; snapshot_names = c.remove.new.self.entries }) (lines.Rollback c.args.name) (Ok answers.Done)) c.self.view_is
-          (rollback-releases m seg before c.release.new.self c.remove.new.self.entries c.args.name c.in-Some.id c.self.invariant.0 known
-          (closes-snapshot (rules_in before.core.settings m seg) before.core.state c.release.new.self.state c.args.name c.in-Some.id (c.release.ensures.step m seg) c.self.invariant.0 known)
-          (λ q. named-after c.args.name q None before.snapshot_names c.remove.new.self.entries (c.remove.ensures.updates.0 q))));
+          let known : find_named c.args.name before.snapshot_names ≡ Some c.in-Some.id = find_named_lookup c.args.name before.snapshot_names ∙ sym c.in-Some.ensures.value in
+          subst (λ (v : SessionModel). StepsAs m seg v (record before { core = c.release.new.self; snapshot_names = c.remove.new.self.entries }) (lines.Rollback c.args.name) (Ok answers.Done)) c.self.view_is
+          (rollback_releases m seg before c.release.new.self c.remove.new.self.entries c.args.name c.in-Some.id c.self.invariant.0 known
+          (closes_snapshot (rules_in before.core.settings m seg) before.core.state c.release.new.self.state c.args.name c.in-Some.id (c.release.ensures.step m seg) c.self.invariant.0 known)
+          (λ q. named_after c.args.name q None before.snapshot_names c.remove.new.self.entries (c.remove.ensures.updates.0 q))));
       stores = (let before : SessionModel = record { core = c.self.inside.core; names = c.self.inside.names.entries; snapshot_names = c.self.inside.snapshot_names.entries; now = c.self.inside.now } in
           subst (λ (v : SessionModel). (m : Meaning) (seg : Segments) → StoresNothing m seg v (record before { core = c.release.new.self; snapshot_names = c.remove.new.self.entries })) c.self.view_is
-          (stores before c.release.new.self before.names c.remove.new.self.entries before.now (leaves-event c.self.inside.core c.release.new.self (events.Release c.in-Some.id) c.release.ensures.event refl) c.release.ensures.kept c.release.ensures.segmented));
+          (stores before c.release.new.self before.names c.remove.new.self.entries before.now (leaves_event c.self.inside.core c.release.new.self (events.Release c.in-Some.id) c.release.ensures.event refl) c.release.ensures.kept c.release.ensures.segmented));
       grows = (let before : SessionModel = record { core = c.self.inside.core; names = c.self.inside.names.entries; snapshot_names = c.self.inside.snapshot_names.entries; now = c.self.inside.now } in
-          let known : find_named c.args.name before.snapshot_names ≡ Some c.in-Some.id = find_named-lookup c.args.name before.snapshot_names ∙ sym c.in-Some.ensures.value in
-          let is = closes-snapshot (rules_in before.core.settings plain-meaning None) before.core.state c.release.new.self.state c.args.name c.in-Some.id (c.release.ensures.step plain-meaning None) c.self.invariant.0 known in
+          let known : find_named c.args.name before.snapshot_names ≡ Some c.in-Some.id = find_named_lookup c.args.name before.snapshot_names ∙ sym c.in-Some.ensures.value in
+          let is = closes_snapshot (rules_in before.core.settings plain_meaning None) before.core.state c.release.new.self.state c.args.name c.in-Some.id (c.release.ensures.step plain_meaning None) c.self.invariant.0 known in
           subst (λ (v : SessionModel). Grows (lines.Rollback c.args.name) v (record before { core = c.release.new.self; snapshot_names = c.remove.new.self.entries })) c.self.view_is
           (grows before c.release.new.self before.names c.remove.new.self.entries before.now (lines.Rollback c.args.name) 0 (omega arith)
-          (takes-event c.self.inside.core c.release.new.self (events.Release c.in-Some.id) c.release.ensures.event
-          (released-fewer before.core.state c.release.new.self.state c.in-Some.id is) (released-own before.core.state c.release.new.self.state c.in-Some.id is))));
+          (takes_event c.self.inside.core c.release.new.self (events.Release c.in-Some.id) c.release.ensures.event
+          (released_fewer before.core.state c.release.new.self.state c.in-Some.id is) (released_own before.core.state c.release.new.self.state c.in-Some.id is))));
     }

@@ -17,22 +17,22 @@ use Rattle.slate_db.specs.Readable.{IsAnswered}
 use Rattle.slate_language.specs.declared.reply.Answer.TheVariants as answers
 use Rattle.slate_script.specs.Scanning.{BeginsWith, ScansAs}
 use Rattle.slate_script.specs.Session.{SessionModel, Grows, NamesStand, StoresNothing, reader_id}
-use Rattle.slate_script.proofs.SessionLeaves.{segmented-noted}
-use Rattle.slate_script.proofs.SessionNames.{names-updated}
-use Rattle.slate_script.proofs.SessionScans.{range-refused, scan-found, scan-refused}
-use Rattle.slate_script.proofs.Growth.{grows, takes-noted}
+use Rattle.slate_script.proofs.SessionLeaves.{segmented_noted}
+use Rattle.slate_script.proofs.SessionNames.{names_updated}
+use Rattle.slate_script.proofs.SessionScans.{range_refused, scan_found, scan_refused}
+use Rattle.slate_script.proofs.Growth.{grows, takes_noted}
 use Rattle.slate_script.proofs.session.Session.scan_range.Goals as goal
 use Rattle.slate_script.proofs.MeaningOf.{meaning_of}
 
 pub returns-in_default-clause-step : goal.returns-in_default-clause-step
 returns-in_default-clause-step g c = λ is seg.
     let m = meaning_of g.M.MergeOperator.combine g.T.BlockTransformer.encoded g.T.BlockTransformer.decoded c.args.env.now.operator c.args.env.now.transformer in
-    scan-refused m seg c.args.self.now c.args.name c.args.order c.args.range c.args.steps c.reader_id.result c.reader_id.ensures.reads c.in_default.is
+    scan_refused m seg c.args.self.now c.args.name c.args.order c.args.range c.args.steps c.reader_id.result c.reader_id.ensures.reads c.in_default.is
 
 pub returns-in_default-range-clause-step : goal.returns-in_default-range-clause-step
 returns-in_default-range-clause-step g c = λ is seg.
     let m = meaning_of g.M.MergeOperator.combine g.T.BlockTransformer.encoded g.T.BlockTransformer.decoded c.args.env.now.operator c.args.env.now.transformer in
-    range-refused m seg c.args.self.now c.args.name c.in-Some.id c.args.order c.args.range c.args.steps c.reader_id.result c.reader_id.ensures.reads c.reader_id.ensures.known c.in-Some.is c.in_default-range.is
+    range_refused m seg c.args.self.now c.args.name c.in-Some.id c.args.order c.args.range c.args.steps c.reader_id.result c.reader_id.ensures.reads c.reader_id.ensures.known c.in-Some.is c.in_default-range.is
 
 pub scan_rows-scanned-requires-clause-open : goal.scan_rows-scanned-requires-clause-open
 scan_rows-scanned-requires-clause-open g c = λ κs lives.
@@ -49,7 +49,7 @@ pub invariant_of-self : goal.invariant_of-self
 invariant_of-self g c =
     let noted = c.scan_rows-scanned.ensures.noted in (
       subst (λ (v : CoreModel). NamesStand c.self.inside.names.entries c.self.inside.snapshot_names.entries v.state.txns v.state.snapshots) (sym noted.1)
-          (names-updated c.in-Some.id _ c.self.inside.names.entries c.self.inside.snapshot_names.entries c.self.inside.core.state.txns c.self.inside.core.state.snapshots c.self.invariant.0),
+          (names_updated c.in-Some.id _ c.self.inside.names.entries c.self.inside.snapshot_names.entries c.self.inside.core.state.txns c.self.inside.core.state.snapshots c.self.invariant.0),
       c.self.invariant.1,
     )
 
@@ -57,7 +57,7 @@ pub invariant_of-self-2 : goal.invariant_of-self-2
 invariant_of-self-2 g c =
     let noted = c.scan_rows-scanned.ensures.noted in (
       subst (λ (v : CoreModel). NamesStand c.self.inside.names.entries c.self.inside.snapshot_names.entries v.state.txns v.state.snapshots) (sym noted.1)
-          (names-updated c.in-Some.id _ c.self.inside.names.entries c.self.inside.snapshot_names.entries c.self.inside.core.state.txns c.self.inside.core.state.snapshots c.self.invariant.0),
+          (names_updated c.in-Some.id _ c.self.inside.names.entries c.self.inside.snapshot_names.entries c.self.inside.core.state.txns c.self.inside.core.state.snapshots c.self.invariant.0),
       c.self.invariant.1,
     )
 
@@ -71,7 +71,7 @@ returns-clause-step g c = λ is seg.
     let fits = subst (λ (o : Option BytesRange). IfSome o (λ r. is_refused r.start r.end ≡ false)) c.in-Some-range.is c.requires.range in
     let stepped = c.in_ok-rows.ensures.scanned.answers seg (subst (λ (v : SessionModel). IsAnswered policies old new v.core) (sym c.self.view_is) is) in
     subst (λ (v : SessionModel). ScansAs m seg v (record before { core = c.scan_rows-scanned.new.core }) c.args.name c.args.order c.args.range c.args.steps (Ok (answers.Rows c.in_ok-rows.rows))) c.self.view_is
-    (scan-found m seg before c.scan_rows-scanned.new.core c.args.name c.in-Some.id c.args.order c.args.range c.in-Some-range.range c.args.steps c.in_ok-rows.rows.items (answers.Rows c.in_ok-rows.rows) c.self.invariant.0
+    (scan_found m seg before c.scan_rows-scanned.new.core c.args.name c.in-Some.id c.args.order c.args.range c.in-Some-range.range c.args.steps c.in_ok-rows.rows.items (answers.Rows c.in_ok-rows.rows) c.self.invariant.0
     (ap (λ (v : SessionModel). reader_id v c.args.name) c.self.view_is ∙ sym c.reader_id.ensures.id ∙ c.in-Some.is) c.in-Some-range.is fits
     (subst (λ (sts : List ScanStep). ◌≡◌ {A = State × Reply} (step (rules_in c.self.inside.core.settings m seg) c.self.inside.core.state (lines.Scan c.in-Some.id c.args.order c.in-Some-range.range.start c.in-Some-range.range.end sts)) (c.scan_rows-scanned.new.core.state, replies.RowsAre c.in_ok-rows.rows.items)) c.as_slice.ensures stepped) refl)
 
@@ -80,7 +80,7 @@ returns-clause-grows g c = λ line none.
     let before : SessionModel = record { core = c.self.inside.core; names = c.self.inside.names.entries; snapshot_names = c.self.inside.snapshot_names.entries; now = c.self.inside.now } in
     subst (λ (v : SessionModel). Grows line v (record before { core = c.scan_rows-scanned.new.core })) c.self.view_is
     (grows before c.scan_rows-scanned.new.core before.names before.snapshot_names before.now line 0 (omega arith)
-    (takes-noted c.self.inside.core c.scan_rows-scanned.new.core c.in-Some.id _ c.in_ok-rows.ensures.scanned.notes))
+    (takes_noted c.self.inside.core c.scan_rows-scanned.new.core c.in-Some.id _ c.in_ok-rows.ensures.scanned.notes))
 
 pub returns-in_default-clause-stores : goal.returns-in_default-clause-stores
 returns-in_default-clause-stores g c m seg = record { settings = refl; runs = refl; later = omega arith; kept = λ k. k; segmented = λ k. k }
@@ -94,4 +94,4 @@ returns-clause-stores g c =
     let is = c.in_ok-rows.ensures.scanned.notes in
     let same : length c.scan_rows-scanned.new.core.events ≡ length c.self.inside.core.events = ap (λ (v : CoreModel). length v.events) is in
     subst (λ (v : SessionModel). (m : Meaning) (seg : Segments) → StoresNothing m seg v (record before { core = c.scan_rows-scanned.new.core })) c.self.view_is
-    (λ m seg. record { settings = ap (λ (v : CoreModel). v.settings) is; runs = ap (λ (v : CoreModel). runs_of v.events) is; later = omega (arith, same); kept = c.in_ok-rows.ensures.scanned.kept m; segmented = segmented-noted c.self.inside.core c.scan_rows-scanned.new.core c.in-Some.id _ is seg })
+    (λ m seg. record { settings = ap (λ (v : CoreModel). v.settings) is; runs = ap (λ (v : CoreModel). runs_of v.events) is; later = omega (arith, same); kept = c.in_ok-rows.ensures.scanned.kept m; segmented = segmented_noted c.self.inside.core c.scan_rows-scanned.new.core c.in-Some.id _ is seg })

@@ -8,18 +8,18 @@ use Rattle.slate_txn.specs.declared.event.Event.TheVariants as events
 use Rattle.slate_txn.specs.declared.line.Line.TheVariants as lines
 use Rattle.slate_db.specs.Meaning.{Meaning, rules_in}
 use Rattle.slate_language.specs.declared.reply.Answer.TheVariants as answers
-use Rattle.slate_script.specs.Session.{SessionModel, AnswersAs, Grows, NamesStand, StoresNothing, reader_id}
-use Rattle.slate_script.proofs.NamesLaws.{named-after}
-use Rattle.slate_script.proofs.SessionNames.{opens-snapshot, names-shown, names-snapshot}
-use Rattle.slate_script.proofs.SessionSteps.{ReadsUnder, snapshot-refused, snapshot-opens, plain-meaning, unnamed}
-use Rattle.slate_script.proofs.SessionLeaves.{leaves-event, stores}
-use Rattle.slate_script.proofs.Growth.{grows, takes-event, shown-more, shown-own}
+use Rattle.slate_script.specs.Session.{SessionModel, StepsAs, Grows, NamesStand, StoresNothing, reader_id}
+use Rattle.slate_script.proofs.NamesLaws.{named_after}
+use Rattle.slate_script.proofs.SessionNames.{opens_snapshot, names_shown, names_snapshot}
+use Rattle.slate_script.proofs.SessionSteps.{ReadsUnder, snapshot_refused, snapshot_opens, plain_meaning, unnamed}
+use Rattle.slate_script.proofs.SessionLeaves.{leaves_event, stores}
+use Rattle.slate_script.proofs.Growth.{grows, takes_event, shown_more, shown_own}
 use Rattle.slate_script.proofs.session.Session.snapshot.Goals as goal
 
 pub returns-then-is_some : goal.returns-then-is_some
 returns-then-is_some c =
     record {
-      step = λ m seg. snapshot-refused m seg c.args.self.now c.args.name c.reader_id.result c.reader_id.ensures.reads c.reader_id.ensures.known (sym c.if-is_some.ensures);
+      step = λ m seg. snapshot_refused m seg c.args.self.now c.args.name c.reader_id.result c.reader_id.ensures.reads c.reader_id.ensures.known (sym c.if-is_some.ensures);
       stores = λ m seg. record { settings = refl; runs = refl; later = omega arith; kept = λ k. k; segmented = λ k. k };
       grows = (omega arith, omega arith);
       cause = tt;
@@ -28,15 +28,15 @@ returns-then-is_some c =
 pub invariant_of-self-in_err-insert : goal.invariant_of-self-in_err-insert
 invariant_of-self-in_err-insert c =
     let old : NamesStand c.self.inside.names.entries c.self.inside.snapshot_names.entries c.snapshot.new.self.state.txns c.snapshot.new.self.state.snapshots =
-    names-shown c.self.inside.names.entries c.self.inside.snapshot_names.entries (opens-snapshot (rules_in c.self.inside.core.settings plain-meaning None) c.self.inside.core.state c.snapshot.new.self.state c.in_ok-id.id c.in_ok-id.seq (c.in_ok-id.ensures.step plain-meaning None)) c.self.invariant.0 in
+    names_shown c.self.inside.names.entries c.self.inside.snapshot_names.entries (opens_snapshot (rules_in c.self.inside.core.settings plain_meaning None) c.self.inside.core.state c.snapshot.new.self.state c.in_ok-id.id c.in_ok-id.seq (c.in_ok-id.ensures.step plain_meaning None)) c.self.invariant.0 in
     (subst (λ es. NamesStand c.self.inside.names.entries es c.snapshot.new.self.state.txns c.snapshot.new.self.state.snapshots) (sym c.in_err-insert.ensures.err) old, c.self.invariant.1)
 
 pub invariant_of-self-2 : goal.invariant_of-self-2
 invariant_of-self-2 c =
     let before : SessionModel = record { core = c.self.inside.core; names = c.self.inside.names.entries; snapshot_names = c.self.inside.snapshot_names.entries; now = c.self.inside.now } in
     let shut = unnamed before c.args.name c.reader_id.result (c.reader_id.ensures.id ∙ ap (λ (v : SessionModel). reader_id v c.args.name) (sym c.self.view_is)) (sym c.if-is_some.ensures) in (
-      names-snapshot c.args.name before.names before.snapshot_names c.insert.new.self.entries (opens-snapshot (rules_in c.self.inside.core.settings plain-meaning None) c.self.inside.core.state c.snapshot.new.self.state c.in_ok-id.id c.in_ok-id.seq (c.in_ok-id.ensures.step plain-meaning None)) shut.0
-          (λ q. named-after c.args.name q (Some c.in_ok-id.id) before.snapshot_names c.insert.new.self.entries
+      names_snapshot c.args.name before.names before.snapshot_names c.insert.new.self.entries (opens_snapshot (rules_in c.self.inside.core.settings plain_meaning None) c.self.inside.core.state c.snapshot.new.self.state c.in_ok-id.id c.in_ok-id.seq (c.in_ok-id.ensures.step plain_meaning None)) shut.0
+          (λ q. named_after c.args.name q (Some c.in_ok-id.id) before.snapshot_names c.insert.new.self.entries
           (c.in_ok-insert.ensures.updates.0 q ∙ ap (λ k. cond (is_at (key_cmp k) q) (Some c.in_ok-id.id) (lookup (is_at (key_cmp q)) before.snapshot_names)) c.in_ok-key.ensures.cases)) c.self.invariant.0,
       c.self.invariant.1,
     )
@@ -46,22 +46,22 @@ returns c =
     record {
       step = (λ m seg.
           let before : SessionModel = record { core = c.self.inside.core; names = c.self.inside.names.entries; snapshot_names = c.self.inside.snapshot_names.entries; now = c.self.inside.now } in
-          subst (λ (v : SessionModel). AnswersAs m seg v (record before { core = c.snapshot.new.self; snapshot_names = c.insert.new.self.entries }) (lines.Snapshot c.args.name) (Ok (answers.SnapshotAt c.args.name c.in_ok-id.seq))) c.self.view_is
-          (snapshot-opens m seg before c.snapshot.new.self c.insert.new.self.entries c.args.name c.in_ok-id.id c.in_ok-id.seq c.reader_id.result c.self.invariant.0
+          subst (λ (v : SessionModel). StepsAs m seg v (record before { core = c.snapshot.new.self; snapshot_names = c.insert.new.self.entries }) (lines.Snapshot c.args.name) (Ok (answers.SnapshotAt c.args.name c.in_ok-id.seq))) c.self.view_is
+          (snapshot_opens m seg before c.snapshot.new.self c.insert.new.self.entries c.args.name c.in_ok-id.id c.in_ok-id.seq c.reader_id.result c.self.invariant.0
           (c.reader_id.ensures.id ∙ ap (λ (v : SessionModel). reader_id v c.args.name) (sym c.self.view_is)) (subst (λ (v : SessionModel). ReadsUnder v c.args.name c.reader_id.result) (sym c.self.view_is) c.reader_id.ensures.reads) (sym c.if-is_some.ensures)
-          (opens-snapshot (rules_in before.core.settings m seg) before.core.state c.snapshot.new.self.state c.in_ok-id.id c.in_ok-id.seq (c.in_ok-id.ensures.step m seg))
-          (λ q. named-after c.args.name q (Some c.in_ok-id.id) before.snapshot_names c.insert.new.self.entries
+          (opens_snapshot (rules_in before.core.settings m seg) before.core.state c.snapshot.new.self.state c.in_ok-id.id c.in_ok-id.seq (c.in_ok-id.ensures.step m seg))
+          (λ q. named_after c.args.name q (Some c.in_ok-id.id) before.snapshot_names c.insert.new.self.entries
           (c.in_ok-insert.ensures.updates.0 q ∙ ap (λ k. cond (is_at (key_cmp k) q) (Some c.in_ok-id.id) (lookup (is_at (key_cmp q)) before.snapshot_names)) c.in_ok-key.ensures.cases))));
       stores = (let before : SessionModel = record { core = c.self.inside.core; names = c.self.inside.names.entries; snapshot_names = c.self.inside.snapshot_names.entries; now = c.self.inside.now } in
           subst (λ (v : SessionModel). (m : Meaning) (seg : Segments) → StoresNothing m seg v (record before { core = c.snapshot.new.self; snapshot_names = c.insert.new.self.entries })) c.self.view_is
           (stores before c.snapshot.new.self before.names c.insert.new.self.entries before.now
-          (leaves-event c.self.inside.core c.snapshot.new.self (events.Snapshot c.in_ok-id.id c.in_ok-id.seq) c.in_ok-id.ensures.event refl) c.in_ok-id.ensures.kept c.in_ok-id.ensures.segmented));
+          (leaves_event c.self.inside.core c.snapshot.new.self (events.Snapshot c.in_ok-id.id c.in_ok-id.seq) c.in_ok-id.ensures.event refl) c.in_ok-id.ensures.kept c.in_ok-id.ensures.segmented));
       grows = (let before : SessionModel = record { core = c.self.inside.core; names = c.self.inside.names.entries; snapshot_names = c.self.inside.snapshot_names.entries; now = c.self.inside.now } in
           subst (λ (v : SessionModel). Grows (lines.Snapshot c.args.name) v (record before { core = c.snapshot.new.self; snapshot_names = c.insert.new.self.entries })) c.self.view_is
           (grows before c.snapshot.new.self before.names c.insert.new.self.entries before.now (lines.Snapshot c.args.name) 0 (omega arith)
-          (takes-event c.self.inside.core c.snapshot.new.self (events.Snapshot c.in_ok-id.id c.in_ok-id.seq) c.in_ok-id.ensures.event
-          (shown-more (rules_in c.self.inside.core.settings plain-meaning None) c.self.inside.core.state c.snapshot.new.self.state c.in_ok-id.id c.in_ok-id.seq (opens-snapshot (rules_in c.self.inside.core.settings plain-meaning None) c.self.inside.core.state c.snapshot.new.self.state c.in_ok-id.id c.in_ok-id.seq (c.in_ok-id.ensures.step plain-meaning None)))
-          (shown-own (rules_in c.self.inside.core.settings plain-meaning None) c.self.inside.core.state c.snapshot.new.self.state c.in_ok-id.id c.in_ok-id.seq (opens-snapshot (rules_in c.self.inside.core.settings plain-meaning None) c.self.inside.core.state c.snapshot.new.self.state c.in_ok-id.id c.in_ok-id.seq (c.in_ok-id.ensures.step plain-meaning None))))));
+          (takes_event c.self.inside.core c.snapshot.new.self (events.Snapshot c.in_ok-id.id c.in_ok-id.seq) c.in_ok-id.ensures.event
+          (shown_more (rules_in c.self.inside.core.settings plain_meaning None) c.self.inside.core.state c.snapshot.new.self.state c.in_ok-id.id c.in_ok-id.seq (opens_snapshot (rules_in c.self.inside.core.settings plain_meaning None) c.self.inside.core.state c.snapshot.new.self.state c.in_ok-id.id c.in_ok-id.seq (c.in_ok-id.ensures.step plain_meaning None)))
+          (shown_own (rules_in c.self.inside.core.settings plain_meaning None) c.self.inside.core.state c.snapshot.new.self.state c.in_ok-id.id c.in_ok-id.seq (opens_snapshot (rules_in c.self.inside.core.settings plain_meaning None) c.self.inside.core.state c.snapshot.new.self.state c.in_ok-id.id c.in_ok-id.seq (c.in_ok-id.ensures.step plain_meaning None))))));
       cause = tt;
     }
 
