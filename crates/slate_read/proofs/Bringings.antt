@@ -23,7 +23,7 @@ use Rattle.slate_read.specs.declared.table_state.Cursor.{Cursor}
 use Rattle.slate_read.specs.declared.table_state.TableState.{TableState}
 use Rattle.slate_read.specs.declared.table_state.TableState.TheVariants.{New, Walking, Refused}
 use Rattle.slate_read.specs.TableWalk.{AreOpened, Begins, BeginsAt, Fetches, IsIndexed, Jumps, Opens, RefusesLeft, SkipsOpen, TakesOpen, answer_at, passed_over, path_in, read_of, reads_in, refuses_behind}
-use Rattle.slate_read.specs.Bringing.{AddsNone, AddsNothing, BringsLeft, BringsReady, BringsSome, BringsUnread, HandsAway, HandsOut, HasRead, IsRowIn, NoMoreRows, brings_behind, brings_in}
+use Rattle.slate_read.specs.Bringing.{AddsNone, AddsNoneByCall, BringsLeft, BringsReady, BringsSome, BringsUnread, HandsAway, HandsAwayByCall, HandsOut, HasRead, IsRowIn, NoMoreRows, brings_behind, brings_in}
 use Rattle.slate_read.proofs.Cursors.{fewer_after, opens_fewer, same_refused, took_no_more, took_none}
 use Rattle.slate_read.proofs.Jumps.{passed_refused}
 use Rattle.slate_read.proofs.ReadAhead.{Stands, block_read, fetches_fewer, get_both, next_within, stands}
@@ -42,10 +42,10 @@ some_weaker P Q (Some r) f h = f r h
 
 module _ {A : Type 0} (brings : A → Meaning → List Act → RowEntry → Type 0) (refuses : A → Meaning → List Act → Option (List ℕ) → SlateDBError → Type 0) where
   abbrev pub AddsBy : Reach → Reach → A → A → Type 0
-  AddsBy a b x y = Made a b (λ reads. AddsNone brings refuses a.meaning x reads y)
+  AddsBy a b x y = AddsNoneByCall brings refuses a b x y
 
   abbrev pub HandsBy : Reach → Reach → A → Option RowEntry → A → Type 0
-  HandsBy a b x answer y = Made a b (λ reads. HandsAway brings refuses a.meaning x reads answer y)
+  HandsBy a b x answer y = HandsAwayByCall brings refuses a b x answer y
 
   pub none_added : (t : Reach) (x : A) → AddsBy t t x x
   none_added t x = ([], call_none t, (λ later at e k. k, λ later r k. k))
@@ -163,10 +163,10 @@ same_brings : (version : ℕ) (order : IterationOrder) (x y : Cursor) (r : RowEn
 same_brings version order x y r ready k = subst (λ q. BringsReady version order q.items r) ready k
 
 abbrev pub Adds : SsTableHandle → IterationOrder → Reach → Reach → Cursor → Cursor → Type 0
-Adds h order a b x y = Made a b (λ reads. AddsNothing h order a.meaning x reads y)
+Adds h order a b x y = AddsNoneByCall (brings_behind h order) (refuses_behind h order) a b x y
 
 abbrev pub Hands : SsTableHandle → IterationOrder → Reach → Reach → Cursor → Option RowEntry → Cursor → Type 0
-Hands h order a b x answer y = Made a b (λ reads. HandsAway (brings_behind h order) (refuses_behind h order) a.meaning x reads answer y)
+Hands h order a b x answer y = HandsAwayByCall (brings_behind h order) (refuses_behind h order) a b x answer y
 
 pub adds_none : (h : SsTableHandle) (order : IterationOrder) (t : Reach) (x : Cursor) → Adds h order t t x x
 adds_none h order t x = none_added (brings_behind h order) (refuses_behind h order) t x
@@ -177,7 +177,7 @@ adds_both h order a b c x y z m n = both_added (brings_behind h order) (refuses_
 pub adds_hands : (h : SsTableHandle) (order : IterationOrder) (a b c : Reach) (x y z : Cursor) (answer : Option RowEntry) → Adds h order a b x y → Hands h order b c y answer z → Hands h order a c x answer z
 adds_hands h order a b c x y z answer m n = added_hands (brings_behind h order) (refuses_behind h order) a b c x y z answer m n
 
-row_adds : (h : SsTableHandle) (order : IterationOrder) (m : Meaning) (x y : Cursor) (answer : Option RowEntry) → TakesOpen x.rows answer y.rows → y.index ≡ x.index → y.ready ≡ x.ready → AddsNothing h order m x [] y
+row_adds : (h : SsTableHandle) (order : IterationOrder) (m : Meaning) (x y : Cursor) (answer : Option RowEntry) → TakesOpen x.rows answer y.rows → y.index ≡ x.index → y.ready ≡ x.ready → AddsNone (brings_behind h order) (refuses_behind h order) m x [] y
 row_adds h order m x y answer took index ready = (
   fewer_after h order m x y index (λ e r. took_no_more x.rows y.rows answer e took r) (λ e r. same_refused h.format_version order x y e ready r),
   rows_after h order m x y index (λ r k. took_brings x.rows y.rows answer r took k) (λ r k. same_brings h.format_version order x y r ready k),

@@ -5,7 +5,7 @@ use Rattle.std.proofs.lemmas.List.Elements.{All-contains, All-contains_itself, A
 use Rattle.slate_types.specs.declared.types.RowEntry.{RowEntry}
 use Rattle.slate_types.specs.Outside.{Act, Meaning}
 use Rattle.slate_read.specs.Bringing.{HandsOut, NoMoreRows}
-use Rattle.slate_read.specs.CallLaws.{among_within, brings_before_others, calls_within}
+use Rattle.slate_read.specs.CallLaws.{among_within, brings_within, calls_within}
 use Rattle.slate_read.specs.Calls.{AreCalls, BringsByCalls, CallsOnce}
 use Rattle.slate_read.specs.Handing.{AreAmong}
 use Rattle.slate_read.proofs.Tellings.{StaysBrought, Tells}
@@ -20,6 +20,9 @@ module _ {S : Type 0} (begins : S → Meaning → List Act → S → Type 0) (ta
   -- what calls may hand out from now on
   abbrev pub by_calls : Meaning → S → List Act → RowEntry → Type 0
   by_calls m x reads r = BringsByCalls begins takes seeks x m reads r
+
+  pub brings_before_others : (x : S) (m : Meaning) (reads more : List Act) (r : RowEntry) → BringsByCalls begins takes seeks x m reads r → BringsByCalls begins takes seeks x m (reads ++ more) r
+  brings_before_others x m reads more r c = brings_within begins takes seeks x m reads (reads ++ more) r c (λ a k. Contains-append_left reads more a k)
 
   pub brings_taken_row : (x : S) (m : Meaning) (reads : List Act) (r : RowEntry) (y : S) → takes x m reads (Some r) y → BringsByCalls begins takes seeks x m reads r
   brings_taken_row x m reads r y taken = record { each = []; last = x; calls = refl; by = reads; among = among_itself reads; after = y; taken = taken }
@@ -45,7 +48,7 @@ module _ {S : Type 0} (begins : S → Meaning → List Act → S → Type 0) (ta
   calls_tell m x y reads answer taken = call_tells m x y reads answer taken
 
   pub calls_stay : (m : Meaning) → StaysBrought (by_calls m)
-  calls_stay m x reads later r c = brings_before_others begins takes seeks x m reads later r c
+  calls_stay m x reads later r c = brings_before_others x m reads later r c
 
   -- what calls may hand out is brought, where each call tells so
   module _ (m : Meaning) (brings : S → List Act → RowEntry → Type 0) (less : (x y : S) (by : List Act) → CallsOnce begins takes seeks m x by y → NoMoreRows (brings x) by (brings y))

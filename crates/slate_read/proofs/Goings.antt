@@ -14,12 +14,12 @@ use Rattle.slate_types.proofs.Calls.{call_none, call_both, sees_first, sees_last
 use Rattle.slate_types.proofs.Moves.{Moves}
 use Rattle.slate_types.proofs.Reaching.{fault_earlier}
 use Rattle.slate_read.specs.declared.head.Head.{Head}
-use Rattle.slate_read.specs.Bringing.{NoMoreRows}
+use Rattle.slate_read.specs.Bringing.{AddsNone, AddsNoneByCall, NoMoreRows}
 use Rattle.slate_read.specs.CallLaws.{brings_behind_others}
 use Rattle.slate_read.specs.Calls.{BringsByCalls}
 use Rattle.slate_read.specs.Heads.{head_cmp}
 use Rattle.slate_read.specs.Merging.{AnyByRecursion, Sources, left_in, IsMergingIn, IsSoundHead, blames, either_refusal, begun_sources, merging_bound, AreReady, IsFront}
-use Rattle.slate_read.specs.MergeBringing.{AddNothing, sources_bring, takes_front}
+use Rattle.slate_read.specs.MergeBringing.{sources_bring, takes_front}
 use Rattle.slate_read.specs.MergeSteps.{Falls, Goes, Joins}
 use Rattle.slate_read.proofs.HeadLaws.{each_shuffled}
 use Rattle.slate_read.proofs.StepLaws.{Gives, joins_weaker, steps_still, steps_rows, steps_smaller}
@@ -132,12 +132,12 @@ module _ {S : Type 0} (rest : S → World → List RowEntry) (sound : S → Worl
   module _ (more : (x : S) (m : Meaning) (done reads : List Act) (at : Option (List ℕ)) (e : SlateDBError) → refuses x m reads at e → refuses x m (done ++ reads) at e) where
     -- a head's source made a call, and then another that put it back
     pub joined_made : (a b c : Reach) (r : List Act) (heads others new : List (Head S)) (x : Head S) (source : S) (behind : ℕ) (order : IterationOrder) → IsCall a b r → NoMore (refuses x.source a.meaning) r (refuses source a.meaning)
-        → NoMoreRows (by_calls begins takes seeks a.meaning x.source) r (by_calls begins takes seeks a.meaning source) → IsPermutation heads (x ∷ others) → Joins (goes b c) source behind order others new → Made a c (λ reads. AddNothing brings refuses (begun_sources heads) a.meaning reads (begun_sources new))
+        → NoMoreRows (by_calls begins takes seeks a.meaning x.source) r (by_calls begins takes seeks a.meaning source) → IsPermutation heads (x ∷ others) → Joins (goes b c) source behind order others new → AddsNoneByCall (sources_bring brings) (blames refuses) a c (begun_sources heads) (begun_sources new)
     joined_made a b c r heads others new x source behind order call less fewer p (inl j) =
         let reads = r ++ j.1.step.taken.0 in (
           reads,
           call_both a b c r j.1.step.taken.0 call j.1.step.taken.1,
-          subst (λ (l : List (Head S)). AddNothing brings refuses (begun_sources heads) a.meaning reads (begun_sources l)) (sym j.2) (blamed_gone refuses more a.meaning reads [] heads others x p, brought_gone brings brings_more a.meaning reads [] heads others x p),
+          subst (λ (l : List (Head S)). AddsNone (sources_bring brings) (blames refuses) a.meaning (begun_sources heads) reads (begun_sources l)) (sym j.2) (blamed_gone refuses more a.meaning reads [] heads others x p, brought_gone brings brings_more a.meaning reads [] heads others x p),
         )
     joined_made a b c r heads others new x source behind order call less fewer p (inr j) =
         let y : Head S = record { row = j.0; behind = behind; order = order; source = j.1 } in
@@ -174,7 +174,7 @@ module _ {S : Type 0} (rest : S → World → List RowEntry) (sound : S → Worl
 
     -- a seek of the first head's source
     pub seek_made : (key : List ℕ) (a b c : Reach) (heads others new : List (Head S)) (x : Head S) (source : S) → IsPermutation heads (x ∷ others) → Sought key a b x.source source → Joins (goes b c) source x.behind x.order others new
-        → Made a c (λ reads. AddNothing brings refuses (begun_sources heads) a.meaning reads (begun_sources new))
+        → AddsNoneByCall (sources_bring brings) (blames refuses) a c (begun_sources heads) (begun_sources new)
     seek_made key a b c heads others new x source p made j =
         joined_made a b c made.0 heads others new x source x.behind x.order made.1 made.2.1 (called_less begins takes seeks a.meaning x.source source made.0 (inr (inr (key, made.2.0)))) p j
 
@@ -207,12 +207,12 @@ module _ {S : Type 0} (rest : S → World → List RowEntry) (sound : S → Worl
 
     -- a source that waited began, and went among the heads
     pub begun_made : (a b c : Reach) (source begun : S) (waiting : List S) (behind : ℕ) (order : IterationOrder) (heads new : List (Head S)) → Begun a b source begun → Joins (goes b c) begun behind order heads new
-        → Made a c (λ reads. AddNothing brings refuses (record { waiting = source ∷ waiting; heads = heads }) a.meaning reads (record { waiting = waiting; heads = new }))
+        → AddsNoneByCall (sources_bring brings) (blames refuses) a c (record { waiting = source ∷ waiting; heads = heads }) (record { waiting = waiting; heads = new })
     begun_made a b c source begun waiting behind order heads new made (inl j) =
         let reads = made.0 ++ j.1.step.taken.0 in (
           reads,
           call_both a b c made.0 j.1.step.taken.0 made.1 j.1.step.taken.1,
-          subst (λ (l : List (Head S)). AddNothing brings refuses (record { waiting = source ∷ waiting; heads = heads }) a.meaning reads (record { waiting = waiting; heads = l })) (sym j.2) (blamed_empty refuses more a.meaning reads source waiting heads, brought_empty brings brings_more a.meaning reads source waiting heads),
+          subst (λ (l : List (Head S)). AddsNone (sources_bring brings) (blames refuses) a.meaning (record { waiting = source ∷ waiting; heads = heads }) reads (record { waiting = waiting; heads = l })) (sym j.2) (blamed_empty refuses more a.meaning reads source waiting heads, brought_empty brings brings_more a.meaning reads source waiting heads),
         )
     begun_made a b c source begun waiting behind order heads new made (inr j) =
         let y : Head S = record { row = j.0; behind = behind; order = order; source = j.1 } in

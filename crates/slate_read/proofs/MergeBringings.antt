@@ -11,14 +11,13 @@ use Rattle.slate_types.proofs.Calls.{call_none, call_both, no_more_both}
 use Rattle.slate_read.specs.declared.head.Head.{Head}
 use Rattle.slate_read.specs.declared.merge_iterator.MergeState.{MergeState}
 use Rattle.slate_read.specs.declared.merge_iterator.MergeState.TheVariants.{New, Begun, Refused}
-use Rattle.slate_read.specs.Bringing.{HandsOut, NoMoreRows}
-use Rattle.slate_read.specs.CallLaws.{brings_before_others}
+use Rattle.slate_read.specs.Bringing.{AddsNone, AddsNoneByCall, HandsOut, NoMoreRows}
 use Rattle.slate_read.specs.Calls.{BringsByCalls}
-use Rattle.slate_read.specs.MergeBringing.{AddNothing, merge_brings, sources_bring, takes_front}
+use Rattle.slate_read.specs.MergeBringing.{merge_brings, sources_bring, takes_front}
 use Rattle.slate_read.specs.MergeStateLaws.{any_weaker}
 use Rattle.slate_read.specs.Merging.{AnyByRecursion, IsFront, Sources, begun_sources, blames, waiting_sources}
 use Rattle.slate_read.proofs.Bringings.{no_rows_both, some_weaker}
-use Rattle.slate_read.proofs.Calling.{by_calls}
+use Rattle.slate_read.proofs.Calling.{brings_before_others, by_calls}
 use Rattle.slate_read.proofs.StepLaws.{any_shuffled}
 
 -- ---- what each source brings
@@ -107,7 +106,7 @@ module _ {S : Type 0} (begins : S → Meaning → List Act → S → Type 0) (ta
 
 module _ {S : Type 0} (brings : S → Meaning → List Act → RowEntry → Type 0) (refuses : S → Meaning → List Act → Option (List ℕ) → SlateDBError → Type 0) where
   abbrev pub SourcesAdd : Reach → Reach → Sources S → Sources S → Type 0
-  SourcesAdd a b x y = Made a b (λ reads. AddNothing brings refuses x a.meaning reads y)
+  SourcesAdd a b x y = AddsNoneByCall (sources_bring brings) (blames refuses) a b x y
 
   pub sources_none : (t : Reach) (x : Sources S) → SourcesAdd t t x x
   sources_none t x = ([], call_none t, (λ later at e k. k, λ later r k. k))
@@ -119,8 +118,8 @@ module _ {S : Type 0} (brings : S → Meaning → List Act → RowEntry → Type
     (no_more_both (blames refuses x a.meaning) (blames refuses y a.meaning) (blames refuses z a.meaning) f.0 l.0 f.2.0 last.0, no_rows_both (sources_bring brings x a.meaning) (sources_bring brings y a.meaning) (sources_bring brings z a.meaning) f.0 l.0 f.2.1 last.1),
   )
     where
-      last : AddNothing brings refuses y a.meaning l.0 z
-      last = subst (λ (p : Meaning). AddNothing brings refuses y p l.0 z) f.1.meaning l.2
+      last : AddsNone (sources_bring brings) (blames refuses) a.meaning y l.0 z
+      last = subst (λ (p : Meaning). AddsNone (sources_bring brings) (blames refuses) p y l.0 z) f.1.meaning l.2
 
   pub sources_step : (a b c : Reach) (x y z : Sources S) (answer : Option RowEntry) → SourcesAdd a b x y → Made b c (λ reads. takes_front brings y b.meaning reads answer z × NoMore (blames refuses y b.meaning) reads (blames refuses z b.meaning)) → SourcesAdd a c x z
   sources_step a b c x y z answer f t = sources_both a b c x y z f (t.0, t.1, (t.2.1, t.2.0.1))

@@ -20,7 +20,8 @@ use Rattle.slate_read.specs.Merge.{begins_with, counted, past_key, row_bytes, sh
 use Rattle.slate_read.specs.Merging.{ArePlaced, left_rows, left_in, IsMergingIn, IsSoundHead, IsTop, has_key, blames, begun_sources, AreReady, IsFront}
 use Rattle.slate_read.specs.CallLaws.{brings_behind_others}
 use Rattle.slate_read.specs.Calls.{BringsByCalls}
-use Rattle.slate_read.specs.MergeBringing.{AddNothing}
+use Rattle.slate_read.specs.Bringing.{AddsNoneByCall}
+use Rattle.slate_read.specs.MergeBringing.{sources_bring}
 use Rattle.slate_read.specs.MergeSteps.{CountsKey, CountsTaken, Renews, TakesMerged}
 use Rattle.slate_read.proofs.HeadLaws.{each_shuffled}
 use Rattle.slate_read.proofs.SeekLaws.{past_none, past_one, counted_one}
@@ -180,7 +181,7 @@ module _ {S : Type 0} (rest : S → World → List RowEntry) (sound : S → Worl
     }
 
     -- and bring no more
-    pub renew_made : (takes : S → Meaning → List Act → Option RowEntry → S → Type 0) (seeks : S → Meaning → List Act → List ℕ → S → Type 0) → Made a b (λ reads. AddNothing (BringsByCalls begins takes seeks) refuses (begun_sources (done ++ left)) a.meaning reads (begun_sources (new ++ others)))
+    pub renew_made : (takes : S → Meaning → List Act → Option RowEntry → S → Type 0) (seeks : S → Meaning → List Act → List ℕ → S → Type 0) → AddsNoneByCall (sources_bring (BringsByCalls begins takes seeks)) (blames refuses) a b (begun_sources (done ++ left)) (begun_sources (new ++ others))
     renew_made takes seeks = (
       reads,
       renews.begun.1,

@@ -19,13 +19,13 @@ use Rattle.slate_read.specs.declared.head.Head.{Head}
 use Rattle.slate_read.specs.declared.merge_iterator.MergeIterator.{MergeIterator}
 use Rattle.slate_read.specs.declared.merge_iterator.MergeState.{MergeState}
 use Rattle.slate_read.specs.declared.merge_iterator.MergeState.TheVariants.{New, Begun, Refused}
-use Rattle.slate_read.specs.Bringing.{HandsOut}
+use Rattle.slate_read.specs.Bringing.{AddsNoneByCall, HandsOut}
 use Rattle.slate_read.specs.Heads.{head_cmp}
 use Rattle.slate_read.specs.Kept.{Copies, IsKept}
 use Rattle.slate_read.specs.Merge.{shown_rows}
 use Rattle.slate_read.specs.MergeLaws.{fresh_merge}
 use Rattle.slate_read.specs.Merging.{AnyByRecursion, AreReady, IsMergingIn, begun_sources, blames, either_refusal, left_in, waiting_sources}
-use Rattle.slate_read.specs.MergeBringing.{MergeAddsNothing, merge_brings, takes_front}
+use Rattle.slate_read.specs.MergeBringing.{merge_brings, takes_front}
 use Rattle.slate_read.specs.MergeSteps.{TakesMerged}
 use Rattle.slate_read.specs.MergeStates.{IsUnrefused, CopiedIn, HasBegun, IsFrontIn, IsSoundIn, IsWaiting, Keeps, Stays, bound_in, left_of, refuses_in, rest_in}
 use Rattle.slate_read.specs.MergeStateLaws.{refuses_whole}
@@ -86,7 +86,7 @@ module _ {S : Type 0} (rest : S → World → List RowEntry) (sound : S → Worl
     state_step o dedup a b x (Refused q) y answer is never p s = absurd never
 
     abbrev adds_in : Reach → Reach → MergeState S → MergeState S → Type 0
-    adds_in a b x y = Made a b (λ reads. MergeAddsNothing brings refuses x a.meaning reads y)
+    adds_in a b x y = AddsNoneByCall (merge_brings brings) (refuses_in refuses) a b x y
 
     -- what the sources don't add, the merge doesn't
     pub begun_adds : (a b : Reach) (x z y : MergeState S) → x ≡ z → HasBegun z → HasBegun y → SourcesAdd brings refuses a b (begun_sources (heads_in z)) (begun_sources (heads_in y)) → adds_in a b x y

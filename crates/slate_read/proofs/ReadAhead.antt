@@ -199,7 +199,7 @@ module _ (w : World) (h : SsTableHandle) (kept : Kept) (table : IsReadable w h k
           let equal : g ≡ part (start_of h table.entries first) size kept.bytes = sym (take-length g) ∙ ap (λ k. take k g) whole ∙ subst (λ k. take (size_between h table.entries first k) g ≡ part (start_of h table.entries first) (size_between h table.entries first k) kept.bytes) ends same in
           inl (subst (λ (o : Option Kept). IfSome o (λ k. Some g ≡ part_of (Some k.bytes) (start_of h table.entries first) size)) (sym table.held) (ap Some equal ∙ sym there))
 
-fetched_checked : (w : World) (p : Meaning) (h : SsTableHandle) (kept : Kept) (table : IsReadable w h kept) (first stop : ℕ) (reads : List Act) (blocks : List Block) → first < stop → stop ≤ length table.entries → IsFetched p h table.entries first stop reads blocks → AllOrSlip w reads
+pub fetched_checked : (w : World) (p : Meaning) (h : SsTableHandle) (kept : Kept) (table : IsReadable w h kept) (first stop : ℕ) (reads : List Act) (blocks : List Block) → first < stop → stop ≤ length table.entries → IsFetched p h table.entries first stop reads blocks → AllOrSlip w reads
 fetched_checked w p h kept table first stop reads blocks some within fetched = by (whole_answer size given) refl
   where
     r : (length blocks ≡ stop - first) × ((given : Option (List ℕ)) × (reads ≡ read_of h table.entries first stop given ∷ []) × ((i : ℕ) (block : Block) → slice_get blocks i ≡ Some block → IsBlockRead p.decode (answer_at h table.entries first stop given (first + i)) block))

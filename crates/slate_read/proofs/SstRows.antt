@@ -1,9 +1,8 @@
 -- The rows of a table in a range, the newest of each key first.
-use Rattle.std.proofs.Common.{◌≡◌, List, filter, flat_map, refl, sym, ap, subst, ◌∙◌}
+use Rattle.std.proofs.Common.{◌≡◌, filter, flat_map, sym, ap, subst, ◌∙◌}
 use Rattle.slate_types.specs.declared.bytes_range.BytesRange.{BytesRange}
 use Rattle.slate_types.specs.declared.iter.IterationOrder.{IterationOrder}
 use Rattle.slate_types.specs.declared.iter.IterationOrder.TheVariants.{Ascending}
-use Rattle.slate_types.specs.declared.types.RowEntry.{RowEntry}
 use Rattle.slate_types.specs.RowTurns.{AreInTurn, row_before}
 use Rattle.slate_types.specs.World.{Kept, World}
 use Rattle.slate_table.specs.declared.info.SsTableHandle.{SsTableHandle}
@@ -14,7 +13,7 @@ use Rattle.slate_read.specs.declared.range_rows.InRange.{InRange}
 use Rattle.slate_read.specs.declared.table_state.TableWalk.{TableWalk}
 use Rattle.slate_read.specs.Groups.{in_turn}
 use Rattle.slate_read.specs.RangeRows.{IsRangeOf}
-use Rattle.slate_read.specs.SstIterators.{BringsRows, IsTableIterator, source_order, source_rest, source_sound, sst_rest, sst_sound}
+use Rattle.slate_read.specs.SstIterators.{BringsRows, IsTableIterator, source_order, source_rest, source_sound}
 use Rattle.slate_read.specs.NewestFirst.{rest_newest, sound_newest}
 use Rattle.slate_read.specs.TableWalk.{IsReadable, IsUnopened, is_in, rows_in}
 use Rattle.slate_read.proofs.Turns.{either_turn, turn_filtered}

@@ -1,5 +1,5 @@
 -- Rows in turn: parts of them, and what turning the groups of a key does.
-use Rattle.std.proofs.Common.{◌≡◌, ℕ, Bool, true, false, cond, List, [], ◌∷◌, ◌++◌, filter, not, inl, inr, Option, Some, None, refl, sym, ap, subst, ◌∙◌, append_assoc, append-nil}
+use Rattle.std.proofs.Common.{◌≡◌, ℕ, Bool, true, false, cond, List, [], ◌∷◌, ◌++◌, filter, inl, inr, Option, Some, None, refl, sym, ap, subst, ◌∙◌, append_assoc}
 use Rattle.std.specs.Prelude.{reverse, bytes_eq}
 use Rattle.std.specs.List.{AllByRecursion}
 use Rattle.std.specs.Ordering.{is_le, is_lt, nat_cmp, ordering_then, ordering_reverse}
@@ -12,7 +12,7 @@ use Rattle.slate_types.specs.declared.types.RowEntry.{RowEntry}
 use Rattle.slate_types.specs.declared.iter.IterationOrder.{IterationOrder}
 use Rattle.slate_types.specs.declared.iter.IterationOrder.TheVariants.{Ascending, Descending}
 use Rattle.slate_types.specs.Iteration.{TakesRow, comes_before, drop_before, in_order}
-use Rattle.slate_types.specs.Keys.{key_cmp, key_lt, key_le}
+use Rattle.slate_types.specs.Keys.{key_cmp, key_lt}
 use Rattle.slate_types.specs.RowTurns.{AreInTurn, NoneEarlier, row_before}
 use Rattle.slate_types.proofs.KeyOrder.{bytes_eq_same, is_less, le_lt_trans, not_lt, equal_keys, turned_key}
 use Rattle.slate_read.specs.Groups.{IsOneKey, StandsApart, in_turn, newest_first, put_behind}

@@ -11,14 +11,16 @@
 --     HandsOut before reads answer after      the answer is such a row, or none, and then no other rows are brought
 --     AddsNone brings refuses m x reads y      behind these reads it neither refuses nor brings more
 --     HandsAway brings refuses m x reads answer y      the answer is a row that it brings, or none, and then it neither refuses nor brings more
---     AddsNothing h order m x reads y      behind these reads a cursor neither refuses nor brings more
+--     AddsNoneByCall brings refuses before after x y      behind the reads of a call it neither refuses nor brings more
+--     HandsAwayByCall brings refuses before after x answer y      by the reads of a call the answer is such a row, or none, and so on
 --     brings_of it m reads r      what a walk over a table brings
 use Rattle.std.specs.Prelude.{◌≡◌, ◌⊎◌, ℕ, ◌<◌, ◌≤◌, List, ◌++◌, length, slice_get, Contains, Option, Some, None, Ok, IfSome}
 use Rattle.slate_types.specs.declared.error.SlateDBError.{SlateDBError}
 use Rattle.slate_types.specs.declared.types.RowEntry.{RowEntry}
 use Rattle.slate_types.specs.declared.iter.IterationOrder.{IterationOrder}
-use Rattle.slate_types.specs.Outside.{Act, Meaning}
+use Rattle.slate_types.specs.Outside.{Act, Meaning, Reach}
 use Rattle.slate_types.specs.Refusing.{NoMore}
+use Rattle.slate_types.specs.World.{Made}
 use Rattle.slate_block.specs.declared.block.Block.{Block}
 use Rattle.slate_block.specs.declared.data_block_iterator.DataBlockIterator.{DataBlockIterator}
 use Rattle.slate_block.specs.BlockWalks.{ReadsLeft}
@@ -32,7 +34,7 @@ use Rattle.slate_read.specs.declared.table_state.Cursor.{Cursor}
 use Rattle.slate_read.specs.declared.table_state.TableState.{TableState}
 use Rattle.slate_read.specs.declared.table_state.TableState.TheVariants.{New, Walking, Refused}
 use Rattle.slate_read.specs.declared.table_state.TableWalk.{TableWalk}
-use Rattle.slate_read.specs.TableWalk.{Walks, answer_at, path_in, read_of, refuses_behind}
+use Rattle.slate_read.specs.TableWalk.{Walks, answer_at, path_in, read_of}
 
 -- ---- the rows of a block
 
@@ -94,5 +96,8 @@ AddsNone {A} brings refuses m x reads y = NoMore (refuses x m) reads (refuses y 
 abbrev pub HandsAway : {A : Type 0} → (A → Meaning → List Act → RowEntry → Type 0) → (A → Meaning → List Act → Option (List ℕ) → SlateDBError → Type 0) → Meaning → A → List Act → Option RowEntry → A → Type 0
 HandsAway {A} brings refuses m x reads answer y = HandsOut (brings x m) reads answer (brings y m) × NoMore (refuses x m) reads (refuses y m)
 
-abbrev pub AddsNothing : SsTableHandle → IterationOrder → Meaning → Cursor → List Act → Cursor → Type 0
-AddsNothing h order m x reads y = AddsNone (brings_behind h order) (refuses_behind h order) m x reads y
+abbrev pub AddsNoneByCall : {A : Type 0} → (A → Meaning → List Act → RowEntry → Type 0) → (A → Meaning → List Act → Option (List ℕ) → SlateDBError → Type 0) → Reach → Reach → A → A → Type 0
+AddsNoneByCall {A} brings refuses before after x y = Made before after (λ reads. AddsNone brings refuses before.meaning x reads y)
+
+abbrev pub HandsAwayByCall : {A : Type 0} → (A → Meaning → List Act → RowEntry → Type 0) → (A → Meaning → List Act → Option (List ℕ) → SlateDBError → Type 0) → Reach → Reach → A → Option RowEntry → A → Type 0
+HandsAwayByCall {A} brings refuses before after x answer y = Made before after (λ reads. HandsAway brings refuses before.meaning x reads answer y)

@@ -2,9 +2,9 @@
 --     among_within      what is among some elements is among more
 --     calls_within      calls whose reads are among some have them among more
 --     brings_within      a row that calls may hand out by some reads they may hand out by more
---     brings_behind_others, brings_before_others      the same, where the other reads stand before these, and where they stand behind
+--     brings_behind_others      the same, where the other reads stand before these
 use Rattle.std.specs.Prelude.{ℕ, List, [], ◌∷◌, ◌++◌, Contains, Option}
-use Rattle.std.proofs.lemmas.List.Elements.{Contains-append_left, Contains-append_right}
+use Rattle.std.proofs.lemmas.List.Elements.{Contains-append_right}
 use Rattle.slate_types.specs.declared.types.RowEntry.{RowEntry}
 use Rattle.slate_types.specs.Outside.{Act, Meaning}
 use Rattle.slate_read.specs.Calls.{AreCalls, BringsByCalls}
@@ -32,6 +32,3 @@ module _ {S : Type 0} (begins : S → Meaning → List Act → S → Type 0) (ta
 
   pub brings_behind_others : (x : S) (m : Meaning) (done reads : List Act) (r : RowEntry) → BringsByCalls begins takes seeks x m reads r → BringsByCalls begins takes seeks x m (done ++ reads) r
   brings_behind_others x m done reads r c = brings_within x m reads (done ++ reads) r c (λ a k. Contains-append_right done reads a k)
-
-  pub brings_before_others : (x : S) (m : Meaning) (reads more : List Act) (r : RowEntry) → BringsByCalls begins takes seeks x m reads r → BringsByCalls begins takes seeks x m (reads ++ more) r
-  brings_before_others x m reads more r c = brings_within x m reads (reads ++ more) r c (λ a k. Contains-append_left reads more a k)

@@ -3,6 +3,17 @@
 --     folded_dropped      folding and seeks commute
 --     folded_through      a row that isn't folded is handed through
 --     folded_gathered      linked rows, of which the last isn't linked with what stands behind it, are folded
+--     following link x xs, beyond link x xs      the elements behind x that are linked, each with the one before it, and those behind these
+--     cut_first, cut_group      what the first group of a cut list is
+--     linked_more      linked elements, and one more that is linked with the last
+--     AreOf key rows, IsOfKey rows      the rows have the key; there are some, and they have the key of the first
+--     and_left, and_right      of two tests that both hold, each does
+--     followed_key, linked_key      a row that follows another, or is linked with it, has its key
+--     cut_of_key      each group is of one key
+--     reverse_front      a list turned round ends with its first element
+--     group_folds      the fold of a group of one key is a row of that key
+--     unlinked      a row that isn't folded is linked with none behind it
+--     linked_operands      linked rows are operands
 use Rattle.std.proofs.Common.{◌≡◌, refl, sym, ap, ◌∙◌, subst, inl, inr, ℕ, ◌&&◌, Bool, true, false, List, [], ◌∷◌, ◌++◌, reverse, Option, Some, append_assoc, bytes_eq, filter_map, if◌then◌else◌}
 use Rattle.std.proofs.lemmas.List.{reverse-append}
 use Rattle.std.specs.List.{AllByRecursion, list_any, cons_option}

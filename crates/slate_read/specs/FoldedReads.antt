@@ -9,9 +9,9 @@ use Rattle.std.specs.Prelude.{ℕ, ◌≡◌, Bool, List, flat_map, reverse, Opt
 use Rattle.slate_types.specs.declared.types.RowEntry.{RowEntry}
 use Rattle.slate_types.specs.RowTurns.{AreInTurn, row_before}
 use Rattle.slate_types.specs.Fold.{Combine, fold_rows, shown, IsLawful, KeepsShort, AreShort}
+use Rattle.slate_types.specs.Rows.{of_key}
 use Rattle.slate_types.specs.declared.iter.IterationOrder.{IterationOrder}
 use Rattle.slate_types.specs.Iteration.{drop_before, IsInOrder}
-use Rattle.slate_read.specs.DecidedKeys.{of_key}
 use Rattle.slate_read.specs.Folding.{NoneRises, cut, folded, links}
 
 abbrev pub KeepsFolds : Type 0

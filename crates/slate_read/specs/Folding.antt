@@ -7,6 +7,7 @@
 --     NoneRises different barrier rows      of no rows one behind the other the second rises so
 --     FoldFalls different barrier rows      nor of those that are folded at first
 --     cut links xs      the list in groups: a cut stands wherever neighbours aren't linked
+--     put_front links x groups      an element before groups: in the first one, where it is linked with the element that begins that, else by itself
 --     fold_group c rows      the fold of a group, newest row first
 --     folded c different barrier rows      the folds of the groups
 --     AreLinked links xs x      elements, and one behind them, of which neighbours are linked

@@ -1,4 +1,5 @@
 -- Rows that were taken off a source to be folded, before one that was read ahead, and before the others.
+--     Taken S      a source, the row that was read ahead, and rows that were taken
 --     rest_taken, sound_taken, refuses_taken      of a source, the row that was read ahead, and the rows that were taken
 --     takes_ahead takes x m reads answer y      the row that was read ahead is the answer, or the source gave it
 --     rest_folds different barrier      the rows of such a state, of which operands are folded

@@ -7,11 +7,12 @@
 --     newest_left order ready gathered rows      what is left where these rows are ready, and these were gathered of the next key
 --     IsGrouped order ready gathered rows      what that rests on, beside the source
 --     rest_grouped, sound_grouped, refuses_grouped      of a source and of the rows that came from it
+--     no_rows      nothing is said of what a call reads and leaves
 --     rows_in_groups groups      how many these are
 --     Stands rest sound refuses before after x y      a part of a call that brings no row
 --     Seeks rest sound refuses order key before after x y      a seek that is done
 --     stays_at key rows      there are rows of one key, which downwards stands at a key or behind it
-use Rattle.std.specs.Prelude.{◌≡◌, ℕ, ◌+◌, Bool, true, false, if◌then◌else◌, not, List, [], ◌∷◌, ◌++◌, reverse, length, bytes_eq, Option}
+use Rattle.std.specs.Prelude.{◌≡◌, ℕ, ◌+◌, Bool, false, if◌then◌else◌, not, List, [], ◌∷◌, ◌++◌, reverse, length, bytes_eq, Option}
 use Rattle.std.specs.List.{AllByRecursion}
 use Rattle.slate_types.specs.declared.error.SlateDBError.{SlateDBError}
 use Rattle.slate_types.specs.declared.types.RowEntry.{RowEntry}

@@ -2,12 +2,14 @@
 --     Gives step x reads rows y      steps that bring these rows, one by one, and then perhaps one that brings none
 --     AreAmong some all      each of some elements is one of these
 --     Held I      a source and the rows that are held of it
+--     refuses_held refuses x      what its source refuses
 --     HandsHeld takes x m reads answer y      the answer, and all that is held then, was held before, or the source brought it
 --     SeeksHeld seeks x m reads key y      all that is held then was held before, and the source sought the key, or wasn't called
 --     held_of groups, held_in progress      the rows that one holds that hands out the newest first
 --     brings_held brings x reads r      one of the rows that are held, or that the source may bring
 use Rattle.std.specs.Prelude.{◌≡◌, ◌⊎◌, ℕ, List, [], ◌++◌, Contains, Option, IfSome}
 use Rattle.std.specs.List.{AllByRecursion}
+use Rattle.slate_types.specs.declared.error.SlateDBError.{SlateDBError}
 use Rattle.slate_types.specs.declared.types.RowEntry.{RowEntry}
 use Rattle.slate_types.specs.Outside.{Act, Meaning}
 use Rattle.slate_types.specs.Steps.{Takes, TakesAll}
@@ -23,6 +25,9 @@ AreAmong {A} some all = AllByRecursion (λ x. Contains all x) some
 
 abbrev pub Held : Type 0 → Type 0
 Held I = I × List RowEntry
+
+abbrev pub refuses_held : {I : Type 0} → (I → Meaning → List Act → Option (List ℕ) → SlateDBError → Type 0) → Held I → Meaning → List Act → Option (List ℕ) → SlateDBError → Type 0
+refuses_held {I} refuses x m reads at e = refuses x.0 m reads at e
 
 abbrev pub HandsHeld : {I : Type 0} → (I → Meaning → List Act → Option RowEntry → I → Type 0) → Held I → Meaning → List Act → Option RowEntry → Held I → Type 0
 HandsHeld {I} takes x m reads answer y =

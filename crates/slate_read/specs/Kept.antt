@@ -1,7 +1,6 @@
 -- Refusals that are kept.
 --     IsKept k e      the kept refusal k, which isn't want of memory, is e
 --     Copies k e      e is the refusal k once more, or want of memory in its place
---     fault_undamaged, kept_undamaged      what they are no damage for
 use Rattle.std.specs.Prelude.{◌≡◌, ◌⊎◌, ◌≢◌}
 use Rattle.slate_types.specs.declared.error.SlateDBError.{SlateDBError}
 use Rattle.slate_types.specs.declared.error.SlateDBError.TheVariants.{OutOfMemory}

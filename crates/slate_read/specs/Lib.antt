@@ -1,3 +1,4 @@
+pub mod Answering
 pub mod Bringing
 pub mod Handing
 pub mod Filtering
@@ -28,6 +29,7 @@ pub mod MergeStates
 pub mod Calls
 pub mod CallLaws
 pub mod MergeBringing
+pub mod SourceSteps
 pub mod MergeStateLaws
 pub mod MergedLaws
 pub mod Required
@@ -42,6 +44,7 @@ pub mod Folding
 pub mod FoldedLaws
 pub mod FoldedReads
 pub mod Folds
+pub mod FoldCalls
 pub mod OperatorIterators
 pub mod OperatorLaws
 pub mod SegmentIterators

@@ -1,10 +1,20 @@
 -- Lists of rows merged into one.
 --     put_in before x xs, in_turn before xs      an element put into a list in turn; all elements in turn, where those that stand
 --                                                alike keep their places
+--     put_all before xs zs      the elements xs put into a list in turn, one after another, the last one first
 --     decided rows      without the older rows of a key after its first row that is no operand
+--     is_hidden hidden key, decides r      the older rows of the key are dropped; the key whose older rows a row decides, where it is no operand
+--     decided_after hidden rows      `decided` of rows behind one that decided this key
+--     shown_rows dedup rows      with dedup the decided ones, else all
 --     merged order dedup lists      all rows of the lists in turn, of rows that stand alike that of the earlier list first; with
 --                                   dedup only the decided ones
+--     all_rows lists      the rows of all lists, one list behind the other
 --     row_bytes r, rows_bytes rows      the bytes of a row's key and value, and of all rows
+--     counted n rows      the count n and the bytes of all rows, up to the greatest number
+--     with_key key rows, past_key key rows      the leading rows that have the key, and the rows behind them
+--     begins_with key rows      the first row has the key
+--     taken_rows dedup rows, rows_after dedup rows      what one step takes of the rows that are left, the first one, and with dedup those that it
+--                                                       decides; and what it leaves
 use Rattle.std.specs.Prelude.{ℕ, ◌+◌, ◌-◌, ◌^◌, min, ◌&&◌, Bool, false, if◌then◌else◌, List, [], ◌∷◌, length, Option, Some, None, bytes_eq, flat_map}
 use Rattle.slate_types.specs.declared.types.RowEntry.{RowEntry}
 use Rattle.slate_types.specs.declared.iter.IterationOrder.{IterationOrder}

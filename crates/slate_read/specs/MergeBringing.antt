@@ -1,24 +1,20 @@
 -- Rows that a merge may hand out, by the reads that are made from now on.
 --     sources_bring brings x m reads r      the row of a head, or one that a source may hand out
 --     takes_front brings x m reads answer y      the answer is the row of a head, or there is no head, and then no other rows are brought
---     AddNothing brings refuses x m reads y      behind these reads sources neither refuse nor bring more
 --     merge_brings brings s m reads r      the rows of a merge; one that was refused brings none
---     MergeAddsNothing brings refuses x m reads y      behind these reads a merge neither refuses nor brings more
 --     brings_merge begins takes seeks it m reads r      of the iterator, by the calls of its sources
 --     MergeBegins, MergeTakes, MergeSeeks begins takes seeks      what a call of a merge may read and answer, and what becomes of it then
 use Rattle.std.specs.Prelude.{◌≡◌, ◌⊎◌, ℕ, List, Option}
 use Rattle.std.specs.BinaryHeap.{heap_items}
-use Rattle.slate_types.specs.declared.error.SlateDBError.{SlateDBError}
 use Rattle.slate_types.specs.declared.types.RowEntry.{RowEntry}
 use Rattle.slate_types.specs.Outside.{Act, Meaning}
-use Rattle.slate_types.specs.Refusing.{NoMore}
 use Rattle.slate_read.specs.declared.merge_iterator.MergeIterator.{MergeIterator}
 use Rattle.slate_read.specs.declared.merge_iterator.MergeState.{MergeState}
 use Rattle.slate_read.specs.declared.merge_iterator.MergeState.TheVariants.{New, Begun, Refused}
 use Rattle.slate_read.specs.Bringing.{HandsOut, NoMoreRows}
 use Rattle.slate_read.specs.Calls.{BringsByCalls}
-use Rattle.slate_read.specs.MergeStates.{HasBegun, IsSameMerge, IsUnrefused, Takes, refuses_in}
-use Rattle.slate_read.specs.Merging.{AnyByRecursion, IsFront, Sources, begun_sources, blames, waiting_sources}
+use Rattle.slate_read.specs.MergeStates.{HasBegun, IsSameMerge, IsUnrefused, Takes}
+use Rattle.slate_read.specs.Merging.{AnyByRecursion, IsFront, Sources, begun_sources, waiting_sources}
 
 module _ {S : Type 0} where
   module _ (brings : S → Meaning → List Act → RowEntry → Type 0) where
@@ -32,13 +28,6 @@ module _ {S : Type 0} where
     merge_brings (New sources) m reads r = sources_bring (waiting_sources sources.items) m reads r
     merge_brings (Begun heads) m reads r = sources_bring (begun_sources (heap_items heads)) m reads r
     merge_brings (Refused e) m reads r = ⊥
-
-    module _ (refuses : S → Meaning → List Act → Option (List ℕ) → SlateDBError → Type 0) where
-      abbrev pub AddNothing : Sources S → Meaning → List Act → Sources S → Type 0
-      AddNothing x m reads y = NoMore (blames refuses x m) reads (blames refuses y m) × NoMoreRows (sources_bring x m) reads (sources_bring y m)
-
-      abbrev pub MergeAddsNothing : MergeState S → Meaning → List Act → MergeState S → Type 0
-      MergeAddsNothing x m reads y = NoMore (refuses_in refuses x m) reads (refuses_in refuses y m) × NoMoreRows (merge_brings x m) reads (merge_brings y m)
 
   module _ (begins : S → Meaning → List Act → S → Type 0) (takes : S → Meaning → List Act → Option RowEntry → S → Type 0) (seeks : S → Meaning → List Act → List ℕ → S → Type 0) where
     abbrev pub brings_merge : MergeIterator S → Meaning → List Act → RowEntry → Type 0

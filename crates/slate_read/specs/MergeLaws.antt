@@ -1,5 +1,6 @@
 -- The laws of merged lists.
 --     merged_same      without dedup a merge has exactly the rows of its lists
+--     in_turn_same      all elements in turn are the same elements
 --     merged_in_turn, merged_in_order      it comes by key in the order and falling sequence, and with dedup by key
 --     merged_kept      what a test keeps of a merge is the merge of what it keeps of each list, as the rows of one key
 --     merged_one, merged_none      a merge of one list in turn is that list, and an empty list changes nothing

@@ -2,6 +2,8 @@
 --     rest_rises, refuses_more, refuses_whole      its rest comes in the order; other reads before take no refusal away; and where each
 --                                            read is answered by the world, nothing is damaged
 --     merges      a new merge is sound where its sources are, and brings their rows merged
+--     any_weaker      what holds of one of some elements, in weaker words
+--     either_more      what a source is blamed for by some reads it is by more
 use Rattle.std.specs.Prelude.{◌≡◌, ℕ, Bool, List, [], ◌∷◌, ◌++◌, map, Option, None}
 use Rattle.std.proofs.Common.{inl, inr, sym, ap, ◌∙◌, subst}
 use Rattle.std.specs.List.{AllByRecursion}

@@ -1,8 +1,11 @@
 -- Where a merge stands.
 --     rest_in, IsSoundIn, bound_in, refuses_in      its rest, whether that is sound, its bound, and what it refuses
+--     left_of rest order s w      all rows that are left, also those that dedup drops
 --     rest_of_merge, IsSoundMerge      the same of the iterator
+--     refuses_of_merge, stays_of_merge      what the iterator refuses, and how it stands then, in the words of an iterator
 --     left_of_merge rest it w      all rows that are left, by key, falling sequence and place, also those that dedup drops
 --     IsWaiting s, HasBegun s      no source has begun; all have
+--     IsUnrefused s      it was never refused
 --     IsFrontIn answer s      it has begun, and the answer is the row of its first head, or it has none
 --     CopiedIn e s      it was refused, and keeps a copy of that
 --     Takes before answer after      the answer is the row of the first head, and it was counted, with rows of its key where it decides them
@@ -11,6 +14,7 @@
 --     Keeps e s      it keeps the refusal e, or want of memory in its place
 --     Stays before at e after      how it stands after it refused
 --     IsSameMerge before after      a merge by the same order and dedup
+--     WaitingAre sources s      no source has begun, and these are all
 --     IsMergeOf sources order dedup it      a merge of these sources, none of which has begun
 use Rattle.std.specs.Prelude.{◌≡◌, ◌⊎◌, ℕ, Bool, List, [], Option, IsSome}
 use Rattle.std.specs.List.{AllByRecursion}
@@ -62,6 +66,9 @@ module _ {S : Type 0} where
   abbrev pub rest_of_merge : (S → World → List RowEntry) → MergeIterator S → World → List RowEntry
   rest_of_merge rest it w = rest_in rest it.order it.dedup it.state w
 
+  abbrev pub refuses_of_merge : (S → Meaning → List Act → Option (List ℕ) → SlateDBError → Type 0) → MergeIterator S → Meaning → List Act → Option (List ℕ) → SlateDBError → Type 0
+  refuses_of_merge refuses it m reads at e = refuses_in refuses it.state m reads at e
+
   abbrev pub IsSoundMerge : (S → World → List RowEntry) → (S → World → Type 0) → (S → IterationOrder) → MergeIterator S → World → Type 0
   IsSoundMerge rest sound order_of it w = IsSoundIn rest sound order_of it.order it.state w
 
@@ -94,6 +101,9 @@ module _ {S : Type 0} where
   Stays before at e after =
       (((e ≡ IteratorNotInitialized) × IsWaiting before.state × (after ≡ before)) ⊎ Keeps e after.state)
       × (IsWaiting before.state → IsSome at → e ≡ IteratorNotInitialized)
+
+  abbrev pub stays_of_merge : MergeIterator S → Meaning → List Act → Option (List ℕ) → SlateDBError → MergeIterator S → Type 0
+  stays_of_merge before m reads at e after = Stays before at e after
 
   pub record IsSameMerge (before after : MergeIterator S) : Type 0 where
     pub order : after.order ≡ before.order

@@ -2,6 +2,7 @@
 --     Falls bound before answer after      the bound fell at a row
 --     Goes rest sound refuses takes bound order_of before after x answer y      `next` of a source answered
 --     Joins goes source behind order old new      the source went among the heads with its next row, or it has ended
+--     JoinsAgain renews head old new      the head's source was begun again, and went with its row among the heads that are done
 --     Renews rest sound refuses begins bound order_of before after x y      a source was begun again
 --     CountsKey key before after      rows of a key were counted
 --     CountsTaken dedup before answer after      a row was counted, with rows of its key where it decides them
@@ -33,6 +34,9 @@ abbrev pub Joins : {S : Type 0} → (S → Option RowEntry → S → Type 0) →
 Joins {S} goes source behind order old new =
     ((after : S) × goes source None after × (new ≡ old))
     ⊎ ((row : RowEntry) × (after : S) × goes source (Some row) after × IsPermutation (record { row = row; behind = behind; order = order; source = after } ∷ old) new)
+
+abbrev pub JoinsAgain : {S : Type 0} → (S → S → Type 0) → Head S → List (Head S) → List (Head S) → Type 0
+JoinsAgain {S} renews head old new = (source : S) × renews head.source source × IsPermutation (record { row = head.row; behind = head.behind; order = head.order; source = source } ∷ old) new
 
 pub record Renews {S : Type 0} (rest : S → World → List RowEntry) (sound : S → World → Type 0) (refuses : S → Meaning → List Act → Option (List ℕ) → SlateDBError → Type 0) (begins : S → Meaning → List Act → S → Type 0) (bound : S → ℕ) (order_of : S → IterationOrder)
     (before after : Reach) (x y : S) : Type 0 where

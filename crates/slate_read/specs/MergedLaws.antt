@@ -10,8 +10,9 @@ use Rattle.std.specs.Prelude.{ℕ, ◌≡◌, ◌-◌, ◌^◌, min, Bool, false
 use Rattle.slate_types.specs.declared.iter.IterationOrder.{IterationOrder}
 use Rattle.slate_types.specs.declared.types.RowEntry.{RowEntry}
 use Rattle.slate_types.specs.Iteration.{IsInOrder}
+use Rattle.slate_types.specs.Rows.{of_key}
 use Rattle.slate_types.specs.RowTurns.{row_before, AreInTurn}
-use Rattle.slate_read.specs.DecidedKeys.{of_key, upto_base}
+use Rattle.slate_read.specs.DecidedKeys.{upto_base}
 use Rattle.slate_read.specs.Merge.{all_rows, counted, decided, merged, rows_bytes}
 use Rattle.slate_read.specs.Merging.{placed_all, placed_rows}
 

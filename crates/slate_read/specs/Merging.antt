@@ -1,12 +1,25 @@
 -- A merge under way: sources that wait, and sources with their first rows.
 --     Placed      a row with the number of lists that stand behind its own
+--     placed_before order p q, placed n rows, rows_in ps      p stands before q; the rows of a list that has so many behind it; and the rows of
+--                                                             placed ones
 --     placed_cmp order p q      by key in the order, falling sequence, and the list's place
 --     placed_all lists      the rows of all lists
+--     placed_rows order ps      the rows by key in the order, falling sequence, and the list's place
+--     Sources S      sources that wait, and those that have begun, with their first rows
+--     AnyByRecursion P xs      P holds of one of the elements
 --     left_rows rest order waiting heads      the rows of the sources in turn
+--     head_placed rest h, left_placed rest waiting heads      a head's row and the rest of its source, placed; and what all have left
+--     ArePlaced heads      no two heads have a place
+--     CanMerge rest sound order s, IsSoundHead rest sound order h      a source, or a head, is sound, and its rows are in turn
 --     IsMerging rest sound order waiting heads      each source is sound and in turn, the heads are a heap, and no two have a place
 --     merging_bound bound waiting heads      no more rows than these are left
 --     IsBlamed refuses waiting heads e      a source refuses for it
+--     either_refusal refuses at s e      a source refuses for it in a seek to a key, or in a call without one
+--     IsFront answer heads, IsTop heads top      the answer is the row of the first head; it is the greatest head; or there is none
+--     has_key key top, is_before key top      this head has the key, or stands before it
+--     waiting_sources waiting, begun_sources heads      sources that all wait, and such as have all begun
 --     left_in, IsMergingIn, blames      what sources are together as an iterator: their rest, whether it is sound, what they refuse
+--     AreReady refuses m heads      no source refuses for want of an `init`
 use Rattle.std.specs.Prelude.{ℕ, ◌≡◌, ◌+◌, ◌≤◌, ◌⊎◌, ◌==◌, Bool, cond, List, [], ◌∷◌, ◌++◌, length, map, flat_map, sum_by, Option, Some, None, false, bytes_eq}
 use Rattle.std.specs.List.{AllByRecursion}
 use Rattle.std.specs.BinaryHeap.{IsHeap, IsUpperBound}

@@ -5,6 +5,10 @@
 --     IsKept e progress      a refusal is kept, or want of memory in its place
 --     Begins before after      one that was new goes on, and nothing has come yet; another one stays
 --     IsNew progress, IsUnrefused progress, IsGoing progress      it is new, wasn't refused, or goes on
+--     RefusesBelow range at e, IsReached range at      a seek to a key before the range is refused, or there is no memory for a copy of the key; no
+--                                                      seek, or one that isn't before it
+--     StaysIn range before at e same after      the same of where it stands; same: it is as it was
+--     begins_newest, takes_newest, seeks_newest      what its calls may read and answer, and what becomes of it then, by what its source's may
 --     Stays before at e after      it refuses, and stands as it stood, or keeps the refusal
 use Rattle.std.specs.Prelude.{◌≡◌, ◌≢◌, ◌⊎◌, ℕ, ◌+◌, true, false, not, Bool, List, [], Option, Some, None, IsSomeAnd}
 use Rattle.slate_types.specs.declared.bytes_range.BytesRange.{BytesRange}
@@ -21,6 +25,7 @@ use Rattle.slate_read.specs.declared.newest_first.NewestFirst.{NewestFirst}
 use Rattle.slate_read.specs.declared.progress.Progress.{Progress}
 use Rattle.slate_read.specs.declared.progress.Progress.TheVariants.{New, Going, Refused}
 use Rattle.slate_read.specs.Groups.{in_turn, rest_grouped, rows_in_groups, sound_grouped}
+use Rattle.slate_read.specs.Handing.{HandsHeld, SeeksHeld, held_in}
 use Rattle.slate_read.specs.Kept.{Copies}
 
 abbrev pub is_below : BytesRange → List ℕ → Bool
@@ -73,6 +78,18 @@ IsUnrefused s = Unit {0}
 abbrev pub IsGoing : Progress → Type 0
 IsGoing (Going groups) = Unit {0}
 IsGoing s = ⊥
+
+module _ {I : Type 0} where
+  abbrev pub begins_newest : (I → Meaning → List Act → I → Type 0) → NewestFirst I → Meaning → List Act → NewestFirst I → Type 0
+  begins_newest begins before m reads after = IsUnrefused before.progress × Begins before.progress after.progress × (after.range ≡ before.range) × begins before.iterator m reads after.iterator
+
+  abbrev pub takes_newest : (I → Meaning → List Act → Option RowEntry → I → Type 0) → NewestFirst I → Meaning → List Act → Option RowEntry → NewestFirst I → Type 0
+  takes_newest takes before m reads answer after =
+      IsGoing before.progress × IsGoing after.progress × (after.range ≡ before.range) × HandsHeld takes (before.iterator, held_in before.progress) m reads answer (after.iterator, held_in after.progress)
+
+  abbrev pub seeks_newest : (I → Meaning → List Act → List ℕ → I → Type 0) → NewestFirst I → Meaning → List Act → List ℕ → NewestFirst I → Type 0
+  seeks_newest seeks before m reads key after =
+      (is_below before.range key ≡ false) × IsGoing before.progress × IsGoing after.progress × (after.range ≡ before.range) × SeeksHeld seeks (before.iterator, held_in before.progress) m reads key (after.iterator, held_in after.progress)
 
 -- ---- a call is refused
 

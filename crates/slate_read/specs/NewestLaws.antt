@@ -1,5 +1,9 @@
 -- The laws of an iterator that hands out the newest row of each key first.
-use Rattle.std.proofs.Common.{◌≡◌, ◌⊎◌, inl, inr, ℕ, Bool, true, false, List, [], ◌∷◌, ◌++◌, Option, Some, None, refl, subst}
+--     key_not_before      a row that isn't before another has no key that comes before
+--     newest_rises      rows that are in turn come in the order
+--     newest_order, newest_more, newest_whole      its rest comes in the order; other reads before take no refusal away; and where each read is
+--                                                  answered by the world, nothing is damaged
+use Rattle.std.proofs.Common.{◌≡◌, inl, inr, ℕ, false, List, [], ◌∷◌, ◌++◌, Option, Some, None, refl, subst}
 use Rattle.std.specs.List.{AllByRecursion}
 use Rattle.slate_types.specs.declared.bytes_range.BytesRange.{BytesRange}
 use Rattle.slate_types.specs.declared.error.SlateDBError.{SlateDBError}
@@ -18,7 +22,7 @@ use Rattle.slate_types.specs.declared.iter.IterationOrder.{IterationOrder}
 use Rattle.slate_types.specs.declared.iter.IterationOrder.TheVariants.{Ascending, Descending}
 use Rattle.slate_types.specs.Iteration.{IsInOrder, NoneBefore, comes_before}
 use Rattle.slate_types.specs.Keys.{key_cmp}
-use Rattle.slate_types.specs.RowTurns.{AreInTurn, NoneEarlier, key_order, row_before}
+use Rattle.slate_types.specs.RowTurns.{AreInTurn, NoneEarlier, row_before}
 
 first_not : (o p : Ordering) → is_lt (ordering_then o p) ≡ false → is_lt o ≡ false
 first_not Less p h = h

@@ -10,6 +10,8 @@
 --     IsOwn refuses before after source e      the refusal is a fault, or the source's own
 --     Begins, Takes, Seeks      it began, took a row, and sought a key; without an operator the row is one of its source, and isn't folded
 --     Keeps e it      it keeps the refusal e, or want of memory for a copy
+--     KeepsIn e refusal, StaysIn refusal begun at e same keeps      the same of the refusal that it keeps, where it keeps one; same: it stands as it
+--                                                                   stood
 --     Stays before m reads at e after      it refuses, and keeps that; or it stands as it stood
 --     KeepsRefusals refuses takes begins seeks      behind a refusal each call answers it again, or want of memory for a copy
 use Rattle.std.specs.Prelude.{◌≡◌, ◌≢◌, ◌⊎◌, ℕ, ◌+◌, true, false, Bool, List, [], Option, Some, None, IsSomeAnd}

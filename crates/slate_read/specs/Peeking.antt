@@ -1,7 +1,10 @@
 -- A row that was read ahead of the others.
 --     with_ahead ahead rows      the row that was read ahead, where there is one, and the others
 --     head_of rows      the first row
+--     ahead_bound ahead      how many rows were read ahead, which is one at most
+--     is_kept order key ahead      a row was read ahead, and doesn't come before the key
 --     rest_peeked, IsSoundPeeked, bound_peeked, refuses_peeked      what an iterator with such a row is by what its source is
+--     ahead_of it      the row that was read ahead
 --     IsPeeking iterator it      it has the rows of the iterator, and none was read ahead
 --     TakesAhead takes ahead reads answer before after      the row that was read ahead is the answer, or the source gave it
 use Rattle.std.specs.Prelude.{ℕ, ◌≡◌, ◌+◌, Bool, false, not, List, [], ◌∷◌, Option, Some, None}

@@ -1,5 +1,6 @@
 -- The rows of a stored table in a range, before the table is opened.
-use Rattle.std.specs.Prelude.{◌≡◌, List, filter}
+--     IsRangeOf range table order it      in each world that has the table it is sound, and the rows of the table in the range are left
+use Rattle.std.specs.Prelude.{◌≡◌, filter}
 use Rattle.slate_types.specs.declared.bytes_range.BytesRange.{BytesRange}
 use Rattle.slate_types.specs.declared.iter.IterationOrder.{IterationOrder}
 use Rattle.slate_table.specs.declared.info.SsTableHandle.{SsTableHandle}

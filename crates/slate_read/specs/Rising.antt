@@ -1,4 +1,7 @@
 -- What a merge hands out comes in the order.
+--     none_before_decided      of rows of which none comes before a key no decided one does
+--     shown_in_order      rows in the order are so without those that dedup drops
+--     left_in_turn, shown_left      what sources have left is in turn, and what is shown of it comes in the order
 use Rattle.std.specs.Prelude.{ℕ, Bool, true, false, List, [], ◌∷◌, Option, None}
 use Rattle.std.proofs.Common.{inl, inr}
 use Rattle.slate_types.specs.declared.types.RowEntry.{RowEntry}

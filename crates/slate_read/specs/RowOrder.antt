@@ -1,4 +1,13 @@
 -- The orders of rows and of placed rows.
+--     row_total, placed_total      by their comparisons rows and placed rows are ordered
+--     rows_ranked, placed_ranked      and so by which stands before which
+--     placed_apart      of rows of two lists one stands before the other
+--     put_either, put_past_all, all_past_all      rows of two lists can be put in either way round
+--     placed_behind      the rows of a list that stand behind its first do so where they are placed
+--     not_before_key, none_before_turn, in_order_turn      what doesn't stand before a row has no key before its key; so rows in turn come in the
+--                                                          order
+--     rows_in_turn      placed rows in turn are rows in turn
+--     dropped_in_turn, dropped_again      what is left behind a seek is in turn, and the same seek leaves all of it
 use Rattle.std.proofs.Common.{◌≡◌, ℕ, Bool, true, false, cond, List, [], ◌∷◌, refl, sym, ap, ◌∙◌, inl, inr, ◌⊎◌, arith, rules, ltb, ◌==◌, Ordering, Less, Equal, Greater}
 use Rattle.std.specs.Cmp.{IsStrictWeakOrder, IsTotalOrder}
 use Rattle.std.specs.Cmp.Rules.{comparing}

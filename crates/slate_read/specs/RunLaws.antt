@@ -1,4 +1,9 @@
 -- The laws of a walk over the tables of a run, and of iterators over one.
+--     open_more, waiting_more, cursor_more, run_more      what some reads refuse, more do: of the table that is open, of those that weren't opened,
+--                                                         of all, and of a walk
+--     run_whole      where each read is answered by the world, nothing is damaged
+--     run_rising      the rest of a walk comes in the order
+--     run_iterator_rising, run_iterator_more, run_iterator_whole      the same of an iterator that hands out the newest of each key first
 use Rattle.std.proofs.Common.{inl, inr, ℕ, List, ◌++◌, Option, Some, None, subst}
 use Rattle.std.specs.List.{AllByRecursion}
 use Rattle.std.proofs.lemmas.List.Elements.{All-contains, All-from_recursion}

@@ -1,19 +1,29 @@
 -- A walk over the tables of a run, one after another.
 --     can_reach range info      by its first and its last key a table can hold a key of the range
+--     reaches_start range last, reaches_end range first      the last key of a table isn't before the range, and the first not behind it, or the
+--                                                            table names none
 --     is_passed order key info      by one of these all keys of a table come before the key
+--     end_key order info, is_end_passed order key end      the key of a table that comes last in the order; it comes before the key
 --     waiting cursor      the tables that weren't opened, the next one first
 --     rest_open, IsSoundOpen, refuses_open, bound_open      of the table that is open
+--     RefusesOpen order x m reads e      `refuses_open` in any call
 --     rest_waiting, AreHeld, RefusesWaiting      of the tables that weren't opened
 --     rest_run, IsSoundRun, refuses_run, bound_run      of all, with the row that was read ahead
---     rest_of_run it w, IsSoundRunWalk it w, bound_in_run, refuses_in_run      of a walk over a run
+--     rows_ahead ahead      the row that was read ahead, where there is one
+--     rest_of_run it w, IsSoundRunWalk it w, refuses_of_run      of a walk over a run
+--     rest_run_in, sound_run_in, refuses_run_in, bound_run_in      the same by where the walk stands
 --     IsTableOpened range m table reads open      a table is opened, by one read of its index
+--     OpensTable range m table reads open      the same, where it is open then
 --     OpensNext range m reads before some after      the next table is opened, where one is left
 --     FindsRow order key before after x answer y      the first row behind those before a key is taken off the table that is open
+--     IsOpenRising order x w      the table that is open is sound, and its rest comes in the order
+--     is_next_passed order key tables      all keys of the first table come before the key
 --     PassesOver order key before after      tables that the order puts before a key as a whole are passed over
 --     IsGoingRun, IsNewRun, IsUnrefusedRun s      it goes on, wasn't begun, or wasn't refused
 --     IsSameRun before after      it has the same range and order
 --     KeepsRun e s      a refusal is kept, or want of memory in its place
 --     StaysRun before at e after      it refuses, and stands as it stood, or keeps the refusal
+--     StaysRunIn before at e after      the same of where it stands
 use Rattle.std.specs.Prelude.{◌≡◌, ◌≢◌, ◌⊎◌, ℕ, ◌+◌, ◌*◌, Bool, true, false, ◌&&◌, List, [], ◌∷◌, ◌++◌, length, flat_map, Contains, Option, Some, None}
 use Rattle.std.specs.List.{AllByRecursion}
 use Rattle.slate_types.specs.declared.bytes_range.BytesRange.{BytesRange}

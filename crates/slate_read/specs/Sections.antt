@@ -1,4 +1,8 @@
 -- Where the sections of a stored table's blocks lie in a read of neighbouring blocks.
+--     part_twice      a part of a part
+--     starts_apart, starts_rise, starts_upto      each block begins behind the one before it
+--     starts_within      and inside the table
+--     section_there      what an honest answer says of the section of a block
 use Rattle.std.proofs.Common.{◌≡◌, ◌<◌, ◌≤◌, ◌+◌, ◌-◌, ℕ, suc, zero, Bool, true, false, cond, leb, List, take, drop, length, Option, Some, None, refl, sym, ap, subst, ◌∙◌, arith, inl}
 use Rattle.std.specs.Prelude.{nat_lt}
 use Rattle.std.proofs.lemmas.Bool.{le-leb}

@@ -1,8 +1,11 @@
 -- Iterators over the runs of segments.
 --     meets range prefix      whether a key that begins with the prefix can be in the range
+--     can_begin start prefix      a key that begins with the prefix can be behind the start of a range
+--     source_rest, source_sound, source_order, source_bound, source_refuses      an iterator over one run
 --     segment_rest, segment_sound, segment_order, segment_bound, segment_refuses      an iterator over the runs of segments
 --     BeginWith prefix rows      each key begins with the prefix
 --     AreRuns range order runs its      new iterators over these runs, one for each
+--     met_runs range runs      the runs whose prefixes can begin keys of the range
 --     AreSegmentsReadable w runs kepts      the tables of each run are readable, and its keys begin with its prefix
 --     merged_runs range order kepts      the rows of runs in a range, in an order, those of a key by falling sequence, and of one sequence that of the earlier run first
 --     IsSegmentMerge range runs order it      it is new, and over the runs alone whose prefixes can begin keys of the range; and in each world that has all the runs,

@@ -1,4 +1,6 @@
 -- The laws of iterators over the runs of segments.
+--     segment_rising, segment_more, segment_whole      its rest comes in the order; other reads before take no refusal away; and where each read is
+--                                                      answered by the world, nothing is damaged
 use Rattle.std.specs.Prelude.{ℕ, List, ◌++◌, Option}
 use Rattle.std.specs.List.{AllByRecursion}
 use Rattle.slate_types.specs.declared.error.SlateDBError.{SlateDBError}

@@ -1,7 +1,7 @@
 -- How stored tables are read.
 --     default_options      one block at a time, upwards, and no filter is asked
 --     CanFetch options      a read takes some bytes, and some reads are made
-use Rattle.std.specs.Prelude.{ℕ, ◌<◌, None}
+use Rattle.std.specs.Prelude.{◌<◌, None}
 use Rattle.slate_types.specs.declared.iter.IterationOrder.TheVariants.{Ascending}
 use Rattle.slate_read.specs.declared.sst_iterator_options.SstIteratorOptions.{SstIteratorOptions}
 

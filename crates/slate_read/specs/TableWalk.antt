@@ -1,18 +1,62 @@
 -- A walk over the blocks of a stored table.
 --     root, path_in h      the folder of the store's objects, and where a table stands
---     index_size, index_start, start_of, size_of      where the sections of the index and of a block lie
+--     start_of, size_of      where the section of a block lies
+--     size_between h entries first stop      the bytes of neighbouring blocks
+--     read_of h entries first stop given, answer_at h entries first stop given block      a read of neighbouring blocks, and what it says of the
+--                              section of one
 --     Walks version order block it      what a block's walk has at its start
+--     RefusesRows version order block e      a walk over the block is refused, or a row of it
 --     RefusesWalk decode version order section e      the section is refused, or its block, or a row of that
+--     RefusesSome m h entries order reads e      a read of neighbouring blocks shows one that is refused, or has a row that is
+--     RefusesLeft open e, RefusesReady version order ready e      a row is refused that is left of the block that is open, or of a block that was
+--                                                                 read ahead
+--     RefusesUnread m h order reads e      of a table that wasn't opened, the index is refused, or a block of it
+--     refuses_blocks h order cursor      what blocks of a cursor's table are refused for, by the reads
+--     IsIndexed m h reads entries, RefusesIndexed m h reads e, refuses_index h      the index was read by one read of its section, or is refused
 --     max_blocks, max_reads      a table has fewer blocks, and a walk over a block not more rows
 --     rows_between kept first stop      the rows of neighbouring blocks
---     rest_of it w, bound_of it, refuses_of it      of a walk over a table
+--     left_in open, reads_in open      the rows that the block that is open has left, and how many reads of rows these are
+--     rest_behind cursor order kept, rest_covered range order kept      the rows behind a cursor, and those of all blocks that can hold keys of a
+--                                                                       range
+--     rest_in, rest_at, bound_in, refuses_in      the rows of a walk that is new, walks or was refused, how many reads of rows are left, and what it
+--                                                 refuses
+--     rest_after h order cursor w, bound_behind cursor, refuses_behind h order cursor      the same of a cursor
+--     rest_of it w      the rows of a walk over a table
 --     nth_block order first stop n      the number of a block of a row of neighbours, by how many come before it in the order
 --     IsFetched p h entries first stop reads blocks      neighbouring blocks were read by one read
+--     size_upto size n, IsEnough size bytes left count      the sum of the first sizes; and so many blocks are taken: one, and more until they have
+--                                                           so many bytes or none is left
+--     unread_first order cursor, unread_stop order cursor, unread_size h entries order first stop n      the blocks that weren't read, and the bytes
+--                              of one of these
+--     StandsNext order first stop from upto      blocks that stand first of neighbouring ones, in the order
 --     IsNextFetch h order limit cursor first stop      the blocks that the next read takes
+--     Fetches m h order bytes reads before after      these were read by one read, and stand ready
 --     index_lies, block_lies      where they lie in an object, and what their checksums cover
+--     index_part h kept, block_part h kept entries block      what the bytes of an object say of these sections
 --     IsReadable p h kept      an object is a table of this handle, whose blocks have these rows
+--     IsWhole order open, AreReadAhead h order kept cursor      no row that the block that is open has left is refused; and the blocks that were read
+--                                                               ahead are the next ones
 --     IsSoundWalk it w      what the rest of a walk rests on
+--     IsSoundCursor h order cursor w, IsSoundState, IsSoundAt      the same of a cursor, of where a walk stands, and of that in a range
+--     IsSoundRising h order cursor w      a cursor is sound, and what is behind it comes in the order
+--     next_first order cursor, next_stop order cursor      the blocks that are left behind the next one
+--     AreOpened version order block open, Opens h order before after      the rows of the block are open; the next block, which was read ahead, is
+--                                                                         opened
+--     TakesOpen before answer after      a row of the block that is open is taken, or that is spent
+--     SkipsOpen key before some after      its rows are taken off before a key; some: whether one is left
+--     no_words      nothing is said of what a call reads and leaves
+--     StepsBehind h order before after x answer y      the next row behind a cursor was taken
+--     Sought rest sound refuses order key before after x y, SoughtBehind h order key before after x y      a seek is done, and one of a cursor
+--     StaysAtEnd order before after, passed_over order before after      the end that the order comes to stays; how many blocks were passed over
+--     Jumps order key before after      the blocks were passed over that the order puts before a key as a whole
+--     is_in range r, rows_in range order kept      the row is in the range; the rows of a table that are, in the order
+--     BeginsAt range entries cursor, Begins range entries s, BeginsIn range before after      a walk begins at the blocks that can hold keys of the
+--                              range, and one that has begun stays
+--     IsUnopened s, IsWalking s      it wasn't begun; it walks
+--     IsSameWalk before after      it is over the same table, with the same range and order
+--     Keeps e s      a refusal is kept, or want of memory in its place
 --     Stays before at e after      it refuses, and stands as it stood, or keeps the refusal
+--     StaysIn before at e after      the same of where it stands
 use Rattle.std.specs.Prelude.{◌≡◌, ◌≢◌, ◌⊎◌, ℕ, zero, suc, ◌+◌, ◌-◌, ◌*◌, ◌^◌, ◌<◌, ◌≤◌, true, List, [], ◌∷◌, ◌++◌, drop, length, flat_map, slice_get, slice_range, Contains, IsSorted, Bool, false, filter, codes, Option, Some, None, Ok, Err, IsOk}
 use Rattle.std.specs.List.{AllByRecursion}
 use Rattle.slate_types.specs.declared.bytes_range.BytesRange.{BytesRange}
@@ -50,6 +94,7 @@ use Rattle.slate_read.specs.Kept.{Copies}
 use Rattle.slate_types.specs.World.{Checks, Kept, Made, Section, Sees, World}
 use Rattle.slate_types.specs.Outside.{Meaning, Reach}
 use Rattle.slate_types.specs.Refusing.{IsDamage, NoMore}
+use Rattle.slate_types.specs.Steps.{Step}
 
 abbrev pub root : List ℕ
 root = codes "db"
@@ -162,6 +207,10 @@ RefusesUnread p h order reads e =
     (given : Option (List ℕ)) × Contains reads (Act.read (path_in h) h.info.index_offset h.info.index_len given)
     × (RefusesIndex p.decode h.info.filter_offset (of_index h (whole_answer h.info.index_len given)) e
     ⊎ ((entries : List (ℕ × List ℕ)) × IsIndexRead p.decode h.info.filter_offset (of_index h (whole_answer h.info.index_len given)) entries × RefusesSome p h entries order reads e))
+
+-- of the blocks of a cursor's table, by the reads
+abbrev pub refuses_blocks : SsTableHandle → IterationOrder → Cursor → Meaning → List Act → Option (List ℕ) → SlateDBError → Type 0
+refuses_blocks h order cursor p reads at e = IsDamage e × RefusesSome p h (entries_of cursor.index) order reads e
 
 abbrev pub refuses_behind : SsTableHandle → IterationOrder → Cursor → Meaning → List Act → Option (List ℕ) → SlateDBError → Type 0
 refuses_behind h order cursor p reads at e = IsDamage e × (RefusesLeft cursor.rows e ⊎ RefusesReady h.format_version order cursor.ready.items e ⊎ RefusesSome p h (entries_of cursor.index) order reads e)
@@ -347,6 +396,9 @@ abbrev pub RefusesIndexed : Meaning → SsTableHandle → List Act → SlateDBEr
 RefusesIndexed p h reads e =
     (given : Option (List ℕ)) × Contains reads (Act.read (path_in h) h.info.index_offset h.info.index_len given) × RefusesIndex p.decode h.info.filter_offset (of_index h (whole_answer h.info.index_len given)) e
 
+abbrev pub refuses_index : SsTableHandle → Meaning → List Act → Option (List ℕ) → SlateDBError → Type 0
+refuses_index h m reads at e = IsDamage e × RefusesIndexed m h reads e
+
 -- a refusal is kept, or want of memory in its place
 abbrev pub Keeps : SlateDBError → TableState → Type 0
 Keeps e s = (s ≡ Refused e) ⊎ (s ≡ Refused OutOfMemory)
@@ -419,6 +471,13 @@ pub record Sought {A : Type 0} (rest : A → World → List RowEntry) (sound : A
   pub still : (w : World) → Sees w before after → sound x w → sound y w
   pub checked : (w : World) → sound x w → Checks w before after
   pub made : Made before after (λ reads. NoMore (refuses x before.meaning) reads (refuses y before.meaning))
+
+-- of a cursor
+abbrev pub StepsBehind : SsTableHandle → IterationOrder → Reach → Reach → Cursor → Option RowEntry → Cursor → Type 0
+StepsBehind h order before after x answer y = Step (rest_after h order) (IsSoundCursor h order) (refuses_behind h order) no_words before after x answer y
+
+abbrev pub SoughtBehind : SsTableHandle → IterationOrder → List ℕ → Reach → Reach → Cursor → Cursor → Type 0
+SoughtBehind h order key before after x y = Sought (rest_after h order) (IsSoundRising h order) (refuses_behind h order) order key before after x y
 
 -- blocks that the order puts before a key as a whole are passed over
 abbrev pub StaysAtEnd : IterationOrder → Cursor → Cursor → Type 0

@@ -1,4 +1,13 @@
 -- Elements in turn.
+--     both      a test holds, or doesn't
+--     put_first      an element that none stands before is put first
+--     none_earlier_put, none_earlier_put_all, none_earlier_chain      none stands before an element: among what was put in, and where it stands
+--                                                                     before another
+--     put_all_append      elements of two lists put in
+--     in_turn_already      a list in turn stays as it is
+--     are_in_turn_put, are_in_turn_all, in_turn_is      what is put in turn is in turn
+--     filter_put, filter_put_all, filter_in_turn      what a filter keeps of all in turn is all that it keeps, in turn
+--     put_swap      two elements, of which one stands before the other, can be put in either way round
 use Rattle.std.proofs.Common.{◌≡◌, Bool, true, false, cond, List, [], ◌∷◌, ◌++◌, refl, sym, ap, ◌∙◌, inl, inr, ◌⊎◌, filter}
 use Rattle.std.specs.Cmp.{IsStrictWeakOrder}
 use Rattle.slate_types.specs.RowTurns.{NoneEarlier, AreInTurn}

@@ -1,4 +1,10 @@
 -- The laws of a walk over a table.
+--     whole_part, known_answer      what a read of a part answers, and what the world answers to it
+--     some_more, unread_more, refuses_more      what some reads refuse, more do: of neighbouring blocks, of a table that wasn't opened, and of a walk
+--     known_section      what a read that the world answered says of the section of a block
+--     left_whole, ready_whole, some_whole, unread_whole, refuses_whole      where each read is answered by the world, nothing is damaged: of the
+--                                                                           block that is open, of those read ahead, of neighbouring ones, of a table
+--                                                                           that wasn't opened, and of a walk
 use Rattle.std.proofs.Common.{◌≡◌, ◌⊎◌, inl, inr, ◌<◌, ◌≤◌, ◌+◌, ℕ, suc, zero, List, [], ◌∷◌, ◌++◌, length, Option, Some, None, refl, sym, ap, subst, ◌∙◌, arith, take, drop, leb, cond, Bool, true, false}
 use Rattle.std.proofs.lemmas.Bool.{eq-eqb, leb-true}
 use Rattle.std.proofs.lemmas.Option.{slice_get_within}

@@ -1,14 +1,14 @@
 //! Blocks of a stored table, read ahead.
-ghost use Rattle.std.specs.Prelude.{◌≡◌, ◌⊎◌, ◌<◌, ◌≤◌, ◌+◌, ◌-◌, ◌++◌, length, IfErr, OnOk};
+ghost use Rattle.std.specs.Prelude.{◌≡◌, ◌<◌, ◌≤◌, ◌+◌, ◌-◌, ◌++◌, length, IfErr, OnOk};
 ghost use Rattle.slate_types.specs.declared.error.SlateDBError.{SlateDBError};
 ghost use Rattle.slate_types.specs.Iteration.{in_order};
-ghost use Rattle.slate_types.specs.Outside.{IsFault, OnlyReads};
-ghost use Rattle.slate_types.specs.Refusing.{IsDamage};
+ghost use Rattle.slate_types.specs.Outside.{OnlyReads};
 ghost use Rattle.slate_types.specs.World.{Made};
 ghost use Rattle.slate_types.proofs.Moves.{Moves};
 ghost use Rattle.slate_table.specs.IndexValue.{entries_of};
-ghost use Rattle.slate_read.specs.Bringing.{AddsNothing};
-ghost use Rattle.slate_read.specs.TableWalk.{Fetches, IsEnough, IsNextFetch, IsSoundCursor, RefusesSome, nth_block, refuses_behind, rest_after, size_of, start_of, unread_first, unread_size, unread_stop};
+ghost use Rattle.slate_read.specs.Answering.{IsFaultOr};
+ghost use Rattle.slate_read.specs.Bringing.{AddsNoneByCall, brings_behind};
+ghost use Rattle.slate_read.specs.TableWalk.{Fetches, IsEnough, IsNextFetch, IsSoundCursor, nth_block, refuses_behind, refuses_blocks, rest_after, size_of, start_of, unread_first, unread_size, unread_stop};
 
 use crate::fetch_limits::FetchLimits;
 use crate::table_state::Cursor;
@@ -136,7 +136,7 @@ impl Cursor {
     ) -> Result<(), SlateDBError>
         requires { length self.old.ready.items < self.old.stop - self.old.first }
         ensures fetched { let reach = ⟦<EnvOf<S, M, T> as Outside>⟧.reach in OnOk result (Made (reach env.old) (reach env.new) (λ reads. Fetches (reach env.old).meaning table.now order bytes reads self.old self.new)) }
-        ensures cause { let reach = ⟦<EnvOf<S, M, T> as Outside>⟧.reach in IfErr result (λ e. Made (reach env.old) (reach env.new) (λ reads. IsFault (reach env.old) (reach env.new) e ⊎ (IsDamage e × RefusesSome (reach env.old).meaning table.now (entries_of self.old.index) order reads e))) }
+        ensures cause { let reach = ⟦<EnvOf<S, M, T> as Outside>⟧.reach in IfErr result (λ e. IsFaultOr (refuses_blocks table.now order) (reach env.old) (reach env.new) self.old None e) }
         ensures reads { let reach = ⟦<EnvOf<S, M, T> as Outside>⟧.reach in OnlyReads (reach env.old) (reach env.new) }
     {
         let blocks = self.next_fetch(table, order, bytes);
@@ -166,12 +166,12 @@ impl Cursor {
     ) -> Result<(), SlateDBError>
         requires { self.old.first < self.old.stop }
         ensures moved { let reach = ⟦<EnvOf<S, M, T> as Outside>⟧.reach in OnOk result (Moves (rest_after table.now order) (IsSoundCursor table.now order) (refuses_behind table.now order) (reach env.old) (reach env.new) self.old self.new) }
-        ensures cause { let reach = ⟦<EnvOf<S, M, T> as Outside>⟧.reach in IfErr result (λ e. Made (reach env.old) (reach env.new) (λ reads. IsFault (reach env.old) (reach env.new) e ⊎ refuses_behind table.now order self.old (reach env.old).meaning reads None e)) }
+        ensures cause { let reach = ⟦<EnvOf<S, M, T> as Outside>⟧.reach in IfErr result (λ e. IsFaultOr (refuses_behind table.now order) (reach env.old) (reach env.new) self.old None e) }
         ensures first { OnOk result (self.new.first ≡ self.old.first) }
         ensures stop { OnOk result (self.new.stop ≡ self.old.stop) }
         ensures rows { OnOk result (self.new.rows ≡ self.old.rows) }
         ensures some { OnOk result (0 < length self.new.ready.items) }
-        ensures adds { let reach = ⟦<EnvOf<S, M, T> as Outside>⟧.reach in OnOk result (Made (reach env.old) (reach env.new) (λ reads. AddsNothing table.now order (reach env.old).meaning self.old reads self.new)) }
+        ensures adds { let reach = ⟦<EnvOf<S, M, T> as Outside>⟧.reach in OnOk result (AddsNoneByCall (brings_behind table.now order) (refuses_behind table.now order) (reach env.old) (reach env.new) self.old self.new) }
         ensures reads { let reach = ⟦<EnvOf<S, M, T> as Outside>⟧.reach in OnlyReads (reach env.old) (reach env.new) }
     {
         if !self.ready.is_empty() {

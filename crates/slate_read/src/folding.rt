@@ -1,15 +1,16 @@
 //! Which rows are folded, and the fold of the next ones of a source.
-ghost use Rattle.std.specs.Prelude.{◌≡◌, ◌⊎◌, ◌<◌, ◌≤◌, ◌+◌, ◌++◌, ◌∷◌, [], true, false, Option, Some, None, IfOk, IfErr, IsSome, OnOk};
+ghost use Rattle.std.specs.Prelude.{◌≡◌, ◌<◌, ◌≤◌, ◌+◌, ◌∷◌, [], true, false, Option, Some, None, IfOk, IfErr, IsSome, OnOk};
 ghost use Rattle.slate_types.specs.declared.error.SlateDBError.{SlateDBError};
 ghost use Rattle.slate_types.specs.Equality as equality;
-ghost use Rattle.slate_types.specs.Outside.{IsFault, OnlyReads};
+ghost use Rattle.slate_types.specs.Outside.{OnlyReads};
 ghost use Rattle.slate_types.specs.Refusing.{NoMore};
 ghost use Rattle.slate_types.specs.Steps.{Step};
 ghost use Rattle.slate_types.specs.World.{World, Made, Sees};
 ghost use Rattle.slate_types.proofs.Moves.{Moves};
-ghost use Rattle.slate_read.specs.Calls.{BringsByCalls};
+ghost use Rattle.slate_read.specs.Answering.{AnswersBy, IsFaultOr};
+ghost use Rattle.slate_read.specs.FoldCalls.{FailsFolding, StepsFolding, group_rows, operable_by, stops_gathering};
 ghost use Rattle.slate_read.specs.Folding.{AreLinked, FoldFalls, NoneRises, begins_linked, follows, is_open, links};
-ghost use Rattle.slate_read.specs.Folds.{BlamesNext, MeetsRise, folds_held, hands_out, operable_taken, refuses_folds, refuses_taken, rest_folds, rest_taken, sound_taken, takes_ahead};
+ghost use Rattle.slate_read.specs.Folds.{folds_held, refuses_taken, rest_taken, sound_taken, takes_ahead};
 ghost use Rattle.slate_read.specs.OperatorIterators.{IsOwn};
 ghost use Rattle.slate_read.specs.Peeking.{ahead_bound, with_ahead};
 
@@ -44,7 +45,7 @@ fn take_ahead<E: Outside, I: RowEntryIterator<E>>(
 ) -> Result<Option<RowEntry>, SlateDBError>
     ensures step { IfOk result (λ answer. Step (rest_taken I.rest) (sound_taken I.rest I.sound I.order) (refuses_taken I.refuses) (takes_ahead I.takes) (E.reach env.old) (E.reach env.new) (iterator.old, ahead.old, []) answer (iterator.new, None, [])) }
     ensures empty { ahead.new ≡ None }
-    ensures cause { IfErr result (λ e. Made (E.reach env.old) (E.reach env.new) (λ reads. IsFault (E.reach env.old) (E.reach env.new) e ⊎ I.refuses iterator.old (E.reach env.old).meaning reads None e)) }
+    ensures cause { IfErr result (λ e. IsFaultOr I.refuses (E.reach env.old) (E.reach env.new) iterator.old None e) }
     ensures smaller { IfOk result (λ answer. IsSome answer → I.bound iterator.new < ahead_bound ahead.old + I.bound iterator.old) }
     ensures no_larger { OnOk result (I.bound iterator.new ≤ ahead_bound ahead.old + I.bound iterator.old) }
     ensures order { I.order iterator.new ≡ I.order iterator.old }
@@ -93,13 +94,15 @@ impl Folding {
         env: &mut E,
     ) -> Result<Group, SlateDBError>
         requires none { ahead.old ≡ None }
-        ensures moved { IfOk result (λ group. Moves (rest_taken I.rest) (sound_taken I.rest I.sound I.order) (refuses_taken I.refuses) (E.reach env.old) (E.reach env.new) (iterator.old, None, first ∷ []) (iterator.new, ahead.new, group.newer.items ++ (group.oldest ∷ []))) }
+        ensures moved { IfOk result (λ group. Moves (rest_taken I.rest) (sound_taken I.rest I.sound I.order) (refuses_taken I.refuses) (E.reach env.old) (E.reach env.new) (iterator.old, None, first ∷ []) (iterator.new, ahead.new, group_rows group)) }
         ensures linked { IfOk result (λ group. AreLinked (links self.merge_different_expire_ts self.snapshot_barrier_seq) group.newer.items group.oldest) }
-        ensures ends { (w : World) → Sees w (E.reach env.old) (E.reach env.new) → sound_taken I.rest I.sound I.order (iterator.old, None, first ∷ []) w → IfOk result (λ group. begins_linked (links self.merge_different_expire_ts self.snapshot_barrier_seq) group.oldest (with_ahead ahead.new (I.rest iterator.new w)) ≡ false) }
-        ensures came { OnOk result (Made (E.reach env.old) (E.reach env.new) (λ reads. folds_held I.takes (iterator.old, None, []) (E.reach env.old).meaning reads (iterator.new, ahead.new, []) × NoMore (I.refuses iterator.old (E.reach env.old).meaning) reads (I.refuses iterator.new (E.reach env.old).meaning))) }
-        ensures falls { IfOk result (λ group. NoneRises self.merge_different_expire_ts self.snapshot_barrier_seq (group.newer.items ++ (group.oldest ∷ []))) }
-        ensures cause { IfErr result (λ e. Made (E.reach env.old) (E.reach env.new) (λ reads. IsFault (E.reach env.old) (E.reach env.new) e ⊎ (I.refuses iterator.old (E.reach env.old).meaning reads None e ⊎ MeetsRise (λ u rs a v. I.takes u (E.reach env.old).meaning rs a v) self.merge_different_expire_ts self.snapshot_barrier_seq (Some first) reads iterator.old iterator.new e))) }
-        ensures own { (w : World) → Sees w (E.reach env.old) (E.reach env.new) → sound_taken I.rest I.sound I.order (iterator.old, None, first ∷ []) w → NoneRises self.merge_different_expire_ts self.snapshot_barrier_seq (rest_taken I.rest (iterator.old, None, first ∷ []) w) → IfErr result (λ e. IsOwn I.refuses (E.reach env.old) (E.reach env.new) iterator.old e) }
+        ensures ends { (w : World) → Sees w (E.reach env.old) (E.reach env.new) → sound_taken I.rest I.sound I.order (iterator.old, None, first ∷ []) w →
+            IfOk result (λ group. begins_linked (links self.merge_different_expire_ts self.snapshot_barrier_seq) group.oldest (with_ahead ahead.new (I.rest iterator.new w)) ≡ false) }
+        ensures came { OnOk result (AnswersBy (folds_held I.takes) (refuses_taken I.refuses) (E.reach env.old) (E.reach env.new) (iterator.old, None, []) (iterator.new, ahead.new, [])) }
+        ensures falls { IfOk result (λ group. NoneRises self.merge_different_expire_ts self.snapshot_barrier_seq (group_rows group)) }
+        ensures cause { IfErr result (λ e. IsFaultOr (stops_gathering self I.refuses I.takes first iterator.new) (E.reach env.old) (E.reach env.new) iterator.old None e) }
+        ensures own { (w : World) → Sees w (E.reach env.old) (E.reach env.new) → sound_taken I.rest I.sound I.order (iterator.old, None, first ∷ []) w →
+            NoneRises self.merge_different_expire_ts self.snapshot_barrier_seq (rest_taken I.rest (iterator.old, None, first ∷ []) w) → IfErr result (λ e. IsOwn I.refuses (E.reach env.old) (E.reach env.new) iterator.old e) }
         ensures no_larger { OnOk result (ahead_bound ahead.new + I.bound iterator.new ≤ I.bound iterator.old) }
         ensures order { I.order iterator.new ≡ I.order iterator.old }
         ensures reads { OnlyReads (E.reach env.old) (E.reach env.new) }
@@ -138,11 +141,14 @@ impl Folding {
         ahead: &mut Option<RowEntry>,
         env: &mut E,
     ) -> Result<Option<RowEntry>, SlateDBError>
-        ensures step { IfOk result (λ answer. Step (rest_folds self.merge_different_expire_ts self.snapshot_barrier_seq I.rest) (sound_taken I.rest I.sound I.order) (refuses_folds I.refuses (BringsByCalls I.begins I.takes I.seeks)) (hands_out I.takes self.snapshot_barrier_seq) (E.reach env.old) (E.reach env.new) (iterator.old, ahead.old, []) answer (iterator.new, ahead.new, [])) }
-        ensures cause { IfErr result (λ e. Made (E.reach env.old) (E.reach env.new) (λ reads. (IsFault (E.reach env.old) (E.reach env.new) e ⊎ refuses_folds I.refuses (BringsByCalls I.begins I.takes I.seeks) (iterator.old, ahead.old, []) (E.reach env.old).meaning reads None e) × BlamesNext I.refuses I.takes self.merge_different_expire_ts self.snapshot_barrier_seq ahead.old (E.reach env.old).meaning reads None e iterator.old iterator.new)) }
-        ensures falls { (w : World) → Sees w (E.reach env.old) (E.reach env.new) → sound_taken I.rest I.sound I.order (iterator.old, ahead.old, []) w → OnOk result (FoldFalls self.merge_different_expire_ts self.snapshot_barrier_seq (rest_taken I.rest (iterator.old, ahead.old, []) w)) }
-        ensures own { (w : World) → Sees w (E.reach env.old) (E.reach env.new) → sound_taken I.rest I.sound I.order (iterator.old, ahead.old, []) w → operable_taken self.merge_different_expire_ts self.snapshot_barrier_seq I.rest (iterator.old, ahead.old, []) w → IfErr result (λ e. IsOwn I.refuses (E.reach env.old) (E.reach env.new) iterator.old e) }
-        ensures operable { (w : World) → Sees w (E.reach env.old) (E.reach env.new) → sound_taken I.rest I.sound I.order (iterator.old, ahead.old, []) w → operable_taken self.merge_different_expire_ts self.snapshot_barrier_seq I.rest (iterator.old, ahead.old, []) w → OnOk result (operable_taken self.merge_different_expire_ts self.snapshot_barrier_seq I.rest (iterator.new, ahead.new, []) w) }
+        ensures step { IfOk result (λ answer. StepsFolding self I.rest I.sound I.refuses I.begins I.takes I.seeks I.order (E.reach env.old) (E.reach env.new) (iterator.old, ahead.old, []) answer (iterator.new, ahead.new, [])) }
+        ensures cause { IfErr result (λ e. FailsFolding self I.refuses I.begins I.takes I.seeks (E.reach env.old) (E.reach env.new) (iterator.old, ahead.old, []) e (iterator.new, ahead.new, [])) }
+        ensures falls { (w : World) → Sees w (E.reach env.old) (E.reach env.new) → sound_taken I.rest I.sound I.order (iterator.old, ahead.old, []) w →
+            OnOk result (FoldFalls self.merge_different_expire_ts self.snapshot_barrier_seq (rest_taken I.rest (iterator.old, ahead.old, []) w)) }
+        ensures own { (w : World) → Sees w (E.reach env.old) (E.reach env.new) → sound_taken I.rest I.sound I.order (iterator.old, ahead.old, []) w →
+            operable_by self I.rest (iterator.old, ahead.old, []) w → IfErr result (λ e. IsOwn I.refuses (E.reach env.old) (E.reach env.new) iterator.old e) }
+        ensures operable { (w : World) → Sees w (E.reach env.old) (E.reach env.new) → sound_taken I.rest I.sound I.order (iterator.old, ahead.old, []) w →
+            operable_by self I.rest (iterator.old, ahead.old, []) w → OnOk result (operable_by self I.rest (iterator.new, ahead.new, []) w) }
         ensures sources { OnOk result (Made (E.reach env.old) (E.reach env.new) (λ reads. NoMore (I.refuses iterator.old (E.reach env.old).meaning) reads (I.refuses iterator.new (E.reach env.old).meaning))) }
         ensures smaller { IfOk result (λ answer. IsSome answer → ahead_bound ahead.new + I.bound iterator.new < ahead_bound ahead.old + I.bound iterator.old) }
         ensures no_larger { OnOk result (ahead_bound ahead.new + I.bound iterator.new ≤ ahead_bound ahead.old + I.bound iterator.old) }

@@ -1,12 +1,12 @@
 //! Rows of a source, grouped by their keys.
-ghost use Rattle.std.specs.Prelude.{◌≡◌, ◌⊎◌, ◌<◌, ◌≤◌, ◌+◌, ◌++◌, ◌∷◌, List, [], length, vec_len, vec_capacity, true, false, Option, Some, None, IfOk, IfErr, IsSome, OnOk};
+ghost use Rattle.std.specs.Prelude.{◌≡◌, ◌<◌, ◌≤◌, ◌+◌, ◌++◌, ◌∷◌, List, [], length, vec_len, vec_capacity, true, false, Option, Some, None, IfOk, IfErr, IsSome, OnOk};
 ghost use Rattle.slate_types.specs.declared.iter.IterationOrder.{IterationOrder};
 ghost use Rattle.slate_types.specs.Iteration.{drop_before};
-ghost use Rattle.slate_types.specs.Outside.{IsFault, OnlyReads};
-ghost use Rattle.slate_types.specs.Refusing.{NoMore};
+ghost use Rattle.slate_types.specs.Outside.{OnlyReads};
 ghost use Rattle.slate_types.specs.Steps.{Step};
-ghost use Rattle.slate_types.specs.World.{World, Made, Sees};
-ghost use Rattle.slate_read.specs.Handing.{HandsHeld, SeeksHeld, held_of};
+ghost use Rattle.slate_types.specs.World.{World, Sees};
+ghost use Rattle.slate_read.specs.Answering.{AnswersBy, IsFaultOr};
+ghost use Rattle.slate_read.specs.Handing.{HandsHeld, SeeksHeld, held_of, refuses_held};
 ghost use Rattle.slate_read.specs.Groups.{IsOneKey, StandsApart, Stands, Seeks, no_rows, refuses_grouped, rest_grouped, rows_in_groups, sound_grouped, stays_at};
 
 use slate_types::{IterationOrder, Outside, RowEntry, RowEntryIterator, SlateDBError};
@@ -66,10 +66,11 @@ impl Groups {
         requires none { self.old.ready.items ≡ [] }
         requires downwards { I.order iterator.old ≡ IterationOrder.Descending }
         ensures stands { OnOk result (Stands (rest_grouped I.rest I.order) (sound_grouped I.rest I.sound I.order) (refuses_grouped I.refuses) (E.reach env.old) (E.reach env.new) (iterator.old, self.old) (iterator.new, self.new)) }
-        ensures spent { (w : World) → Sees w (E.reach env.old) (E.reach env.new) → sound_grouped I.rest I.sound I.order (iterator.old, self.old) w → OnOk result (self.new.ready.items ≡ [] → rest_grouped I.rest I.order (iterator.new, self.new) w ≡ []) }
-        ensures cause { IfErr result (λ e. Made (E.reach env.old) (E.reach env.new) (λ reads. IsFault (E.reach env.old) (E.reach env.new) e ⊎ I.refuses iterator.old (E.reach env.old).meaning reads None e)) }
+        ensures spent { (w : World) → Sees w (E.reach env.old) (E.reach env.new) → sound_grouped I.rest I.sound I.order (iterator.old, self.old) w →
+            OnOk result (self.new.ready.items ≡ [] → rest_grouped I.rest I.order (iterator.new, self.new) w ≡ []) }
+        ensures cause { IfErr result (λ e. IsFaultOr I.refuses (E.reach env.old) (E.reach env.new) iterator.old None e) }
         ensures no_larger { OnOk result (I.bound iterator.new + rows_in_groups self.new ≤ I.bound iterator.old + rows_in_groups self.old) }
-        ensures came { OnOk result (Made (E.reach env.old) (E.reach env.new) (λ reads. HandsHeld I.takes (iterator.old, held_of self.old) (E.reach env.old).meaning reads None (iterator.new, held_of self.new) × NoMore (I.refuses iterator.old (E.reach env.old).meaning) reads (I.refuses iterator.new (E.reach env.old).meaning))) }
+        ensures came { OnOk result (AnswersBy (λ x m reads y. HandsHeld I.takes x m reads None y) (refuses_held I.refuses) (E.reach env.old) (E.reach env.new) (iterator.old, held_of self.old) (iterator.new, held_of self.new)) }
         ensures order { I.order iterator.new ≡ I.order iterator.old }
         ensures reads { OnlyReads (E.reach env.old) (E.reach env.new) }
     {
@@ -100,10 +101,10 @@ impl Groups {
         env: &mut E,
     ) -> Result<Option<RowEntry>, SlateDBError>
         ensures step { IfOk result (λ answer. Step (rest_grouped I.rest I.order) (sound_grouped I.rest I.sound I.order) (refuses_grouped I.refuses) no_rows (E.reach env.old) (E.reach env.new) (iterator.old, self.old) answer (iterator.new, self.new)) }
-        ensures cause { IfErr result (λ e. Made (E.reach env.old) (E.reach env.new) (λ reads. IsFault (E.reach env.old) (E.reach env.new) e ⊎ I.refuses iterator.old (E.reach env.old).meaning reads None e)) }
+        ensures cause { IfErr result (λ e. IsFaultOr I.refuses (E.reach env.old) (E.reach env.new) iterator.old None e) }
         ensures smaller { IfOk result (λ answer. IsSome answer → I.bound iterator.new + rows_in_groups self.new < I.bound iterator.old + rows_in_groups self.old) }
         ensures no_larger { OnOk result (I.bound iterator.new + rows_in_groups self.new ≤ I.bound iterator.old + rows_in_groups self.old) }
-        ensures hands { IfOk result (λ answer. Made (E.reach env.old) (E.reach env.new) (λ reads. HandsHeld I.takes (iterator.old, held_of self.old) (E.reach env.old).meaning reads answer (iterator.new, held_of self.new) × NoMore (I.refuses iterator.old (E.reach env.old).meaning) reads (I.refuses iterator.new (E.reach env.old).meaning))) }
+        ensures hands { IfOk result (λ answer. AnswersBy (λ x m reads y. HandsHeld I.takes x m reads answer y) (refuses_held I.refuses) (E.reach env.old) (E.reach env.new) (iterator.old, held_of self.old) (iterator.new, held_of self.new)) }
         ensures order { I.order iterator.new ≡ I.order iterator.old }
         ensures reads { OnlyReads (E.reach env.old) (E.reach env.new) }
     {
@@ -127,9 +128,9 @@ impl Groups {
         env: &mut E,
     ) -> Result<(), SlateDBError>
         ensures sought { OnOk result (Seeks (rest_grouped I.rest I.order) (sound_grouped I.rest I.sound I.order) (refuses_grouped I.refuses) (I.order iterator.old) key.now (E.reach env.old) (E.reach env.new) (iterator.old, self.old) (iterator.new, self.new)) }
-        ensures cause { IfErr result (λ e. Made (E.reach env.old) (E.reach env.new) (λ reads. IsFault (E.reach env.old) (E.reach env.new) e ⊎ I.refuses iterator.old (E.reach env.old).meaning reads (Some key.now) e)) }
+        ensures cause { IfErr result (λ e. IsFaultOr I.refuses (E.reach env.old) (E.reach env.new) iterator.old (Some key.now) e) }
         ensures no_larger { OnOk result (I.bound iterator.new + rows_in_groups self.new ≤ I.bound iterator.old + rows_in_groups self.old) }
-        ensures held { OnOk result (Made (E.reach env.old) (E.reach env.new) (λ reads. SeeksHeld I.seeks (iterator.old, held_of self.old) (E.reach env.old).meaning reads key.now (iterator.new, held_of self.new) × NoMore (I.refuses iterator.old (E.reach env.old).meaning) reads (I.refuses iterator.new (E.reach env.old).meaning))) }
+        ensures held { OnOk result (AnswersBy (λ x m reads y. SeeksHeld I.seeks x m reads key.now y) (refuses_held I.refuses) (E.reach env.old) (E.reach env.new) (iterator.old, held_of self.old) (iterator.new, held_of self.new)) }
         ensures order { I.order iterator.new ≡ I.order iterator.old }
         ensures reads { OnlyReads (E.reach env.old) (E.reach env.new) }
     {

@@ -1,20 +1,18 @@
 //! Heads of sources in a heap, and the steps of a merge over them.
-ghost use Rattle.std.specs.Prelude.{◌≡◌, ◌⊎◌, ◌<◌, ◌≤◌, ◌-◌, ◌^◌, ◌&&◌, ℕ, List, [], ◌∷◌, length, min, Option, None, Some, true, false, IfOk, IfErr, IsPermutation, IsSome, OnOk};
+ghost use Rattle.std.specs.Prelude.{◌≡◌, ◌<◌, ◌≤◌, ◌-◌, ◌^◌, ◌&&◌, List, [], ◌∷◌, length, min, Option, None, Some, true, false, IfOk, IfErr, IsSome, OnOk};
 ghost use Rattle.std.specs.BinaryHeap.{heap_items, KeepsHeap};
 ghost use Rattle.slate_types.specs.declared.iter.IterationOrder.{IterationOrder};
 ghost use Rattle.slate_types.specs.Iteration.{begins_before, drop_before};
-ghost use Rattle.slate_types.specs.Outside.{IsFault, OnlyReads};
+ghost use Rattle.slate_types.specs.Outside.{OnlyReads};
 ghost use Rattle.slate_types.specs.Rows.{is_base};
-ghost use Rattle.slate_types.specs.Steps.{Step};
-ghost use Rattle.slate_types.specs.World.{World, Made, Sees};
-ghost use Rattle.slate_types.proofs.Moves.{Moves};
+ghost use Rattle.slate_types.specs.World.{World, Sees};
 ghost use Rattle.slate_read.specs.Heads.{head_cmp};
 ghost use Rattle.slate_read.specs.declared.head.Head.{Head};
 ghost use Rattle.slate_read.specs.Merge.{begins_with, counted, past_key, row_bytes, shown_rows, with_key};
-ghost use Rattle.slate_read.specs.Calls.{BringsByCalls};
-ghost use Rattle.slate_read.specs.MergeBringing.{AddNothing, takes_front};
-ghost use Rattle.slate_read.specs.MergeSteps.{CountsKey, CountsTaken, Goes, Joins, Renews, TakesMerged};
-ghost use Rattle.slate_read.specs.Merging.{AreReady, begun_sources, blames, has_key, is_before, IsMergingIn, IsTop, left_in, merging_bound, waiting_sources};
+ghost use Rattle.slate_read.specs.Answering.{IsFaultOr};
+ghost use Rattle.slate_read.specs.MergeSteps.{CountsKey, CountsTaken, Goes, Joins, JoinsAgain, Renews, TakesMerged};
+ghost use Rattle.slate_read.specs.Merging.{AreReady, begun_sources, blames, has_key, is_before, IsTop, merging_bound, waiting_sources};
+ghost use Rattle.slate_read.specs.SourceSteps.{AreMerging, left_of_heads, MovesSources, SourcesAddNone, StepsHeads};
 
 use crate::head::Head;
 use slate_types::{
@@ -34,7 +32,7 @@ pub fn put_back<E: Outside, I: RowEntryIterator<E>>(
 ) -> Result<(), SlateDBError>
     ensures joins { OnOk result (Joins (Goes I.rest I.sound I.refuses I.takes I.bound I.order (E.reach env.old) (E.reach env.new)) source behind order (heap_items heads.old) (heap_items heads.new)) }
     ensures heap { KeepsHeap head_cmp (heap_items heads.old) (heap_items heads.new) }
-    ensures cause { IfErr result (λ e. Made (E.reach env.old) (E.reach env.new) (λ reads. IsFault (E.reach env.old) (E.reach env.new) e ⊎ I.refuses source (E.reach env.old).meaning reads None e)) }
+    ensures cause { IfErr result (λ e. IsFaultOr I.refuses (E.reach env.old) (E.reach env.new) source None e) }
     ensures reads { OnlyReads (E.reach env.old) (E.reach env.new) }
 {
     match source.next(alloc, env) {
@@ -58,10 +56,10 @@ pub fn take_first<E: Outside, I: RowEntryIterator<E>>(
     heads: &mut BinaryHeap<Head<I>>,
     env: &mut E,
 ) -> Result<Option<RowEntry>, SlateDBError>
-    ensures step { (order : IterationOrder) → IfOk result (λ answer. Step (left_in I.rest order) (IsMergingIn I.rest I.sound I.order order) (blames I.refuses) (takes_front (BringsByCalls I.begins I.takes I.seeks)) (E.reach env.old) (E.reach env.new) (begun_sources (heap_items heads.old)) answer (begun_sources (heap_items heads.new))) }
+    ensures step { (order : IterationOrder) → IfOk result (λ answer. StepsHeads I.rest I.sound I.refuses I.begins I.takes I.seeks I.order order (λ rows. rows) (E.reach env.old) (E.reach env.new) (heap_items heads.old) answer (heap_items heads.new)) }
     ensures smaller { IfOk result (λ answer. IsSome answer → merging_bound I.bound [] (heap_items heads.new) < merging_bound I.bound [] (heap_items heads.old)) }
     ensures no_larger { OnOk result (merging_bound I.bound [] (heap_items heads.new) ≤ merging_bound I.bound [] (heap_items heads.old)) }
-    ensures cause { IfErr result (λ e. Made (E.reach env.old) (E.reach env.new) (λ reads. IsFault (E.reach env.old) (E.reach env.new) e ⊎ blames I.refuses (begun_sources (heap_items heads.old)) (E.reach env.old).meaning reads None e)) }
+    ensures cause { IfErr result (λ e. IsFaultOr (blames I.refuses) (E.reach env.old) (E.reach env.new) (begun_sources (heap_items heads.old)) None e) }
     ensures reads { OnlyReads (E.reach env.old) (E.reach env.new) }
 {
     let Some(head) = heads.pop() else {
@@ -124,13 +122,14 @@ pub fn drop_older<E: Outside, I: RowEntryIterator<E>>(
     processed: &mut u64,
     env: &mut E,
 ) -> Result<(), SlateDBError>
-    ensures moved { (order : IterationOrder) → OnOk result (Moves (λ z w. past_key key.now (left_in I.rest order z w)) (IsMergingIn I.rest I.sound I.order order) (blames I.refuses) (E.reach env.old) (E.reach env.new) (begun_sources (heap_items heads.old)) (begun_sources (heap_items heads.new))) }
-    ensures brought { OnOk result (Made (E.reach env.old) (E.reach env.new) (λ reads. AddNothing (BringsByCalls I.begins I.takes I.seeks) I.refuses (begun_sources (heap_items heads.old)) (E.reach env.old).meaning reads (begun_sources (heap_items heads.new)))) }
-    ensures done { (order : IterationOrder) (w : World) → IsMergingIn I.rest I.sound I.order order (begun_sources (heap_items heads.new)) w → OnOk result (begins_with key.now (left_in I.rest order (begun_sources (heap_items heads.new)) w) ≡ false) }
-    ensures count { (order : IterationOrder) (w : World) → Sees w (E.reach env.old) (E.reach env.new) → IsMergingIn I.rest I.sound I.order order (begun_sources (heap_items heads.old)) w → OnOk result (processed.new ≡ counted processed.old (with_key key.now (left_in I.rest order (begun_sources (heap_items heads.old)) w))) }
+    ensures moved { (order : IterationOrder) → OnOk result (MovesSources I.rest I.sound I.refuses I.order order (past_key key.now) (E.reach env.old) (E.reach env.new) (begun_sources (heap_items heads.old)) (begun_sources (heap_items heads.new))) }
+    ensures brought { OnOk result (SourcesAddNone I.refuses I.begins I.takes I.seeks (E.reach env.old) (E.reach env.new) (begun_sources (heap_items heads.old)) (begun_sources (heap_items heads.new))) }
+    ensures done { (order : IterationOrder) (w : World) → AreMerging I.rest I.sound I.order order (heap_items heads.new) w → OnOk result (begins_with key.now (left_of_heads I.rest order (heap_items heads.new) w) ≡ false) }
+    ensures count { (order : IterationOrder) (w : World) → Sees w (E.reach env.old) (E.reach env.new) → AreMerging I.rest I.sound I.order order (heap_items heads.old) w →
+        OnOk result (processed.new ≡ counted processed.old (with_key key.now (left_of_heads I.rest order (heap_items heads.old) w))) }
     ensures counted { OnOk result (CountsKey key.now processed.old processed.new) }
     ensures no_larger { OnOk result (merging_bound I.bound [] (heap_items heads.new) ≤ merging_bound I.bound [] (heap_items heads.old)) }
-    ensures cause { IfErr result (λ e. Made (E.reach env.old) (E.reach env.new) (λ reads. IsFault (E.reach env.old) (E.reach env.new) e ⊎ blames I.refuses (begun_sources (heap_items heads.old)) (E.reach env.old).meaning reads None e)) }
+    ensures cause { IfErr result (λ e. IsFaultOr (blames I.refuses) (E.reach env.old) (E.reach env.new) (begun_sources (heap_items heads.old)) None e) }
     ensures reads { OnlyReads (E.reach env.old) (E.reach env.new) }
 {
     'older: while top_has_key(heads, key) {
@@ -154,12 +153,13 @@ pub fn seek_first<E: Outside, I: RowEntryIterator<E>>(
     heads: &mut BinaryHeap<Head<I>>,
     env: &mut E,
 ) -> Result<bool, SlateDBError>
-    ensures moved { (order : IterationOrder) → OnOk result (Moves (λ z w. drop_before order key.now (left_in I.rest order z w)) (IsMergingIn I.rest I.sound I.order order) (blames I.refuses) (E.reach env.old) (E.reach env.new) (begun_sources (heap_items heads.old)) (begun_sources (heap_items heads.new))) }
-    ensures brought { OnOk result (Made (E.reach env.old) (E.reach env.new) (λ reads. AddNothing (BringsByCalls I.begins I.takes I.seeks) I.refuses (begun_sources (heap_items heads.old)) (E.reach env.old).meaning reads (begun_sources (heap_items heads.new)))) }
-    ensures done { (order : IterationOrder) (w : World) → IsMergingIn I.rest I.sound I.order order (begun_sources (heap_items heads.new)) w → IfOk result (λ sought. sought ≡ false → begins_before order key.now (left_in I.rest order (begun_sources (heap_items heads.new)) w) ≡ false) }
+    ensures moved { (order : IterationOrder) → OnOk result (MovesSources I.rest I.sound I.refuses I.order order (drop_before order key.now) (E.reach env.old) (E.reach env.new) (begun_sources (heap_items heads.old)) (begun_sources (heap_items heads.new))) }
+    ensures brought { OnOk result (SourcesAddNone I.refuses I.begins I.takes I.seeks (E.reach env.old) (E.reach env.new) (begun_sources (heap_items heads.old)) (begun_sources (heap_items heads.new))) }
+    ensures done { (order : IterationOrder) (w : World) → AreMerging I.rest I.sound I.order order (heap_items heads.new) w →
+        IfOk result (λ sought. sought ≡ false → begins_before order key.now (left_of_heads I.rest order (heap_items heads.new) w) ≡ false) }
     ensures smaller { IfOk result (λ sought. sought ≡ true → merging_bound I.bound [] (heap_items heads.new) < merging_bound I.bound [] (heap_items heads.old)) }
     ensures no_larger { OnOk result (merging_bound I.bound [] (heap_items heads.new) ≤ merging_bound I.bound [] (heap_items heads.old)) }
-    ensures cause { IfErr result (λ e. Made (E.reach env.old) (E.reach env.new) (λ reads. IsFault (E.reach env.old) (E.reach env.new) e ⊎ blames I.refuses (begun_sources (heap_items heads.old)) (E.reach env.old).meaning reads (Some key.now) e)) }
+    ensures cause { IfErr result (λ e. IsFaultOr (blames I.refuses) (E.reach env.old) (E.reach env.new) (begun_sources (heap_items heads.old)) (Some key.now) e) }
     ensures reads { OnlyReads (E.reach env.old) (E.reach env.new) }
 {
     if !top_is_before(heads, key) {
@@ -191,11 +191,11 @@ pub fn seek_heads<E: Outside, I: RowEntryIterator<E>>(
     heads: &mut BinaryHeap<Head<I>>,
     env: &mut E,
 ) -> Result<(), SlateDBError>
-    ensures moved { (order : IterationOrder) → OnOk result (Moves (λ z w. drop_before order key.now (left_in I.rest order z w)) (IsMergingIn I.rest I.sound I.order order) (blames I.refuses) (E.reach env.old) (E.reach env.new) (begun_sources (heap_items heads.old)) (begun_sources (heap_items heads.new))) }
-    ensures brought { OnOk result (Made (E.reach env.old) (E.reach env.new) (λ reads. AddNothing (BringsByCalls I.begins I.takes I.seeks) I.refuses (begun_sources (heap_items heads.old)) (E.reach env.old).meaning reads (begun_sources (heap_items heads.new)))) }
-    ensures done { (order : IterationOrder) (w : World) → IsMergingIn I.rest I.sound I.order order (begun_sources (heap_items heads.new)) w → OnOk result (begins_before order key.now (left_in I.rest order (begun_sources (heap_items heads.new)) w) ≡ false) }
+    ensures moved { (order : IterationOrder) → OnOk result (MovesSources I.rest I.sound I.refuses I.order order (drop_before order key.now) (E.reach env.old) (E.reach env.new) (begun_sources (heap_items heads.old)) (begun_sources (heap_items heads.new))) }
+    ensures brought { OnOk result (SourcesAddNone I.refuses I.begins I.takes I.seeks (E.reach env.old) (E.reach env.new) (begun_sources (heap_items heads.old)) (begun_sources (heap_items heads.new))) }
+    ensures done { (order : IterationOrder) (w : World) → AreMerging I.rest I.sound I.order order (heap_items heads.new) w → OnOk result (begins_before order key.now (left_of_heads I.rest order (heap_items heads.new) w) ≡ false) }
     ensures no_larger { OnOk result (merging_bound I.bound [] (heap_items heads.new) ≤ merging_bound I.bound [] (heap_items heads.old)) }
-    ensures cause { IfErr result (λ e. Made (E.reach env.old) (E.reach env.new) (λ reads. IsFault (E.reach env.old) (E.reach env.new) e ⊎ blames I.refuses (begun_sources (heap_items heads.old)) (E.reach env.old).meaning reads (Some key.now) e)) }
+    ensures cause { IfErr result (λ e. IsFaultOr (blames I.refuses) (E.reach env.old) (E.reach env.new) (begun_sources (heap_items heads.old)) (Some key.now) e) }
     ensures reads { OnlyReads (E.reach env.old) (E.reach env.new) }
 {
     'sources: loop {
@@ -216,11 +216,13 @@ pub fn begin_source<E: Outside, I: RowEntryIterator<E>>(
     heads: &mut BinaryHeap<Head<I>>,
     env: &mut E,
 ) -> Result<(), SlateDBError>
-    ensures moved { (waiting : List I) → behind ≡ length waiting → OnOk result (Moves (left_in I.rest order) (IsMergingIn I.rest I.sound I.order order) (blames I.refuses) (E.reach env.old) (E.reach env.new) (record { waiting = source ∷ waiting; heads = heap_items heads.old }) (record { waiting = waiting; heads = heap_items heads.new })) }
-    ensures brought { (waiting : List I) → OnOk result (Made (E.reach env.old) (E.reach env.new) (λ reads. AddNothing (BringsByCalls I.begins I.takes I.seeks) I.refuses (record { waiting = source ∷ waiting; heads = heap_items heads.old }) (E.reach env.old).meaning reads (record { waiting = waiting; heads = heap_items heads.new }))) }
+    ensures moved { (waiting : List I) → behind ≡ length waiting →
+        OnOk result (MovesSources I.rest I.sound I.refuses I.order order (λ rows. rows) (E.reach env.old) (E.reach env.new) (record { waiting = source ∷ waiting; heads = heap_items heads.old }) (record { waiting = waiting; heads = heap_items heads.new })) }
+    ensures brought { (waiting : List I) →
+        OnOk result (SourcesAddNone I.refuses I.begins I.takes I.seeks (E.reach env.old) (E.reach env.new) (record { waiting = source ∷ waiting; heads = heap_items heads.old }) (record { waiting = waiting; heads = heap_items heads.new })) }
     ensures ready { AreReady I.refuses (E.reach env.old).meaning (heap_items heads.old) → OnOk result (AreReady I.refuses (E.reach env.old).meaning (heap_items heads.new)) }
     ensures no_larger { (waiting : List I) → OnOk result (merging_bound I.bound waiting (heap_items heads.new) ≤ merging_bound I.bound (source ∷ waiting) (heap_items heads.old)) }
-    ensures cause { IfErr result (λ e. Made (E.reach env.old) (E.reach env.new) (λ reads. IsFault (E.reach env.old) (E.reach env.new) e ⊎ I.refuses source (E.reach env.old).meaning reads None e)) }
+    ensures cause { IfErr result (λ e. IsFaultOr I.refuses (E.reach env.old) (E.reach env.new) source None e) }
     ensures reads { OnlyReads (E.reach env.old) (E.reach env.new) }
 {
     match source.init(alloc, env) {
@@ -239,11 +241,11 @@ pub fn begin_all<E: Outside, I: RowEntryIterator<E>>(
     order: IterationOrder,
     env: &mut E,
 ) -> Result<BinaryHeap<Head<I>>, SlateDBError>
-    ensures moved { IfOk result (λ heads. Moves (left_in I.rest order) (IsMergingIn I.rest I.sound I.order order) (blames I.refuses) (E.reach env.old) (E.reach env.new) (waiting_sources waiting.old.items) (begun_sources (heap_items heads))) }
-    ensures brought { IfOk result (λ heads. Made (E.reach env.old) (E.reach env.new) (λ reads. AddNothing (BringsByCalls I.begins I.takes I.seeks) I.refuses (waiting_sources waiting.old.items) (E.reach env.old).meaning reads (begun_sources (heap_items heads)))) }
+    ensures moved { IfOk result (λ heads. MovesSources I.rest I.sound I.refuses I.order order (λ rows. rows) (E.reach env.old) (E.reach env.new) (waiting_sources waiting.old.items) (begun_sources (heap_items heads))) }
+    ensures brought { IfOk result (λ heads. SourcesAddNone I.refuses I.begins I.takes I.seeks (E.reach env.old) (E.reach env.new) (waiting_sources waiting.old.items) (begun_sources (heap_items heads))) }
     ensures ready { IfOk result (λ heads. AreReady I.refuses (E.reach env.old).meaning (heap_items heads)) }
     ensures no_larger { IfOk result (λ heads. merging_bound I.bound [] (heap_items heads) ≤ merging_bound I.bound waiting.old.items []) }
-    ensures cause { IfErr result (λ e. Made (E.reach env.old) (E.reach env.new) (λ reads. IsFault (E.reach env.old) (E.reach env.new) e ⊎ blames I.refuses (waiting_sources waiting.old.items) (E.reach env.old).meaning reads None e)) }
+    ensures cause { IfErr result (λ e. IsFaultOr (blames I.refuses) (E.reach env.old) (E.reach env.new) (waiting_sources waiting.old.items) None e) }
     ensures reads { OnlyReads (E.reach env.old) (E.reach env.new) }
 {
     let mut heads = BinaryHeap::new(alloc);
@@ -264,9 +266,9 @@ fn begin_head<E: Outside, I: RowEntryIterator<E>>(
     done: &mut BinaryHeap<Head<I>>,
     env: &mut E,
 ) -> Result<(), SlateDBError>
-    ensures renewed { OnOk result ((s : I) × Renews I.rest I.sound I.refuses I.begins I.bound I.order (E.reach env.old) (E.reach env.new) head.source s × IsPermutation (record { row = head.row; behind = head.behind; order = head.order; source = s } ∷ heap_items done.old) (heap_items done.new)) }
+    ensures renewed { OnOk result (JoinsAgain (Renews I.rest I.sound I.refuses I.begins I.bound I.order (E.reach env.old) (E.reach env.new)) head (heap_items done.old) (heap_items done.new)) }
     ensures heap { KeepsHeap head_cmp (heap_items done.old) (heap_items done.new) }
-    ensures cause { IfErr result (λ e. Made (E.reach env.old) (E.reach env.new) (λ reads. IsFault (E.reach env.old) (E.reach env.new) e ⊎ I.refuses head.source (E.reach env.old).meaning reads None e)) }
+    ensures cause { IfErr result (λ e. IsFaultOr I.refuses (E.reach env.old) (E.reach env.new) head.source None e) }
     ensures reads { OnlyReads (E.reach env.old) (E.reach env.new) }
 {
     let Head {
@@ -298,11 +300,11 @@ pub fn begin_again<E: Outside, I: RowEntryIterator<E>>(
     heads: &mut BinaryHeap<Head<I>>,
     env: &mut E,
 ) -> Result<BinaryHeap<Head<I>>, SlateDBError>
-    ensures moved { (order : IterationOrder) → IfOk result (λ done. Moves (left_in I.rest order) (IsMergingIn I.rest I.sound I.order order) (blames I.refuses) (E.reach env.old) (E.reach env.new) (begun_sources (heap_items heads.old)) (begun_sources (heap_items done))) }
-    ensures brought { IfOk result (λ done. Made (E.reach env.old) (E.reach env.new) (λ reads. AddNothing (BringsByCalls I.begins I.takes I.seeks) I.refuses (begun_sources (heap_items heads.old)) (E.reach env.old).meaning reads (begun_sources (heap_items done)))) }
+    ensures moved { (order : IterationOrder) → IfOk result (λ done. MovesSources I.rest I.sound I.refuses I.order order (λ rows. rows) (E.reach env.old) (E.reach env.new) (begun_sources (heap_items heads.old)) (begun_sources (heap_items done))) }
+    ensures brought { IfOk result (λ done. SourcesAddNone I.refuses I.begins I.takes I.seeks (E.reach env.old) (E.reach env.new) (begun_sources (heap_items heads.old)) (begun_sources (heap_items done))) }
     ensures ready { IfOk result (λ done. AreReady I.refuses (E.reach env.old).meaning (heap_items done)) }
     ensures no_larger { IfOk result (λ done. merging_bound I.bound [] (heap_items done) ≤ merging_bound I.bound [] (heap_items heads.old)) }
-    ensures cause { IfErr result (λ e. Made (E.reach env.old) (E.reach env.new) (λ reads. IsFault (E.reach env.old) (E.reach env.new) e ⊎ blames I.refuses (begun_sources (heap_items heads.old)) (E.reach env.old).meaning reads None e)) }
+    ensures cause { IfErr result (λ e. IsFaultOr (blames I.refuses) (E.reach env.old) (E.reach env.new) (begun_sources (heap_items heads.old)) None e) }
     ensures reads { OnlyReads (E.reach env.old) (E.reach env.new) }
 {
     let mut done = BinaryHeap::new(alloc);
@@ -323,12 +325,13 @@ pub fn take_row<E: Outside, I: RowEntryIterator<E>>(
     processed: &mut u64,
     env: &mut E,
 ) -> Result<Option<RowEntry>, SlateDBError>
-    ensures step { (order : IterationOrder) → IfOk result (λ answer. Step (λ z w. shown_rows dedup (left_in I.rest order z w)) (IsMergingIn I.rest I.sound I.order order) (blames I.refuses) (takes_front (BringsByCalls I.begins I.takes I.seeks)) (E.reach env.old) (E.reach env.new) (begun_sources (heap_items heads.old)) answer (begun_sources (heap_items heads.new))) }
-    ensures count { (order : IterationOrder) (w : World) → Sees w (E.reach env.old) (E.reach env.new) → IsMergingIn I.rest I.sound I.order order (begun_sources (heap_items heads.old)) w → OnOk result (TakesMerged dedup (left_in I.rest order (begun_sources (heap_items heads.old)) w) (left_in I.rest order (begun_sources (heap_items heads.new)) w) processed.old processed.new) }
+    ensures step { (order : IterationOrder) → IfOk result (λ answer. StepsHeads I.rest I.sound I.refuses I.begins I.takes I.seeks I.order order (shown_rows dedup) (E.reach env.old) (E.reach env.new) (heap_items heads.old) answer (heap_items heads.new)) }
+    ensures count { (order : IterationOrder) (w : World) → Sees w (E.reach env.old) (E.reach env.new) → AreMerging I.rest I.sound I.order order (heap_items heads.old) w →
+        OnOk result (TakesMerged dedup (left_of_heads I.rest order (heap_items heads.old) w) (left_of_heads I.rest order (heap_items heads.new) w) processed.old processed.new) }
     ensures counted { IfOk result (λ answer. CountsTaken dedup processed.old answer processed.new) }
     ensures smaller { IfOk result (λ answer. IsSome answer → merging_bound I.bound [] (heap_items heads.new) < merging_bound I.bound [] (heap_items heads.old)) }
     ensures no_larger { OnOk result (merging_bound I.bound [] (heap_items heads.new) ≤ merging_bound I.bound [] (heap_items heads.old)) }
-    ensures cause { IfErr result (λ e. Made (E.reach env.old) (E.reach env.new) (λ reads. IsFault (E.reach env.old) (E.reach env.new) e ⊎ blames I.refuses (begun_sources (heap_items heads.old)) (E.reach env.old).meaning reads None e)) }
+    ensures cause { IfErr result (λ e. IsFaultOr (blames I.refuses) (E.reach env.old) (E.reach env.new) (begun_sources (heap_items heads.old)) None e) }
     ensures reads { OnlyReads (E.reach env.old) (E.reach env.new) }
 {
     match take_first(alloc, heads, env) {

@@ -1,18 +1,19 @@
 //! Many iterators as one.
-ghost use Rattle.std.specs.Prelude.{◌≡◌, ◌⊎◌, ◌<◌, ◌≤◌, Bool, List, true, None, IfOk, IfErr, IsSome, OnOk};
+ghost use Rattle.std.specs.Prelude.{◌≡◌, ◌<◌, ◌≤◌, Bool, List, true, None, IfOk, IfErr, IsSome, OnOk};
 ghost use Rattle.std.specs.BinaryHeap.{heap_items};
 ghost use Rattle.slate_types.specs.declared.error.SlateDBError.{SlateDBError};
 ghost use Rattle.slate_types.specs.declared.iter.IterationOrder.{IterationOrder};
 ghost use Rattle.slate_types.specs.Iteration.{TakesRow};
-ghost use Rattle.slate_types.specs.Outside.{IsFault, OnlyReads};
-ghost use Rattle.slate_types.specs.Refusing.{NoMore, NoMoreBut};
-ghost use Rattle.slate_types.specs.World.{World, Checks, Made, Sees};
+ghost use Rattle.slate_types.specs.Outside.{OnlyReads};
+ghost use Rattle.slate_types.specs.World.{World, Checks, Sees};
 ghost use Rattle.slate_types.proofs.Moves.{Moves};
+ghost use Rattle.slate_read.specs.Answering.{AnswersBy, FailsBy, IsFaultOr};
+ghost use Rattle.slate_read.specs.Bringing.{AddsNoneByCall};
 ghost use Rattle.slate_read.specs.Calls.{BringsByCalls};
 ghost use Rattle.slate_read.specs.Merging.{AreReady};
 ghost use Rattle.slate_read.specs.MergeStateLaws.{refuses_more, refuses_whole, rest_rises};
-ghost use Rattle.slate_read.specs.MergeBringing.{MergeAddsNothing, MergeBegins, MergeSeeks, MergeTakes};
-ghost use Rattle.slate_read.specs.MergeStates.{bound_in, CopiedIn, IsMergeOf, IsSameMerge, IsSoundIn, IsSoundMerge, refuses_in, rest_in, rest_of_merge, Stays, TakesLeft};
+ghost use Rattle.slate_read.specs.MergeBringing.{merge_brings, MergeBegins, MergeSeeks, MergeTakes};
+ghost use Rattle.slate_read.specs.MergeStates.{bound_in, CopiedIn, IsMergeOf, IsSameMerge, IsSoundIn, IsSoundMerge, refuses_in, refuses_of_merge, rest_in, rest_of_merge, stays_of_merge, TakesLeft};
 
 use crate::head::Head;
 use crate::heads::{begin_again, begin_all, seek_heads, take_row};
@@ -86,9 +87,9 @@ impl<I: Drop> MergeIterator<I> {
         ensures rows { (w : World) → Sees w (E.reach env.old) (E.reach env.new) → IsSoundMerge I.rest I.sound I.order self.old w → IfOk result (λ answer. TakesRow (rest_of_merge I.rest self.old w) answer (rest_of_merge I.rest self.new w)) }
         ensures still { (w : World) → Sees w (E.reach env.old) (E.reach env.new) → IsSoundMerge I.rest I.sound I.order self.old w → IsSoundMerge I.rest I.sound I.order self.new w }
         ensures checked { (w : World) → IsSoundMerge I.rest I.sound I.order self.old w → OnOk result (Checks w (E.reach env.old) (E.reach env.new)) }
-        ensures taken { IfOk result (λ answer. Made (E.reach env.old) (E.reach env.new) (λ reads. MergeTakes I.begins I.takes I.seeks self.old (E.reach env.old).meaning reads answer self.new × NoMore (refuses_in I.refuses self.old.state (E.reach env.old).meaning) reads (refuses_in I.refuses self.new.state (E.reach env.old).meaning))) }
+        ensures taken { IfOk result (λ answer. AnswersBy (λ x m reads y. MergeTakes I.begins I.takes I.seeks x m reads answer y) (refuses_of_merge I.refuses) (E.reach env.old) (E.reach env.new) self.old self.new) }
         ensures takes { (w : World) → Sees w (E.reach env.old) (E.reach env.new) → IsSoundMerge I.rest I.sound I.order self.old w → OnOk result (TakesLeft I.rest w self.old self.new) }
-        ensures cause { IfErr result (λ e. Made (E.reach env.old) (E.reach env.new) (λ reads. (IsFault (E.reach env.old) (E.reach env.new) e ⊎ refuses_in I.refuses self.old.state (E.reach env.old).meaning reads None e) × Stays self.old None e self.new × NoMoreBut e (refuses_in I.refuses self.old.state (E.reach env.old).meaning) reads (refuses_in I.refuses self.new.state (E.reach env.old).meaning))) }
+        ensures cause { IfErr result (λ e. FailsBy (refuses_of_merge I.refuses) stays_of_merge (E.reach env.old) (E.reach env.new) self.old None e self.new) }
         ensures smaller { IfOk result (λ answer. IsSome answer → bound_in I.bound self.new.state < bound_in I.bound self.old.state) }
         ensures no_larger { bound_in I.bound self.new.state ≤ bound_in I.bound self.old.state }
         ensures order { self.new.order ≡ self.old.order }
@@ -136,10 +137,10 @@ fn begin_heads<E: Outside, I: RowEntryIterator<E>>(
     env: &mut E,
 ) -> Result<BinaryHeap<Head<I>>, SlateDBError>
     ensures moved { (dedup : Bool) → IfOk result (λ heads. Moves (rest_in I.rest order dedup) (IsSoundIn I.rest I.sound I.order order) (refuses_in I.refuses) (E.reach env.old) (E.reach env.new) state.old (MergeState.Begun heads)) }
-    ensures brought { IfOk result (λ heads. Made (E.reach env.old) (E.reach env.new) (λ reads. MergeAddsNothing (BringsByCalls I.begins I.takes I.seeks) I.refuses state.old (E.reach env.old).meaning reads (MergeState.Begun heads))) }
+    ensures brought { IfOk result (λ heads. AddsNoneByCall (merge_brings (BringsByCalls I.begins I.takes I.seeks)) (refuses_in I.refuses) (E.reach env.old) (E.reach env.new) state.old (MergeState.Begun heads)) }
     ensures ready { IfOk result (λ heads. AreReady I.refuses (E.reach env.old).meaning (heap_items heads)) }
     ensures no_larger { IfOk result (λ heads. bound_in I.bound (MergeState.Begun heads) ≤ bound_in I.bound state.old) }
-    ensures cause { IfErr result (λ e. Made (E.reach env.old) (E.reach env.new) (λ reads. IsFault (E.reach env.old) (E.reach env.new) e ⊎ refuses_in I.refuses state.old (E.reach env.old).meaning reads None e)) }
+    ensures cause { IfErr result (λ e. IsFaultOr (refuses_in I.refuses) (E.reach env.old) (E.reach env.new) state.old None e) }
     ensures reads { OnlyReads (E.reach env.old) (E.reach env.new) }
 {
     match state {
@@ -158,7 +159,7 @@ impl<E: Outside, I: RowEntryIterator<E>> RowEntryIterator<E> for MergeIterator<I
 
     ghost bound = { λ it. bound_in I.bound it.state };
 
-    ghost refuses = { λ it m reads at e. refuses_in I.refuses it.state m reads at e };
+    ghost refuses = { λ it m reads at e. refuses_of_merge I.refuses it m reads at e };
 
     ghost begins = { λ before m reads after. MergeBegins I.begins I.takes I.seeks before m reads after };
 
@@ -166,7 +167,7 @@ impl<E: Outside, I: RowEntryIterator<E>> RowEntryIterator<E> for MergeIterator<I
 
     ghost seeks = { λ before m reads key after. MergeSeeks I.begins I.takes I.seeks before m reads key after };
 
-    ghost stays = { λ before m reads at e after. Stays before at e after };
+    ghost stays = { λ before m reads at e after. stays_of_merge before m reads at e after };
 
     ghost rising = { λ it w _. rest_rises I.rest it.order it.dedup it.state w };
 

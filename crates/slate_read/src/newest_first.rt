@@ -1,8 +1,7 @@
 //! The newest row of each key first, in both orders.
 ghost use Rattle.std.specs.Prelude.{◌≡◌, ◌⊎◌, false};
 ghost use Rattle.slate_types.specs.declared.error.SlateDBError.{SlateDBError};
-ghost use Rattle.slate_read.specs.Handing.{HandsHeld, SeeksHeld, held_in};
-ghost use Rattle.slate_read.specs.NewestFirst.{Begins, IsGoing, IsKept, IsUnrefused, Stays, bound_newest, is_below, refuses_newest, rest_newest, sound_newest};
+ghost use Rattle.slate_read.specs.NewestFirst.{Begins, IsKept, Stays, begins_newest, bound_newest, is_below, refuses_newest, rest_newest, seeks_newest, sound_newest, takes_newest};
 ghost use Rattle.slate_read.specs.NewestLaws.{newest_more, newest_order, newest_whole};
 
 use crate::groups::Groups;
@@ -106,11 +105,11 @@ impl<E: Outside, I: RowEntryIterator<E>> RowEntryIterator<E> for NewestFirst<I> 
 
     ghost refuses = { λ it m reads at e. refuses_newest I.refuses it.range it.iterator it.progress m reads at e };
 
-    ghost begins = { λ before m reads after. IsUnrefused before.progress × Begins before.progress after.progress × (after.range ≡ before.range) × I.begins before.iterator m reads after.iterator };
+    ghost begins = { λ before m reads after. begins_newest I.begins before m reads after };
 
-    ghost takes = { λ before m reads answer after. IsGoing before.progress × IsGoing after.progress × (after.range ≡ before.range) × HandsHeld I.takes (before.iterator, held_in before.progress) m reads answer (after.iterator, held_in after.progress) };
+    ghost takes = { λ before m reads answer after. takes_newest I.takes before m reads answer after };
 
-    ghost seeks = { λ before m reads key after. (is_below before.range key ≡ false) × IsGoing before.progress × IsGoing after.progress × (after.range ≡ before.range) × SeeksHeld I.seeks (before.iterator, held_in before.progress) m reads key (after.iterator, held_in after.progress) };
+    ghost seeks = { λ before m reads key after. seeks_newest I.seeks before m reads key after };
 
     ghost stays = { λ before _ _ at e after. Stays before at e after };
 

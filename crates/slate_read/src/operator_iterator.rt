@@ -1,10 +1,11 @@
 //! An iterator that folds operands onto what stands below them.
-ghost use Rattle.std.specs.Prelude.{◌≡◌, ◌⊎◌, ◌<◌, ◌≤◌, None, Some, IfErr, IfOk, IsOk, IsSome, OnOk};
+ghost use Rattle.std.specs.Prelude.{◌≡◌, ◌<◌, ◌≤◌, None, Some, IfErr, IfOk, IsOk, IsSome, OnOk};
 ghost use Rattle.slate_types.specs.declared.error.SlateDBError.{SlateDBError};
 ghost use Rattle.slate_types.specs.Iteration.{TakesRow, drop_before};
-ghost use Rattle.slate_types.specs.Outside.{IsFault, OnlyReads};
-ghost use Rattle.slate_types.specs.Refusing.{IsReady, NoMore, NoMoreBut};
+ghost use Rattle.slate_types.specs.Outside.{OnlyReads};
+ghost use Rattle.slate_types.specs.Refusing.{IsReady, NoMore};
 ghost use Rattle.slate_types.specs.World.{World, Checks, Made, Sees};
+ghost use Rattle.slate_read.specs.Answering.{AnswersBy, FailsBy};
 ghost use Rattle.slate_read.specs.Calls.{BringsByCalls};
 ghost use Rattle.slate_read.specs.OperatorIterators.{Begins, FallsAtFirst, IsFolding, IsGoing, IsOperable, IsOwn, Keeps, Seeks, Stays, Takes, bound_folding, refuses_folding, rest_folding, sound_folding};
 ghost use Rattle.slate_read.specs.OperatorLaws.{folding_more, folding_rises, folding_whole};
@@ -89,13 +90,14 @@ impl<I: Drop> MergeOperatorIterator<I> {
         ensures rows { (w : World) → Sees w (E.reach env.old) (E.reach env.new) → sound_folding I.rest I.sound I.order self.old w → IfOk result (λ answer. TakesRow (rest_folding I.rest self.old w) answer (rest_folding I.rest self.new w)) }
         ensures still { (w : World) → Sees w (E.reach env.old) (E.reach env.new) → sound_folding I.rest I.sound I.order self.old w → sound_folding I.rest I.sound I.order self.new w }
         ensures checked { (w : World) → sound_folding I.rest I.sound I.order self.old w → OnOk result (Checks w (E.reach env.old) (E.reach env.new)) }
-        ensures taken { IfOk result (λ answer. Made (E.reach env.old) (E.reach env.new) (λ reads. Takes I.takes self.old (E.reach env.old).meaning reads answer self.new × NoMore (refuses_folding I.refuses (BringsByCalls I.begins I.takes I.seeks) self.old (E.reach env.old).meaning) reads (refuses_folding I.refuses (BringsByCalls I.begins I.takes I.seeks) self.new (E.reach env.old).meaning))) }
-        ensures cause { IfErr result (λ e. Made (E.reach env.old) (E.reach env.new) (λ reads. (IsFault (E.reach env.old) (E.reach env.new) e ⊎ refuses_folding I.refuses (BringsByCalls I.begins I.takes I.seeks) self.old (E.reach env.old).meaning reads None e) × Stays I.refuses I.takes self.old (E.reach env.old).meaning reads None e self.new × NoMoreBut e (refuses_folding I.refuses (BringsByCalls I.begins I.takes I.seeks) self.old (E.reach env.old).meaning) reads (refuses_folding I.refuses (BringsByCalls I.begins I.takes I.seeks) self.new (E.reach env.old).meaning))) }
+        ensures taken { IfOk result (λ answer. AnswersBy (λ x m reads y. Takes I.takes x m reads answer y) (refuses_folding I.refuses (BringsByCalls I.begins I.takes I.seeks)) (E.reach env.old) (E.reach env.new) self.old self.new) }
+        ensures cause { IfErr result (λ e. FailsBy (refuses_folding I.refuses (BringsByCalls I.begins I.takes I.seeks)) (Stays I.refuses I.takes) (E.reach env.old) (E.reach env.new) self.old None e self.new) }
         ensures smaller { IfOk result (λ answer. IsSome answer → bound_folding I.bound self.new < bound_folding I.bound self.old) }
         ensures no_larger { bound_folding I.bound self.new ≤ bound_folding I.bound self.old }
         ensures order { I.order self.new.iterator ≡ I.order self.old.iterator }
         ensures reads { OnlyReads (E.reach env.old) (E.reach env.new) }
-        ensures own { (w : World) → Sees w (E.reach env.old) (E.reach env.new) → IsGoing self.old → sound_folding I.rest I.sound I.order self.old w → IsOperable I.rest self.old w → IfErr result (λ e. IsOwn I.refuses (E.reach env.old) (E.reach env.new) self.old.iterator e) }
+        ensures own { (w : World) → Sees w (E.reach env.old) (E.reach env.new) → IsGoing self.old → sound_folding I.rest I.sound I.order self.old w → IsOperable I.rest self.old w →
+            IfErr result (λ e. IsOwn I.refuses (E.reach env.old) (E.reach env.new) self.old.iterator e) }
         ensures falls { (w : World) → Sees w (E.reach env.old) (E.reach env.new) → sound_folding I.rest I.sound I.order self.old w → OnOk result (FallsAtFirst I.rest self.old w) }
         ensures operable { (w : World) → Sees w (E.reach env.old) (E.reach env.new) → sound_folding I.rest I.sound I.order self.old w → IsOperable I.rest self.old w → OnOk result (IsOperable I.rest self.new w) }
         ensures sources { OnOk result (Made (E.reach env.old) (E.reach env.new) (λ reads. NoMore (I.refuses self.old.iterator (E.reach env.old).meaning) reads (I.refuses self.new.iterator (E.reach env.old).meaning))) }
@@ -162,8 +164,8 @@ impl<E: Operates, I: RowEntryIterator<E>> RowEntryIterator<E> for MergeOperatorI
         ensures still { (w : World) → Sees w (E.reach env.old) (E.reach env.new) → sound_folding I.rest I.sound I.order self.old w → sound_folding I.rest I.sound I.order self.new w }
         ensures checked { (w : World) → sound_folding I.rest I.sound I.order self.old w → OnOk result (Checks w (E.reach env.old) (E.reach env.new)) }
         ensures ready { OnOk result (IsReady (refuses_folding I.refuses (BringsByCalls I.begins I.takes I.seeks) self.new (E.reach env.old).meaning)) }
-        ensures begun { OnOk result (Made (E.reach env.old) (E.reach env.new) (λ reads. Begins I.begins self.old (E.reach env.old).meaning reads self.new × NoMore (refuses_folding I.refuses (BringsByCalls I.begins I.takes I.seeks) self.old (E.reach env.old).meaning) reads (refuses_folding I.refuses (BringsByCalls I.begins I.takes I.seeks) self.new (E.reach env.old).meaning))) }
-        ensures cause { IfErr result (λ e. Made (E.reach env.old) (E.reach env.new) (λ reads. (IsFault (E.reach env.old) (E.reach env.new) e ⊎ refuses_folding I.refuses (BringsByCalls I.begins I.takes I.seeks) self.old (E.reach env.old).meaning reads None e) × Stays I.refuses I.takes self.old (E.reach env.old).meaning reads None e self.new × NoMoreBut e (refuses_folding I.refuses (BringsByCalls I.begins I.takes I.seeks) self.old (E.reach env.old).meaning) reads (refuses_folding I.refuses (BringsByCalls I.begins I.takes I.seeks) self.new (E.reach env.old).meaning))) }
+        ensures begun { OnOk result (AnswersBy (Begins I.begins) (refuses_folding I.refuses (BringsByCalls I.begins I.takes I.seeks)) (E.reach env.old) (E.reach env.new) self.old self.new) }
+        ensures cause { IfErr result (λ e. FailsBy (refuses_folding I.refuses (BringsByCalls I.begins I.takes I.seeks)) (Stays I.refuses I.takes) (E.reach env.old) (E.reach env.new) self.old None e self.new) }
         ensures no_larger { bound_folding I.bound self.new ≤ bound_folding I.bound self.old }
         ensures order { I.order self.new.iterator ≡ I.order self.old.iterator }
         ensures reads { OnlyReads (E.reach env.old) (E.reach env.new) }
@@ -188,11 +190,12 @@ impl<E: Operates, I: RowEntryIterator<E>> RowEntryIterator<E> for MergeOperatorI
 
     #[tactic(auto, using(slate_types::proofs::Reaching::reads_none))]
     fn seek(&mut self, alloc: Global, key: &[u8], env: &mut E) -> Result<(), SlateDBError>
-        ensures rows { (w : World) → Sees w (E.reach env.old) (E.reach env.new) → sound_folding I.rest I.sound I.order self.old w → OnOk result (rest_folding I.rest self.new w ≡ drop_before (I.order self.old.iterator) key.now (rest_folding I.rest self.old w)) }
+        ensures rows { (w : World) → Sees w (E.reach env.old) (E.reach env.new) → sound_folding I.rest I.sound I.order self.old w →
+            OnOk result (rest_folding I.rest self.new w ≡ drop_before (I.order self.old.iterator) key.now (rest_folding I.rest self.old w)) }
         ensures still { (w : World) → Sees w (E.reach env.old) (E.reach env.new) → sound_folding I.rest I.sound I.order self.old w → sound_folding I.rest I.sound I.order self.new w }
         ensures checked { (w : World) → sound_folding I.rest I.sound I.order self.old w → OnOk result (Checks w (E.reach env.old) (E.reach env.new)) }
-        ensures sought { OnOk result (Made (E.reach env.old) (E.reach env.new) (λ reads. Seeks I.seeks self.old (E.reach env.old).meaning reads key.now self.new × NoMore (refuses_folding I.refuses (BringsByCalls I.begins I.takes I.seeks) self.old (E.reach env.old).meaning) reads (refuses_folding I.refuses (BringsByCalls I.begins I.takes I.seeks) self.new (E.reach env.old).meaning))) }
-        ensures cause { IfErr result (λ e. Made (E.reach env.old) (E.reach env.new) (λ reads. (IsFault (E.reach env.old) (E.reach env.new) e ⊎ refuses_folding I.refuses (BringsByCalls I.begins I.takes I.seeks) self.old (E.reach env.old).meaning reads (Some key.now) e) × Stays I.refuses I.takes self.old (E.reach env.old).meaning reads (Some key.now) e self.new × NoMoreBut e (refuses_folding I.refuses (BringsByCalls I.begins I.takes I.seeks) self.old (E.reach env.old).meaning) reads (refuses_folding I.refuses (BringsByCalls I.begins I.takes I.seeks) self.new (E.reach env.old).meaning))) }
+        ensures sought { OnOk result (AnswersBy (λ x m reads y. Seeks I.seeks x m reads key.now y) (refuses_folding I.refuses (BringsByCalls I.begins I.takes I.seeks)) (E.reach env.old) (E.reach env.new) self.old self.new) }
+        ensures cause { IfErr result (λ e. FailsBy (refuses_folding I.refuses (BringsByCalls I.begins I.takes I.seeks)) (Stays I.refuses I.takes) (E.reach env.old) (E.reach env.new) self.old (Some key.now) e self.new) }
         ensures no_larger { bound_folding I.bound self.new ≤ bound_folding I.bound self.old }
         ensures order { I.order self.new.iterator ≡ I.order self.old.iterator }
         ensures reads { OnlyReads (E.reach env.old) (E.reach env.new) }

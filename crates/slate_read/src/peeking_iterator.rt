@@ -1,8 +1,9 @@
 //! An iterator whose next row can be looked at.
 ghost use Rattle.std.specs.Prelude.{◌≡◌, ◌⊎◌, ◌≤◌, [], None, IfOk, IfErr, IsOk, OnOk, option_copied};
-ghost use Rattle.slate_types.specs.Outside.{IsFault, OnlyReads};
-ghost use Rattle.slate_types.specs.World.{World, Made, Sees};
+ghost use Rattle.slate_types.specs.Outside.{OnlyReads};
+ghost use Rattle.slate_types.specs.World.{World, Sees};
 ghost use Rattle.slate_types.proofs.Moves.{Moves};
+ghost use Rattle.slate_read.specs.Answering.{IsFaultOr};
 ghost use Rattle.slate_read.specs.Peeking.{ahead_of, bound_peeked, head_of, is_kept, IsPeeking, IsSoundPeeked, refuses_peeked, rest_peeked, TakesAhead};
 
 use slate_types::{
@@ -52,7 +53,7 @@ impl<I: Drop> PeekingIterator<I> {
         ensures moved { OnOk result (Moves (rest_peeked I.rest) (IsSoundPeeked I.rest I.sound I.order) (refuses_peeked I.refuses) (E.reach env.old) (E.reach env.new) self.old self.new) }
         ensures first { (w : World) → Sees w (E.reach env.old) (E.reach env.new) → IsSoundPeeked I.rest I.sound I.order self.old w → OnOk result (ahead_of self.new ≡ head_of (rest_peeked I.rest self.old w)) }
         ensures still { (w : World) → Sees w (E.reach env.old) (E.reach env.new) → IsSoundPeeked I.rest I.sound I.order self.old w → IsSoundPeeked I.rest I.sound I.order self.new w }
-        ensures cause { IfErr result (λ e. Made (E.reach env.old) (E.reach env.new) (λ reads. IsFault (E.reach env.old) (E.reach env.new) e ⊎ refuses_peeked I.refuses self.old (E.reach env.old).meaning reads None e)) }
+        ensures cause { IfErr result (λ e. IsFaultOr (refuses_peeked I.refuses) (E.reach env.old) (E.reach env.new) self.old None e) }
         ensures no_larger { bound_peeked I.bound self.new ≤ bound_peeked I.bound self.old }
         ensures reads { OnlyReads (E.reach env.old) (E.reach env.new) }
     {
@@ -85,7 +86,7 @@ impl<I: Drop> PeekingIterator<I> {
     where
         I: RowEntryIterator<E>,
         ensures first { (w : World) → Sees w (E.reach env.old) (E.reach env.new) → IsSoundPeeked I.rest I.sound I.order self.old w → IfOk result (λ row. option_copied row ≡ head_of (rest_peeked I.rest self.old w)) }
-        ensures cause { IfErr result (λ e. Made (E.reach env.old) (E.reach env.new) (λ reads. IsFault (E.reach env.old) (E.reach env.new) e ⊎ refuses_peeked I.refuses self.old (E.reach env.old).meaning reads None e)) }
+        ensures cause { IfErr result (λ e. IsFaultOr (refuses_peeked I.refuses) (E.reach env.old) (E.reach env.new) self.old None e) }
         ensures reads { OnlyReads (E.reach env.old) (E.reach env.new) }
     {
         match self.read_ahead(alloc, env) {

@@ -3,7 +3,7 @@ ghost use Rattle.std.specs.Prelude.{◌≡◌, ◌⊎◌, true, false, IfOk, IfS
 ghost use Rattle.slate_types.specs.declared.error.SlateDBError.{SlateDBError};
 ghost use Rattle.slate_types.specs.declared.types.RowEntry.{RowEntry};
 ghost use Rattle.slate_types.specs.Rows.{is_base, is_operand};
-ghost use Rattle.slate_read.specs.Required.{IsRequiring, required_more, required_whole};
+ghost use Rattle.slate_read.specs.Required.{IsRequiring, StaysRequired, required_more, required_whole};
 
 use slate_types::{
     IterationOrder, Outside, RowEntry, RowEntryIterator, SlateDBError, TrackedRowEntryIterator,
@@ -56,8 +56,7 @@ impl<E: Outside, I: RowEntryIterator<E>> RowEntryIterator<E> for MergeOperatorRe
 
     ghost seeks = { λ before m reads key after. I.seeks before.iterator m reads key after.iterator × (before.missing ≡ false) × (after.missing ≡ false) };
 
-    ghost stays = { λ before m reads at e after. ((e ≡ SlateDBError.MergeOperatorMissing) × (after.missing ≡ true) × ((before.missing ≡ true) ⊎ ((row : RowEntry) × (is_operand row ≡ true) × I.takes before.iterator m reads (Some row) after.iterator)))
-        ⊎ ((after.missing ≡ false) × I.stays before.iterator m reads at e after.iterator) };
+    ghost stays = { λ before m reads at e after. StaysRequired I.takes I.stays before m reads at e after };
 
     ghost rising = { λ it w h. I.rising it.iterator w h };
 

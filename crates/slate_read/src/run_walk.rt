@@ -1,15 +1,15 @@
 //! The rows of a run of stored tables, table by table.
-ghost use Rattle.std.specs.Prelude.{◌≡◌, ◌⊎◌, ◌<◌, ◌≤◌, ◌+◌, ◌*◌, length, [], None, false, true, IfOk, IfErr, IsNone, IsSome, OnOk};
+ghost use Rattle.std.specs.Prelude.{◌≡◌, ◌<◌, ◌≤◌, ◌+◌, ◌*◌, length, [], None, false, true, IfOk, IfErr, IsNone, IsSome, OnOk};
 ghost use Rattle.slate_types.specs.declared.error.SlateDBError.{SlateDBError};
 ghost use Rattle.slate_types.specs.Keys.{is_refused};
-ghost use Rattle.slate_types.specs.Outside.{IsFault, OnlyReads};
-ghost use Rattle.slate_types.specs.Refusing.{IsDamage};
+ghost use Rattle.slate_types.specs.Outside.{OnlyReads};
 ghost use Rattle.slate_types.specs.Steps.{Step};
 ghost use Rattle.slate_types.specs.World.{Made};
 ghost use Rattle.slate_types.proofs.Moves.{Moves};
 ghost use Rattle.slate_table.specs.IndexValue.{entries_of};
-ghost use Rattle.slate_read.specs.TableWalk.{BeginsAt, IsSoundCursor, IsSoundRising, RefusesIndexed, Sought, bound_behind, max_blocks, max_reads, no_words, refuses_behind, rest_after};
-ghost use Rattle.slate_read.specs.Bringing.{AddsNone, HandsAway, brings_behind};
+ghost use Rattle.slate_read.specs.TableWalk.{BeginsAt, Sought, SoughtBehind, StepsBehind, bound_behind, max_blocks, max_reads, no_words, refuses_behind, refuses_index};
+ghost use Rattle.slate_read.specs.Answering.{IsFaultOr};
+ghost use Rattle.slate_read.specs.Bringing.{AddsNoneByCall, HandsAwayByCall, brings_behind};
 ghost use Rattle.slate_read.specs.RunBringing.{BringsOpen, brings_run};
 ghost use Rattle.slate_read.specs.RunWalk.{FindsRow, IsSoundOpen, IsOpenRising, IsSoundRun, IsTableOpened, KeepsRun, OpensNext, PassesOver, bound_open, bound_run, can_reach, end_key, is_next_passed, is_passed, reaches_end, reaches_start, refuses_open, refuses_run, rest_open, rest_run};
 
@@ -104,7 +104,7 @@ fn open_table<S: Store, M: MergeOperator, T: BlockTransformer>(
     requires { is_refused range.now.start range.now.end ≡ false }
     ensures opened { let reach = ⟦<EnvOf<S, M, T> as Outside>⟧.reach in IfOk result (λ found. Made (reach env.old) (reach env.new) (λ reads. IsTableOpened range.now (reach env.old).meaning table reads found)) }
     ensures few { IfOk result (λ found. bound_behind found.cursor ≤ max_blocks * max_reads) }
-    ensures cause { let reach = ⟦<EnvOf<S, M, T> as Outside>⟧.reach in IfErr result (λ e. Made (reach env.old) (reach env.new) (λ reads. IsFault (reach env.old) (reach env.new) e ⊎ (IsDamage e × RefusesIndexed (reach env.old).meaning table reads e))) }
+    ensures cause { let reach = ⟦<EnvOf<S, M, T> as Outside>⟧.reach in IfErr result (λ e. IsFaultOr refuses_index (reach env.old) (reach env.new) table None e) }
     ensures reads { let reach = ⟦<EnvOf<S, M, T> as Outside>⟧.reach in OnlyReads (reach env.old) (reach env.new) }
 {
     match open_index(alloc, env, &table) {
@@ -132,11 +132,12 @@ impl OpenTable {
         order: IterationOrder,
     ) -> Result<Option<RowEntry>, SlateDBError>
         ensures table { self.new.table ≡ self.old.table }
-        ensures step { let reach = ⟦<EnvOf<S, M, T> as Outside>⟧.reach in IfOk result (λ answer. Step (rest_after self.old.table order) (IsSoundCursor self.old.table order) (refuses_behind self.old.table order) no_words (reach env.old) (reach env.new) self.old.cursor answer self.new.cursor) }
-        ensures cause { let reach = ⟦<EnvOf<S, M, T> as Outside>⟧.reach in IfErr result (λ e. Made (reach env.old) (reach env.new) (λ reads. IsFault (reach env.old) (reach env.new) e ⊎ refuses_behind self.old.table order self.old.cursor (reach env.old).meaning reads None e)) }
+        ensures step { let reach = ⟦<EnvOf<S, M, T> as Outside>⟧.reach in IfOk result (λ answer. StepsBehind self.old.table order (reach env.old) (reach env.new) self.old.cursor answer self.new.cursor) }
+        ensures cause { let reach = ⟦<EnvOf<S, M, T> as Outside>⟧.reach in IfErr result (λ e. IsFaultOr (refuses_behind self.old.table order) (reach env.old) (reach env.new) self.old.cursor None e) }
         ensures smaller { IfOk result (λ answer. IsSome answer → bound_behind self.new.cursor < bound_behind self.old.cursor) }
         ensures no_larger { OnOk result (bound_behind self.new.cursor ≤ bound_behind self.old.cursor) }
-        ensures hands { let reach = ⟦<EnvOf<S, M, T> as Outside>⟧.reach in IfOk result (λ answer. Made (reach env.old) (reach env.new) (λ reads. HandsAway (brings_behind self.old.table order) (refuses_behind self.old.table order) (reach env.old).meaning self.old.cursor reads answer self.new.cursor)) }
+        ensures hands { let reach = ⟦<EnvOf<S, M, T> as Outside>⟧.reach in
+            IfOk result (λ answer. HandsAwayByCall (brings_behind self.old.table order) (refuses_behind self.old.table order) (reach env.old) (reach env.new) self.old.cursor answer self.new.cursor) }
         ensures reads { let reach = ⟦<EnvOf<S, M, T> as Outside>⟧.reach in OnlyReads (reach env.old) (reach env.new) }
     {
         self.cursor
@@ -152,10 +153,10 @@ impl OpenTable {
         key: &[u8],
     ) -> Result<(), SlateDBError>
         ensures table { self.new.table ≡ self.old.table }
-        ensures sought { let reach = ⟦<EnvOf<S, M, T> as Outside>⟧.reach in OnOk result (Sought (rest_after self.old.table order) (IsSoundRising self.old.table order) (refuses_behind self.old.table order) order key.now (reach env.old) (reach env.new) self.old.cursor self.new.cursor) }
-        ensures cause { let reach = ⟦<EnvOf<S, M, T> as Outside>⟧.reach in IfErr result (λ e. Made (reach env.old) (reach env.new) (λ reads. IsFault (reach env.old) (reach env.new) e ⊎ refuses_behind self.old.table order self.old.cursor (reach env.old).meaning reads None e)) }
+        ensures sought { let reach = ⟦<EnvOf<S, M, T> as Outside>⟧.reach in OnOk result (SoughtBehind self.old.table order key.now (reach env.old) (reach env.new) self.old.cursor self.new.cursor) }
+        ensures cause { let reach = ⟦<EnvOf<S, M, T> as Outside>⟧.reach in IfErr result (λ e. IsFaultOr (refuses_behind self.old.table order) (reach env.old) (reach env.new) self.old.cursor None e) }
         ensures no_larger { OnOk result (bound_behind self.new.cursor ≤ bound_behind self.old.cursor) }
-        ensures adds { let reach = ⟦<EnvOf<S, M, T> as Outside>⟧.reach in OnOk result (Made (reach env.old) (reach env.new) (λ reads. AddsNone (brings_behind self.old.table order) (refuses_behind self.old.table order) (reach env.old).meaning self.old.cursor reads self.new.cursor)) }
+        ensures adds { let reach = ⟦<EnvOf<S, M, T> as Outside>⟧.reach in OnOk result (AddsNoneByCall (brings_behind self.old.table order) (refuses_behind self.old.table order) (reach env.old) (reach env.new) self.old.cursor self.new.cursor) }
         ensures reads { let reach = ⟦<EnvOf<S, M, T> as Outside>⟧.reach in OnlyReads (reach env.old) (reach env.new) }
     {
         self.cursor
@@ -172,10 +173,10 @@ fn take_row<S: Store, M: MergeOperator, T: BlockTransformer>(
 ) -> Result<Option<RowEntry>, SlateDBError>
     ensures step { let reach = ⟦<EnvOf<S, M, T> as Outside>⟧.reach in IfOk result (λ answer. Step (rest_open order) (IsSoundOpen order) (refuses_open order) no_words (reach env.old) (reach env.new) current.old answer current.new) }
     ensures spent { IfOk result (λ answer. IsNone answer → current.new ≡ None) }
-    ensures cause { let reach = ⟦<EnvOf<S, M, T> as Outside>⟧.reach in IfErr result (λ e. Made (reach env.old) (reach env.new) (λ reads. IsFault (reach env.old) (reach env.new) e ⊎ refuses_open order current.old (reach env.old).meaning reads None e)) }
+    ensures cause { let reach = ⟦<EnvOf<S, M, T> as Outside>⟧.reach in IfErr result (λ e. IsFaultOr (refuses_open order) (reach env.old) (reach env.new) current.old None e) }
     ensures smaller { IfOk result (λ answer. IsSome answer → bound_open current.new < bound_open current.old) }
     ensures no_larger { OnOk result (bound_open current.new ≤ bound_open current.old) }
-    ensures hands { let reach = ⟦<EnvOf<S, M, T> as Outside>⟧.reach in IfOk result (λ answer. Made (reach env.old) (reach env.new) (λ reads. HandsAway (BringsOpen order) (refuses_open order) (reach env.old).meaning current.old reads answer current.new)) }
+    ensures hands { let reach = ⟦<EnvOf<S, M, T> as Outside>⟧.reach in IfOk result (λ answer. HandsAwayByCall (BringsOpen order) (refuses_open order) (reach env.old) (reach env.new) current.old answer current.new) }
     ensures reads { let reach = ⟦<EnvOf<S, M, T> as Outside>⟧.reach in OnlyReads (reach env.old) (reach env.new) }
 {
     let Some(table) = current else {
@@ -200,9 +201,9 @@ fn skip_rows<S: Store, M: MergeOperator, T: BlockTransformer>(
     key: &[u8],
 ) -> Result<(), SlateDBError>
     ensures sought { let reach = ⟦<EnvOf<S, M, T> as Outside>⟧.reach in OnOk result (Sought (rest_open order) (IsOpenRising order) (refuses_open order) order key.now (reach env.old) (reach env.new) current.old current.new) }
-    ensures cause { let reach = ⟦<EnvOf<S, M, T> as Outside>⟧.reach in IfErr result (λ e. Made (reach env.old) (reach env.new) (λ reads. IsFault (reach env.old) (reach env.new) e ⊎ refuses_open order current.old (reach env.old).meaning reads None e)) }
+    ensures cause { let reach = ⟦<EnvOf<S, M, T> as Outside>⟧.reach in IfErr result (λ e. IsFaultOr (refuses_open order) (reach env.old) (reach env.new) current.old None e) }
     ensures no_larger { OnOk result (bound_open current.new ≤ bound_open current.old) }
-    ensures adds { let reach = ⟦<EnvOf<S, M, T> as Outside>⟧.reach in OnOk result (Made (reach env.old) (reach env.new) (λ reads. AddsNone (BringsOpen order) (refuses_open order) (reach env.old).meaning current.old reads current.new)) }
+    ensures adds { let reach = ⟦<EnvOf<S, M, T> as Outside>⟧.reach in OnOk result (AddsNoneByCall (BringsOpen order) (refuses_open order) (reach env.old) (reach env.new) current.old current.new) }
     ensures reads { let reach = ⟦<EnvOf<S, M, T> as Outside>⟧.reach in OnlyReads (reach env.old) (reach env.new) }
 {
     match current {
@@ -221,10 +222,10 @@ fn find_row<S: Store, M: MergeOperator, T: BlockTransformer>(
 ) -> Result<Option<RowEntry>, SlateDBError>
     ensures found { let reach = ⟦<EnvOf<S, M, T> as Outside>⟧.reach in IfOk result (λ answer. FindsRow order key.now (reach env.old) (reach env.new) current.old answer current.new) }
     ensures spent { IfOk result (λ answer. IsNone answer → current.new ≡ None) }
-    ensures cause { let reach = ⟦<EnvOf<S, M, T> as Outside>⟧.reach in IfErr result (λ e. Made (reach env.old) (reach env.new) (λ reads. IsFault (reach env.old) (reach env.new) e ⊎ refuses_open order current.old (reach env.old).meaning reads None e)) }
+    ensures cause { let reach = ⟦<EnvOf<S, M, T> as Outside>⟧.reach in IfErr result (λ e. IsFaultOr (refuses_open order) (reach env.old) (reach env.new) current.old None e) }
     ensures smaller { IfOk result (λ answer. IsSome answer → bound_open current.new < bound_open current.old) }
     ensures no_larger { OnOk result (bound_open current.new ≤ bound_open current.old) }
-    ensures hands { let reach = ⟦<EnvOf<S, M, T> as Outside>⟧.reach in IfOk result (λ answer. Made (reach env.old) (reach env.new) (λ reads. HandsAway (BringsOpen order) (refuses_open order) (reach env.old).meaning current.old reads answer current.new)) }
+    ensures hands { let reach = ⟦<EnvOf<S, M, T> as Outside>⟧.reach in IfOk result (λ answer. HandsAwayByCall (BringsOpen order) (refuses_open order) (reach env.old) (reach env.new) current.old answer current.new) }
     ensures reads { let reach = ⟦<EnvOf<S, M, T> as Outside>⟧.reach in OnlyReads (reach env.old) (reach env.new) }
 {
     match skip_rows(alloc, env, current, order, key) {
@@ -243,7 +244,7 @@ impl RunCursor {
     ) -> Result<bool, SlateDBError>
         requires fits { is_refused range.now.start range.now.end ≡ false }
         ensures opened { let reach = ⟦<EnvOf<S, M, T> as Outside>⟧.reach in IfOk result (λ some. Made (reach env.old) (reach env.new) (λ reads. OpensNext range.now (reach env.old).meaning reads self.old some self.new)) }
-        ensures cause { let reach = ⟦<EnvOf<S, M, T> as Outside>⟧.reach in (order : IterationOrder) → IfErr result (λ e. Made (reach env.old) (reach env.new) (λ reads. IsFault (reach env.old) (reach env.new) e ⊎ refuses_run order self.old (reach env.old).meaning reads None e)) }
+        ensures cause { let reach = ⟦<EnvOf<S, M, T> as Outside>⟧.reach in (order : IterationOrder) → IfErr result (λ e. IsFaultOr (refuses_run order) (reach env.old) (reach env.new) self.old None e) }
         ensures fewer { IfOk result (λ some. some ≡ true → length self.new.tables.items + 1 ≡ length self.old.tables.items) }
         ensures no_larger { OnOk result (self.old.current ≡ None → bound_run self.new ≤ bound_run self.old) }
         ensures reads { let reach = ⟦<EnvOf<S, M, T> as Outside>⟧.reach in OnlyReads (reach env.old) (reach env.new) }
@@ -270,9 +271,9 @@ impl RunCursor {
     ) -> Result<(), SlateDBError>
         requires fits { is_refused range.now.start range.now.end ≡ false }
         ensures moved { let reach = ⟦<EnvOf<S, M, T> as Outside>⟧.reach in OnOk result (Moves (rest_run range.now order) (IsSoundRun range.now order) (refuses_run order) (reach env.old) (reach env.new) self.old self.new) }
-        ensures cause { let reach = ⟦<EnvOf<S, M, T> as Outside>⟧.reach in IfErr result (λ e. Made (reach env.old) (reach env.new) (λ reads. IsFault (reach env.old) (reach env.new) e ⊎ refuses_run order self.old (reach env.old).meaning reads None e)) }
+        ensures cause { let reach = ⟦<EnvOf<S, M, T> as Outside>⟧.reach in IfErr result (λ e. IsFaultOr (refuses_run order) (reach env.old) (reach env.new) self.old None e) }
         ensures no_larger { OnOk result (bound_run self.new ≤ bound_run self.old) }
-        ensures adds { let reach = ⟦<EnvOf<S, M, T> as Outside>⟧.reach in OnOk result (Made (reach env.old) (reach env.new) (λ reads. AddsNone (brings_run order) (refuses_run order) (reach env.old).meaning self.old reads self.new)) }
+        ensures adds { let reach = ⟦<EnvOf<S, M, T> as Outside>⟧.reach in OnOk result (AddsNoneByCall (brings_run order) (refuses_run order) (reach env.old) (reach env.new) self.old self.new) }
         ensures reads { let reach = ⟦<EnvOf<S, M, T> as Outside>⟧.reach in OnlyReads (reach env.old) (reach env.new) }
     {
         if self.current.is_some() {
@@ -294,10 +295,10 @@ impl RunCursor {
     ) -> Result<Option<RowEntry>, SlateDBError>
         requires fits { is_refused range.now.start range.now.end ≡ false }
         ensures step { let reach = ⟦<EnvOf<S, M, T> as Outside>⟧.reach in IfOk result (λ answer. Step (rest_run range.now order) (IsSoundRun range.now order) (refuses_run order) no_words (reach env.old) (reach env.new) self.old answer self.new) }
-        ensures cause { let reach = ⟦<EnvOf<S, M, T> as Outside>⟧.reach in IfErr result (λ e. Made (reach env.old) (reach env.new) (λ reads. IsFault (reach env.old) (reach env.new) e ⊎ refuses_run order self.old (reach env.old).meaning reads None e)) }
+        ensures cause { let reach = ⟦<EnvOf<S, M, T> as Outside>⟧.reach in IfErr result (λ e. IsFaultOr (refuses_run order) (reach env.old) (reach env.new) self.old None e) }
         ensures smaller { IfOk result (λ answer. IsSome answer → bound_run self.new < bound_run self.old) }
         ensures no_larger { OnOk result (bound_run self.new ≤ bound_run self.old) }
-        ensures hands { let reach = ⟦<EnvOf<S, M, T> as Outside>⟧.reach in IfOk result (λ answer. Made (reach env.old) (reach env.new) (λ reads. HandsAway (brings_run order) (refuses_run order) (reach env.old).meaning self.old reads answer self.new)) }
+        ensures hands { let reach = ⟦<EnvOf<S, M, T> as Outside>⟧.reach in IfOk result (λ answer. HandsAwayByCall (brings_run order) (refuses_run order) (reach env.old) (reach env.new) self.old answer self.new) }
         ensures reads { let reach = ⟦<EnvOf<S, M, T> as Outside>⟧.reach in OnlyReads (reach env.old) (reach env.new) }
     {
         if self.ahead.is_some() {
@@ -344,9 +345,9 @@ impl RunCursor {
         requires fits { is_refused range.now.start range.now.end ≡ false }
         requires none { self.old.ahead ≡ None }
         ensures sought { let reach = ⟦<EnvOf<S, M, T> as Outside>⟧.reach in OnOk result (Sought (rest_run range.now order) (IsSoundRun range.now order) (refuses_run order) order key.now (reach env.old) (reach env.new) self.old self.new) }
-        ensures cause { let reach = ⟦<EnvOf<S, M, T> as Outside>⟧.reach in IfErr result (λ e. Made (reach env.old) (reach env.new) (λ reads. IsFault (reach env.old) (reach env.new) e ⊎ refuses_run order self.old (reach env.old).meaning reads None e)) }
+        ensures cause { let reach = ⟦<EnvOf<S, M, T> as Outside>⟧.reach in IfErr result (λ e. IsFaultOr (refuses_run order) (reach env.old) (reach env.new) self.old None e) }
         ensures no_larger { OnOk result (bound_run self.new ≤ bound_run self.old) }
-        ensures adds { let reach = ⟦<EnvOf<S, M, T> as Outside>⟧.reach in OnOk result (Made (reach env.old) (reach env.new) (λ reads. AddsNone (brings_run order) (refuses_run order) (reach env.old).meaning self.old reads self.new)) }
+        ensures adds { let reach = ⟦<EnvOf<S, M, T> as Outside>⟧.reach in OnOk result (AddsNoneByCall (brings_run order) (refuses_run order) (reach env.old) (reach env.new) self.old self.new) }
         ensures reads { let reach = ⟦<EnvOf<S, M, T> as Outside>⟧.reach in OnlyReads (reach env.old) (reach env.new) }
     {
         loop {
@@ -372,9 +373,9 @@ impl RunCursor {
     ) -> Result<(), SlateDBError>
         requires fits { is_refused range.now.start range.now.end ≡ false }
         ensures sought { let reach = ⟦<EnvOf<S, M, T> as Outside>⟧.reach in OnOk result (Sought (rest_run range.now order) (IsSoundRun range.now order) (refuses_run order) order key.now (reach env.old) (reach env.new) self.old self.new) }
-        ensures cause { let reach = ⟦<EnvOf<S, M, T> as Outside>⟧.reach in IfErr result (λ e. Made (reach env.old) (reach env.new) (λ reads. IsFault (reach env.old) (reach env.new) e ⊎ refuses_run order self.old (reach env.old).meaning reads None e)) }
+        ensures cause { let reach = ⟦<EnvOf<S, M, T> as Outside>⟧.reach in IfErr result (λ e. IsFaultOr (refuses_run order) (reach env.old) (reach env.new) self.old None e) }
         ensures no_larger { OnOk result (bound_run self.new ≤ bound_run self.old) }
-        ensures adds { let reach = ⟦<EnvOf<S, M, T> as Outside>⟧.reach in OnOk result (Made (reach env.old) (reach env.new) (λ reads. AddsNone (brings_run order) (refuses_run order) (reach env.old).meaning self.old reads self.new)) }
+        ensures adds { let reach = ⟦<EnvOf<S, M, T> as Outside>⟧.reach in OnOk result (AddsNoneByCall (brings_run order) (refuses_run order) (reach env.old) (reach env.new) self.old self.new) }
         ensures reads { let reach = ⟦<EnvOf<S, M, T> as Outside>⟧.reach in OnlyReads (reach env.old) (reach env.new) }
     {
         if is_ahead_kept(&self.ahead, order, key) {

@@ -2,11 +2,10 @@
 ghost use Rattle.std.specs.Prelude.{◌≡◌, IfOk, IfErr, false};
 ghost use Rattle.slate_types.specs.declared.error.SlateDBError.{SlateDBError};
 ghost use Rattle.slate_types.specs.Keys.{is_refused};
-ghost use Rattle.slate_read.specs.Bringing.{HandsOut, NoMoreRows};
-ghost use Rattle.slate_read.specs.SstBringing.{brings_sst};
+ghost use Rattle.slate_read.specs.SstBringing.{sst_begins, sst_seeks, sst_takes};
 ghost use Rattle.slate_read.specs.SstIterators.{IsTableIterator, sst_bound, sst_refuses, sst_rest, sst_sound};
 ghost use Rattle.slate_read.specs.SstLaws.{sst_more, sst_rising, sst_whole};
-ghost use Rattle.slate_read.specs.NewestFirst.{Begins, IsGoing, IsUnrefused, Stays, is_below};
+ghost use Rattle.slate_read.specs.NewestFirst.{Stays};
 ghost use Rattle.slate_read.specs.SstOptions.{CanFetch};
 
 use crate::internal_sst_iterator::InternalSstIterator;
@@ -65,11 +64,11 @@ impl<S: Store, M: MergeOperator, T: BlockTransformer> RowEntryIterator<Env<'_, S
 
     ghost refuses = { λ it m reads at e. sst_refuses it.rows m reads at e };
 
-    ghost begins = { λ before m reads after. IsUnrefused before.rows.progress × Begins before.rows.progress after.rows.progress × (after.rows.range ≡ before.rows.range) × NoMoreRows (brings_sst before.rows m) reads (brings_sst after.rows m) };
+    ghost begins = { λ before m reads after. sst_begins before.rows m reads after.rows };
 
-    ghost takes = { λ before m reads answer after. IsGoing before.rows.progress × IsGoing after.rows.progress × (after.rows.range ≡ before.rows.range) × HandsOut (brings_sst before.rows m) reads answer (brings_sst after.rows m) };
+    ghost takes = { λ before m reads answer after. sst_takes before.rows m reads answer after.rows };
 
-    ghost seeks = { λ before m reads key after. (is_below before.rows.range key ≡ false) × IsGoing before.rows.progress × IsGoing after.rows.progress × (after.rows.range ≡ before.rows.range) × NoMoreRows (brings_sst before.rows m) reads (brings_sst after.rows m) };
+    ghost seeks = { λ before m reads key after. sst_seeks before.rows m reads key after.rows };
 
     ghost stays = { λ before _ _ at e after. Stays before.rows at e after.rows };
 

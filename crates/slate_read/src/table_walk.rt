@@ -8,13 +8,13 @@ ghost use Rattle.slate_block.specs.EitherVersion.{left_of};
 ghost use Rattle.slate_block.specs.ReadingLaws.{EachIsAByte};
 ghost use Rattle.slate_table.specs.IndexReading.{index_keys};
 ghost use Rattle.slate_table.specs.IndexValue.{entries_of};
-ghost use Rattle.slate_types.specs.Outside.{IsFault, OnlyReads};
-ghost use Rattle.slate_types.specs.Refusing.{IsDamage, NoMore};
+ghost use Rattle.slate_types.specs.Outside.{OnlyReads};
+ghost use Rattle.slate_types.specs.Refusing.{IsDamage};
 ghost use Rattle.slate_types.specs.World.{Made};
-ghost use Rattle.slate_types.specs.Steps.{Step};
 ghost use Rattle.slate_types.proofs.Moves.{Moves};
-ghost use Rattle.slate_read.specs.Bringing.{AddsNothing, HandsOut, brings_behind};
-ghost use Rattle.slate_read.specs.TableWalk.{IsSoundRising, SkipsOpen, Sought, Begins, IsIndexed, Keeps, RefusesIndexed, bound_behind, max_blocks, IsSoundCursor, Jumps, no_words, Opens, refuses_behind, rest_after, next_first, next_stop, reads_in, RefusesLeft, RefusesReady, TakesOpen, RefusesRows, Walks, max_reads, path_in};
+ghost use Rattle.slate_read.specs.Answering.{IsFaultOr};
+ghost use Rattle.slate_read.specs.Bringing.{AddsNoneByCall, HandsAwayByCall, brings_behind};
+ghost use Rattle.slate_read.specs.TableWalk.{SkipsOpen, SoughtBehind, StepsBehind, Begins, IsIndexed, Keeps, bound_behind, max_blocks, IsSoundCursor, Jumps, Opens, refuses_behind, refuses_index, rest_after, next_first, next_stop, reads_in, RefusesLeft, RefusesReady, TakesOpen, RefusesRows, Walks, max_reads, path_in};
 
 use crate::fetch_limits::FetchLimits;
 use crate::kept::copy_of;
@@ -138,10 +138,10 @@ impl Cursor {
         requires some { self.old.first < self.old.stop }
         requires spent { reads_in self.old.rows ≡ 0 }
         ensures moved { let reach = ⟦<EnvOf<S, M, T> as Outside>⟧.reach in OnOk result (Moves (rest_after table.now order) (IsSoundCursor table.now order) (refuses_behind table.now order) (reach env.old) (reach env.new) self.old self.new) }
-        ensures cause { let reach = ⟦<EnvOf<S, M, T> as Outside>⟧.reach in IfErr result (λ e. Made (reach env.old) (reach env.new) (λ reads. IsFault (reach env.old) (reach env.new) e ⊎ refuses_behind table.now order self.old (reach env.old).meaning reads None e)) }
+        ensures cause { let reach = ⟦<EnvOf<S, M, T> as Outside>⟧.reach in IfErr result (λ e. IsFaultOr (refuses_behind table.now order) (reach env.old) (reach env.new) self.old None e) }
         ensures fewer { OnOk result (self.new.stop - self.new.first + 1 ≡ self.old.stop - self.old.first) }
         ensures small { OnOk result (reads_in self.new.rows ≤ max_reads) }
-        ensures adds { let reach = ⟦<EnvOf<S, M, T> as Outside>⟧.reach in OnOk result (Made (reach env.old) (reach env.new) (λ reads. AddsNothing table.now order (reach env.old).meaning self.old reads self.new)) }
+        ensures adds { let reach = ⟦<EnvOf<S, M, T> as Outside>⟧.reach in OnOk result (AddsNoneByCall (brings_behind table.now order) (refuses_behind table.now order) (reach env.old) (reach env.new) self.old self.new) }
         ensures reads { let reach = ⟦<EnvOf<S, M, T> as Outside>⟧.reach in OnlyReads (reach env.old) (reach env.new) }
     {
         self.fill(alloc, env, table, order, limits)?;
@@ -157,13 +157,11 @@ impl Cursor {
         order: IterationOrder,
         limits: FetchLimits,
     ) -> Result<Option<RowEntry>, SlateDBError>
-        ensures step { let reach = ⟦<EnvOf<S, M, T> as Outside>⟧.reach in IfOk result (λ answer. Step (rest_after table.now order) (IsSoundCursor table.now order) (refuses_behind table.now order) no_words (reach env.old) (reach env.new) self.old answer self.new) }
-        ensures cause { let reach = ⟦<EnvOf<S, M, T> as Outside>⟧.reach in IfErr result (λ e. Made (reach env.old) (reach env.new) (λ reads. IsFault (reach env.old) (reach env.new) e ⊎ refuses_behind table.now order self.old (reach env.old).meaning reads None e)) }
+        ensures step { let reach = ⟦<EnvOf<S, M, T> as Outside>⟧.reach in IfOk result (λ answer. StepsBehind table.now order (reach env.old) (reach env.new) self.old answer self.new) }
+        ensures cause { let reach = ⟦<EnvOf<S, M, T> as Outside>⟧.reach in IfErr result (λ e. IsFaultOr (refuses_behind table.now order) (reach env.old) (reach env.new) self.old None e) }
         ensures smaller { IfOk result (λ answer. IsSome answer → bound_behind self.new < bound_behind self.old) }
         ensures no_larger { OnOk result (bound_behind self.new ≤ bound_behind self.old) }
-        ensures hands { let reach = ⟦<EnvOf<S, M, T> as Outside>⟧.reach in
-            let m = (reach env.old).meaning in
-            IfOk result (λ answer. Made (reach env.old) (reach env.new) (λ reads. HandsOut (brings_behind table.now order self.old m) reads answer (brings_behind table.now order self.new m) × NoMore (refuses_behind table.now order self.old m) reads (refuses_behind table.now order self.new m))) }
+        ensures hands { let reach = ⟦<EnvOf<S, M, T> as Outside>⟧.reach in IfOk result (λ answer. HandsAwayByCall (brings_behind table.now order) (refuses_behind table.now order) (reach env.old) (reach env.new) self.old answer self.new) }
         ensures reads { let reach = ⟦<EnvOf<S, M, T> as Outside>⟧.reach in OnlyReads (reach env.old) (reach env.new) }
     {
         loop {
@@ -238,10 +236,10 @@ impl Cursor {
         limits: FetchLimits,
         key: &[u8],
     ) -> Result<(), SlateDBError>
-        ensures sought { let reach = ⟦<EnvOf<S, M, T> as Outside>⟧.reach in OnOk result (Sought (rest_after table.now order) (IsSoundRising table.now order) (refuses_behind table.now order) order key.now (reach env.old) (reach env.new) self.old self.new) }
-        ensures cause { let reach = ⟦<EnvOf<S, M, T> as Outside>⟧.reach in IfErr result (λ e. Made (reach env.old) (reach env.new) (λ reads. IsFault (reach env.old) (reach env.new) e ⊎ refuses_behind table.now order self.old (reach env.old).meaning reads (Some key.now) e)) }
+        ensures sought { let reach = ⟦<EnvOf<S, M, T> as Outside>⟧.reach in OnOk result (SoughtBehind table.now order key.now (reach env.old) (reach env.new) self.old self.new) }
+        ensures cause { let reach = ⟦<EnvOf<S, M, T> as Outside>⟧.reach in IfErr result (λ e. IsFaultOr (refuses_behind table.now order) (reach env.old) (reach env.new) self.old (Some key.now) e) }
         ensures no_larger { OnOk result (bound_behind self.new ≤ bound_behind self.old) }
-        ensures adds { let reach = ⟦<EnvOf<S, M, T> as Outside>⟧.reach in OnOk result (Made (reach env.old) (reach env.new) (λ reads. AddsNothing table.now order (reach env.old).meaning self.old reads self.new)) }
+        ensures adds { let reach = ⟦<EnvOf<S, M, T> as Outside>⟧.reach in OnOk result (AddsNoneByCall (brings_behind table.now order) (refuses_behind table.now order) (reach env.old) (reach env.new) self.old self.new) }
         ensures reads { let reach = ⟦<EnvOf<S, M, T> as Outside>⟧.reach in OnlyReads (reach env.old) (reach env.new) }
     {
         loop {
@@ -265,10 +263,10 @@ impl Cursor {
         limits: FetchLimits,
         key: &[u8],
     ) -> Result<(), SlateDBError>
-        ensures sought { let reach = ⟦<EnvOf<S, M, T> as Outside>⟧.reach in OnOk result (Sought (rest_after table.now order) (IsSoundRising table.now order) (refuses_behind table.now order) order key.now (reach env.old) (reach env.new) self.old self.new) }
-        ensures cause { let reach = ⟦<EnvOf<S, M, T> as Outside>⟧.reach in IfErr result (λ e. Made (reach env.old) (reach env.new) (λ reads. IsFault (reach env.old) (reach env.new) e ⊎ refuses_behind table.now order self.old (reach env.old).meaning reads (Some key.now) e)) }
+        ensures sought { let reach = ⟦<EnvOf<S, M, T> as Outside>⟧.reach in OnOk result (SoughtBehind table.now order key.now (reach env.old) (reach env.new) self.old self.new) }
+        ensures cause { let reach = ⟦<EnvOf<S, M, T> as Outside>⟧.reach in IfErr result (λ e. IsFaultOr (refuses_behind table.now order) (reach env.old) (reach env.new) self.old (Some key.now) e) }
         ensures no_larger { OnOk result (bound_behind self.new ≤ bound_behind self.old) }
-        ensures adds { let reach = ⟦<EnvOf<S, M, T> as Outside>⟧.reach in OnOk result (Made (reach env.old) (reach env.new) (λ reads. AddsNothing table.now order (reach env.old).meaning self.old reads self.new)) }
+        ensures adds { let reach = ⟦<EnvOf<S, M, T> as Outside>⟧.reach in OnOk result (AddsNoneByCall (brings_behind table.now order) (refuses_behind table.now order) (reach env.old) (reach env.new) self.old self.new) }
         ensures reads { let reach = ⟦<EnvOf<S, M, T> as Outside>⟧.reach in OnlyReads (reach env.old) (reach env.new) }
     {
         if self.skip(alloc, key)? {
@@ -287,7 +285,7 @@ pub(crate) fn open_index<S: Store, M: MergeOperator, T: BlockTransformer>(
 ) -> Result<SstIndex, SlateDBError>
     ensures found { let reach = ⟦<EnvOf<S, M, T> as Outside>⟧.reach in IfOk result (λ index. Made (reach env.old) (reach env.new) (λ reads. IsIndexed (reach env.old).meaning table.now reads (entries_of index))) }
     ensures few { IfOk result (λ index. length (entries_of index) ≤ max_blocks) }
-    ensures cause { let reach = ⟦<EnvOf<S, M, T> as Outside>⟧.reach in IfErr result (λ e. Made (reach env.old) (reach env.new) (λ reads. IsFault (reach env.old) (reach env.new) e ⊎ (IsDamage e × RefusesIndexed (reach env.old).meaning table.now reads e))) }
+    ensures cause { let reach = ⟦<EnvOf<S, M, T> as Outside>⟧.reach in IfErr result (λ e. IsFaultOr refuses_index (reach env.old) (reach env.new) table.now None e) }
     ensures reads { let reach = ⟦<EnvOf<S, M, T> as Outside>⟧.reach in OnlyReads (reach env.old) (reach env.new) }
 {
     TableStore::read_index(alloc, env.store, ROOT, table, &mut env.transformer)

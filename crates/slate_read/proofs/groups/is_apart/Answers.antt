@@ -1,4 +1,4 @@
-use Rattle.std.proofs.Common.{◌≡◌, ◌∙◌, sym, refl}
+use Rattle.std.proofs.Common.{◌∙◌, sym}
 use Rattle.slate_read.proofs.Grouping.{one_apart}
 use Rattle.slate_read.proofs.groups.is_apart.Goals as goal
 

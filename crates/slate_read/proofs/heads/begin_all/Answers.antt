@@ -56,3 +56,12 @@ pub returns-clause-brought : goal.returns-clause-brought
 returns-clause-brought g c =
     let none : c.sources.waiting.items ≡ [] = nil_from_length c.sources.waiting.items (sym c.sources.waiting.ok.0 ∙ c.in_default.ensures.cases.0) in
     subst (λ (l : List g.row.I.Denot). SourcesAdd (BringsByCalls g.I.RowEntryIterator.begins g.I.RowEntryIterator.takes g.I.RowEntryIterator.seeks) g.I.RowEntryIterator.refuses (g.E.Outside.reach c.args.env.now) (g.E.Outside.reach c.sources.env) (waiting_sources c.args.waiting.now.items) (record { waiting = l; heads = heap_items c.sources.heads })) none c.sources.invariant.brought
+
+pub returns-clause-moved : goal.returns-clause-moved
+returns-clause-moved g c =
+    let none : c.sources.waiting.items ≡ [] = nil_from_length c.sources.waiting.items (sym c.sources.waiting.ok.0 ∙ c.in_default.ensures.cases.0) in
+    let rest = left_in g.I.RowEntryIterator.rest c.args.order in
+    let merging = IsMergingIn g.I.RowEntryIterator.rest g.I.RowEntryIterator.sound g.I.RowEntryIterator.order c.args.order in
+    let a = g.E.Outside.reach c.args.env.now in
+    let b = g.E.Outside.reach c.sources.env in
+    subst (λ (l : List g.row.I.Denot). Moves rest merging (blames g.I.RowEntryIterator.refuses) a b (waiting_sources c.args.waiting.now.items) (record { waiting = l; heads = heap_items c.sources.heads })) none c.sources.invariant.moves

@@ -1,14 +1,14 @@
-use Rattle.std.proofs.Common.{◌≤◌, ◌⊎◌, None, sym, subst, []}
+use Rattle.std.proofs.Common.{◌≤◌, None, sym, subst, []}
 use Rattle.std.specs.BinaryHeap.{heap_items}
 use Rattle.std.proofs.lemmas.Result.{IfOk-weaker, IfErr-weaker}
-use Rattle.slate_types.specs.Outside.{IsFault}
-use Rattle.slate_types.specs.World.{Made}
 use Rattle.slate_types.proofs.Moves.{Moves}
 use Rattle.slate_types.proofs.Reaching.{reads_none}
 use Rattle.slate_read.specs.declared.merge_iterator.MergeState.{MergeState}
 use Rattle.slate_read.specs.declared.merge_iterator.MergeState.TheVariants.{New, Begun}
+use Rattle.slate_read.specs.Answering.{IsFaultOr}
+use Rattle.slate_read.specs.Bringing.{AddsNoneByCall}
 use Rattle.slate_read.specs.Calls.{BringsByCalls}
-use Rattle.slate_read.specs.MergeBringing.{MergeAddsNothing}
+use Rattle.slate_read.specs.MergeBringing.{merge_brings}
 use Rattle.slate_read.specs.Merging.{merging_bound}
 use Rattle.slate_read.specs.MergeStates.{IsSoundIn, bound_in, refuses_in, rest_in}
 use Rattle.slate_read.proofs.MergeStateSteps.{begun_adds, state_begins, state_again, begun_fails, waiting_adds, waiting_fails, again_fails}
@@ -22,11 +22,11 @@ returns-in-New g c =
     record {
       moved = λ dedup. IfOk-weaker c.begin_all.result _ (λ heads. Moves (rest_in g.I.RowEntryIterator.rest c.args.order dedup) (IsSoundIn g.I.RowEntryIterator.rest g.I.RowEntryIterator.sound g.I.RowEntryIterator.order c.args.order) (refuses_in g.I.RowEntryIterator.refuses) (g.E.Outside.reach c.args.env.now) (g.E.Outside.reach c.begin_all.new.env) x (Begun heads))
           (λ heads m. state_begins g.I.RowEntryIterator.rest g.I.RowEntryIterator.sound g.I.RowEntryIterator.refuses g.I.RowEntryIterator.order c.args.order dedup (g.E.Outside.reach c.args.env.now) (g.E.Outside.reach c.begin_all.new.env) x z (Begun heads) c.in-New.is tt tt m) c.begin_all.ensures.moved;
-      brought = IfOk-weaker c.begin_all.result _ (λ heads. Made (g.E.Outside.reach c.args.env.now) (g.E.Outside.reach c.begin_all.new.env) (λ reads. MergeAddsNothing (BringsByCalls g.I.RowEntryIterator.begins g.I.RowEntryIterator.takes g.I.RowEntryIterator.seeks) g.I.RowEntryIterator.refuses x (g.E.Outside.reach c.args.env.now).meaning reads (Begun heads)))
+      brought = IfOk-weaker c.begin_all.result _ (λ heads. AddsNoneByCall (merge_brings (BringsByCalls g.I.RowEntryIterator.begins g.I.RowEntryIterator.takes g.I.RowEntryIterator.seeks)) (refuses_in g.I.RowEntryIterator.refuses) (g.E.Outside.reach c.args.env.now) (g.E.Outside.reach c.begin_all.new.env) x (Begun heads))
           (λ heads m. waiting_adds g.I.RowEntryIterator.rest g.I.RowEntryIterator.sound g.I.RowEntryIterator.refuses g.I.RowEntryIterator.order (BringsByCalls g.I.RowEntryIterator.begins g.I.RowEntryIterator.takes g.I.RowEntryIterator.seeks) (g.E.Outside.reach c.args.env.now) (g.E.Outside.reach c.begin_all.new.env) x z (Begun heads) c.in-New.is tt tt m) c.begin_all.ensures.brought;
       ready = c.begin_all.ensures.ready;
       no_larger = IfOk-weaker c.begin_all.result _ (λ heads. merging_bound bound [] (heap_items heads) ≤ bound_in bound x) (λ heads less. subst (λ (s : MergeState g.row.I.Denot). merging_bound bound [] (heap_items heads) ≤ bound_in bound s) (sym c.in-New.is) less) c.begin_all.ensures.no_larger;
-      cause = IfErr-weaker c.begin_all.result _ (λ e. Made (g.E.Outside.reach c.args.env.now) (g.E.Outside.reach c.begin_all.new.env) (λ reads. IsFault (g.E.Outside.reach c.args.env.now) (g.E.Outside.reach c.begin_all.new.env) e ⊎ refuses_in g.I.RowEntryIterator.refuses x (g.E.Outside.reach c.args.env.now).meaning reads None e))
+      cause = IfErr-weaker c.begin_all.result _ (λ e. IsFaultOr (refuses_in g.I.RowEntryIterator.refuses) (g.E.Outside.reach c.args.env.now) (g.E.Outside.reach c.begin_all.new.env) x None e)
           (λ e m. waiting_fails g.I.RowEntryIterator.refuses (g.E.Outside.reach c.args.env.now) (g.E.Outside.reach c.begin_all.new.env) None e x z c.in-New.is tt m) c.begin_all.ensures.cause;
       reads = c.begin_all.ensures.reads;
     }
@@ -39,11 +39,11 @@ returns-in-Begun g c =
     record {
       moved = λ dedup. IfOk-weaker c.begin_again.result _ (λ heads. Moves (rest_in g.I.RowEntryIterator.rest c.args.order dedup) (IsSoundIn g.I.RowEntryIterator.rest g.I.RowEntryIterator.sound g.I.RowEntryIterator.order c.args.order) (refuses_in g.I.RowEntryIterator.refuses) (g.E.Outside.reach c.args.env.now) (g.E.Outside.reach c.begin_again.new.env) x (Begun heads))
           (λ heads m. state_again g.I.RowEntryIterator.rest g.I.RowEntryIterator.sound g.I.RowEntryIterator.refuses g.I.RowEntryIterator.order c.args.order dedup (g.E.Outside.reach c.args.env.now) (g.E.Outside.reach c.begin_again.new.env) x z (Begun heads) c.in-Begun.is tt tt m) (c.begin_again.ensures.moved c.args.order);
-      brought = IfOk-weaker c.begin_again.result _ (λ heads. Made (g.E.Outside.reach c.args.env.now) (g.E.Outside.reach c.begin_again.new.env) (λ reads. MergeAddsNothing (BringsByCalls g.I.RowEntryIterator.begins g.I.RowEntryIterator.takes g.I.RowEntryIterator.seeks) g.I.RowEntryIterator.refuses x (g.E.Outside.reach c.args.env.now).meaning reads (Begun heads)))
+      brought = IfOk-weaker c.begin_again.result _ (λ heads. AddsNoneByCall (merge_brings (BringsByCalls g.I.RowEntryIterator.begins g.I.RowEntryIterator.takes g.I.RowEntryIterator.seeks)) (refuses_in g.I.RowEntryIterator.refuses) (g.E.Outside.reach c.args.env.now) (g.E.Outside.reach c.begin_again.new.env) x (Begun heads))
           (λ heads m. begun_adds g.I.RowEntryIterator.rest g.I.RowEntryIterator.sound g.I.RowEntryIterator.refuses g.I.RowEntryIterator.order (BringsByCalls g.I.RowEntryIterator.begins g.I.RowEntryIterator.takes g.I.RowEntryIterator.seeks) (g.E.Outside.reach c.args.env.now) (g.E.Outside.reach c.begin_again.new.env) x z (Begun heads) c.in-Begun.is tt tt m) c.begin_again.ensures.brought;
       ready = c.begin_again.ensures.ready;
       no_larger = IfOk-weaker c.begin_again.result _ (λ heads. merging_bound bound [] (heap_items heads) ≤ bound_in bound x) (λ heads less. subst (λ (s : MergeState g.row.I.Denot). merging_bound bound [] (heap_items heads) ≤ bound_in bound s) (sym c.in-Begun.is) less) c.begin_again.ensures.no_larger;
-      cause = IfErr-weaker c.begin_again.result _ (λ e. Made (g.E.Outside.reach c.args.env.now) (g.E.Outside.reach c.begin_again.new.env) (λ reads. IsFault (g.E.Outside.reach c.args.env.now) (g.E.Outside.reach c.begin_again.new.env) e ⊎ refuses_in g.I.RowEntryIterator.refuses x (g.E.Outside.reach c.args.env.now).meaning reads None e))
+      cause = IfErr-weaker c.begin_again.result _ (λ e. IsFaultOr (refuses_in g.I.RowEntryIterator.refuses) (g.E.Outside.reach c.args.env.now) (g.E.Outside.reach c.begin_again.new.env) x None e)
           (λ e m. begun_fails g.I.RowEntryIterator.refuses (g.E.Outside.reach c.args.env.now) (g.E.Outside.reach c.begin_again.new.env) None e x z c.in-Begun.is tt m) c.begin_again.ensures.cause;
       reads = c.begin_again.ensures.reads;
     }

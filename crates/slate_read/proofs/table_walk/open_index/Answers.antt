@@ -1,6 +1,5 @@
-use Rattle.std.proofs.Common.{rules, refl, arith, ◌≤◌, length}
+use Rattle.std.proofs.Common.{refl, arith, ◌≤◌, length}
 use Rattle.slate_table.specs.IndexValue.{entries_of}
-use Rattle.slate_table.specs.SectionReading.{changed_by}
 use Rattle.slate_read.specs.TableWalk.{max_blocks, path_in}
 use Rattle.std.proofs.lemmas.Result.{IfOk-weaker}
 use Rattle.slate_types.proofs.Exits.{if_err_on}

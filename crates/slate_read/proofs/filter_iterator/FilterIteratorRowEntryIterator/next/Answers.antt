@@ -1,11 +1,7 @@
-use Rattle.std.proofs.Common.{◌≡◌, ◌∙◌, ◌≤◌, Bool, true, false, Some, None, refl, sym, ap, subst, arith, rules}
+use Rattle.std.proofs.Common.{◌∙◌, Some, None, refl, sym, ap, arith}
 use Rattle.std.proofs.lemmas.Result.{err_from_is_err_and, IfOk-from_err}
-use Rattle.slate_types.specs.declared.types.RowEntry.{RowEntry}
 use Rattle.slate_types.proofs.Reaching.{reads_none, reads_then}
-use Rattle.slate_read.specs.Filtering.{TakesKept}
-use Rattle.slate_types.specs.World.{World}
-use Rattle.slate_read.proofs.Filters.{Went, went_none, went_on, went_step, went_still, went_fails}
-use Rattle.slate_types.specs.Steps.{Step}
+use Rattle.slate_read.proofs.Filters.{went_none, went_on, went_step, went_still, went_fails}
 use Rattle.slate_read.proofs.filter_iterator.FilterIteratorRowEntryIterator.next.Goals as goal
 
 pub loop-row-init : goal.loop-row-init

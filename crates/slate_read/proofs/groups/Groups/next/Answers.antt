@@ -1,4 +1,4 @@
-use Rattle.std.proofs.Common.{rules, ◌≡◌, ◌++◌, ◌∙◌, ap, sym, refl, append-nil}
+use Rattle.std.proofs.Common.{rules, ◌++◌, ◌∙◌, ap, sym, refl, append-nil}
 use Rattle.std.proofs.lemmas.Result.{IfOk-weaker}
 use Rattle.slate_types.proofs.Moves.{moves_step}
 use Rattle.slate_read.proofs.Grouping.{newest_step, popped_step, same_moves, step_of, upwards_step}

@@ -1,4 +1,4 @@
-use Rattle.std.proofs.Common.{◌≡◌, ◌∙◌, sym, ap, refl}
+use Rattle.std.proofs.Common.{◌∙◌, sym, ap, refl}
 use Rattle.std.proofs.lemmas.Result.{on_ok_weaker}
 use Rattle.slate_read.specs.Groups.{stays_at}
 use Rattle.slate_read.proofs.Grouping.{gathered_seeks, ready_seeks, seeks_of, source_seeks, upwards_seeks}
