@@ -20,7 +20,7 @@ use Rattle.slate_types.specs.RowTurns.{row_before, key_order, NoneEarlier, AreIn
 use Rattle.slate_types.specs.Rows.{of_key, is_operand, is_deletion, is_tombstone, hide_tombstone}
 use Rattle.slate_types.proofs.FoldLaws.{hides_older}
 use Rattle.slate_read.specs.Folding.{fold_group}
-use Rattle.slate_read.specs.DecidedKeys.{of_key as of_this_key, upto_base}
+use Rattle.slate_read.specs.DecidedKeys.{upto_base}
 use Rattle.slate_read.specs.Merge.{all_rows}
 use Rattle.slate_read.proofs.Turns.{turn_back}
 use Rattle.slate_db.specs.Layers.{AreRising}
@@ -29,19 +29,6 @@ use Rattle.slate_types.proofs.Lists.{AllByRecursion_append, AllByRecursion_weake
 use Rattle.slate_txn.proofs.PartLaws.{filter_swap}
 
 -- ---- filters
-
-turned_key : (a b : List ℕ) → bytes_eq a b ≡ bytes_eq b a
-turned_key a b = by (bytes_eq a b) refl (bytes_eq b a) refl
-  where
-    by : (t : Bool) → bytes_eq a b ≡ t → (u : Bool) → bytes_eq b a ≡ u → t ≡ u
-    by true e true f = refl
-    by true e false f = sym ((bytes_eq-Decides b a).1 (sym ((bytes_eq-Decides a b).0 e))) ∙ f
-    by false e true f = sym e ∙ (bytes_eq-Decides a b).1 (sym ((bytes_eq-Decides b a).0 f))
-    by false e false f = refl
-
-pub of_key_is : (k : List ℕ) (rows : Rows) → of_this_key k rows ≡ of_key k rows
-of_key_is k [] = refl
-of_key_is k (r ∷ rs) = λ i. cond (turned_key k r.key i) (r ∷ of_key_is k rs i) (of_key_is k rs i)
 
 -- the rows of a key in lists of which a test keeps some
 pub of_lists : (k : List ℕ) (t : RowEntry → Bool) (lists : List Rows) → all_rows (map (of_key k) (map (filter t) lists)) ≡ filter t (flat_map (of_key k) lists)

@@ -12,6 +12,7 @@ pub mod Keeps
 mod Quiet
 pub mod RunsOf
 pub mod Logs
+pub mod Adding
 mod LogViews
 mod MemoryLayers
 mod Wholes
@@ -41,6 +42,7 @@ mod NoMerges
 mod Rises
 mod Gets
 mod Answered
+pub mod Checks
 pub mod PathsApart
 mod Puttings
 mod RunSoFar
@@ -82,7 +84,8 @@ mod Scans
 mod ScanSources
 mod ScanLists
 mod ScanRows
-mod ScanWorlds
+pub mod ScanWorlds
+mod TableChecks
 mod ScanTables
 mod SourceLists
 mod ScanReaders

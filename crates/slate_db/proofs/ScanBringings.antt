@@ -5,7 +5,6 @@ use Rattle.std.specs.List.{AllByRecursion}
 use Rattle.std.proofs.lemmas.List.{reverse-append}
 use Rattle.std.proofs.lemmas.List.Elements.{All-contains, All-from_recursion, Contains-append_left, Contains-append_right}
 use Rattle.slate_types.specs.declared.bytes_range.BytesRange.{BytesRange}
-use Rattle.slate_types.specs.declared.error.SlateDBError.{SlateDBError}
 use Rattle.slate_types.specs.declared.iter.IterationOrder.{IterationOrder}
 use Rattle.slate_types.specs.declared.types.RowEntry.{RowEntry}
 use Rattle.slate_types.specs.Keys.{in_range}
@@ -24,7 +23,6 @@ use Rattle.slate_read.specs.Bringing.{HandsOut, NoMoreRows}
 use Rattle.slate_read.specs.CallLaws.{brings_within}
 use Rattle.slate_read.specs.Calls.{BringsByCalls, CallsOnce}
 use Rattle.slate_read.specs.Filtering.{upto_seq}
-use Rattle.slate_read.specs.Folds.{RefusesBrought}
 use Rattle.slate_read.specs.MergeBringing.{brings_merge, merge_brings as state_brings}
 use Rattle.slate_read.specs.MergeStateLaws.{any_weaker}
 use Rattle.slate_read.specs.MergeStates.{WaitingAre}
@@ -43,7 +41,7 @@ use Rattle.slate_db.specs.OpenScans.{AreEach, AreScanSources, IsInMemory, IsMemo
 use Rattle.slate_db.specs.Readable.{IsOwnRow}
 use Rattle.slate_db.specs.Scanned.{Brings, HasOwn, own_rows}
 use Rattle.slate_db.specs.Scans.{IsReadAmong, IsScanned, MergedSources, ScanSource, merge_begins, merge_brings, merge_seeks, merge_takes, source_begins, source_seeks, source_takes}
-use Rattle.slate_db.proofs.ScanRefusals.{AreAmong, all_among, any_both}
+use Rattle.slate_db.proofs.ScanRefusals.{AreTablesAmong, all_among, any_both}
 use Rattle.slate_types.proofs.Lists.{AllByRecursion_reverse}
 
 -- ---- calls of a source
@@ -90,13 +88,6 @@ waiting_bring sources (merge.Refused e) is m reads r k = absurd is
 pub merge_sources : (sources : List ScanSource) (it : MergedSources) → WaitingAre sources it.state → (m : Meaning) (reads : List Act) (r : RowEntry) → merge_brings it m reads r → SourcesBring sources m reads r
 merge_sources sources it is m reads r c =
     waiting_bring sources it.state is m reads r (calls_to merge_begins merge_takes merge_seeks m (merged_brings m) (merged_less m) (merged_taken m) (merged_grows m) it reads r c)
-
--- ---- what is refused of such rows
-
-pub brought_weaker : (P Q : RowEntry → Type 0) (m : Meaning) (at : Option (List ℕ)) (e : SlateDBError) → ((r : RowEntry) → P r → Q r) → RefusesBrought P m at e → RefusesBrought Q m at e
-brought_weaker P Q m at e f (inl o) = inl (record { refuses = o.refuses; row = o.row; operand = o.operand; brought = f o.row o.brought })
-brought_weaker P Q m at e f (inr s) =
-    inr (record { refuses = s.refuses; current = s.current; next = s.next; operand = s.operand; same_key = s.same_key; names = s.names; brought = f s.current s.brought; brought_next = f s.next s.brought_next })
 
 -- ---- rows of lists
 
@@ -171,7 +162,7 @@ module _ (m : Meaning) (range : BytesRange) (order : IterationOrder) (reads : Li
   some_layer n [] (s ∷ sources) h k = absurd h
   some_layer n (layer ∷ layers) [] h k = absurd h
 
-  run_there : (hs : List SsTableHandle) (run : SortedRun) (x : ReadSource) → AreAmong hs run → IsOverRun range order run x → bringing.brings_source x m reads r → IsReadAmong m hs reads r
+  run_there : (hs : List SsTableHandle) (run : SortedRun) (x : ReadSource) → AreTablesAmong hs run → IsOverRun range order run x → bringing.brings_source x m reads r → IsReadAmong m hs reads r
   run_there hs run (Run it) among h k = let b = unopened_runs_bring range run order it.rows h m reads r k in (b.0, among b.0 (among_reached range order run.tables.items b.0 b.1), b.2)
   run_there hs run (Empty it) among h k = absurd h
   run_there hs run (Internal it) among h k = absurd h
@@ -180,7 +171,7 @@ module _ (m : Meaning) (range : BytesRange) (order : IterationOrder) (reads : Li
   run_there hs run (Batch it) among h k = absurd h
   run_there hs run (Memory it) among h k = absurd h
 
-  some_run : (n : ℕ) (hs : List SsTableHandle) (runs : List SortedRun) (sources : List ScanSource) → AllByRecursion (AreAmong hs) runs → AreEach (IsRunSource range order n) runs sources → SourcesBring sources m reads r → IsReadAmong m hs reads r
+  some_run : (n : ℕ) (hs : List SsTableHandle) (runs : List SortedRun) (sources : List ScanSource) → AllByRecursion (AreTablesAmong hs) runs → AreEach (IsRunSource range order n) runs sources → SourcesBring sources m reads r → IsReadAmong m hs reads r
   some_run n hs [] [] among h k = absurd k
   some_run n hs (run ∷ runs) (s ∷ sources) among h (inl k) = run_there hs run s.iterator among.0 h.0.1 k
   some_run n hs (run ∷ runs) (s ∷ sources) among h (inr k) = some_run n hs runs sources among.1 h.1 k
@@ -194,7 +185,7 @@ module _ (m : Meaning) (range : BytesRange) (order : IterationOrder) (reads : Li
     where
       later : SourcesBring are.in_memory m reads r ⊎ SourcesBring are.in_runs m reads r → IsScanned m c (handles_of runs) reads r
       later (inl k) = inr (inl (subst (λ (l : Rows). Contains l r) (sym turned) (some_layer n layers are.in_memory are.of_memory k)))
-      later (inr k) = inr (inr (some_run n (handles_of runs) (reverse runs) are.in_runs (AllByRecursion_reverse (AreAmong (handles_of runs)) runs (all_among runs)) are.of_runs k))
+      later (inr k) = inr (inr (some_run n (handles_of runs) (reverse runs) are.in_runs (AllByRecursion_reverse (AreTablesAmong (handles_of runs)) runs (all_among runs)) are.of_runs k))
 
       by : SourcesBring (are.own ∷ (are.in_memory ++ are.in_runs)) m reads r → IsScanned m c (handles_of runs) reads r
       by (inl k) = inl (in_memory (HasOwn range ops) are.own.iterator (own_there c ops owns) are.of_own.1 k)

@@ -23,6 +23,7 @@ use Rattle.slate_table.specs.Filtered.{IsAsked, RefusesQuery}
 use Rattle.slate_table.specs.InfoReading.{seen_info}
 use Rattle.slate_table.specs.Paths.{path_of}
 use Rattle.slate_db.specs.Answered.{AnswersFrom}
+use Rattle.slate_db.specs.Checked.{ChecksFrom}
 use Rattle.slate_db.specs.Installs.{handles_of, root}
 use Rattle.slate_db.specs.Lookup.{AreFilteredAs, AreStoredAs, IsStoredAs}
 use Rattle.slate_db.specs.Model.{Rows}
@@ -30,6 +31,7 @@ use Rattle.slate_db.specs.ScanFilters.{AddsLeft, AddsRun, AreLeft, AreRunsLeft, 
 use Rattle.slate_db.specs.Scanned.{AreStoredRuns}
 use Rattle.slate_db.specs.Shown.{Asking, IsUnreadable, RefusesFiltersRead, filters_act}
 use Rattle.slate_db.proofs.Answered.{from_first, from_last}
+use Rattle.slate_db.proofs.Checks.{checks_both}
 use Rattle.slate_db.proofs.Causes.{store_fault, transform_fault}
 use Rattle.slate_db.proofs.Filters.{Asks, IsAsking, WhyNot, asked_cause, asked_passes, asks_err, asks_some, filtered_one, filtered_some, table_there}
 use Rattle.slate_db.proofs.RangeFilters.{denied_range}
@@ -202,6 +204,16 @@ so_far_all policies a b range hs i left end before layers os stored filtered ans
         by (k ∷ ks) (rows ∷ ls) zero s le = absurd (omega (arith, le))
         by (k ∷ ks) (rows ∷ ls) (suc n) s le = let rest = by ks ls n s.1 (omega (arith, le)) in omega (arith, rest)
 
+-- the objects answered the reads so far, or a section slipped
+abbrev pub TablesChecked : Reach → Reach → List SsTableHandle → Type 0
+TablesChecked a b hs = (layers : List Rows) (os : Objects) → AreStoredAs a.meaning os hs layers → ChecksFrom os a b
+
+pub tables_checked_more : (a b c : Reach) (hs : List SsTableHandle) (i : ℕ) (h : SsTableHandle) → OnlyReads a b → OnlyReads b c → i < length hs → h ≡ get_or hs i h →
+    TablesChecked a b hs → ((rows : Rows) (os : Objects) → IsStoredAs b.meaning os h rows → ChecksFrom os b c) → TablesChecked a c hs
+tables_checked_more a b c hs i h first last within is before one layers os stored =
+    let at = table_as a.meaning b.meaning os hs layers i h first.meaning stored within is in
+    checks_both os a b c first last (before layers os stored) (one at.rows os at.is)
+
 pub among_more : (hs : List SsTableHandle) (i : ℕ) (h : SsTableHandle) (left next : List SsTableHandle) (kept : Bool) → i < length hs → h ≡ get_or hs i h → next ≡ cond kept (left ++ (h ∷ [])) left →
     ((t : SsTableHandle) → Contains left t → Contains hs t) → (t : SsTableHandle) → Contains next t → Contains hs t
 among_more hs i h left next kept within is are before t there = by kept (subst (λ (l : List SsTableHandle). Contains l t) are there)
@@ -281,6 +293,15 @@ runs_so_far_all policies a b range runs i left end before groups os stored filte
     as_long (r ∷ rs) [] n s le = absurd s
     as_long (r ∷ rs) (layers ∷ gs) zero s le = absurd (omega (arith, le))
     as_long (r ∷ rs) (layers ∷ gs) (suc n) s le = let rest = as_long rs gs n s.1 (omega (arith, le)) in omega (arith, rest)
+
+abbrev pub RunsChecked : Reach → Reach → List SortedRun → Type 0
+RunsChecked a b runs = (groups : List (List Rows)) (os : Objects) → AreStoredRuns a.meaning os runs groups → ChecksFrom os a b
+
+pub runs_checked_more : (a b c : Reach) (runs : List SortedRun) (i : ℕ) (run : SortedRun) → OnlyReads a b → OnlyReads b c → i < length runs → run ≡ get_or runs i run →
+    RunsChecked a b runs → TablesChecked b c run.tables.items → RunsChecked a c runs
+runs_checked_more a b c runs i run first last within is before tables groups os stored =
+    let at = layers_here a.meaning os runs groups i run stored within is in
+    checks_both os a b c first last (before groups os stored) (tables at.layers os (subst (λ (m : Meaning). AreStoredAs m os run.tables.items at.layers) (sym first.meaning) at.stored))
 
 pub runs_among : (runs : List SortedRun) (i : ℕ) (run one : SortedRun) (left next : List SortedRun) → i < length runs → run ≡ get_or runs i run → AddsRun one left next → ((h : SsTableHandle) → Contains one.tables.items h → Contains run.tables.items h) →
     ((h : SsTableHandle) → Contains (handles_of left) h → Contains (handles_of runs) h) → (h : SsTableHandle) → Contains (handles_of next) h → Contains (handles_of runs) h

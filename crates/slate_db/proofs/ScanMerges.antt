@@ -16,7 +16,7 @@ use Rattle.slate_types.specs.Keys.{in_range}
 use Rattle.slate_types.specs.Outside.{Act, IsFault, Meaning, Objects, OnlyReads, Reach}
 use Rattle.slate_types.specs.Refusing.{IsDamage, IsReady, NoMore}
 use Rattle.slate_types.specs.Steps.{Takes}
-use Rattle.slate_types.specs.World.{AnswersWorld, IsCall, Made, Sees, World}
+use Rattle.slate_types.specs.World.{AnswersWorld, Checks, IsCall, Made, Sees, World}
 use Rattle.slate_types.proofs.Calls.{call_both, seen}
 use Rattle.slate_types.proofs.Reaching.{fault_earlier}
 use Rattle.slate_mem.specs.Batch.{Ops}
@@ -31,6 +31,7 @@ use Rattle.slate_read.specs.MergeLaws.{merged_in_order}
 use Rattle.slate_read.specs.Merging.{AnyByRecursion, blames, waiting_sources}
 use Rattle.slate_read.specs.MergeStateLaws.{any_weaker, merges}
 use Rattle.slate_read.specs.MergeStates.{IsFrontIn, IsMergeOf, WaitingAre, refuses_in}
+use Rattle.slate_read.specs.OperatorLaws.{brought_weaker}
 use Rattle.slate_read.specs.OperatorIterators.{IsFolding, IsGoing, IsOperable, Keeps, RefusesBy, Stays, StaysIn, rest_folding}
 use Rattle.slate_read.specs.Peeking.{TakesAhead, with_ahead}
 use Rattle.slate_read.specs.declared.sorted_run.SortedRun.{SortedRun}
@@ -44,6 +45,7 @@ use Rattle.slate_db.specs.declared.scan.DbIterator.{DbIterator}
 use Rattle.slate_db.specs.declared.scan.ScanState.{ScanState}
 use Rattle.slate_db.specs.declared.scan.ScanState.TheVariants.{Walking}
 use Rattle.slate_db.specs.Answered.{AnswersFrom}
+use Rattle.slate_db.specs.Checked.{ChecksFrom, OrSlips}
 use Rattle.slate_db.specs.Installs.{handles_of, tables_of}
 use Rattle.slate_db.specs.Lookup.{AreFilteredAs}
 use Rattle.slate_db.specs.Log.{AreFine}
@@ -57,17 +59,17 @@ use Rattle.slate_db.specs.Scanned.{AreStoredRuns, own_rows}
 use Rattle.slate_db.specs.Scans.{AreForIn, FoldsAll, IsFor, IsOpeningError, IsOperableIn, IsReached, IsRefusedByScan, IsScanRefusal, IsScanned, IsShownByScan, IsSoundIn, IsSoundSource, IsWorldOf, Leaves, MergedSources, RefusesIn, ScanRefuses, ScanSource, fold_brings, has_value, left_in, merge_refuses, merge_rows, order_of, source_refuses, source_rows}
 use Rattle.slate_db.specs.Sound.{AreBases}
 use Rattle.slate_db.specs.Whole.{IsWhole, Unseen}
-use Rattle.slate_db.proofs.Answered.{from_last}
+use Rattle.slate_db.proofs.Answered.{from_first, from_last}
 use Rattle.slate_db.proofs.Filters.{filtered_known}
 use Rattle.slate_db.proofs.Foldings.{bases_closed, closed_bases, going_refuses, refuses_going}
 use Rattle.slate_db.proofs.Runs.{all_handles}
-use Rattle.slate_db.proofs.ScanBringings.{brought_weaker, merge_sources, scanned_later, sources_scanned}
+use Rattle.slate_db.proofs.ScanBringings.{merge_sources, scanned_later, sources_scanned}
 use Rattle.slate_db.proofs.ScanFilters.{shows_more, tables_there}
 use Rattle.slate_db.proofs.ScanOpenings.{ScanOpens, runs_of_core, scan_opens, stored}
 use Rattle.slate_db.proofs.ScanRefusals.{IsShown, blamed_shows}
 use Rattle.slate_db.proofs.ScanFolds.{merged_falls}
 use Rattle.slate_db.proofs.ScanStates.{Folds, IsSound, Merged, OwnRefusal, met_anywhere, operable_folds}
-use Rattle.slate_db.proofs.ScanWorlds.{sees_world}
+use Rattle.slate_db.proofs.ScanWorlds.{or_slips_last, or_slips_world, sees_world, world_holds}
 
 -- ---- a merge that was begun
 
@@ -200,10 +202,14 @@ module _ (sources : List ScanSource) (order : IterationOrder) (merge : MergedSou
 
 -- ---- what is left
 
+-- in a world of these objects what a reader sees
+abbrev pub LeavesSeen : Objects → Meaning → CoreModel → ℕ → Ops → BytesRange → IterationOrder → DbIterator → Type 0
+LeavesSeen os m c n ops range order it = (v : World) × IsWorldOf os m v × Leaves it v (rows_seen (rules_of c.settings m) c.state.commits n ops order range)
+
 module _ (os : Objects) (m : Meaning) (c : CoreModel) (n : ℕ) (ops : Ops) (range : BytesRange) (order : IterationOrder) (sources : List ScanSource) where
   pub opened_leaves : (o : ScanOpens os m c n ops range order sources) (rows : Merged) (it : DbIterator) → it.state ≡ Walking rows → it.range ≡ range → it.order ≡ order → IsGoing rows × FoldsAll rows × (rows.iterator.order ≡ order) →
       IsSound rows o.world → rest_folding merge_rows rows o.world ≡ folded_rows o.world.meaning order o.world sources → IsOperableIn (Walking rows) o.world → AreForIn range m (Walking rows) →
-      (w : World) × IsWorldOf os m w × Leaves it w (rows_seen (rules_of c.settings m) c.state.commits n ops order range)
+      LeavesSeen os m c n ops range order it
   opened_leaves o rows it state_is range_is order_is going sound rest op meant = (
     o.world,
     o.is,
@@ -354,42 +360,96 @@ runs_filtered policies m os c x w r = filtered_known policies m os (tables_of c.
 pub runs_there : (policies : List Policy) (m : Meaning) (os : Objects) (c : CoreModel) (x : Unseen) → IsWhole c x → IsReadable policies m os c → AreTablesThere m os (handles_of x.runs)
 runs_there policies m os c x w r = tables_there m os x.runs (runs_of_core m c x w r.lawful r.kept).groups (stored m c x w r.lawful r.kept os r.holds)
 
-pub readable_still : (policies : List Policy) (m m2 : Meaning) (os : Objects) (c : CoreModel) → m2 ≡ m → IsReadable policies m os c → IsReadable policies m2 os c
+readable_still : (policies : List Policy) (m m2 : Meaning) (os : Objects) (c : CoreModel) → m2 ≡ m → IsReadable policies m os c → IsReadable policies m2 os c
 readable_still policies m m2 os c same r = subst (λ (k : Meaning). IsReadable policies k os c) (sym same) r
 
-abbrev pub LeavesRuns : List Policy → Meaning → Objects → BytesRange → List SortedRun → List SortedRun → Type 0
+abbrev LeavesRuns : List Policy → Meaning → Objects → BytesRange → List SortedRun → List SortedRun → Type 0
 LeavesRuns policies m os range runs left = (groups : List (List Rows)) → AreStoredRuns m os runs groups → AreFilteredAs policies m os (handles_of runs) → AreRunsLeft range runs groups left
 
--- behind a call that changed nothing
-abbrev pub answered_last : (policies : List Policy) (before middle after : Reach) (c : CoreModel) → OnlyReads before middle → OnlyReads middle after → IsAnswered policies before after c → IsAnswered policies middle after c
-answered_last policies before middle after c first last a = record { os = a.os; readable = readable_still policies before.meaning middle.meaning a.os c first.meaning a.readable; answers = from_last a.os before middle after first last a.answers }
-
-pub leaves_runs : (policies : List Policy) (before middle after : Reach) (range : BytesRange) (runs left : List SortedRun) → RunsAreLeft policies before middle range runs left → OnlyReads before middle → (os : Objects) → AnswersFrom os before middle → LeavesRuns policies middle.meaning os range runs left
-leaves_runs policies before middle after range runs left asked first os answers groups s f =
+leaves_runs : (policies : List Policy) (before middle : Reach) (range : BytesRange) (runs left : List SortedRun) → RunsAreLeft policies before middle range runs left → OnlyReads before middle → (os : Objects) → AnswersFrom os before middle → LeavesRuns policies middle.meaning os range runs left
+leaves_runs policies before middle range runs left asked first os answers groups s f =
     asked.others groups os (subst (λ (k : Meaning). AreStoredRuns k os runs groups) first.meaning s) (subst (λ (k : Meaning). AreFilteredAs policies k os (handles_of runs)) first.meaning f) answers
 
+-- readable: objects for which the core is; lefts: what the filters left of its runs, by these
 module _ (policies : List Policy) (before after : Reach) (c : CoreModel) (x : Unseen) (w : IsWhole c x) (left : List SortedRun) (among : (h : SsTableHandle) → Contains (handles_of left) h → Contains (handles_of x.runs) h) (range : BytesRange) (order : IterationOrder)
-    (n : ℕ) (ops : Ops) (fine : AreFine ops) (from : c.floor ≤ n) (sources : List ScanSource) (are : AreScanSources range order n ops (c.active ∷ reverse c.frozen) (reverse left) sources) (a : IsAnswered policies before after c)
-    (lefts : LeavesRuns policies before.meaning a.os range x.runs left) (plain : before.meaning.combine ≡ None → holds_merge ops ≡ false) where
-  opens : ScanOpens a.os before.meaning c n ops range order sources
-  opens = scan_opens before.meaning c x w a.readable.lawful a.readable.kept a.os a.readable.holds n from ops fine plain range order left
-      (lefts (runs_of_core before.meaning c x w a.readable.lawful a.readable.kept).groups (stored before.meaning c x w a.readable.lawful a.readable.kept a.os a.readable.holds) (runs_filtered policies before.meaning a.os c x w a.readable)) sources are
+    (n : ℕ) (ops : Ops) (fine : AreFine ops) (from : c.floor ≤ n) (sources : List ScanSource) (are : AreScanSources range order n ops (c.active ∷ reverse c.frozen) (reverse left) sources) (os : Objects) (readable : IsReadable policies before.meaning os c)
+    (lefts : LeavesRuns policies before.meaning os range x.runs left) (plain : before.meaning.combine ≡ None → holds_merge ops ≡ false) where
+  opens : ScanOpens os before.meaning c n ops range order sources
+  opens = scan_opens before.meaning c x w readable.lawful readable.kept os readable.holds n from ops fine plain range order left
+      (lefts (runs_of_core before.meaning c x w readable.lawful readable.kept).groups (stored before.meaning c x w readable.lawful readable.kept os readable.holds) (runs_filtered policies before.meaning os c x w readable)) sources are
 
-  sees : Sees opens.world before after
-  sees = sees_world a.os opens.world before after opens.is.meaning opens.is.holds a.answers
+  -- where the objects answered the call, it met the world
+  opens_met : AnswersFrom os before after → Sees opens.world before after
+  opens_met answers = sees_world os opens.world before after opens.is.meaning (world_holds os before.meaning opens.world opens.is) answers
 
   world_operable : opens.world.meaning.combine ≡ None → AreBases (merged_rows order opens.world sources)
   world_operable none = opens.operable (ap (λ (m : Meaning). m.combine) (sym opens.is.meaning) ∙ none)
 
-  pub scan_leaves : (rows : Merged) (it : DbIterator) → it.state ≡ Walking rows → it.range ≡ range → it.order ≡ order → IsGoing rows × FoldsAll rows × (rows.iterator.order ≡ order) →
+  scan_leaves : (rows : Merged) (it : DbIterator) → it.state ≡ Walking rows → it.range ≡ range → it.order ≡ order → IsGoing rows × FoldsAll rows × (rows.iterator.order ≡ order) →
       ((v : World) → AllByRecursion (CanOpen v order) sources → Sees v before after → IsSound rows v) →
       ((v : World) → AllByRecursion (CanOpen v order) sources → Sees v before after → rest_folding merge_rows rows v ≡ folded_rows v.meaning order v sources) →
       ((v : World) → AllByRecursion (CanOpen v order) sources → Sees v before after → (v.meaning.combine ≡ None → AreBases (merged_rows order v sources)) → IsOperableIn (Walking rows) v) →
       (reads : List Act) → LaterBlamed before.meaning c x w left among range order n ops (c.active ∷ reverse c.frozen) sources are rows reads →
-      (v : World) × IsWorldOf a.os before.meaning v × Leaves it v (rows_seen (rules_of c.settings before.meaning) c.state.commits n ops order range)
-  scan_leaves rows it state_is range_is order_is going sound rest op reads blamed =
-      opened_leaves a.os before.meaning c n ops range order sources opens rows it state_is range_is order_is going (sound opens.world opens.can sees) (rest opens.world opens.can sees) (op opens.world opens.can sees world_operable)
+      Sees opens.world before after → LeavesSeen os before.meaning c n ops range order it
+  scan_leaves rows it state_is range_is order_is going sound rest op reads blamed sees =
+      opened_leaves os before.meaning c n ops range order sources opens rows it state_is range_is order_is going (sound opens.world opens.can sees) (rest opens.world opens.can sees) (op opens.world opens.can sees world_operable)
       (sources_for before.meaning c x w left among range order n ops (c.active ∷ reverse c.frozen) sources are rows reads blamed)
 
-  pub scan_undamaged : (e : SlateDBError) → Made before after (λ reads. IsFault before after e ⊎ IsBlamedFor sources before.meaning reads None e) → IsFault before after e
-  scan_undamaged e made = opening_undamaged before.meaning c x w left among range order n ops (c.active ∷ reverse c.frozen) sources are a.os before after e opens sees made
+  scan_undamaged : AnswersFrom os before after → (e : SlateDBError) → Made before after (λ reads. IsFault before after e ⊎ IsBlamedFor sources before.meaning reads None e) → IsFault before after e
+  scan_undamaged answers e made = opening_undamaged before.meaning c x w left among range order n ops (c.active ∷ reverse c.frozen) sources are os before after e opens (opens_met answers) made
+
+-- what an opened scan leaves: where objects answered the call, and over a store that tells its acts, but for a section that slipped
+pub record OpensScan (policies : List Policy) (before after : Reach) (c : CoreModel) (n : ℕ) (ops : Ops) (range : BytesRange) (order : IterationOrder) (it : DbIterator) : Type 0 where
+  pub answered : (a : IsAnswered policies before after c) → LeavesSeen a.os before.meaning c n ops range order it
+  pub checked : (os : Objects) → IsReadable policies before.meaning os c → OrSlips os before after (LeavesSeen os before.meaning c n ops range order it)
+
+-- filters are asked to the middle, and the sources that they left are opened from there on
+module _ (policies : List Policy) (before middle after : Reach) (c : CoreModel) (x : Unseen) (w : IsWhole c x) (left : List SortedRun) (range : BytesRange) (asked : RunsAreLeft policies before middle range x.runs left) (first : OnlyReads before middle) (last : OnlyReads middle after)
+    (order : IterationOrder) (n : ℕ) (ops : Ops) (fine : AreFine ops) (from : c.floor ≤ n) (sources : List ScanSource) (are : AreScanSources range order n ops (c.active ∷ reverse c.frozen) (reverse left) sources)
+    (plain : (os : Objects) → IsReadable policies middle.meaning os c → middle.meaning.combine ≡ None → holds_merge ops ≡ false) where
+  module _ (os : Objects) (readable : IsReadable policies before.meaning os c) (answers : AnswersFrom os before middle) where
+    abbrev still : IsReadable policies middle.meaning os c
+    still = readable_still policies before.meaning middle.meaning os c first.meaning readable
+
+    abbrev lefts_still : LeavesRuns policies middle.meaning os range x.runs left
+    lefts_still = leaves_runs policies before middle range x.runs left asked first os answers
+
+    abbrev opens_last : ScanOpens os middle.meaning c n ops range order sources
+    opens_last = opens policies middle after c x w left asked.among range order n ops fine from sources are os still lefts_still (plain os still)
+
+  pub scan_opened : (rows : Merged) (it : DbIterator) → it.state ≡ Walking rows → it.range ≡ range → it.order ≡ order → IsGoing rows × FoldsAll rows × (rows.iterator.order ≡ order) →
+      ((v : World) → AllByRecursion (CanOpen v order) sources → Sees v middle after → IsSound rows v) →
+      ((v : World) → AllByRecursion (CanOpen v order) sources → Sees v middle after → rest_folding merge_rows rows v ≡ folded_rows v.meaning order v sources) →
+      ((v : World) → AllByRecursion (CanOpen v order) sources → Sees v middle after → (v.meaning.combine ≡ None → AreBases (merged_rows order v sources)) → IsOperableIn (Walking rows) v) →
+      ((v : World) → AllByRecursion (CanOpen v order) sources → Checks v middle after) →
+      (reads : List Act) → IsCall middle after reads → LaterBlamed middle.meaning c x w left asked.among range order n ops (c.active ∷ reverse c.frozen) sources are rows reads →
+      OpensScan policies before after c n ops range order it
+  scan_opened rows it state_is range_is order_is going sound rest op checks reads call blamed = record {
+    answered = λ a. let answers = from_first a.os before middle after first last a.answers in leaves a.os a.readable answers (met a.os a.readable answers (from_last a.os before middle after first last a.answers));
+    checked = λ os r.
+        or_slips_last os before middle after (LeavesSeen os before.meaning c n ops range order it) first last (asking_checked os r)
+        (λ answers. let o = opens_last os r answers in or_slips_world os o.world middle after reads (LeavesSeen os before.meaning c n ops range order it) o.is call (checks o.world o.can) (leaves os r answers));
+  }
+    where
+      asking_checked : (os : Objects) → IsReadable policies before.meaning os c → ChecksFrom os before middle
+      asking_checked os r = asked.checked (runs_of_core before.meaning c x w r.lawful r.kept).groups os (stored before.meaning c x w r.lawful r.kept os r.holds)
+
+      met : (os : Objects) (r : IsReadable policies before.meaning os c) (answers : AnswersFrom os before middle) → AnswersFrom os middle after → Sees (opens_last os r answers).world middle after
+      met os r answers later = opens_met policies middle after c x w left asked.among range order n ops fine from sources are os (still os r answers) (lefts_still os r answers) (plain os (still os r answers)) later
+
+      leaves : (os : Objects) (r : IsReadable policies before.meaning os c) (answers : AnswersFrom os before middle) → Sees (opens_last os r answers).world middle after → LeavesSeen os before.meaning c n ops range order it
+      leaves os r answers sees =
+          subst (λ (m : Meaning). LeavesSeen os m c n ops range order it) first.meaning
+          (scan_leaves policies middle after c x w left asked.among range order n ops fine from sources are os (still os r answers) (lefts_still os r answers) (plain os (still os r answers))
+          rows it state_is range_is order_is going sound rest op reads blamed sees)
+
+  -- a refused opening, where objects answered the call
+  pub opening_whole : (e : SlateDBError) → Made middle after (λ reads. IsFault middle after e ⊎ IsBlamedFor sources middle.meaning reads None e) → IsAnswered policies before after c → IsFault before after e
+  opening_whole e made a =
+      let answers = from_first a.os before middle after first last a.answers in
+      fault_earlier before middle after e first.later
+      (scan_undamaged policies middle after c x w left asked.among range order n ops fine from sources are a.os (still a.os a.readable answers) (lefts_still a.os a.readable answers) (plain a.os (still a.os a.readable answers))
+      (from_last a.os before middle after first last a.answers) e made)
+
+pub readable_as : {A : Type 0} (of : A → Policy) (xs ys : List A) → xs ≡ ys → (m : Meaning) (os : Objects) (c : CoreModel) → IsReadable (map of ys) m os c → IsReadable (map of xs) m os c
+readable_as {A} of xs ys same m os c r = subst (λ (ws : List A). IsReadable (map of ws) m os c) (sym same) r

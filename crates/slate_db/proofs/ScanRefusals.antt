@@ -33,14 +33,14 @@ use Rattle.slate_types.proofs.Lists.{AllByRecursion_weaken, AllByRecursion_rever
 abbrev pub IsShown : Meaning → List SsTableHandle → List Act → SlateDBError → Type 0
 IsShown m hs reads e = IsDamage e × ShowsAmong m.decode hs reads e
 
-abbrev pub AreAmong : List SsTableHandle → SortedRun → Type 0
-AreAmong hs run = (h : SsTableHandle) → Contains run.tables.items h → Contains hs h
+abbrev pub AreTablesAmong : List SsTableHandle → SortedRun → Type 0
+AreTablesAmong hs run = (h : SsTableHandle) → Contains run.tables.items h → Contains hs h
 
-pub all_among : (runs : List SortedRun) → AllByRecursion (AreAmong (handles_of runs)) runs
+pub all_among : (runs : List SortedRun) → AllByRecursion (AreTablesAmong (handles_of runs)) runs
 all_among [] = tt
 all_among (run ∷ runs) = (
   λ h there. Contains-append_left run.tables.items (handles_of runs) h there,
-  AllByRecursion_weaken (AreAmong (handles_of runs)) (AreAmong (handles_of (run ∷ runs))) (λ r f h there. Contains-append_right run.tables.items (handles_of runs) h (f h there)) runs (all_among runs),
+  AllByRecursion_weaken (AreTablesAmong (handles_of runs)) (AreTablesAmong (handles_of (run ∷ runs))) (λ r f h there. Contains-append_right run.tables.items (handles_of runs) h (f h there)) runs (all_among runs),
 )
 
 reached : (range : BytesRange) (at : Option (List ℕ)) (e : SlateDBError) {A : Type 0} → IsReached range at → RefusesSeek range at e → A
@@ -65,7 +65,7 @@ module _ (m : Meaning) (range : BytesRange) (order : IterationOrder) (reads : Li
   memory_silent means (Run it) at h r = absurd h
   memory_silent means (Segments it) at h r = absurd h
 
-  run_shows : (run : SortedRun) (x : ReadSource) (at : Option (List ℕ)) → AreAmong hs run → IsReached range at → IsOverRun range order run x → read.source_refuses x m reads at e → IsShown m hs reads e
+  run_shows : (run : SortedRun) (x : ReadSource) (at : Option (List ℕ)) → AreTablesAmong hs run → IsReached range at → IsOverRun range order run x → read.source_refuses x m reads at e → IsShown m hs reads e
   run_shows run (Run it) at among open_at h r = by (runs_show range run order it.rows h m reads at e r)
     where
       by : (e ≡ IteratorNotInitialized) ⊎ RefusesSeek range at e ⊎ (IsDamage e × ShowsAmong m.decode run.tables.items reads e) → IsShown m hs reads e
@@ -87,7 +87,7 @@ module _ (m : Meaning) (range : BytesRange) (order : IterationOrder) (reads : Li
   memory_none n [] (s ∷ sources) at h r = absurd h
   memory_none n (rows ∷ layers) [] at h r = absurd h
 
-  some_run : (n : ℕ) (runs : List SortedRun) (sources : List ScanSource) (at : Option (List ℕ)) → AllByRecursion (AreAmong hs) runs → IsReached range at → AreEach (IsRunSource range order n) runs sources → AnyByRecursion (Refuses at) sources → IsShown m hs reads e
+  some_run : (n : ℕ) (runs : List SortedRun) (sources : List ScanSource) (at : Option (List ℕ)) → AllByRecursion (AreTablesAmong hs) runs → IsReached range at → AreEach (IsRunSource range order n) runs sources → AnyByRecursion (Refuses at) sources → IsShown m hs reads e
   some_run n [] [] at among open_at h r = absurd r
   some_run n (run ∷ runs) (s ∷ sources) at among open_at h (inl (inl r)) = run_shows run s.iterator at among.0 open_at h.0.1 r
   some_run n (run ∷ runs) (s ∷ sources) at among open_at h (inl (inr r)) = run_shows run s.iterator None among.0 tt h.0.1 r
@@ -103,7 +103,7 @@ blamed_shows m range order n ops layers runs sources are reads at e open_at (beg
   where
     later : AnyByRecursion (Refuses m range order reads e begun (handles_of runs) at) are.in_memory ⊎ AnyByRecursion (Refuses m range order reads e begun (handles_of runs) at) are.in_runs → IsShown m (handles_of runs) reads e
     later (inl r) = memory_none m range order reads e begun (handles_of runs) n layers are.in_memory at are.of_memory r
-    later (inr r) = some_run m range order reads e begun (handles_of runs) n (reverse runs) are.in_runs at (AllByRecursion_reverse (AreAmong (handles_of runs)) runs (all_among runs)) open_at are.of_runs r
+    later (inr r) = some_run m range order reads e begun (handles_of runs) n (reverse runs) are.in_runs at (AllByRecursion_reverse (AreTablesAmong (handles_of runs)) runs (all_among runs)) open_at are.of_runs r
 
     by : AnyByRecursion (Refuses m range order reads e begun (handles_of runs) at) (are.own ∷ (are.in_memory ++ are.in_runs)) → IsShown m (handles_of runs) reads e
     by (inl (inl r)) = memory_silent m range order reads e begun (handles_of runs) _ are.own.iterator at are.of_own.1 r

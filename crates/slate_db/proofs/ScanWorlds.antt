@@ -2,14 +2,15 @@
 use Rattle.std.proofs.Common.{◌≡◌, ◌⊎◌, inl, inr, ℕ, ◌+◌, ◌^◌, ◌<◌, ◌≤◌, Bool, true, false, cond, List, [], ◌∷◌, ◌++◌, length, map, flat_map, filter, Option, Some, None, bytes_eq, refl, sym, ap, subst, ◌∙◌, arith, append_assoc, append-nil}
 use Rattle.std.specs.Prelude.{IfSome}
 use Rattle.std.specs.List.{AllByRecursion}
+use Rattle.std.proofs.lemmas.List.{append_cancel_left}
 use Rattle.std.proofs.lemmas.Option.{same_Some}
 use Rattle.std.proofs.lemmas.Slice.Eq.{bytes_eq-Decides}
 use Rattle.slate_types.specs.declared.bytes_range.BytesRange.{BytesRange}
 use Rattle.slate_types.specs.declared.types.RowEntry.{RowEntry}
 use Rattle.slate_types.specs.declared.types.Ulid.{Ulid}
 use Rattle.slate_types.specs.Lawful.{IsLawfulTransform}
-use Rattle.slate_types.specs.Outside.{Act, Objects, Reach, object_at, part_of}
-use Rattle.slate_types.specs.World.{AnswersWorld, HoldsWorld, Kept, Sees, World}
+use Rattle.slate_types.specs.Outside.{Act, Objects, OnlyReads, Reach, object_at, part_of}
+use Rattle.slate_types.specs.World.{AnswersWorld, Checks, HoldsWorld, IsCall, IsReadAct, IsSlip, IsSlipOf, Kept, Sees, Slips, World}
 use Rattle.slate_block.specs.BlockSpelling.{as_read}
 use Rattle.slate_block.specs.ReadingLaws.{EachIsAByte}
 use Rattle.slate_table.specs.declared.info.SsTableHandle.{SsTableHandle}
@@ -24,12 +25,14 @@ use Rattle.slate_read.specs.Readable.{kept_of, TablesAreReadable}
 use Rattle.slate_read.specs.TableWalk.{IsReadable, path_in}
 use Rattle.slate_txn.specs.Named.{find_named}
 use Rattle.slate_db.specs.Answered.{AnswersAct, AnswersFrom, AnswersAs}
+use Rattle.slate_db.specs.Checked.{ChecksFrom, IsSlipFrom, OrSlips, SlipsFrom, StandsAt}
 use Rattle.slate_db.specs.Installs.{AreHandles, AreRuns, ArePlaced, NumberedFrom, handles_of, root}
 use Rattle.slate_db.specs.Lookup.{AreStoredAs, IsStoredAs}
 use Rattle.slate_db.specs.Meaning.{Meaning}
 use Rattle.slate_db.specs.Model.{Rows}
 use Rattle.slate_db.specs.Scanned.{AreStoredRuns}
 use Rattle.slate_db.specs.Scans.{IsWorldOf}
+use Rattle.slate_db.proofs.Checks.{slips_among, slips_first, slips_last}
 use Rattle.slate_db.proofs.PathsApart.{IsEarlier, earlier_apart, still_earlier}
 use Rattle.slate_types.proofs.Lists.{AllByRecursion_append, AllByRecursion_front, AllByRecursion_behind, AllByRecursion_weaken}
 
@@ -164,29 +167,41 @@ all_found earlier (e ∷ here) h = (
 abbrev pub world_of : Meaning → Held → World
 world_of m here = record { holds = λ path. find_named path here; fits = sum_fits; meaning = m }
 
-held_there : (m : Meaning) (os : Objects) (hs : List SsTableHandle) (layers : List Rows) (s : AreStoredAs m os hs layers) → AllByRecursion (λ e. object_at os e.0 ≡ Some e.1.bytes) (held m os hs layers s)
+abbrev Stands : Meaning → Objects → List ℕ × Kept → Type 0
+Stands m os e = StandsAt m.encode os e.0 e.1
+
+pub table_stands : (m : Meaning) (os : Objects) (h : SsTableHandle) (rows : Rows) (s : IsStoredAs m os h rows) → StandsAt m.encode os (path_in h) (kept_in m os h rows s)
 unfolding path_in
-held_there m os [] [] s = tt
-held_there m os (h ∷ hs) (rows ∷ layers) s = ((table_held m os h rows s.0).there, held_there m os hs layers s.1)
-held_there m os [] (rows ∷ layers) s = absurd s
-held_there m os (h ∷ hs) [] s = absurd s
+table_stands m os h rows s =
+    let t = table_held m os h rows s in
+    record { id = h.id.0; named = refl; there = t.there; version = h.format_version; blocks = t.blocks; filters = t.filters; is = t.is; sections = refl }
 
-runs_there : (m : Meaning) (os : Objects) (runs : List SortedRun) (groups : List (List Rows)) (s : AreStoredRuns m os runs groups) → AllByRecursion (λ e. object_at os e.0 ≡ Some e.1.bytes) (held_runs m os runs groups s)
-runs_there m os [] [] s = tt
-runs_there m os (run ∷ runs) (layers ∷ groups) s = AllByRecursion_append _ (held m os run.tables.items layers s.0) (held_runs m os runs groups s.1) (held_there m os run.tables.items layers s.0) (runs_there m os runs groups s.1)
-runs_there m os [] (layers ∷ groups) s = absurd s
-runs_there m os (run ∷ runs) [] s = absurd s
+held_stand : (m : Meaning) (os : Objects) (hs : List SsTableHandle) (layers : List Rows) (s : AreStoredAs m os hs layers) → AllByRecursion (Stands m os) (held m os hs layers s)
+held_stand m os [] [] s = tt
+held_stand m os (h ∷ hs) (rows ∷ layers) s = (table_stands m os h rows s.0, held_stand m os hs layers s.1)
+held_stand m os [] (rows ∷ layers) s = absurd s
+held_stand m os (h ∷ hs) [] s = absurd s
 
-found_there : (os : Objects) (here : Held) (path : List ℕ) (kept : Kept) → AllByRecursion (λ e. object_at os e.0 ≡ Some e.1.bytes) here → find_named path here ≡ Some kept → object_at os path ≡ Some kept.bytes
-found_there os [] path kept h is = cc
-found_there os (e ∷ here) path kept h is = by (bytes_eq e.0 path) refl is (found_there os here path kept h.1)
+runs_stand : (m : Meaning) (os : Objects) (runs : List SortedRun) (groups : List (List Rows)) (s : AreStoredRuns m os runs groups) → AllByRecursion (Stands m os) (held_runs m os runs groups s)
+runs_stand m os [] [] s = tt
+runs_stand m os (run ∷ runs) (layers ∷ groups) s = AllByRecursion_append (Stands m os) (held m os run.tables.items layers s.0) (held_runs m os runs groups s.1) (held_stand m os run.tables.items layers s.0) (runs_stand m os runs groups s.1)
+runs_stand m os [] (layers ∷ groups) s = absurd s
+runs_stand m os (run ∷ runs) [] s = absurd s
+
+found_stands : (m : Meaning) (os : Objects) (here : Held) (path : List ℕ) (kept : Kept) → AllByRecursion (Stands m os) here → find_named path here ≡ Some kept → StandsAt m.encode os path kept
+found_stands m os [] path kept h is = cc
+found_stands m os (e ∷ here) path kept h is = by (bytes_eq e.0 path) refl is (found_stands m os here path kept h.1)
   where
-    by : (b : Bool) → bytes_eq e.0 path ≡ b → cond b (Some e.1) (find_named path here) ≡ Some kept → (find_named path here ≡ Some kept → object_at os path ≡ Some kept.bytes) → object_at os path ≡ Some kept.bytes
-    by true same is later = ap (object_at os) (sym ((bytes_eq-Decides e.0 path).0 same)) ∙ h.0 ∙ ap (λ (k : Kept). Some k.bytes) (same_Some _ _ is)
+    by : (b : Bool) → bytes_eq e.0 path ≡ b → cond b (Some e.1) (find_named path here) ≡ Some kept → (find_named path here ≡ Some kept → StandsAt m.encode os path kept) → StandsAt m.encode os path kept
+    by true same is later = subst (λ (p : List ℕ). StandsAt m.encode os p kept) ((bytes_eq-Decides e.0 path).0 same) (subst (λ (k : Kept). StandsAt m.encode os e.0 k) (same_Some _ _ is) h.0)
     by false same is later = later is
 
 pub is_world : (m : Meaning) (os : Objects) (runs : List SortedRun) (groups : List (List Rows)) (s : AreStoredRuns m os runs groups) → IsWorldOf os m (world_of m (held_runs m os runs groups s))
-is_world m os runs groups s = record { meaning = refl; holds = λ path kept is. found_there os (held_runs m os runs groups s) path kept (runs_there m os runs groups s) is }
+is_world m os runs groups s = record { meaning = refl; fits = refl; tables = λ path kept is. found_stands m os (held_runs m os runs groups s) path kept (runs_stand m os runs groups s) is }
+
+-- the objects hold its tables
+pub world_holds : (os : Objects) (m : Meaning) (w : World) → IsWorldOf os m w → HoldsWorld os w
+world_holds os m w is = λ path kept found. (is.tables path kept found).there
 
 -- a call that the objects answered met their world
 pub sees_world : (os : Objects) (w : World) (before after : Reach) → w.meaning ≡ before.meaning → HoldsWorld os w → AnswersFrom os before after → Sees w before after
@@ -201,3 +216,44 @@ sees_world os w before after same holds (inr a) = record { meaning = same; met =
     one (Act.put path bytes) k = tt
     one (Act.read path start len answer) k = known start len answer path k (w.holds path) refl
     one (Act.len path answer) k = tt
+
+-- ---- a call over a store that tells its acts
+
+-- a slip in the world is one among the objects
+slip_from : (os : Objects) (m : Meaning) (w : World) (act : Act) → IsWorldOf os m w → IsSlip w act → IsSlipFrom m.encode os act
+slip_from os m w (Act.put path bytes) is slip = absurd slip
+slip_from os m w (Act.read path start len answer) is (kept, bytes, found, given, slip) =
+    (kept, bytes, is.tables path kept found, given, subst (λ (fits : List ℕ → List ℕ → Bool). IsSlipOf fits kept start len bytes) is.fits slip)
+slip_from os m w (Act.len path answer) is slip = absurd slip
+
+pub slips_of_world : (os : Objects) (m : Meaning) (w : World) (a b : Reach) (reads : List Act) → IsWorldOf os m w → IsCall a b reads → Slips w a b → SlipsFrom m.encode os a.acts b.acts
+slips_of_world os m w a b reads is call s = record {
+  known = s.known;
+  acts = s.reads;
+  began = s.began;
+  ended = s.ended;
+  slipped = slips_among m.encode os s.reads s.act (subst (AllByRecursion IsReadAct) same call.each) s.among (slip_from os m w s.act is s.slip);
+}
+  where
+    same : reads ≡ s.reads
+    same = append_cancel_left s.known reads s.reads (same_Some _ _ (sym (call.adds s.known s.began) ∙ s.ended))
+
+-- where a call that met the world means this, it holds, or a section slipped
+pub or_slips_world : (os : Objects) (w : World) (a b : Reach) (reads : List Act) (holds : Type 0) → IsWorldOf os a.meaning w → IsCall a b reads → Checks w a b → (Sees w a b → holds) → OrSlips os a b holds
+or_slips_world os w a b reads holds is call checks met_it known began = by (checks known began is.meaning)
+  where
+    by : Sees w a b ⊎ Slips w a b → holds ⊎ SlipsFrom a.meaning.encode os a.acts b.acts
+    by (inl sees) = inl (met_it sees)
+    by (inr slips) = inr (slips_of_world os a.meaning w a b reads is call slips)
+
+-- of two parts
+pub or_slips_last : (os : Objects) (a b c : Reach) (holds : Type 0) → OnlyReads a b → OnlyReads b c → ChecksFrom os a b → (AnswersFrom os a b → OrSlips os b c holds) → OrSlips os a c holds
+or_slips_last os a b c holds first last checks later known began = by (checks known began)
+  where
+    behind : holds ⊎ SlipsFrom b.meaning.encode os b.acts c.acts → holds ⊎ SlipsFrom a.meaning.encode os a.acts c.acts
+    behind (inl h) = inl h
+    behind (inr s) = inr (slips_last a.meaning.encode os a b c first known began (subst (λ (m : Meaning). SlipsFrom m.encode os b.acts c.acts) first.meaning s))
+
+    by : AnswersFrom os a b ⊎ SlipsFrom a.meaning.encode os a.acts b.acts → holds ⊎ SlipsFrom a.meaning.encode os a.acts c.acts
+    by (inl answers) = let more = first.acts known began in behind (later answers (known ++ more.0) more.1)
+    by (inr s) = inr (slips_first a.meaning.encode os a b c last s)

@@ -36,7 +36,7 @@ use Rattle.slate_db.specs.Model.{Rows}
 use Rattle.slate_db.specs.Scanned.{AreSources, left_of, own_rows, scanned}
 use Rattle.slate_db.specs.Sound.{at_most}
 use Rattle.slate_db.proofs.ByKeys.{GivesOwn, known_by_keys, given_in_order, given_of_key}
-use Rattle.slate_db.proofs.KeyRows.{AreClimbing, climbing_both, falling_turn, group_shown, has_key, of_key_is, of_lists, rising_climbs}
+use Rattle.slate_db.proofs.KeyRows.{AreClimbing, climbing_both, falling_turn, group_shown, has_key, of_lists, rising_climbs}
 use Rattle.slate_db.proofs.Rises.{rising_filter}
 use Rattle.slate_db.proofs.ScanFolds.{folded_of_key}
 use Rattle.slate_db.proofs.Short.{all_from_last}
@@ -226,7 +226,7 @@ module _ (r : Rules) (cs : List Commit) (n : ℕ) (ops : Ops) (range : BytesRang
       filter_swap (λ x. bytes_eq x.key k) (λ x. not (is_tombstone x)) (folded (combine_at r) true None (decided all))
       ∙ ap (filter (λ x. not (is_tombstone x))) (
       folded_of_key (combine_at r) order (left_of n own lists) k
-      ∙ ap (λ (l : Rows). option_to_list (fold_group (combine_at r) l)) (sym (of_key_is k (decided all)) ∙ decided_key order k all (merged_in_order order false (left_of n own lists)) ∙ ap upto_base (of_key_is k all ∙ merged_of_key k))
+      ∙ ap (λ (l : Rows). option_to_list (fold_group (combine_at r) l)) (decided_key order k all (merged_in_order order false (left_of n own lists)) ∙ ap upto_base (merged_of_key k))
       )
       ∙ by (in_range range k) refl
     where

@@ -3,6 +3,7 @@
 --     AnswersAs os before after      the store tells its acts, and answered each read of a call by the objects; before, after: the acts that it tells
 --     Answering os objects before after      the store holds the objects, or tells its acts, and answered each read of a call by them
 --     AnswersFrom os before after      the same of what a call reaches
+--     AddsActs before after      of what a store tells of its acts: those from before, and maybe more behind them
 --     AddsPuts ts before after      of what a store tells of its acts: the puts of these tables were added, in order
 --     AddsTables old new before after      of two lists of tables the second has some more, and their puts were told
 use Rattle.std.specs.Prelude.{◌≡◌, ◌⊎◌, ℕ, List, [], ◌∷◌, ◌++◌, Option, Some}
@@ -30,6 +31,9 @@ Answering os objects before after = (objects ≡ Some os) ⊎ AnswersAs os befor
 
 abbrev pub AnswersFrom : Objects → Reach → Reach → Type 0
 AnswersFrom os before after = Answering os before.objects before.acts after.acts
+
+abbrev pub AddsActs : Option (List Act) → Option (List Act) → Type 0
+AddsActs before after = (known : List Act) → before ≡ Some known → (more : List Act) × (after ≡ Some (known ++ more))
 
 abbrev pub AddsPuts : List (Ulid × List ℕ) → Option (List Act) → Option (List Act) → Type 0
 AddsPuts [] before after = after ≡ before

@@ -1,4 +1,5 @@
 pub mod Asked
+pub mod Checked
 pub mod BatchTests
 pub mod Meaning
 pub mod Model

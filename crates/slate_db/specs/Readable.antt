@@ -6,11 +6,11 @@
 --     LacksOperator by m c hs reads e      there is no operator, and an operand was found, among own operations, in memory or by the reads
 --     IsRefusedBy by m c reads e      the reads show so of the tables that the journal names
 --     IsReadError by before after c e      a fault that came in the call, or want of memory, or such a refusal by its reads
---     IsRead by before after c means result      what a call answers that reads: what it means, when it is refused, and what it leaves
+--     IsRead by before after c means result      what a call answers that reads: what it means, when it is refused, what an Ok rests on, and what it leaves
 --     IsOwnRead before after means result      the same of one that reads no more than an own operation: nothing is reached, and only memory refuses
 --     decides_own k ops      own operations of the key decide what is read there, so that no store is asked
 --     keeps_merge k ops      one of the operations that are kept of the key is a merge
-use Rattle.std.specs.Prelude.{◌≡◌, ◌⊎◌, ℕ, Bool, true, not, List, Contains, IfErr, IfOk, IsOkUnless, None, Some, Result}
+use Rattle.std.specs.Prelude.{◌≡◌, ◌⊎◌, ℕ, Bool, true, not, List, Contains, IfErr, IfOk, OnOk, IsOkUnless, None, Some, Result}
 use Rattle.std.specs.List.{AllByRecursion, list_any}
 use Rattle.slate_types.specs.declared.error.SlateDBError.{SlateDBError}
 use Rattle.slate_types.specs.declared.error.SlateDBError.TheVariants.{MergeOperatorMissing, OutOfMemory}
@@ -30,6 +30,7 @@ use Rattle.slate_table.specs.Parts.{Encode}
 use Rattle.slate_txn.specs.Named.{find_named}
 use Rattle.slate_txn.specs.State.{Tx}
 use Rattle.slate_db.specs.Answered.{AnswersFrom}
+use Rattle.slate_db.specs.Checked.{ChecksFrom}
 use Rattle.slate_db.specs.Installs.{AreHandles, Holds, tables_of}
 use Rattle.slate_db.specs.Meaning.{IsLawfulMeaning}
 use Rattle.slate_db.specs.Model.{CoreModel, memory}
@@ -80,6 +81,7 @@ IsReadError by before after c e = IsFault before after e ⊎ Made before after (
 pub record IsRead {A : Type 0} (by : Asking) (before after : Reach) (c : CoreModel) (means : A → Type 0) (result : Result A SlateDBError) : Type 0 where
   pub answer : IsAnswered by.policies before after c → IfOk result means
   pub undamaged : IsAnswered by.policies before after c → IfErr result (IsFault before after)
+  pub checked : (os : Objects) → IsReadable by.policies before.meaning os c → OnOk result (ChecksFrom os before after)
   pub cause : IfErr result (IsReadError by before after c)
   pub reads : OnlyReads before after
 

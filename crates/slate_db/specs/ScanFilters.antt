@@ -26,6 +26,7 @@ use Rattle.slate_table.specs.Filtered.{RefusesQuery, asks_filters, point_query}
 use Rattle.slate_table.specs.Parts.{Encode}
 use Rattle.slate_table.specs.Reading.{of_filters, whole_answer}
 use Rattle.slate_db.specs.Answered.{AnswersFrom}
+use Rattle.slate_db.specs.Checked.{ChecksFrom}
 use Rattle.slate_db.specs.Installs.{handles_of}
 use Rattle.slate_db.specs.Lookup.{AreFilteredAs, AreStoredAs, IsStoredAs}
 use Rattle.slate_db.specs.Model.{Rows}
@@ -85,14 +86,17 @@ pub record AddsLeft (policies : List Policy) (before after : Reach) (range : Byt
   pub kept : Bool
   pub are : new ≡ (if kept then old ++ (h ∷ []) else old)
   pub denied : (rows : Rows) (os : Objects) → IsStoredAs before.meaning os h rows → AreFilteredAs policies before.meaning os (h ∷ []) → AnswersFrom os before after → kept ≡ false → ranged range rows ≡ []
+  pub checked : (rows : Rows) (os : Objects) → IsStoredAs before.meaning os h rows → ChecksFrom os before after
 
 pub record TablesAreLeft (policies : List Policy) (before after : Reach) (range : BytesRange) (hs left : List SsTableHandle) : Type 0 where
   pub among : (h : SsTableHandle) → Contains left h → Contains hs h
   pub others : (layers : List Rows) (os : Objects) → AreStoredAs before.meaning os hs layers → AreFilteredAs policies before.meaning os hs → AnswersFrom os before after → AreLeft range hs layers left
+  pub checked : (layers : List Rows) (os : Objects) → AreStoredAs before.meaning os hs layers → ChecksFrom os before after
 
 pub record RunsAreLeft (policies : List Policy) (before after : Reach) (range : BytesRange) (runs left : List SortedRun) : Type 0 where
   pub among : (h : SsTableHandle) → Contains (handles_of left) h → Contains (handles_of runs) h
   pub others : (groups : List (List Rows)) (os : Objects) → AreStoredRuns before.meaning os runs groups → AreFilteredAs policies before.meaning os (handles_of runs) → AnswersFrom os before after → AreRunsLeft range runs groups left
+  pub checked : (groups : List (List Rows)) (os : Objects) → AreStoredRuns before.meaning os runs groups → ChecksFrom os before after
 
 -- each is a table of some rows
 abbrev pub AreTablesThere : Meaning → Objects → List SsTableHandle → Type 0

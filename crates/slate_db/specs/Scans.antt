@@ -17,7 +17,7 @@
 --     AnswersAgain e result      so it answers from then on, or want of memory where no copy can be made
 --     id_of it, number_of it, scan_of it      a transaction's scan: whose it is, which of its scans, and what it has left
 --     IsScanOf id n order range it      it is that of the transaction with this id, the n-th that it opened
---     IsWorldOf os m w      the objects hold the world, for what the parts mean
+--     IsWorldOf os m w      the world has tables of these objects, for what the parts mean
 --     LeavesIn os m it rows      in some world that the objects hold
 --     IsOpenScan c it      its transaction is open, and opened it; or its snapshot is open
 --     HasLeft m c it rows      of the list that the scan's opening fixed these rows are left, by the transcript
@@ -43,7 +43,7 @@ use Rattle.slate_types.specs.Keys.{in_range, is_past_start}
 use Rattle.slate_types.specs.Outside.{Act, Objects, IsFault, Meaning, Reach}
 use Rattle.slate_types.specs.Refusing.{IsDamage}
 use Rattle.slate_types.specs.Rows.{is_base}
-use Rattle.slate_types.specs.World.{World, HoldsWorld, Made}
+use Rattle.slate_types.specs.World.{Kept, World, Made}
 use Rattle.slate_filter.specs.Policy.{Policy}
 use Rattle.slate_mem.specs.Lookup.{newest_first}
 use Rattle.slate_read.specs.declared.filter_iterator.FilterIterator.{FilterIterator}
@@ -64,7 +64,7 @@ use Rattle.slate_read.specs.ReadSources as read
 use Rattle.slate_read.specs.SourceBringing as bringing
 use Rattle.slate_read.specs.Showing.{ShowsByReads}
 use Rattle.slate_table.specs.declared.info.SsTableHandle.{SsTableHandle}
-use Rattle.slate_table.specs.Parts.{Encode}
+use Rattle.slate_table.specs.Parts.{Encode, sum_fits}
 use Rattle.slate_txn.specs.Alone.{scans_left}
 use Rattle.slate_txn.specs.Named.{find_named}
 use Rattle.slate_txn.specs.State.{Tx}
@@ -73,6 +73,7 @@ use Rattle.slate_db.specs.declared.scan.DbIterator.{DbIterator}
 use Rattle.slate_db.specs.declared.scan.ScanState.{ScanState}
 use Rattle.slate_db.specs.declared.scan.TxnIterator.{TxnIterator}
 use Rattle.slate_db.specs.declared.scan.ScanState.TheVariants.{Walking, Done, Refused}
+use Rattle.slate_db.specs.Checked.{StandsAt}
 use Rattle.slate_db.specs.Installs.{AreHandles, tables_of}
 use Rattle.slate_db.specs.Meaning.{rules_of}
 use Rattle.slate_db.specs.Model.{CoreModel, memory}
@@ -82,7 +83,8 @@ pub use Rattle.slate_db.specs.Values.{has_value}
 
 pub record IsWorldOf (os : Objects) (m : Meaning) (w : World) : Type 0 where
   pub meaning : w.meaning ≡ m
-  pub holds : HoldsWorld os w
+  pub fits : w.fits ≡ sum_fits
+  pub tables : (path : List ℕ) (kept : Kept) → w.holds path ≡ Some kept → StandsAt m.encode os path kept
 
 abbrev pub IsReached : BytesRange → Option (List ℕ) → Type 0
 IsReached range None = Unit {0}

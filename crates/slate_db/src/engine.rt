@@ -25,7 +25,7 @@ ghost use Rattle.slate_txn.specs.Settings.{settings_of};
 ghost use Rattle.slate_txn.specs.Open.{least_start};
 ghost use Rattle.slate_txn.specs.State.{Tx, is_open, opening, last_of};
 ghost use Rattle.slate_txn.specs.Step.{reader, step, with_op, with_marks, with_unmarks};
-ghost use Rattle.slate_db.specs.Answered.{AddsTables};
+ghost use Rattle.slate_db.specs.Answered.{AddsActs, AddsTables};
 ghost use Rattle.slate_db.specs.Meaning.{Meaning, IsLawfulMeaning, rules_in, segments_by};
 ghost use Rattle.slate_db.specs.Frozen.{IsFrozen};
 ghost use Rattle.slate_db.specs.Flushed.{Flushes, IsFlushError, MayPut, NoPlace, NoPlaceToFlush, TooLarge, WantsOperator, events_of_flush, layout_of};
@@ -359,6 +359,7 @@ impl Core {
         ensures step { IfOk result (λ n. (m : Meaning) (g : Segments) → step (rules_in self.old.settings m g) self.old.state lines.Flush ≡ (self.new.state, Flushed n)) }
         ensures installed { let reach = ⟦<EnvOf<S, M, T> as Outside>⟧.reach in IfOk result (λ n. (between : CoreModel) × IsFrozen self.old between × Flushes (layout_of laws.now.options (map (λ p. meaning p) laws.now.policies.items) (segments_by X.lengths laws.now.segments)) (reach env.old) (reach env.new) between self.new n) }
         ensures acts { let reach = ⟦<EnvOf<S, M, T> as Outside>⟧.reach in OnOk result (AddsTables (tables_of self.old.events) (tables_of self.new.events) (reach env.old).acts (reach env.new).acts) }
+        ensures adds { let reach = ⟦<EnvOf<S, M, T> as Outside>⟧.reach in AddsActs (reach env.old).acts (reach env.new).acts }
         ensures taken { OnOk result ((self.new.active ≡ []) × (self.new.frozen ≡ [])) }
         ensures quiet { OnOk result (IsQuiet self.new.events) }
         ensures refused { let reach = ⟦<EnvOf<S, M, T> as Outside>⟧.reach in OnErr result ((between : CoreModel) × (IsSame self.old between ⊎ IsFrozen self.old between) × IsSame between self.new × MayPut (layout_of laws.now.options (map (λ p. meaning p) laws.now.policies.items) (segments_by X.lengths laws.now.segments)) (reach env.old) (reach env.new) between) }
@@ -416,6 +417,7 @@ impl Core {
         ensures newest { IfOk result (λ n. n ≡ last_of self.old.settings.start_seq self.old.state.commits) }
         ensures installed { let reach = ⟦<EnvOf<S, M, T> as Outside>⟧.reach in IfOk result (Flushes (layout_of laws.now.options (map (λ p. meaning p) laws.now.policies.items) (segments_by X.lengths laws.now.segments)) (reach env.old) (reach env.new) self.old self.new) }
         ensures acts { let reach = ⟦<EnvOf<S, M, T> as Outside>⟧.reach in OnOk result (AddsTables (tables_of self.old.events) (tables_of self.new.events) (reach env.old).acts (reach env.new).acts) }
+        ensures adds { let reach = ⟦<EnvOf<S, M, T> as Outside>⟧.reach in AddsActs (reach env.old).acts (reach env.new).acts }
         ensures same { OnErr result (IsSame self.old self.new) }
         ensures refused { let reach = ⟦<EnvOf<S, M, T> as Outside>⟧.reach in OnErr result (MayPut (layout_of laws.now.options (map (λ p. meaning p) laws.now.policies.items) (segments_by X.lengths laws.now.segments)) (reach env.old) (reach env.new) self.old) }
         ensures kept { let reach = ⟦<EnvOf<S, M, T> as Outside>⟧.reach in

@@ -15,7 +15,7 @@ ghost use Rattle.slate_table.specs.TableEnd.{HasInfo};
 ghost use Rattle.slate_table.specs.TableParts.{version_of};
 ghost use Rattle.slate_table.specs.Parts.{Encode};
 ghost use Rattle.slate_table.specs.Reading.{IsStoreFault};
-ghost use Rattle.slate_db.specs.Answered.{AddsPuts};
+ghost use Rattle.slate_db.specs.Answered.{AddsActs, AddsPuts};
 ghost use Rattle.slate_db.specs.Flushed.{layout_of, AreSomeOfFlush, CanFlush, HasTooLarge, IsFolded, IsPut, IsTableAt, IsTooLarge, Layout, MayTakeTables, StandInRuns, WantsOperator};
 ghost use Rattle.slate_db.specs.StoredParts.{AreFirstParts, ArePartsPut, CanBuild, IsLastRun, IsOneTable, IsPartTooLarge, IsPlace, IsTablePut};
 ghost use Rattle.slate_db.specs.Installs.{handles_of};
@@ -61,6 +61,7 @@ pub fn stored<S: Store, M: MergeOperator, T: BlockTransformer, X: PrefixExtracto
     requires ready { CanFlush (map (λ t. t.rows) frozen.now) }
     ensures stored { let reach = ⟦<EnvOf<S, M, T> as Outside>⟧.reach in IfOk result (λ a. IsPut (reach env.old).meaning (layout_of laws.now.options (map (λ p. meaning p) laws.now.policies.items) (segments_by X.lengths laws.now.segments)) number barrier (map (λ t. t.rows) frozen.now) a.0 a.1.items (reach env.old).objects (reach env.new).objects) }
     ensures acts { let reach = ⟦<EnvOf<S, M, T> as Outside>⟧.reach in IfOk result (λ a. AddsPuts a.0 (reach env.old).acts (reach env.new).acts) }
+    ensures adds { let reach = ⟦<EnvOf<S, M, T> as Outside>⟧.reach in AddsActs (reach env.old).acts (reach env.new).acts }
     ensures refused { let reach = ⟦<EnvOf<S, M, T> as Outside>⟧.reach in OnErr result (MayTakeTables (AreSomeOfFlush (reach env.old).meaning (layout_of laws.now.options (map (λ p. meaning p) laws.now.policies.items) (segments_by X.lengths laws.now.segments)) number barrier (map (λ t. t.rows) frozen.now)) (reach env.old).objects (reach env.new).objects) }
     ensures cause { let reach = ⟦<EnvOf<S, M, T> as Outside>⟧.reach in IfErr result (λ e. IsFault (reach env.old) (reach env.new) e
         ⊎ ((rows : Rows) × IsFolded (reach env.old).meaning barrier (map (λ t. t.rows) frozen.now) rows × AreInOrder rows × HasTooLarge (layout_of laws.now.options (map (λ p. meaning p) laws.now.policies.items) (segments_by X.lengths laws.now.segments)) rows e)
@@ -86,6 +87,7 @@ fn stored_runs<S: Store, M: MergeOperator, T: BlockTransformer, X: PrefixExtract
     requires each { AllByRecursion CanBuild (map (λ t. t.rows.items) parts.items) }
     ensures stored { let reach = ⟦<EnvOf<S, M, T> as Outside>⟧.reach in IfOk result (λ a. ArePartsPut (reach env.old).meaning.encode (layout_of laws.now.options (map (λ p. meaning p) laws.now.policies.items) (segments_by X.lengths laws.now.segments)) number (map (λ t. t.rows.items) parts.items) a.0 (handles_of a.1.items) (reach env.old).objects (reach env.new).objects) }
     ensures acts { let reach = ⟦<EnvOf<S, M, T> as Outside>⟧.reach in IfOk result (λ a. AddsPuts a.0 (reach env.old).acts (reach env.new).acts) }
+    ensures adds { let reach = ⟦<EnvOf<S, M, T> as Outside>⟧.reach in AddsActs (reach env.old).acts (reach env.new).acts }
     ensures stand { IfOk result (λ a. StandInRuns (map (λ t. t.prefix) parts.items) a.1.items) }
     ensures refused { let reach = ⟦<EnvOf<S, M, T> as Outside>⟧.reach in OnErr result (MayTakeTables (AreFirstParts (reach env.old).meaning.encode (layout_of laws.now.options (map (λ p. meaning p) laws.now.policies.items) (segments_by X.lengths laws.now.segments)) number (map (λ t. t.rows.items) parts.items)) (reach env.old).objects (reach env.new).objects) }
     ensures cause { let reach = ⟦<EnvOf<S, M, T> as Outside>⟧.reach in IfErr result (λ e. IsFault (reach env.old) (reach env.new) e ⊎ IsPartTooLarge (layout_of laws.now.options (map (λ p. meaning p) laws.now.policies.items) (segments_by X.lengths laws.now.segments)) (map (λ t. t.rows.items) parts.items) e) }
@@ -151,6 +153,7 @@ fn stored_table<S: Store, M: MergeOperator, T: BlockTransformer, X: PrefixExtrac
     requires ready { CanBuild rows.items }
     ensures stored { let reach = ⟦<EnvOf<S, M, T> as Outside>⟧.reach in (number place : ℕ) → IsPlace id number place → IfOk result (λ a. IsTablePut (reach env.old).meaning.encode (layout_of laws.now.options (map (λ p. meaning p) laws.now.policies.items) (segments_by X.lengths laws.now.segments)) number place rows.items a.0 a.1 (reach env.old).objects (reach env.new).objects) }
     ensures acts { let reach = ⟦<EnvOf<S, M, T> as Outside>⟧.reach in IfOk result (λ a. AddsPuts (a.0 ∷ []) (reach env.old).acts (reach env.new).acts) }
+    ensures adds { let reach = ⟦<EnvOf<S, M, T> as Outside>⟧.reach in AddsActs (reach env.old).acts (reach env.new).acts }
     ensures refused { let reach = ⟦<EnvOf<S, M, T> as Outside>⟧.reach in (number place : ℕ) → IsPlace id number place → OnErr result (MayTakeTables (IsOneTable (reach env.old).meaning.encode (layout_of laws.now.options (map (λ p. meaning p) laws.now.policies.items) (segments_by X.lengths laws.now.segments)) number place rows.items) (reach env.old).objects (reach env.new).objects) }
     ensures cause { let reach = ⟦<EnvOf<S, M, T> as Outside>⟧.reach in IfErr result (λ e. IsFault (reach env.old) (reach env.new) e ⊎ IsTooLarge (layout_of laws.now.options (map (λ p. meaning p) laws.now.policies.items) (segments_by X.lengths laws.now.segments)) rows.items e) }
     ensures operator { env.new.operator ≡ env.old.operator }
@@ -173,6 +176,7 @@ fn put<S: Store>(
     ensures stored { (encode : Encode) (layout : Layout) (number place : ℕ) (rows : Rows) → IsTableAt encode layout number place rows (id, table.now.bytes) → IsKnown layout.version → table.now.version ≡ layout.version → HasInfo table.now.bytes layout.version id.0 (seen_info table.now.info)
         → IfOk result (λ a. IsTablePut encode layout number place rows a.0 a.1 (S.objects store.old) (S.objects store.new)) }
     ensures acts { IfOk result (λ a. AddsPuts (a.0 ∷ []) (S.acts store.old) (S.acts store.new)) }
+    ensures adds { AddsActs (S.acts store.old) (S.acts store.new) }
     ensures refused { (encode : Encode) (layout : Layout) (number place : ℕ) (rows : Rows) → IsTableAt encode layout number place rows (id, table.now.bytes) → OnErr result (MayTakeTables (IsOneTable encode layout number place rows) (S.objects store.old) (S.objects store.new)) }
     ensures cause { IfErr result (λ e. IsStoreFault (S.faults store.old) (S.faults store.new) e) }
     ensures later { S.faults store.old ≤ S.faults store.new }

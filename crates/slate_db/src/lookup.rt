@@ -1,5 +1,5 @@
 //! The rows of a key in stored tables, newest first, to the first that decides.
-ghost use Rattle.std.specs.Prelude.{◌≡◌, ◌⊎◌, ◌≤◌, ◌<◌, ◌++◌, ◌∷◌, [], ℕ, List, length, map, flat_map, true, false, Ok, Some, Contains, IfOk, IfErr, IsOkUnless};
+ghost use Rattle.std.specs.Prelude.{◌≡◌, ◌⊎◌, ◌≤◌, ◌<◌, ◌++◌, ◌∷◌, [], ℕ, List, length, map, flat_map, true, false, Ok, Some, Contains, IfOk, IfErr, OnOk, IsOkUnless};
 ghost use Rattle.std.specs.List.{AllByRecursion};
 ghost use Rattle.slate_types.specs.declared.error.SlateDBError.{SlateDBError};
 ghost use Rattle.slate_types.specs.declared.filter_policy.PrefixTarget.{PrefixTarget};
@@ -24,6 +24,7 @@ ghost use Rattle.slate_table.specs.IndexValue.{entries_of};
 ghost use Rattle.slate_table.specs.InfoReading.{seen_info};
 ghost use Rattle.slate_db.specs.Answered.{AnswersFrom};
 ghost use Rattle.slate_db.specs.Asked.{AreBehindFilters, IsFiltersRead, IsReadOf};
+ghost use Rattle.slate_db.specs.Checked.{ChecksFrom};
 ghost use Rattle.slate_db.specs.Installs.{handles_of};
 ghost use Rattle.slate_mem.specs.Lookup.{newest_first};
 ghost use Rattle.slate_db.specs.Lookup.{AreFilteredAs, AreStoredAs, Extends, FindsBehind, IsStoredAs, IsUnknown};
@@ -176,6 +177,7 @@ fn lets_through<S: Store, M: MergeOperator, T: BlockTransformer>(
         IfErr result (λ e. IsFault (reach env.old) (reach env.new) e
         ⊎ Made (reach env.old) (reach env.new) (λ reads. IsUnreadable e × RefusesFiltersRead (reach env.old).meaning.decode by table.now reads e)) }
     ensures alone { let reach = ⟦<EnvOf<S, M, T> as Outside>⟧.reach in Made (reach env.old) (reach env.new) (AllByRecursion (IsFiltersRead table.now)) }
+    ensures checked { let reach = ⟦<EnvOf<S, M, T> as Outside>⟧.reach in (rows : Rows) (os : Objects) → IsStoredAs (reach env.old).meaning os table.now rows → OnOk result (ChecksFrom os (reach env.old) (reach env.new)) }
     ensures reads { let reach = ⟦<EnvOf<S, M, T> as Outside>⟧.reach in OnlyReads (reach env.old) (reach env.new) }
 {
     TableStore::might_match(
@@ -202,6 +204,7 @@ fn newest_of_enclosing<S: Store, M: MergeOperator, T: BlockTransformer>(
     ensures rows { let reach = ⟦<EnvOf<S, M, T> as Outside>⟧.reach in IfOk result (λ found. Made (reach env.old) (reach env.new) (λ reads. AllByRecursion (HasRowRead (reach env.old).meaning.decode table.now reads) found.items)) }
     ensures cause { let reach = ⟦<EnvOf<S, M, T> as Outside>⟧.reach in IfErr result (λ e. IsFault (reach env.old) (reach env.new) e ⊎ Made (reach env.old) (reach env.new) (λ reads. ShowsRead (reach env.old).meaning.decode table.now reads e) ⊎ IsUnknown table.now.format_version e) }
     ensures alone { let reach = ⟦<EnvOf<S, M, T> as Outside>⟧.reach in Made (reach env.old) (reach env.new) (AllByRecursion (IsReadOf table.now)) }
+    ensures checked { let reach = ⟦<EnvOf<S, M, T> as Outside>⟧.reach in (rows : Rows) (os : Objects) → IsStoredAs (reach env.old).meaning os table.now rows → OnOk result (ChecksFrom os (reach env.old) (reach env.new)) }
     ensures reads { let reach = ⟦<EnvOf<S, M, T> as Outside>⟧.reach in OnlyReads (reach env.old) (reach env.new) }
 {
     let index = TableStore::read_index(alloc, env.store, ROOT, table, &mut env.transformer)?;
@@ -244,6 +247,7 @@ fn newest_of_table<S: Store, M: MergeOperator, T: BlockTransformer>(
     ensures behind { let reach = ⟦<EnvOf<S, M, T> as Outside>⟧.reach in
         let by : Asking = record { policies = map (λ p. meaning p) policies.now; query = query.now } in
         Made (reach env.old) (reach env.new) (AreBehindFilters (reach env.old).meaning.decode by (table.now ∷ [])) }
+    ensures checked { let reach = ⟦<EnvOf<S, M, T> as Outside>⟧.reach in (rows : Rows) (os : Objects) → IsStoredAs (reach env.old).meaning os table.now rows → OnOk result (ChecksFrom os (reach env.old) (reach env.new)) }
     ensures reads { let reach = ⟦<EnvOf<S, M, T> as Outside>⟧.reach in OnlyReads (reach env.old) (reach env.new) }
 {
     if !encloses(&table.info, key) {
@@ -306,6 +310,7 @@ fn newest_of_tables<S: Store, M: MergeOperator, T: BlockTransformer>(
     ensures behind { let reach = ⟦<EnvOf<S, M, T> as Outside>⟧.reach in
         let by : Asking = record { policies = map (λ p. meaning p) policies.now; query = query.now } in
         Made (reach env.old) (reach env.new) (AreBehindFilters (reach env.old).meaning.decode by tables.now) }
+    ensures checked { let reach = ⟦<EnvOf<S, M, T> as Outside>⟧.reach in (layers : List Rows) (os : Objects) → AreStoredAs (reach env.old).meaning os tables.now layers → OnOk result (ChecksFrom os (reach env.old) (reach env.new)) }
     ensures reads { let reach = ⟦<EnvOf<S, M, T> as Outside>⟧.reach in OnlyReads (reach env.old) (reach env.new) }
 {
     let mut found = newer;
@@ -345,6 +350,7 @@ pub fn newest_of_runs<S: Store, M: MergeOperator, T: BlockTransformer>(
     ensures behind { let reach = ⟦<EnvOf<S, M, T> as Outside>⟧.reach in
         let by : Asking = record { policies = map (λ p. meaning p) policies.now; query = query.now } in
         Made (reach env.old) (reach env.new) (AreBehindFilters (reach env.old).meaning.decode by (handles_of runs.now)) }
+    ensures checked { let reach = ⟦<EnvOf<S, M, T> as Outside>⟧.reach in (layers : List Rows) (os : Objects) → AreStoredAs (reach env.old).meaning os (handles_of runs.now) layers → OnOk result (ChecksFrom os (reach env.old) (reach env.new)) }
     ensures reads { let reach = ⟦<EnvOf<S, M, T> as Outside>⟧.reach in OnlyReads (reach env.old) (reach env.new) }
 {
     let mut found = newer;

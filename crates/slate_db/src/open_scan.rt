@@ -7,7 +7,7 @@ ghost use Rattle.slate_types.specs.Iteration.{IsInOrder};
 ghost use Rattle.slate_types.specs.Keys.{in_range, is_refused};
 ghost use Rattle.slate_types.specs.Outside.{Act, IsFault, OnlyReads};
 ghost use Rattle.slate_types.specs.RowTurns.{AreInTurn, row_before};
-ghost use Rattle.slate_types.specs.World.{World, Made, Sees};
+ghost use Rattle.slate_types.specs.World.{World, Checks, Made, Sees};
 ghost use Rattle.slate_mem.specs.Batch.{Ops};
 ghost use Rattle.slate_read.specs.OperatorIterators.{IsGoing, refuses_folding, rest_folding, sound_folding};
 ghost use Rattle.slate_read.specs.SstOptions.{CanFetch};
@@ -332,6 +332,7 @@ pub(crate) fn merged<'a, S: Store, M: MergeOperator, T: BlockTransformer>(
     ensures rows { let reach = ⟦<EnvOf<S, M, T> as Outside>⟧.reach in (w : World) → AllByRecursion (CanOpen w order) sources.entry.items → Sees w (reach env.old) (reach env.new) → IfOk result (λ rows. rest_folding merge_rows rows w ≡ folded_rows w.meaning order w sources.entry.items) }
     ensures operable { let reach = ⟦<EnvOf<S, M, T> as Outside>⟧.reach in (w : World) → AllByRecursion (CanOpen w order) sources.entry.items → Sees w (reach env.old) (reach env.new) →
         (w.meaning.combine ≡ None → AreBases (merged_rows order w sources.entry.items)) → IfOk result (λ rows. IsOperableIn (ScanState.Walking rows) w) }
+    ensures checked { let reach = ⟦<EnvOf<S, M, T> as Outside>⟧.reach in (w : World) → AllByRecursion (CanOpen w order) sources.entry.items → OnOk result (Checks w (reach env.old) (reach env.new)) }
     ensures later { let reach = ⟦<EnvOf<S, M, T> as Outside>⟧.reach in IfOk result (λ rows. Made (reach env.old) (reach env.new) (λ reads. (later : List Act) (at : Option (List ℕ)) (e : SlateDBError) → merge_refuses rows.iterator (reach env.old).meaning later at e → IsBlamedFor sources.entry.items (reach env.old).meaning (reads ++ later) at e)) }
     ensures brought { let reach = ⟦<EnvOf<S, M, T> as Outside>⟧.reach in IfOk result (λ rows. Made (reach env.old) (reach env.new) (λ reads. (later : List Act) (at : Option (List ℕ)) (e : SlateDBError) → refuses_folding merge_refuses merge_brings rows (reach env.old).meaning later at e → FoldsRefuse sources.entry.items (reach env.old).meaning (reads ++ later) at e)) }
     ensures cause { let reach = ⟦<EnvOf<S, M, T> as Outside>⟧.reach in IfErr result (λ e. Made (reach env.old) (reach env.new) (λ reads. IsFault (reach env.old) (reach env.new) e ⊎ IsBlamedFor sources.entry.items (reach env.old).meaning reads None e)) }

@@ -7,6 +7,7 @@ ghost use Rattle.slate_types.specs.Outside.{Objects, OnlyReads};
 ghost use Rattle.slate_types.specs.World.{Made};
 ghost use Rattle.slate_mem.specs.Table.{ranged};
 ghost use Rattle.slate_db.specs.Answered.{AnswersFrom};
+ghost use Rattle.slate_db.specs.Checked.{ChecksFrom};
 ghost use Rattle.slate_db.specs.Installs.{handles_of};
 ghost use Rattle.slate_db.specs.Lookup.{AreFilteredAs, IsStoredAs};
 ghost use Rattle.slate_db.specs.Model.{Rows};
@@ -56,6 +57,8 @@ fn is_left<S: Store, M: MergeOperator, T: BlockTransformer>(
     ensures denied { let reach = ⟦<EnvOf<S, M, T> as Outside>⟧.reach in
         (rows : Rows) (os : Objects) → IsStoredAs (reach env.old).meaning os table.now rows → AreFilteredAs (map (λ p. meaning p) policies.now) (reach env.old).meaning os (table.now ∷ []) → AnswersFrom os (reach env.old) (reach env.new) →
         IfOk result (λ left. left ≡ false → ranged range.now rows ≡ []) }
+    ensures checked { let reach = ⟦<EnvOf<S, M, T> as Outside>⟧.reach in
+        (rows : Rows) (os : Objects) → IsStoredAs (reach env.old).meaning os table.now rows → OnOk result (ChecksFrom os (reach env.old) (reach env.new)) }
     ensures made { let reach = ⟦<EnvOf<S, M, T> as Outside>⟧.reach in OnOk result (Made (reach env.old) (reach env.new) (λ _. Unit {0})) }
     ensures refused { let reach = ⟦<EnvOf<S, M, T> as Outside>⟧.reach in IfErr result (FailsAsking (map (λ p. meaning p) policies.now) query.now (reach env.old) (reach env.new) (table.now ∷ [])) }
     ensures reads { let reach = ⟦<EnvOf<S, M, T> as Outside>⟧.reach in OnlyReads (reach env.old) (reach env.new) }

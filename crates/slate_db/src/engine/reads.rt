@@ -10,7 +10,7 @@ ghost use Rattle.slate_types.specs.Rows.{is_operand, key_value};
 ghost use Rattle.slate_types.specs.declared.types.RowEntry.{RowEntry};
 ghost use Rattle.slate_types.specs.Iteration.{drop_before};
 ghost use Rattle.slate_types.specs.Keys.{in_range, is_refused};
-ghost use Rattle.slate_types.specs.Outside.{Act, IsFault, OnlyReads};
+ghost use Rattle.slate_types.specs.Outside.{Act, IsFault, Objects, OnlyReads};
 ghost use Rattle.slate_types.specs.Refusing.{NoMore};
 ghost use Rattle.slate_types.specs.World.{World, Checks, IsCall, Made, Sees};
 ghost use Rattle.slate_mem.specs.Table.{newest};
@@ -28,9 +28,10 @@ ghost use Rattle.slate_txn.specs.Reply.{RowsAre, Found};
 ghost use Rattle.slate_txn.specs.State.{Tx, opening};
 ghost use Rattle.slate_txn.specs.Step.{Reader, noted, reader, step};
 ghost use Rattle.slate_db.specs.Asked.{Asks, Finds, needs_tables, takes_flushed};
+ghost use Rattle.slate_db.specs.Checked.{OrSlips};
 ghost use Rattle.slate_db.specs.Meaning.{Meaning, combine_of, rules_in, rules_of};
 ghost use Rattle.slate_db.specs.Shown.{Asking};
-ghost use Rattle.slate_db.specs.Readable.{IsAnswered, IsOwnRow, IsOwnRead, IsRead, decides_own, keeps_merge};
+ghost use Rattle.slate_db.specs.Readable.{IsAnswered, IsOwnRow, IsOwnRead, IsRead, IsReadable, decides_own, keeps_merge};
 ghost use Rattle.slate_db.specs.Model.{Rows, at, memory};
 ghost use Rattle.slate_db.specs.Sound.{IsKept};
 ghost use Rattle.slate_db.specs.ScanFilters.{scan_query};
@@ -202,7 +203,8 @@ impl Core {
     /// key; by `ChecksumMismatch`, `CorruptTable`, `InvalidFilterBlock` or `InvalidRowFlags`, only where the last reads of this call
     /// show it, of a table that the journal names; and by `OutOfMemory`. Then nothing is recorded. Neither damage nor a missing
     /// operator is answered where the store holds the tables that the journal names, nor where its acts tell that each read of this
-    /// call was answered by them.
+    /// call was answered by them. Where the acts tell otherwise, an Ok rests on a section that slipped through: of such a table, other
+    /// than it stands there, with a checksum that fits.
     pub fn get<S: Store, M: MergeOperator, T: BlockTransformer, X: PrefixExtractor>(
         &mut self,
         id: &Uuid,
@@ -280,6 +282,10 @@ impl Core {
             let m = (reach env.old).meaning in
             (from : Reader) → reader self.now.state id.now ≡ Some from → self.now.floor ≤ begin → (a : IsAnswered (map (λ p. meaning p) policies.now) (reach env.old) (reach env.new) self.now) →
             IfOk result (λ it. (w : World) × IsWorldOf a.os m w × Leaves it w (rows_seen (rules_of self.now.settings m) self.now.state.commits begin from.ops how.order range)) }
+        ensures checked { let reach = ⟦<EnvOf<S, M, T> as Outside>⟧.reach in
+            let m = (reach env.old).meaning in
+            (from : Reader) → reader self.now.state id.now ≡ Some from → self.now.floor ≤ begin → (os : Objects) → IsReadable (map (λ p. meaning p) policies.now) m os self.now →
+            IfOk result (λ it. OrSlips os (reach env.old) (reach env.new) ((w : World) × IsWorldOf os m w × Leaves it w (rows_seen (rules_of self.now.settings m) self.now.state.commits begin from.ops how.order range))) }
         ensures later { let reach = ⟦<EnvOf<S, M, T> as Outside>⟧.reach in
             let m = (reach env.old).meaning in
             IfOk result (λ it. IsFor m it × Made (reach env.old) (reach env.new) (λ reads. (later : List Act) (at : Option (List ℕ)) (e : SlateDBError) → ScanRefuses it m later at e → IsRefusedByScan m self.now (reads ++ later) at e)) }
@@ -311,6 +317,9 @@ impl Core {
     /// `MergeOperatorMissing`, only where there is no operator and a row is an operand, and by `InvalidSequenceOrder`, only where
     /// there is one and a row has a greater sequence than an operand of its key: it names the two sequences. Each of these rows is
     /// of an open transaction's own, stood in memory at the opening, or stands in a block of such a table that was read since.
+    ///
+    /// Where a store's acts tell that a read wasn't answered by the tables that the journal names, an Ok rests on a section that
+    /// slipped through: of such a table, other than it stands there, with a checksum that fits.
     pub fn scan<'a, S: Store, M: MergeOperator, T: BlockTransformer, X: PrefixExtractor>(
         &mut self,
         id: &Uuid,
@@ -331,6 +340,10 @@ impl Core {
             let m = (reach env.old).meaning in
             (from : Reader) → reader self.old.state id.now ≡ Some from → (a : IsAnswered (map (λ p. meaning p) laws.now.policies.items) (reach env.old) (reach env.new) self.old) →
             IfOk result (λ it. LeavesIn a.os m it (rows_seen (rules_of self.old.settings m) self.old.state.commits from.at from.ops options.now.order range)) }
+        ensures checked { let reach = ⟦<EnvOf<S, M, T> as Outside>⟧.reach in
+            let m = (reach env.old).meaning in
+            (from : Reader) → reader self.old.state id.now ≡ Some from → (os : Objects) → IsReadable (map (λ p. meaning p) laws.now.policies.items) m os self.old →
+            IfOk result (λ it. OrSlips os (reach env.old) (reach env.new) (LeavesIn os m it (rows_seen (rules_of self.old.settings m) self.old.state.commits from.at from.ops options.now.order range))) }
         ensures left { let reach = ⟦<EnvOf<S, M, T> as Outside>⟧.reach in
             let m = (reach env.old).meaning in
             (from : Reader) → reader self.old.state id.now ≡ Some from → IfOk result (λ it. HasLeft m self.new it (rows_seen (rules_of self.old.settings m) self.old.state.commits from.at from.ops options.now.order range)) }

@@ -4,6 +4,7 @@ use Rattle.slate_types.specs.declared.types.Ulid.{Ulid}
 use Rattle.slate_block.specs.ReadingLaws.{EachIsAByte}
 use Rattle.slate_db.specs.Answered.{AddsPuts}
 use Rattle.slate_db.specs.StoredParts.{IsOneTable, IsTablePut}
+use Rattle.slate_db.proofs.Adding.{adds_act, adds_refused, adds_same}
 use Rattle.slate_db.proofs.Built.{takes, may_take, may_keep, handle_of}
 use Rattle.slate_db.proofs.flush.put.Goals as goal
 
@@ -21,6 +22,7 @@ returns g c =
             taken = takes t (g.S.Store.objects c.args.store.now) (g.S.Store.objects c.put_table.new.store) (λ os h. c.in_ok-handle.ensures.taken os h);
           }));
       acts = subst (λ (bs : List ℕ). AddsPuts ((c.args.id, bs) ∷ []) (g.S.Store.acts c.args.store.now) (g.S.Store.acts c.put_table.new.store)) same (g.S.Store.acts c.put_table.new.store, c.in_ok-handle.ensures.act, refl);
+      adds = adds_act _ _ _ c.in_ok-handle.ensures.act;
       refused = λ encode layout number place rows is. tt;
       cause = tt;
       later = c.put_table.ensures.later;
@@ -32,6 +34,7 @@ returns-in_err-handle g c =
     record {
       stored = λ encode layout number place rows is known version info. IfOk-from_err c.from_residual-in_err-handle.result _ c.from_residual-in_err-handle.ensures.0;
       acts = IfOk-from_err c.from_residual-in_err-handle.result _ c.from_residual-in_err-handle.ensures.0;
+      adds = adds_refused g.S.Store.objects g.S.Store.acts _ _ c.args.store.now c.put_table.new.store c.in_err-handle.ensures.refused;
       refused = (λ encode layout number place rows is.
           let p = err_from_is_err_and c.from_residual-in_err-handle.result c.from_residual-in_err-handle.ensures.1 in
           rw p.1
@@ -46,6 +49,7 @@ returns-in_err-bytes g c =
     record {
       stored = λ encode layout number place rows is known version info. IfOk-from_err c.from_residual.result _ c.from_residual.ensures.0;
       acts = IfOk-from_err c.from_residual.result _ c.from_residual.ensures.0;
+      adds = adds_same _ _ refl;
       refused = (λ encode layout number place rows is.
           let p = err_from_is_err_and c.from_residual.result c.from_residual.ensures.1 in
           rw p.1 (may_keep _ _ _ (λ i. g.S.Store.objects c.args.store.now)));

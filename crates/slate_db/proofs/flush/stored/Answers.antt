@@ -5,6 +5,7 @@ use Rattle.slate_types.proofs.Reaching.{puts_of, puts_then}
 use Rattle.slate_store.specs.Reach.{reach_of}
 use Rattle.slate_db.specs.Flushed.{layout_of}
 use Rattle.slate_db.specs.Meaning.{segments_by}
+use Rattle.slate_db.proofs.Adding.{adds_same}
 use Rattle.slate_db.proofs.Built.{may_keep}
 use Rattle.slate_db.proofs.Operands.{combine_is}
 use Rattle.slate_db.proofs.RunSoFar.{can_build, has_too_large, rows_cause, run_cause, run_is_put, some_of_flush}
@@ -39,6 +40,7 @@ returns g c =
           (λ a put stand. run_is_put m layout c.args.number c.args.barrier _ c.in_ok-rows.rows.items parts prefixes a.0 a.1.items _ _ rows.some (rows.folded m operator) rows.order c.in_ok-parts.ensures.cut c.in_ok-parts.ensures.segments stand put)
           c.stored_runs.ensures.stored c.stored_runs.ensures.stand;
       acts = c.stored_runs.ensures.acts;
+      adds = c.stored_runs.ensures.adds;
       refused = on_err_weaker c.stored_runs.result (some_of_flush m layout c.args.number c.args.barrier _ c.in_ok-rows.rows.items parts _ _ rows.some (rows.folded m operator) rows.order c.in_ok-parts.ensures.cut) c.stored_runs.ensures.refused;
       cause = IfErr-weaker c.stored_runs.result _ _ (λ e h. run_cause before now after e later (λ large. (c.in_ok-rows.rows.items, rows.folded m operator, rows.order, has_too_large layout c.in_ok-rows.rows.items parts e c.in_ok-parts.ensures.cut large)) h) c.stored_runs.ensures.cause;
       wanted = λ none among. absurd (rows.wanted (sym operator ∙ none) among);
@@ -56,6 +58,7 @@ returns-in_err-rows g c =
     record {
       stored = IfOk-from_err c.from_residual.result _ c.from_residual.ensures.0;
       acts = IfOk-from_err c.from_residual.result _ c.from_residual.ensures.0;
+      adds = adds_same _ _ refl;
       refused = rw p.1 (may_keep _ _ _ (λ i. g.S.Store.objects c.args.env.now.store.now));
       cause = rw (p.1, p.2) (rows_cause before.faults now.faults m (map (λ t. t.rows) c.args.frozen.now) c.in_err-rows.field-0.0 (c.in_err-rows.ensures.missing m operator) c.in_err-rows.ensures.cause);
       wanted = λ none among. IfOk-from_err c.from_residual.result _ c.from_residual.ensures.0;
@@ -72,6 +75,7 @@ returns-in_err-parts g c =
     record {
       stored = IfOk-from_err c.from_residual-in_err-parts.result _ c.from_residual-in_err-parts.ensures.0;
       acts = IfOk-from_err c.from_residual-in_err-parts.result _ c.from_residual-in_err-parts.ensures.0;
+      adds = adds_same _ _ refl;
       refused = rw p.1 (may_keep _ _ _ (λ i. g.S.Store.objects c.args.env.now.store.now));
       cause = rw (p.1, p.2) (inl (subst (IsCounted before.faults now.faults) (sym c.in_err-parts.ensures.cause) tt));
       wanted = λ none among. IfOk-from_err c.from_residual-in_err-parts.result _ c.from_residual-in_err-parts.ensures.0;

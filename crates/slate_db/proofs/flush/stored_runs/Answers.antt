@@ -3,6 +3,7 @@ use Rattle.std.proofs.lemmas.Result.{IfOk-from_err, err_from_is_err_and}
 use Rattle.slate_types.specs.Outside.{IsCounted, Meaning}
 use Rattle.slate_types.proofs.Reaching.{puts_then}
 use Rattle.slate_store.specs.Reach.{reach_of}
+use Rattle.slate_db.proofs.Adding.{adds_puts, adds_then}
 use Rattle.slate_db.proofs.RunSoFar.{next_builds, one_so_far, one_stands, refused_run, so_far_taken, some_taken}
 use Rattle.slate_db.proofs.flush.stored_runs.Goals as goal
 
@@ -20,6 +21,7 @@ returns-in_err-table g c =
     record {
       stored = IfOk-from_err c.from_residual-in_err-table.result _ c.from_residual-in_err-table.ensures.0;
       acts = IfOk-from_err c.from_residual-in_err-table.result _ c.from_residual-in_err-table.ensures.0;
+      adds = adds_then before.acts now.acts after.acts (adds_puts _ before.acts now.acts was.far.acts) c.stored_table.ensures.adds;
       stand = IfOk-from_err c.from_residual-in_err-table.result _ c.from_residual-in_err-table.ensures.0;
       refused = (let p = err_from_is_err_and c.from_residual-in_err-table.result c.from_residual-in_err-table.ensures.1 in
           rw p.1
@@ -44,6 +46,7 @@ returns-in_err-add_table g c =
     record {
       stored = IfOk-from_err c.from_residual-in_err-add_table.result _ c.from_residual-in_err-add_table.ensures.0;
       acts = IfOk-from_err c.from_residual-in_err-add_table.result _ c.from_residual-in_err-add_table.ensures.0;
+      adds = adds_puts _ before.acts after.acts far.acts;
       stand = IfOk-from_err c.from_residual-in_err-add_table.result _ c.from_residual-in_err-add_table.ensures.0;
       refused = rw p.1 (so_far_taken before after _ _ _ _ _ _ far);
       cause = rw (p.1, p.2) (inl (subst (IsCounted before.faults after.faults) (sym c.in_err-add_table.ensures.cause) tt));
@@ -69,3 +72,6 @@ loop-part-preserved g c =
       operator = c.stored_table.ensures.operator ∙ was.operator;
       puts = puts_then _ _ _ was.puts c.stored_table.ensures.puts;
     }
+
+pub returns-clause-adds : goal.returns-clause-adds
+returns-clause-adds g c = adds_puts _ _ _ c.loop-part.invariant.far.acts

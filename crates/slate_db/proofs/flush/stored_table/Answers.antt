@@ -7,6 +7,7 @@ use Rattle.slate_table.specs.SectionReading.{changed_by, IsTransformFault}
 use Rattle.slate_db.specs.Flushed.{IsTableAt, layout_of}
 use Rattle.slate_db.specs.Meaning.{segments_by}
 use Rattle.slate_db.specs.StoredParts.{IsPlace}
+use Rattle.slate_db.proofs.Adding.{adds_same}
 use Rattle.slate_db.proofs.Causes.{store_fault, transform_fault}
 use Rattle.slate_db.proofs.Built.{read_again, version_known, may_keep}
 use Rattle.slate_db.proofs.flush.stored_table.Goals as goal
@@ -30,6 +31,7 @@ returns g c =
       stored = (λ number place at. c.put-kept.ensures.stored (changed_by g.T.BlockTransformer.encoded c.args.env.now.transformer) (layout_of c.args.laws.now.options (map (λ p. (goal.FilterPolicy-dyn g (p.vtable, p.value)).meaning p.value) c.args.laws.now.policies.items) (segments_by g.X.PrefixExtractor.lengths c.args.laws.now.segments)) number place c.args.rows.items (is_table g c number place at)
           (version_known c.args.laws.now.options.block_format) c.in_ok-table.ensures.version c.in_ok-table.ensures.info);
       acts = c.put-kept.ensures.acts;
+      adds = c.put-kept.ensures.adds;
       refused = λ number place at. c.put-kept.ensures.refused (changed_by g.T.BlockTransformer.encoded c.args.env.now.transformer) (layout_of c.args.laws.now.options (map (λ p. (goal.FilterPolicy-dyn g (p.vtable, p.value)).meaning p.value) c.args.laws.now.policies.items) (segments_by g.X.PrefixExtractor.lengths c.args.laws.now.segments)) number place c.args.rows.items (is_table g c number place at);
       cause = IfErr-weaker c.put-kept.result _ _ (λ e h. inl (store_fault _ _ e h)) c.put-kept.ensures.cause;
       operator = refl;
@@ -42,6 +44,7 @@ returns-in_err-table g c =
     record {
       stored = λ number place at. IfOk-from_err c.from_residual.result _ c.from_residual.ensures.0;
       acts = IfOk-from_err c.from_residual.result _ c.from_residual.ensures.0;
+      adds = adds_same _ _ refl;
       refused = λ number place at. let p = err_from_is_err_and c.from_residual.result c.from_residual.ensures.1 in rw p.1 (may_keep _ _ _ (λ i. g.S.Store.objects c.args.env.now.store.now));
       cause = rw (p.1, p.2) (or_large _ _ _ c.in_err-table.ensures.cause);
       operator = refl;

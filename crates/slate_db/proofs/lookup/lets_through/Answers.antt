@@ -6,6 +6,7 @@ use Rattle.slate_store.specs.Reach.{reach_of}
 use Rattle.slate_table.specs.SectionReading.{changed_by}
 use Rattle.slate_db.specs.Shown.{Asking}
 use Rattle.slate_db.proofs.Filters.{IsAsking, asked_adds, asked_alone, asked_cause, asked_denied, asked_passes, asked_whole}
+use Rattle.slate_db.proofs.TableChecks.{filters_checked}
 use Rattle.slate_db.proofs.lookup.lets_through.Goals as goal
 
 pub returns : goal.returns
@@ -33,6 +34,7 @@ returns g c =
       whole = λ key rows os target stored filtered answers. asked_whole asking c.args.table.now before after c.might_match.result key rows os known target stored filtered answers;
       passes = asked_passes asking c.args.table.now before after c.might_match.result known;
       cause = asked_cause asking c.args.table.now before after c.might_match.result known;
+      checked = λ rows os stored. filters_checked asking c.args.table.now before after c.might_match.result rows os known stored;
       alone = asked_alone asking c.args.table.now before after c.might_match.result known;
       reads = reads_of _ _ c.might_match.ensures.objects refl c.might_match.ensures.same_encoded c.might_match.ensures.same_decoded
           (asked_adds _ _ _ _ _ _ _ _ c.might_match.result (λ no. let n = c.might_match.ensures.none no in (n.0, ap g.S.Store.acts n.1)) c.might_match.ensures.asked c.might_match.ensures.once)

@@ -1,14 +1,18 @@
 use Rattle.std.proofs.Common.{Some, ◌∙◌, refl, arith, subst, sym}
 use Rattle.std.proofs.lemmas.Result.{err_from_is_err_and, IfOk-from_err, IfOk-weaker, IfErr-weaker}
-use Rattle.slate_types.specs.Outside.{IsCounted}
+use Rattle.slate_types.specs.Faults.{faults_of}
+use Rattle.slate_types.specs.Outside.{IsCounted, Reach}
 use Rattle.slate_types.proofs.Reaching.{adds_both, reads_of}
+use Rattle.slate_store.specs.Reach.{reach_of}
 use Rattle.slate_table.specs.IndexValue.{entries_of}
 use Rattle.slate_table.specs.SectionReading.{changed_by}
 use Rattle.slate_db.proofs.Answered.{adds_once, adds_read, answering_first, answering_last}
 use Rattle.slate_db.proofs.Behind.{meanings, once_of, quietly, read_of, two_of}
 use Rattle.slate_db.proofs.Causes.{read_fault}
+use Rattle.slate_db.proofs.Checks.{checks_err, checks_ok}
 use Rattle.slate_db.proofs.Newest.{newest_same}
 use Rattle.slate_db.proofs.Shown.{blocks_refused, index_refused, no_rows_read, row_refused, table_rows}
+use Rattle.slate_db.proofs.TableChecks.{blocks_checked, index_checked}
 use Rattle.slate_db.proofs.Tables.{answered_by, blocks_whole, faults_earlier, index_whole, key_nowhere, key_read}
 use Rattle.slate_db.proofs.lookup.newest_of_enclosing.Goals as goal
 
@@ -23,6 +27,15 @@ returns-in_err-index g c =
       rows = IfOk-from_err c.from_residual.result _ c.from_residual.ensures.0;
       cause = rw (p.1, p.2) (index_refused _ _ c.args.table.now _ c.read_index.ensures.objects refl c.read_index.ensures.same_encoded c.read_index.ensures.same_decoded c.in_err-index.ensures.cause);
       alone = once_of _ _ c.args.table.now _ _ c.read_index.ensures.objects (meanings _ _ refl c.read_index.ensures.same_encoded c.read_index.ensures.same_decoded) c.in_err-index.ensures.once;
+      checked = (λ rows os stored.
+          let before : Reach = reach_of g.S.Store g.M.MergeOperator g.T.BlockTransformer c.args.env.now in
+          let after : Reach = record before {
+            objects = g.S.Store.objects c.read_index.new.store;
+            acts = g.S.Store.acts c.read_index.new.store;
+            meaning = record before.meaning { encode = changed_by g.T.BlockTransformer.encoded c.read_index.new.transformer; decode = changed_by g.T.BlockTransformer.decoded c.read_index.new.transformer };
+            faults = record before.faults { store = g.S.Store.faults c.read_index.new.store; transformer = faults_of g.T.BlockTransformer.faults c.read_index.new.transformer };
+          } in
+          checks_err c.from_residual.result os before after c.from_residual.ensures.0);
       reads = reads_of _ _ c.read_index.ensures.objects refl c.read_index.ensures.same_encoded c.read_index.ensures.same_decoded (adds_once _ _ _ _ _ _ c.in_err-index.ensures.once) (record { store = c.read_index.ensures.later; operator = omega arith; transformer = c.read_index.ensures.later_transformer }) refl;
     }
 
@@ -37,6 +50,15 @@ returns-then-covered g c =
       rows = no_rows_read _ _ c.args.table.now _ _ _ c.new.result.items c.read_index.ensures.objects (meanings _ _ refl c.read_index.ensures.same_encoded c.read_index.ensures.same_decoded) c.in_ok-index.ensures.found c.new.ensures.items;
       cause = tt;
       alone = read_of _ _ c.args.table.now _ _ _ c.read_index.ensures.objects (meanings _ _ refl c.read_index.ensures.same_encoded c.read_index.ensures.same_decoded) c.in_ok-index.ensures.found;
+      checked = (λ rows os stored.
+          let before : Reach = reach_of g.S.Store g.M.MergeOperator g.T.BlockTransformer c.args.env.now in
+          let after : Reach = record before {
+            objects = g.S.Store.objects c.read_index.new.store;
+            acts = g.S.Store.acts c.read_index.new.store;
+            meaning = record before.meaning { encode = changed_by g.T.BlockTransformer.encoded c.read_index.new.transformer; decode = changed_by g.T.BlockTransformer.decoded c.read_index.new.transformer };
+            faults = record before.faults { store = g.S.Store.faults c.read_index.new.store; transformer = faults_of g.T.BlockTransformer.faults c.read_index.new.transformer };
+          } in
+          index_checked before after c.args.table.now (entries_of c.in_ok-index.index) rows os stored c.in_ok-index.ensures.found);
       reads = reads_of _ _ c.read_index.ensures.objects refl c.read_index.ensures.same_encoded c.read_index.ensures.same_decoded (adds_read _ _ _ _ _ _ _ c.in_ok-index.ensures.found) (record { store = c.read_index.ensures.later; operator = omega arith; transformer = c.read_index.ensures.later_transformer }) refl;
     }
 
@@ -68,6 +90,15 @@ returns-in_err-blocks g c =
         index = c.in_ok-index.ensures.found;
       }) c.read_index.ensures.later c.read_index.ensures.later_transformer c.in_err-blocks.ensures.cause);
       alone = two_of _ _ c.args.table.now _ _ _ _ _ _ _ c.read_index.ensures.objects c.read_blocks.ensures.objects (meanings _ _ refl (c.read_blocks.ensures.same_encoded ∙ c.read_index.ensures.same_encoded) (c.read_blocks.ensures.same_decoded ∙ c.read_index.ensures.same_decoded)) c.in_ok-index.ensures.found c.in_err-blocks.ensures.once;
+      checked = (λ rows os stored.
+          let before : Reach = reach_of g.S.Store g.M.MergeOperator g.T.BlockTransformer c.args.env.now in
+          let after : Reach = record before {
+            objects = g.S.Store.objects c.read_blocks.new.store;
+            acts = g.S.Store.acts c.read_blocks.new.store;
+            meaning = record before.meaning { encode = changed_by g.T.BlockTransformer.encoded c.read_blocks.new.transformer; decode = changed_by g.T.BlockTransformer.decoded c.read_blocks.new.transformer };
+            faults = record before.faults { store = g.S.Store.faults c.read_blocks.new.store; transformer = faults_of g.T.BlockTransformer.faults c.read_blocks.new.transformer };
+          } in
+          checks_err c.from_residual-in_err-blocks.result os before after c.from_residual-in_err-blocks.ensures.0);
       reads = reads_of _ _ (c.read_blocks.ensures.objects ∙ c.read_index.ensures.objects) refl (c.read_blocks.ensures.same_encoded ∙ c.read_index.ensures.same_encoded) (c.read_blocks.ensures.same_decoded ∙ c.read_index.ensures.same_decoded)
           (adds_both _ _ _ (adds_read _ _ _ _ _ _ _ c.in_ok-index.ensures.found) (adds_once _ _ _ _ _ _ c.in_err-blocks.ensures.once)) (record { store = omega (arith, c.read_index.ensures.later, c.read_blocks.ensures.later); operator = omega arith; transformer = omega (arith, c.read_index.ensures.later_transformer, c.read_blocks.ensures.later_transformer) }) refl;
     }
@@ -118,6 +149,17 @@ returns g c =
         index = c.in_ok-index.ensures.found;
       }) c.in_ok-blocks.ensures.count (c.in_ok-blocks.ensures.found c.if-covered.false) h) c.newest_of_blocks.ensures.cause;
       alone = two_of _ _ c.args.table.now _ _ _ _ _ _ _ c.read_index.ensures.objects c.read_blocks.ensures.objects (meanings _ _ refl (c.read_blocks.ensures.same_encoded ∙ c.read_index.ensures.same_encoded) (c.read_blocks.ensures.same_decoded ∙ c.read_index.ensures.same_decoded)) c.in_ok-index.ensures.found (quietly _ _ _ _ _ _ _ (c.in_ok-blocks.ensures.found c.if-covered.false));
+      checked = (λ rows os stored.
+          let before : Reach = reach_of g.S.Store g.M.MergeOperator g.T.BlockTransformer c.args.env.now in
+          let after : Reach = record before {
+            objects = g.S.Store.objects c.read_blocks.new.store;
+            acts = g.S.Store.acts c.read_blocks.new.store;
+            meaning = record before.meaning { encode = changed_by g.T.BlockTransformer.encoded c.read_blocks.new.transformer; decode = changed_by g.T.BlockTransformer.decoded c.read_blocks.new.transformer };
+            faults = record before.faults { store = g.S.Store.faults c.read_blocks.new.store; transformer = faults_of g.T.BlockTransformer.faults c.read_blocks.new.transformer };
+          } in
+          checks_ok c.newest_of_blocks.result os before after
+          (blocks_checked before after c.args.table.now (changed_by g.T.BlockTransformer.decoded c.read_index.new.transformer) (entries_of c.in_ok-index.index) c.covering-covered.result.start c.covering-covered.result.end (g.S.Store.objects c.read_index.new.store) (g.S.Store.acts c.read_index.new.store) c.in_ok-blocks.blocks.items rows os stored
+          c.in_ok-index.ensures.found c.if-covered.false c.covering-covered.ensures.within c.in_ok-blocks.ensures.count (c.in_ok-blocks.ensures.found c.if-covered.false)));
       reads = reads_of _ _ (c.read_blocks.ensures.objects ∙ c.read_index.ensures.objects) refl (c.read_blocks.ensures.same_encoded ∙ c.read_index.ensures.same_encoded) (c.read_blocks.ensures.same_decoded ∙ c.read_index.ensures.same_decoded)
           (adds_both _ _ _ (adds_read _ _ _ _ _ _ _ c.in_ok-index.ensures.found) (adds_read _ _ _ _ _ _ _ (c.in_ok-blocks.ensures.found c.if-covered.false))) (record { store = omega (arith, c.read_index.ensures.later, c.read_blocks.ensures.later); operator = omega arith; transformer = omega (arith, c.read_index.ensures.later_transformer, c.read_blocks.ensures.later_transformer) }) refl;
     }

@@ -11,6 +11,7 @@ use Rattle.slate_db.specs.Installs.{handles_of}
 use Rattle.slate_db.specs.Lookup.{AreStoredAs}
 use Rattle.slate_db.proofs.Answered.{from_first, from_last}
 use Rattle.slate_db.proofs.Behind.{behind_more, behind_none}
+use Rattle.slate_db.proofs.Checks.{checks_both, checks_err, checks_none}
 use Rattle.slate_db.proofs.Filters.{filtered_some}
 use Rattle.slate_db.proofs.RunReads.{FoundSoFar, damage_of_run, handle_among, none_found, rows_of_run, run_found, run_stored, runs_decide, runs_end}
 use Rattle.slate_db.proofs.Shown.{no_rows}
@@ -25,6 +26,7 @@ among runs i run hs within is same h there = handle_among runs i run within is h
 pub loop-at-init : goal.loop-at-init
 loop-at-init g c = record {
   within = omega arith;
+  checked = λ layers os are. checks_none os (reach_of g.S.Store g.M.MergeOperator g.T.BlockTransformer c.args.env.now);
   reads = reads_none _;
   behind = behind_none _ (record { policies = map (λ p. (goal.FilterPolicy-dyn g (p.vtable, p.value)).meaning p.value) c.args.policies.now; query = c.args.query.now }) (handles_of c.args.runs.now);
   extends = extends_none c.args.newer.items;
@@ -44,6 +46,10 @@ loop-at-preserved g c =
     let last = c.newest_of_tables.ensures.reads in
     record {
       within = omega (arith, c.loop-at.invariant.within);
+      checked = λ layers os are.
+          let own = run_stored m os c.args.runs.now i run layers below c.index-runs-at.is are in
+          checks_both os (reach_of g.S.Store g.M.MergeOperator g.T.BlockTransformer c.args.env.now) (reach_of g.S.Store g.M.MergeOperator g.T.BlockTransformer c.loop-at.env) (reach_of g.S.Store g.M.MergeOperator g.T.BlockTransformer c.newest_of_tables.new.env) first last (c.loop-at.invariant.checked layers os are)
+          (c.in_ok-found.ensures.checked own.0 os (subst (λ (x : Meaning). AreStoredAs x os c.as_slice.result.now own.0) (sym first.meaning) (subst (λ (hs : List SsTableHandle). AreStoredAs m os hs own.0) (sym slice) own.1)));
       reads = reads_then _ _ _ first last;
       behind = behind_more _ _ _ (record { policies = map (λ p. (goal.FilterPolicy-dyn g (p.vtable, p.value)).meaning p.value) c.args.policies.now; query = c.args.query.now }) (handles_of c.args.runs.now) c.as_slice.result.now (among c.args.runs.now (c.loop-at.at - 1) run c.as_slice.result.now below c.index-runs-at.is slice) c.loop-at.invariant.behind c.newest_of_tables.ensures.behind;
       extends = extends_both c.args.newer.items c.loop-at.found.items c.in_ok-found.found.items c.loop-at.invariant.extends c.in_ok-found.ensures.extends;
@@ -69,6 +75,7 @@ returns g c =
       rows = c.loop-at.invariant.rows;
       cause = tt;
       behind = c.loop-at.invariant.behind;
+      checked = c.loop-at.invariant.checked;
       reads = c.loop-at.invariant.reads;
     }
 
@@ -94,5 +101,6 @@ returns-in_err-found g c =
       rows = IfOk-from_err c.from_residual.result _ c.from_residual.ensures.0;
       cause = rw (p.1, p.2) (damage_of_run _ _ _ _ (handles_of c.args.runs.now) _ _ (among c.args.runs.now (c.loop-at.at - 1) run c.as_slice.result.now below c.index-runs-at.is slice) first.later c.loop-at.invariant.rows c.in_err-found.ensures.cause);
       behind = behind_more _ _ _ (record { policies = map (λ p. (goal.FilterPolicy-dyn g (p.vtable, p.value)).meaning p.value) c.args.policies.now; query = c.args.query.now }) (handles_of c.args.runs.now) c.as_slice.result.now (among c.args.runs.now (c.loop-at.at - 1) run c.as_slice.result.now below c.index-runs-at.is slice) c.loop-at.invariant.behind c.newest_of_tables.ensures.behind;
+      checked = λ layers os are. checks_err c.from_residual.result os (reach_of g.S.Store g.M.MergeOperator g.T.BlockTransformer c.args.env.now) (reach_of g.S.Store g.M.MergeOperator g.T.BlockTransformer c.newest_of_tables.new.env) c.from_residual.ensures.0;
       reads = reads_then _ _ _ first last;
     }

@@ -11,6 +11,7 @@ use Rattle.slate_table.specs.InfoReading.{seen_info}
 use Rattle.slate_db.specs.Shown.{Asking, LetsThrough}
 use Rattle.slate_db.proofs.Answered.{from_last}
 use Rattle.slate_db.proofs.Behind.{behind_filters, behind_none, behind_passed}
+use Rattle.slate_db.proofs.Checks.{checks_err, checks_none, checks_then}
 use Rattle.slate_db.proofs.Filters.{stored_still}
 use Rattle.slate_db.proofs.Newest.{newest_same}
 use Rattle.slate_db.proofs.Shown.{filters_shown, passed_rows, passed_shown}
@@ -27,6 +28,7 @@ returns-then-not-encloses g c =
       rows = ([], call_none _, rw c.new.ensures.items tt);
       cause = tt;
       behind = behind_none _ (record { policies = map (λ p. (goal.FilterPolicy-dyn g (p.vtable, p.value)).meaning p.value) c.args.policies.now; query = c.args.query.now }) (c.args.table.now ∷ []);
+      checked = λ rows os stored. checks_none os (reach_of g.S.Store g.M.MergeOperator g.T.BlockTransformer c.args.env.now);
       reads = reads_none _;
     }
 
@@ -40,6 +42,7 @@ returns-in_err-passes g c =
       rows = IfOk-from_err c.from_residual.result _ c.from_residual.ensures.0;
       cause = rw (p.1, p.2) (filters_shown _ _ asking c.args.table.now _ c.in_err-passes.ensures.cause);
       behind = behind_filters _ _ asking c.args.table.now c.lets_through.ensures.alone;
+      checked = λ rows os stored. checks_err c.from_residual.result os (reach_of g.S.Store g.M.MergeOperator g.T.BlockTransformer c.args.env.now) (reach_of g.S.Store g.M.MergeOperator g.T.BlockTransformer c.lets_through.new.env) c.from_residual.ensures.0;
       reads = c.lets_through.ensures.reads;
     }
 
@@ -53,6 +56,7 @@ returns-then-not-passes g c =
       rows = (c.in_ok-passes.ensures.passes.0, c.in_ok-passes.ensures.passes.1, rw c.new-none.ensures.items tt);
       cause = tt;
       behind = behind_filters _ _ (record { policies = map (λ p. (goal.FilterPolicy-dyn g (p.vtable, p.value)).meaning p.value) c.args.policies.now; query = c.args.query.now }) c.args.table.now c.lets_through.ensures.alone;
+      checked = c.in_ok-passes.ensures.checked;
       reads = c.lets_through.ensures.reads;
     }
 
@@ -65,6 +69,7 @@ returns g c =
     let made = c.in_ok-passes.ensures.passes in
     let before : Reach = reach_of g.S.Store g.M.MergeOperator g.T.BlockTransformer c.args.env.now in
     let middle : Reach = reach_of g.S.Store g.M.MergeOperator g.T.BlockTransformer c.lets_through.new.env in
+    let after : Reach = reach_of g.S.Store g.M.MergeOperator g.T.BlockTransformer c.newest_of_enclosing.new.env in
     let passed : Made before middle (λ reads. LetsThrough before.meaning.decode asking c.args.table.now reads) = (made.0, made.1, made.2 yes) in
     record {
       found = (λ rows os stored filtered a.
@@ -75,5 +80,7 @@ returns g c =
       rows = IfOk-weaker c.newest_of_enclosing.result _ _ (λ found h. passed_rows _ _ _ asking c.args.table.now found.items passed h) c.newest_of_enclosing.ensures.rows;
       cause = IfErr-weaker c.newest_of_enclosing.result _ _ (λ e h. passed_shown _ _ _ asking c.args.table.now e first.later passed h) c.newest_of_enclosing.ensures.cause;
       behind = behind_passed _ _ _ asking c.args.table.now passed c.newest_of_enclosing.ensures.alone;
+      checked = λ rows os stored. checks_then c.newest_of_enclosing.result os before middle after first last (c.in_ok-passes.ensures.checked rows os stored)
+          (c.newest_of_enclosing.ensures.checked rows os (stored_still _ _ os c.args.table.now rows first.meaning stored));
       reads = reads_then _ _ _ first last;
     }

@@ -2,10 +2,12 @@ use Rattle.std.proofs.Common.{◌≡◌, [], ◌+◌, ◌-◌, ◌∙◌, ◌++�
 use Rattle.std.proofs.lemmas.Result.{err_from_is_err_and, IfOk-from_err}
 use Rattle.slate_types.proofs.OutsideLaws.{counted_earlier}
 use Rattle.slate_types.proofs.Reaching.{reads_none, reads_then}
+use Rattle.slate_store.specs.Reach.{reach_of}
 use Rattle.slate_mem.specs.Table.{newest}
 use Rattle.slate_mem.specs.Lookup.{is_decided, newest_first}
 use Rattle.slate_db.proofs.Answered.{from_first, from_last}
 use Rattle.slate_db.proofs.Behind.{behind_none, behind_one}
+use Rattle.slate_db.proofs.Checks.{checks_both, checks_err, checks_none}
 use Rattle.slate_db.proofs.Filters.{filtered_one}
 use Rattle.slate_db.proofs.Shown.{at_table, damage_on, no_rows, rows_on}
 use Rattle.slate_db.proofs.UnderOwn.{behind_begin, behind_decide, behind_end, behind_step, extends_more, extends_none}
@@ -16,6 +18,7 @@ use Rattle.slate_db.proofs.lookup.newest_of_tables.Goals.{then-loop-i-test+else-
 pub loop-i-init : goal.loop-i-init
 loop-i-init g c = record {
   within = omega arith;
+  checked = λ layers os are. checks_none os (reach_of g.S.Store g.M.MergeOperator g.T.BlockTransformer c.args.env.now);
   reads = reads_none _;
   behind = behind_none _ (record { policies = map (λ p. (goal.FilterPolicy-dyn g (p.vtable, p.value)).meaning p.value) c.args.policies.now; query = c.args.query.now }) c.args.tables.now;
   extends = extends_none c.args.newer.items;
@@ -34,6 +37,9 @@ loop-i-preserved g c =
     let last = c.newest_of_table.ensures.reads in
     record {
       within = omega (arith, c.loop-i.invariant.within);
+      checked = λ layers os are.
+          let at = table_as _ _ os c.args.tables.now layers i c.index-tables-i.result first.meaning are (omega (arith, c.loop-i-test.true, c.loop-i.invariant.within)) c.index-tables-i.is in
+          checks_both os (reach_of g.S.Store g.M.MergeOperator g.T.BlockTransformer c.args.env.now) (reach_of g.S.Store g.M.MergeOperator g.T.BlockTransformer c.loop-i.env) (reach_of g.S.Store g.M.MergeOperator g.T.BlockTransformer c.newest_of_table.new.env) first last (c.loop-i.invariant.checked layers os are) (c.in_ok-more.ensures.checked at.rows os at.is);
       reads = reads_then _ _ _ first last;
       behind = behind_one _ _ _ (record { policies = map (λ p. (goal.FilterPolicy-dyn g (p.vtable, p.value)).meaning p.value) c.args.policies.now; query = c.args.query.now }) c.args.tables.now c.index-tables-i.result (at_table c.args.tables.now (c.loop-i.i - 1) c.index-tables-i.result (omega (arith, c.loop-i-test.true, c.loop-i.invariant.within)) c.index-tables-i.is) c.loop-i.invariant.behind c.newest_of_table.ensures.behind;
       extends = extends_more c.args.newer.items c.loop-i.found.items c.in_ok-more.more.items c.append.new.self.items c.loop-i.invariant.extends c.in_ok-append.ensures.items;
@@ -57,6 +63,7 @@ returns g c =
       rows = c.loop-i.invariant.rows;
       cause = tt;
       behind = c.loop-i.invariant.behind;
+      checked = c.loop-i.invariant.checked;
       reads = c.loop-i.invariant.reads;
     }
 
@@ -75,6 +82,7 @@ returns-in_err-more g c =
       rows = IfOk-from_err c.from_residual.result _ c.from_residual.ensures.0;
       cause = rw (p.1, p.2) (damage_on _ _ _ _ c.args.tables.now c.index-tables-i.result _ (at_table c.args.tables.now (c.loop-i.i - 1) c.index-tables-i.result (omega (arith, c.loop-i-test.true, c.loop-i.invariant.within)) c.index-tables-i.is) first.later c.loop-i.invariant.rows c.in_err-more.ensures.cause);
       behind = behind_one _ _ _ (record { policies = map (λ p. (goal.FilterPolicy-dyn g (p.vtable, p.value)).meaning p.value) c.args.policies.now; query = c.args.query.now }) c.args.tables.now c.index-tables-i.result (at_table c.args.tables.now (c.loop-i.i - 1) c.index-tables-i.result (omega (arith, c.loop-i-test.true, c.loop-i.invariant.within)) c.index-tables-i.is) c.loop-i.invariant.behind c.newest_of_table.ensures.behind;
+      checked = λ layers os are. checks_err c.from_residual.result os (reach_of g.S.Store g.M.MergeOperator g.T.BlockTransformer c.args.env.now) (reach_of g.S.Store g.M.MergeOperator g.T.BlockTransformer c.newest_of_table.new.env) c.from_residual.ensures.0;
       reads = reads_then _ _ _ first last;
     }
 
@@ -88,5 +96,6 @@ returns-in_err-append g c =
       rows = IfOk-from_err c.from_residual-in_err-append.result _ c.from_residual-in_err-append.ensures.0;
       cause = rw (p.1, p.2) (inl tt);
       behind = behind_one _ _ _ (record { policies = map (λ p. (goal.FilterPolicy-dyn g (p.vtable, p.value)).meaning p.value) c.args.policies.now; query = c.args.query.now }) c.args.tables.now c.index-tables-i.result (at_table c.args.tables.now (c.loop-i.i - 1) c.index-tables-i.result (omega (arith, c.loop-i-test.true, c.loop-i.invariant.within)) c.index-tables-i.is) c.loop-i.invariant.behind c.newest_of_table.ensures.behind;
+      checked = λ layers os are. checks_err c.from_residual-in_err-append.result os (reach_of g.S.Store g.M.MergeOperator g.T.BlockTransformer c.args.env.now) (reach_of g.S.Store g.M.MergeOperator g.T.BlockTransformer c.newest_of_table.new.env) c.from_residual-in_err-append.ensures.0;
       reads = reads_then _ _ _ c.loop-i.invariant.reads c.newest_of_table.ensures.reads;
     }

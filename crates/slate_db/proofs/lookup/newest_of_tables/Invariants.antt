@@ -4,6 +4,7 @@ use Rattle.slate_types.specs.World.{Made}
 use Rattle.slate_store.specs.Reach.{reach_of}
 use Rattle.slate_db.specs.Answered.{AnswersFrom}
 use Rattle.slate_db.specs.Asked.{AreBehindFilters}
+use Rattle.slate_db.specs.Checked.{ChecksFrom}
 use Rattle.slate_db.specs.Lookup.{AreFilteredAs, AreStoredAs, Extends, FindsBehind}
 use Rattle.slate_db.specs.Model.{Rows}
 use Rattle.slate_db.specs.Shown.{Asking, BringsRows}
@@ -18,6 +19,7 @@ invariant-loop-i g l =
       within : l.i ≤ length l.tables;
       reads : OnlyReads before now;
       behind : Made before now (AreBehindFilters before.meaning.decode asking l.tables);
+      checked : (layers : List Rows) (os : Objects) → AreStoredAs before.meaning os l.tables layers → ChecksFrom os before now;
       extends : Extends l.initial.found.items l.found.items;
       rows : Made before now (BringsRows before.meaning.decode asking l.tables l.initial.found.items l.found.items);
       found : (layers : List Rows) (os : Objects) → AreStoredAs before.meaning os l.tables layers → AreFilteredAs asking.policies before.meaning os l.tables → AnswersFrom os before now →

@@ -24,6 +24,7 @@ returns-in-Ok-init g c =
       sound = λ w can sees. e.still w sees (fresh_sound sources order merge made it new w can);
       rows = λ w can sees. e.rows w sees (fresh_sound sources order merge made it new w can) ∙ fresh_rows sources order merge made it new w can;
       operable = λ w can sees bases. opened_operable sources order merge made it new v w begun.2 (e.operable w sees (fresh_sound sources order merge made it new w can) (fresh_operable sources order merge made it new w can bases));
+      checked = λ w can. e.checked w (fresh_sound sources order merge made it new w can);
       later = (e.sources.0, e.sources.1, opened_later sources order merge made it new v m e.sources.0 begun.1 e.ready e.sources.2);
       brought = (e.begun.0, e.begun.1, opened_brought sources order merge made it new v m e.begun.0 e.ready e.begun.2.1);
       cause = tt;

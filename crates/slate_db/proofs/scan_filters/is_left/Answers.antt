@@ -8,13 +8,21 @@ use Rattle.slate_store.specs.Reach.{reach_of}
 use Rattle.slate_table.specs.SectionReading.{changed_by}
 use Rattle.slate_db.specs.ScanFilters.{Covers, FailsAsking}
 use Rattle.slate_db.specs.Shown.{Asking}
+use Rattle.slate_db.proofs.Checks.{checks_none}
 use Rattle.slate_db.proofs.Filters.{IsAsking, asked_adds}
 use Rattle.slate_db.proofs.RangeFilters.{out_of_reach}
 use Rattle.slate_db.proofs.ScanFilters.{left_denied, left_made, left_refused}
+use Rattle.slate_db.proofs.TableChecks.{filters_checked}
 use Rattle.slate_db.proofs.scan_filters.is_left.Goals as goal
 
 pub returns-then-not-can_reach-clause-denied : goal.returns-then-not-can_reach-clause-denied
 returns-then-not-can_reach-clause-denied g c = λ rows os stored filtered answers no. out_of_reach (reach_of g.S.Store g.M.MergeOperator g.T.BlockTransformer c.args.env.now).meaning os c.args.table.now c.args.range.now rows stored (search rules)
+
+pub returns-then-not-can_reach-clause-checked : goal.returns-then-not-can_reach-clause-checked
+returns-then-not-can_reach-clause-checked g c = λ rows os stored. checks_none os (reach_of g.S.Store g.M.MergeOperator g.T.BlockTransformer c.args.env.now)
+
+pub returns-in_default-clause-checked : goal.returns-in_default-clause-checked
+returns-in_default-clause-checked g c = λ rows os stored. checks_none os (reach_of g.S.Store g.M.MergeOperator g.T.BlockTransformer c.args.env.now)
 
 pub returns : goal.returns
 returns g c =
@@ -40,6 +48,7 @@ returns g c =
     let matches = subst (λ (q : Option FilterQuery). Covers q c.args.range.now) asked c.requires in
     record {
       denied = λ rows os stored filtered answers. left_denied asking c.args.table.now before after c.might_match.result c.args.range.now rows os known matches stored filtered answers;
+      checked = λ rows os stored. filters_checked asking c.args.table.now before after c.might_match.result rows os known stored;
       made = left_made asking c.args.table.now before after c.might_match.result known;
       refused = subst (λ (q : Option FilterQuery). IfErr c.might_match.result (FailsAsking asking.policies q before after (c.args.table.now ∷ []))) (sym asked) (left_refused asking c.args.table.now before after c.might_match.result c.args.range.now known matches);
       reads = reads_of _ _ c.might_match.ensures.objects refl c.might_match.ensures.same_encoded c.might_match.ensures.same_decoded

@@ -5,8 +5,9 @@ use Rattle.slate_types.proofs.Exits.{err_exit}
 use Rattle.slate_types.proofs.Reaching.{reads_none, reads_then}
 use Rattle.slate_store.specs.Reach.{reach_of}
 use Rattle.slate_db.specs.Installs.{handles_of}
+use Rattle.slate_db.proofs.Checks.{checks_none}
 use Rattle.slate_db.proofs.RunReads.{handle_among}
-use Rattle.slate_db.proofs.ScanFilters.{among_none, fails_memory, fails_more, made_both, runs_among, runs_so_far_all, runs_so_far_more, runs_so_far_none}
+use Rattle.slate_db.proofs.ScanFilters.{among_none, fails_memory, fails_more, made_both, runs_among, runs_checked_more, runs_so_far_all, runs_so_far_more, runs_so_far_none}
 use Rattle.slate_db.proofs.scan_filters.runs_left.Goals as goal
 
 pub loop-run-init : goal.loop-run-init
@@ -15,6 +16,7 @@ loop-run-init g c = record {
   reads = reads_none _;
   among = among_none (handles_of c.args.runs.now) (handles_of c.new-left.result.items) (ap handles_of c.new-left.ensures.items);
   so_far = runs_so_far_none (map (λ p. (goal.FilterPolicy-dyn g (p.vtable, p.value)).meaning p.value) c.args.policies.now) (reach_of g.S.Store g.M.MergeOperator g.T.BlockTransformer c.args.env.now) c.args.range.now c.args.runs.now c.new-left.result.items c.new-left.ensures.items;
+  checked = λ groups os stored. checks_none os (reach_of g.S.Store g.M.MergeOperator g.T.BlockTransformer c.args.env.now);
 }
 
 pub loop-run-preserved : goal.loop-run-preserved
@@ -26,13 +28,14 @@ loop-run-preserved g c =
       reads = reads_then _ _ _ i.reads c.run_left.ensures.reads;
       among = runs_among c.args.runs.now c.loop-run.run-index c.run-item.result c.in_ok-one.one c.loop-run.left.items c.push_run.new.runs.items c.loop-run-test.true c.run-item.is c.in_ok-push_run.ensures one.among i.among;
       so_far = runs_so_far_more _ _ _ _ c.args.range.now c.args.runs.now c.loop-run.run-index c.run-item.result c.in_ok-one.one c.loop-run.left.items c.push_run.new.runs.items i.reads c.run_left.ensures.reads c.loop-run-test.true c.run-item.is i.so_far one c.in_ok-push_run.ensures;
+      checked = runs_checked_more (reach_of g.S.Store g.M.MergeOperator g.T.BlockTransformer c.args.env.now) (reach_of g.S.Store g.M.MergeOperator g.T.BlockTransformer c.loop-run.env) (reach_of g.S.Store g.M.MergeOperator g.T.BlockTransformer c.run_left.new.env) c.args.runs.now c.loop-run.run-index c.run-item.result i.reads c.run_left.ensures.reads c.loop-run-test.true c.run-item.is i.checked one.checked;
     }
 
 pub returns : goal.returns
 returns g c =
     let i = c.loop-run.invariant in
     record {
-      left = record { among = i.among; others = runs_so_far_all (map (λ p. (goal.FilterPolicy-dyn g (p.vtable, p.value)).meaning p.value) c.args.policies.now) (reach_of g.S.Store g.M.MergeOperator g.T.BlockTransformer c.args.env.now) (reach_of g.S.Store g.M.MergeOperator g.T.BlockTransformer c.loop-run.env) c.args.range.now c.args.runs.now c.loop-run.run-index c.loop-run.left.items c.loop-run-test.false i.so_far };
+      left = record { among = i.among; others = runs_so_far_all (map (λ p. (goal.FilterPolicy-dyn g (p.vtable, p.value)).meaning p.value) c.args.policies.now) (reach_of g.S.Store g.M.MergeOperator g.T.BlockTransformer c.args.env.now) (reach_of g.S.Store g.M.MergeOperator g.T.BlockTransformer c.loop-run.env) c.args.range.now c.args.runs.now c.loop-run.run-index c.loop-run.left.items c.loop-run-test.false i.so_far; checked = i.checked };
       made = i.made;
       refused = tt;
       reads = i.reads;

@@ -5,7 +5,7 @@ use Rattle.slate_types.specs.World.{Made}
 use Rattle.slate_store.specs.Reach.{reach_of}
 use Rattle.slate_table.specs.declared.info.SsTableHandle.{SsTableHandle}
 use Rattle.slate_db.specs.Installs.{handles_of}
-use Rattle.slate_db.proofs.ScanFilters.{RunsSoFar}
+use Rattle.slate_db.proofs.ScanFilters.{RunsChecked, RunsSoFar}
 use Rattle.slate_db.proofs.scan_filters.runs_left.Given as goal
 
 abbrev pub invariant-loop-run : goal.invariant-loop-run
@@ -17,4 +17,5 @@ invariant-loop-run g l =
       reads : OnlyReads before now;
       among : (h : SsTableHandle) → Contains (handles_of l.left.items) h → Contains (handles_of l.runs) h;
       so_far : RunsSoFar (map (λ p. (goal.FilterPolicy-dyn g (p.vtable, p.value)).meaning p.value) l.policies) before now l.range l.runs l.run-index l.left.items;
+      checked : RunsChecked before now l.runs;
     }

@@ -4,7 +4,8 @@ use Rattle.slate_types.proofs.Calls.{call_none}
 use Rattle.slate_types.proofs.Exits.{err_exit}
 use Rattle.slate_types.proofs.Reaching.{reads_none, reads_then}
 use Rattle.slate_store.specs.Reach.{reach_of}
-use Rattle.slate_db.proofs.ScanFilters.{among_more, among_none, fails_more, made_both, one_among, so_far_all, so_far_more, so_far_none}
+use Rattle.slate_db.proofs.Checks.{checks_none}
+use Rattle.slate_db.proofs.ScanFilters.{among_more, among_none, fails_more, made_both, one_among, so_far_all, so_far_more, so_far_none, tables_checked_more}
 use Rattle.slate_db.proofs.scan_filters.tables_left.Goals as goal
 
 pub loop-table-init : goal.loop-table-init
@@ -13,6 +14,7 @@ loop-table-init g c = record {
   reads = reads_none _;
   among = among_none c.args.tables.now c.new-left.result.items c.new-left.ensures.items;
   so_far = so_far_none (map (λ p. (goal.FilterPolicy-dyn g (p.vtable, p.value)).meaning p.value) c.args.policies.now) (reach_of g.S.Store g.M.MergeOperator g.T.BlockTransformer c.args.env.now) c.args.range.now c.args.tables.now c.new-left.result.items c.new-left.ensures.items;
+  checked = λ layers os stored. checks_none os (reach_of g.S.Store g.M.MergeOperator g.T.BlockTransformer c.args.env.now);
 }
 
 pub loop-table-preserved : goal.loop-table-preserved
@@ -24,13 +26,14 @@ loop-table-preserved g c =
       reads = reads_then _ _ _ i.reads c.add_left.ensures.reads;
       among = among_more c.args.tables.now c.loop-table.table-index c.table-item.result c.loop-table.left.items c.add_left.new.left.items added.kept c.loop-table-test.true c.table-item.is added.are i.among;
       so_far = so_far_more _ _ _ _ c.args.range.now c.args.tables.now c.loop-table.table-index c.table-item.result c.loop-table.left.items c.add_left.new.left.items i.reads c.add_left.ensures.reads c.loop-table-test.true c.table-item.is i.so_far added;
+      checked = tables_checked_more (reach_of g.S.Store g.M.MergeOperator g.T.BlockTransformer c.args.env.now) (reach_of g.S.Store g.M.MergeOperator g.T.BlockTransformer c.loop-table.env) (reach_of g.S.Store g.M.MergeOperator g.T.BlockTransformer c.add_left.new.env) c.args.tables.now c.loop-table.table-index c.table-item.result i.reads c.add_left.ensures.reads c.loop-table-test.true c.table-item.is i.checked added.checked;
     }
 
 pub returns : goal.returns
 returns g c =
     let i = c.loop-table.invariant in
     record {
-      left = record { among = i.among; others = so_far_all (map (λ p. (goal.FilterPolicy-dyn g (p.vtable, p.value)).meaning p.value) c.args.policies.now) (reach_of g.S.Store g.M.MergeOperator g.T.BlockTransformer c.args.env.now) (reach_of g.S.Store g.M.MergeOperator g.T.BlockTransformer c.loop-table.env) c.args.range.now c.args.tables.now c.loop-table.table-index c.loop-table.left.items c.loop-table-test.false i.so_far };
+      left = record { among = i.among; others = so_far_all (map (λ p. (goal.FilterPolicy-dyn g (p.vtable, p.value)).meaning p.value) c.args.policies.now) (reach_of g.S.Store g.M.MergeOperator g.T.BlockTransformer c.args.env.now) (reach_of g.S.Store g.M.MergeOperator g.T.BlockTransformer c.loop-table.env) c.args.range.now c.args.tables.now c.loop-table.table-index c.loop-table.left.items c.loop-table-test.false i.so_far; checked = i.checked };
       made = i.made;
       refused = tt;
       reads = i.reads;

@@ -4,7 +4,7 @@ use Rattle.slate_types.specs.Outside.{OnlyReads}
 use Rattle.slate_types.specs.World.{Made}
 use Rattle.slate_store.specs.Reach.{reach_of}
 use Rattle.slate_table.specs.declared.info.SsTableHandle.{SsTableHandle}
-use Rattle.slate_db.proofs.ScanFilters.{SoFar}
+use Rattle.slate_db.proofs.ScanFilters.{SoFar, TablesChecked}
 use Rattle.slate_db.proofs.scan_filters.tables_left.Given as goal
 
 abbrev pub invariant-loop-table : goal.invariant-loop-table
@@ -16,4 +16,5 @@ invariant-loop-table g l =
       reads : OnlyReads before now;
       among : (h : SsTableHandle) → Contains l.left.items h → Contains l.tables h;
       so_far : SoFar (map (λ p. (goal.FilterPolicy-dyn g (p.vtable, p.value)).meaning p.value) l.policies) before now l.range l.tables l.table-index l.left.items;
+      checked : TablesChecked before now l.tables;
     }

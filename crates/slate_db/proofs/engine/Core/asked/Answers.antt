@@ -7,6 +7,7 @@ use Rattle.slate_types.proofs.Reaching.{reads_none}
 use Rattle.slate_store.specs.Reach.{reach_of}
 use Rattle.slate_table.specs.Filtered.{point_query}
 use Rattle.slate_db.proofs.Behind.{asks_none, asks_so, finds_so}
+use Rattle.slate_db.proofs.Checks.{checks_err}
 use Rattle.slate_db.proofs.Filters.{asked_so}
 use Rattle.slate_db.proofs.engine.Core.asked.Goals as goal
 
@@ -18,6 +19,7 @@ returns-in_err-query g c =
         answer = λ is. IfOk-from_err c.from_residual.result _ c.from_residual.ensures.0;
         undamaged = λ is. let p = err_from_is_err_and c.from_residual.result c.from_residual.ensures.1 in rw (p.1, p.2) (subst (IsCounted _ _) (sym c.in_err-query.ensures.cause) tt);
         cause = rw (p.1, p.2) (inl (subst (IsCounted _ _) (sym c.in_err-query.ensures.cause) tt));
+        checked = λ os is. checks_err c.from_residual.result os (reach_of g.S.Store g.M.MergeOperator g.T.BlockTransformer c.args.env.now) (reach_of g.S.Store g.M.MergeOperator g.T.BlockTransformer c.args.env.now) c.from_residual.ensures.0;
         reads = reads_none _;
       };
       asks = asks_none (record { policies = map (λ p. (goal.FilterPolicy-dyn g (p.vtable, p.value)).meaning p.value) c.args.laws.now.policies.items; query = point_query c.args.key.now c.args.context.now }) _ _ _ (call_none _);

@@ -20,6 +20,7 @@ use Rattle.slate_db.specs.Log.{LIMIT, LogModel, IsLog, with_flush}
 use Rattle.slate_db.specs.View.{view_of, unseen_of, IsWholeInside}
 use Rattle.slate_db.specs.Vouched.{IsVouchedFor}
 use Rattle.slate_db.proofs.Flushes.{kept_flushed, step_flush, frozen_settings, steps_after, steps_in, place_cause, freeze_cause, frozen_idle, none_frozen, installed_after, cause_after, too_large_before, wants_before, among_frozen, kept_behind, none_idle, never_missing, place_left, some_frozen, frozen_at_fault, no_fault, settled, all_taken, quiet_after}
+use Rattle.slate_db.proofs.Adding.{adds_same}
 use Rattle.slate_db.proofs.Built.{may_keep}
 use Rattle.slate_db.specs.Segmented.{IsSegmented}
 use Rattle.slate_db.proofs.SegmentRuns.{adds_runs, none_added}
@@ -67,6 +68,7 @@ returns-in_err-place_for_flush g c =
       step = IfOk-from_err c.from_residual.result _ c.from_residual.ensures.0;
       installed = IfOk-from_err c.from_residual.result _ c.from_residual.ensures.0;
       acts = IfOk-from_err c.from_residual.result _ c.from_residual.ensures.0;
+      adds = adds_same _ _ refl;
       taken = IfOk-from_err c.from_residual.result _ c.from_residual.ensures.0;
       quiet = IfOk-from_err c.from_residual.result _ c.from_residual.ensures.0;
       refused = rw p.1 (c.args.self.now, inl refl, refl, may_keep _ _ _ refl);
@@ -99,6 +101,7 @@ returns-in_err-freeze g c =
       step = IfOk-from_err c.from_residual-in_err-freeze.result _ c.from_residual-in_err-freeze.ensures.0;
       installed = IfOk-from_err c.from_residual-in_err-freeze.result _ c.from_residual-in_err-freeze.ensures.0;
       acts = IfOk-from_err c.from_residual-in_err-freeze.result _ c.from_residual-in_err-freeze.ensures.0;
+      adds = adds_same _ _ refl;
       taken = IfOk-from_err c.from_residual-in_err-freeze.result _ c.from_residual-in_err-freeze.ensures.0;
       quiet = IfOk-from_err c.from_residual-in_err-freeze.result _ c.from_residual-in_err-freeze.ensures.0;
       refused = rw p.1 (c.freeze.new.self, inl (subst (λ (v : CoreModel). v ≡ record c.args.self.now { spare = v.spare }) (sym c.in_err-freeze.ensures.same) refl), refl, may_keep _ _ _ refl);
@@ -161,6 +164,9 @@ returns-then-is_empty-clause-installed g c = (
 pub returns-then-is_empty-clause-acts : goal.returns-then-is_empty-clause-acts
 returns-then-is_empty-clause-acts g c =
     ([], ap (λ (l : LogModel). tables_of l.events) c.note_flush.ensures.value ∙ ap (λ (v : CoreModel). tables_of v.events) c.self.view_is ∙ frozen_tables c.args.self.now c.freeze.new.self c.in_ok-freeze.ensures.event ∙ sym (append-nil (tables_of c.args.self.now.events)), refl)
+
+pub returns-then-is_empty-clause-adds : goal.returns-then-is_empty-clause-adds
+returns-then-is_empty-clause-adds g c = adds_same _ _ refl
 
 pub returns-then-is_empty-clause-taken : goal.returns-then-is_empty-clause-taken
 returns-then-is_empty-clause-taken g c = (
@@ -230,6 +236,7 @@ returns g c =
       installed = installed_after c.install.result before.meaning (layout_of c.args.laws.now.options (map (λ p. (goal.FilterPolicy-dyn g (p.vtable, p.value)).meaning p.value) c.args.laws.now.policies.items) (segments_by g.X.PrefixExtractor.lengths c.args.laws.now.segments)) c.args.self.now c.freeze.new.self c.install.new.self (g.S.Store.objects c.args.env.now.store.now) (g.S.Store.objects c.install.new.env.store.now) c.in_ok-freeze.ensures.event c.install.ensures.installed;
       acts = (subst (λ (ts : List (Ulid × List ℕ)). OnOk c.install.result (AddsTables ts (tables_of c.install.new.self.events) (g.S.Store.acts c.args.env.now.store.now) (g.S.Store.acts c.install.new.env.store.now)))
           (frozen_tables c.args.self.now c.freeze.new.self c.in_ok-freeze.ensures.event) c.install.ensures.acts);
+      adds = c.install.ensures.adds;
       taken = all_taken c.install.result before.meaning (layout_of c.args.laws.now.options (map (λ p. (goal.FilterPolicy-dyn g (p.vtable, p.value)).meaning p.value) c.args.laws.now.policies.items) (segments_by g.X.PrefixExtractor.lengths c.args.laws.now.segments)) c.freeze.new.self c.install.new.self (g.S.Store.objects c.args.env.now.store.now) (g.S.Store.objects c.install.new.env.store.now) (frozen_idle c.args.self.now c.freeze.new.self c.in_ok-freeze.ensures.event) c.install.ensures.installed;
       quiet = quiet_after c.install.result before.meaning (layout_of c.args.laws.now.options (map (λ p. (goal.FilterPolicy-dyn g (p.vtable, p.value)).meaning p.value) c.args.laws.now.policies.items) (segments_by g.X.PrefixExtractor.lengths c.args.laws.now.segments)) c.freeze.new.self c.install.new.self (g.S.Store.objects c.args.env.now.store.now) (g.S.Store.objects c.install.new.env.store.now) c.in_ok-freeze.ensures.quiet c.install.ensures.installed;
       refused = both_err c.install.result (λ same may. (c.freeze.new.self, inr c.in_ok-freeze.ensures.event, same, may)) c.install.ensures.same c.install.ensures.refused;

@@ -30,6 +30,7 @@ use Rattle.slate_db.specs.Sound.{IsKept}
 use Rattle.slate_db.specs.Vouched.{IsVouchedFor}
 use Rattle.slate_txn.proofs.NamedLaws.{IsNamed, open_is}
 use Rattle.slate_db.proofs.Behind.{asks_none}
+use Rattle.slate_db.proofs.Checks.{checks_err}
 use Rattle.slate_db.proofs.Notes.{step_get}
 use Rattle.slate_db.proofs.Operands.{own_updated}
 use Rattle.slate_db.proofs.Readers.{floor_at, own_at, start_at, vouched_get}
@@ -54,6 +55,7 @@ returns-in_err-key g c =
         answer = λ is. IfOk-from_err c.from_residual.result _ c.from_residual.ensures.0;
         undamaged = λ is. let p = err_from_is_err_and c.from_residual.result c.from_residual.ensures.1 in rw (p.1, p.2) tt;
         cause = rw (p.1, p.2) (inl tt);
+        checked = λ os is. checks_err c.from_residual.result os (reach_of g.S.Store g.M.MergeOperator g.T.BlockTransformer c.args.env.now) (reach_of g.S.Store g.M.MergeOperator g.T.BlockTransformer c.args.env.now) c.from_residual.ensures.0;
         reads = reads_none _;
       };
       asks = asks_none (record { policies = map (λ p. (goal.FilterPolicy-dyn g (p.vtable, p.value)).meaning p.value) c.args.laws.now.policies.items; query = point_query c.args.key.now c.args.options.now.filter_context }) _ _ _ (call_none _);
@@ -72,7 +74,7 @@ pub returns-in-Err : goal.returns-in-Err
 returns-in-Err g c =
     record {
       noted = tt;
-      read = record { answer = λ is. tt; undamaged = (c.in-Err.ensures.read (open_is _ c.requires).value (open_is _ c.requires).is).undamaged; cause = subst (λ (k : List ℕ). IsReadError (record { policies = map (λ p. (goal.FilterPolicy-dyn g (p.vtable, p.value)).meaning p.value) c.args.laws.now.policies.items; query = point_query k c.args.options.now.filter_context }) (reach_of g.S.Store g.M.MergeOperator g.T.BlockTransformer c.args.env.now) (reach_of g.S.Store g.M.MergeOperator g.T.BlockTransformer c.asked.new.env) c.args.self.now c.in-Err.error) c.in_ok-key.ensures (c.in-Err.ensures.read (open_is _ c.requires).value (open_is _ c.requires).is).cause; reads = (c.asked.ensures.read (open_is _ c.requires).value (open_is _ c.requires).is).reads };
+      read = record { answer = λ is. tt; undamaged = (c.in-Err.ensures.read (open_is _ c.requires).value (open_is _ c.requires).is).undamaged; cause = subst (λ (k : List ℕ). IsReadError (record { policies = map (λ p. (goal.FilterPolicy-dyn g (p.vtable, p.value)).meaning p.value) c.args.laws.now.policies.items; query = point_query k c.args.options.now.filter_context }) (reach_of g.S.Store g.M.MergeOperator g.T.BlockTransformer c.args.env.now) (reach_of g.S.Store g.M.MergeOperator g.T.BlockTransformer c.asked.new.env) c.args.self.now c.in-Err.error) c.in_ok-key.ensures (c.in-Err.ensures.read (open_is _ c.requires).value (open_is _ c.requires).is).cause; checked = λ os is. tt; reads = (c.asked.ensures.read (open_is _ c.requires).value (open_is _ c.requires).is).reads };
       asks = subst (λ (k : List ℕ). Asks (record { policies = map (λ p. (goal.FilterPolicy-dyn g (p.vtable, p.value)).meaning p.value) c.args.laws.now.policies.items; query = point_query k c.args.options.now.filter_context }) (reach_of g.S.Store g.M.MergeOperator g.T.BlockTransformer c.args.env.now) (reach_of g.S.Store g.M.MergeOperator g.T.BlockTransformer c.asked.new.env) c.args.self.now) c.in_ok-key.ensures c.asked.ensures.asks;
       finds = λ from found is needs. tt;
       own = λ t op found one replaces.
@@ -95,6 +97,7 @@ returns-in-Err-note_get g c =
         answer = λ is. tt;
         undamaged = λ is. subst (IsCounted _ _) (sym c.from.ensures) tt;
         cause = inl (subst (IsCounted _ _) (sym c.from.ensures) tt);
+        checked = λ os is. tt;
         reads = (c.asked.ensures.read (open_is _ c.requires).value (open_is _ c.requires).is).reads;
       };
       asks = subst (λ (k : List ℕ). Asks (record { policies = map (λ p. (goal.FilterPolicy-dyn g (p.vtable, p.value)).meaning p.value) c.args.laws.now.policies.items; query = point_query k c.args.options.now.filter_context }) (reach_of g.S.Store g.M.MergeOperator g.T.BlockTransformer c.args.env.now) (reach_of g.S.Store g.M.MergeOperator g.T.BlockTransformer c.asked.new.env) c.args.self.now) c.in_ok-key.ensures c.asked.ensures.asks;
@@ -171,6 +174,7 @@ returns g c =
             ∙ (λ j. ((view_of (becomes g c j)).state, Found c.answer-found.result)));
         undamaged = λ is. tt;
         cause = tt;
+        checked = (c.in-Ok.ensures.read (who g c) (from_is g c).is).checked;
         reads = (c.asked.ensures.read (open_is _ c.requires).value (open_is _ c.requires).is).reads;
       };
       asks = subst (λ (k : List ℕ). Asks (record { policies = map (λ p. (goal.FilterPolicy-dyn g (p.vtable, p.value)).meaning p.value) c.args.laws.now.policies.items; query = point_query k c.args.options.now.filter_context }) (reach_of g.S.Store g.M.MergeOperator g.T.BlockTransformer c.args.env.now) (reach_of g.S.Store g.M.MergeOperator g.T.BlockTransformer c.asked.new.env) c.args.self.now) c.in_ok-key.ensures c.asked.ensures.asks;

@@ -16,6 +16,7 @@ use Rattle.slate_db.specs.Log.{IsLog, LogModel, with_install}
 use Rattle.slate_db.specs.Model.{CoreModel, IsSame, memory}
 use Rattle.slate_db.specs.Sound.{IsKept}
 use Rattle.slate_db.specs.View.{view_of, unseen_of, IsWholeInside}
+use Rattle.slate_db.proofs.Adding.{adds_same}
 use Rattle.slate_db.proofs.Installs.{kept_install, can_flush, tables_of_parts, moved}
 use Rattle.slate_db.proofs.Built.{may_keep}
 use Rattle.slate_db.proofs.Keeps.{kept_same}
@@ -77,6 +78,7 @@ returns g c =
       acts = (subst (λ (v : CoreModel). AddsTables (tables_of v.events) (tables_of c.push_install.new.self.events) (g.S.Store.acts c.args.env.now.store.now) (g.S.Store.acts c.stored.new.env.store.now)) c.self.view_is
           (adds_installed c.self.inside.log.events c.push_install.new.self.events c.self.inside.log.last c.in_ok-put.put.0 (g.S.Store.acts c.args.env.now.store.now) (g.S.Store.acts c.stored.new.env.store.now)
           (ap (λ (l : LogModel). l.events) log) c.in_ok-put.ensures.acts));
+      adds = c.stored.ensures.adds;
       same = tt;
       refused = tt;
       kept = (λ k.
@@ -121,6 +123,7 @@ returns-in_err-put g c =
       newest = IfOk-from_err c.from_residual-in_err-put.result _ c.from_residual-in_err-put.ensures.0;
       installed = IfOk-from_err c.from_residual-in_err-put.result _ c.from_residual-in_err-put.ensures.0;
       acts = IfOk-from_err c.from_residual-in_err-put.result _ c.from_residual-in_err-put.ensures.0;
+      adds = c.stored.ensures.adds;
       same = rw p.1 (subst (λ (v : CoreModel). IsSame v (view_of (record c.self.inside { log = c.reserve.new.self }))) c.self.view_is (same_room c.self.inside c.reserve.new.self c.reserve.ensures.value));
       refused = (let enc = (reach_of g.S.Store g.M.MergeOperator g.T.BlockTransformer c.args.env.now).meaning in
           let barrier = c.barrier-barrier.ensures ∙ sym (ap start c.self.view_is) in
@@ -155,6 +158,7 @@ returns-in_err-install g c =
       newest = IfOk-from_err c.from_residual-in_err-install.result _ c.from_residual-in_err-install.ensures.0;
       installed = IfOk-from_err c.from_residual-in_err-install.result _ c.from_residual-in_err-install.ensures.0;
       acts = IfOk-from_err c.from_residual-in_err-install.result _ c.from_residual-in_err-install.ensures.0;
+      adds = c.stored.ensures.adds;
       same = rw p.1 (subst (λ (v : CoreModel). IsSame v (view_of (record c.self.inside { log = c.reserve.new.self; layers = c.install.new.self }))) c.self.view_is (same_layers c.self.inside c.reserve.new.self c.install.new.self c.reserve.ensures.value c.in_err-install.ensures.same));
       refused = (let enc = (reach_of g.S.Store g.M.MergeOperator g.T.BlockTransformer c.args.env.now).meaning in
           let barrier = c.barrier-barrier.ensures ∙ sym (ap start c.self.view_is) in
@@ -179,6 +183,7 @@ returns-in_err-reserve g c =
       newest = IfOk-from_err c.from_residual.result _ c.from_residual.ensures.0;
       installed = IfOk-from_err c.from_residual.result _ c.from_residual.ensures.0;
       acts = IfOk-from_err c.from_residual.result _ c.from_residual.ensures.0;
+      adds = adds_same _ _ refl;
       same = rw p.1 (subst (λ (v : CoreModel). IsSame v (view_of (record c.self.inside { log = c.reserve.new.self }))) c.self.view_is (same_room c.self.inside c.reserve.new.self c.reserve.ensures.value));
       refused = rw p.1 (may_keep _ _ _ refl);
       kept = (λ k.

@@ -2,27 +2,25 @@ use Rattle.std.proofs.Common.{inl, inr, ◌≡◌, ◌≤◌, ℕ, [], ◌∷◌
 use Rattle.std.specs.Prelude.{IsSome}
 use Rattle.std.proofs.lemmas.Result.{IfOk-from_err, err_from_is_err_and}
 use Rattle.slate_types.specs.declared.error.SlateDBError.{SlateDBError}
-use Rattle.slate_types.specs.Outside.{Act, IsFault, Meaning}
-use Rattle.slate_types.specs.World.{Made, World}
+use Rattle.slate_types.specs.Outside.{Act, IsFault, Meaning, Objects}
+use Rattle.slate_types.specs.World.{Made}
 use Rattle.slate_types.proofs.Calls.{call_both}
 use Rattle.slate_types.proofs.Exits.{err_exit}
-use Rattle.slate_types.proofs.Reaching.{fault_earlier, reads_none, reads_then}
+use Rattle.slate_types.proofs.Reaching.{reads_none, reads_then}
 use Rattle.slate_store.specs.Reach.{reach_of}
-use Rattle.slate_txn.specs.Reads.{rows_seen}
 use Rattle.slate_txn.specs.Step.{Reader, reader}
 use Rattle.slate_txn.proofs.NamedLaws.{open_is}
 use Rattle.slate_filter.specs.Policy.{Policy}
-use Rattle.slate_db.specs.Meaning.{rules_of}
 use Rattle.slate_db.specs.Model.{CoreModel}
-use Rattle.slate_db.specs.Readable.{IsAnswered}
+use Rattle.slate_db.specs.Checked.{OrSlips}
+use Rattle.slate_db.specs.Readable.{IsAnswered, IsReadable}
 use Rattle.slate_db.specs.ScanFilters.{scan_query}
 use Rattle.slate_db.specs.Scanned.{own_rows}
-use Rattle.slate_db.specs.Scans.{IsFor, IsOpeningError, IsRefusedByScan, IsWorldOf, Leaves, ScanRefuses}
+use Rattle.slate_db.specs.Scans.{IsFor, IsOpeningError, IsRefusedByScan, ScanRefuses}
 use Rattle.slate_db.specs.View.{unseen_of, view_of}
-use Rattle.slate_db.proofs.Answered.{from_first}
 use Rattle.slate_db.proofs.Readers.{own_of_reader, own_range_of}
 use Rattle.slate_db.proofs.ScanBringings.{layers_turned}
-use Rattle.slate_db.proofs.ScanMerges.{answered_last, asking_refused, leaves_runs, opening_refused, refused_later, runs_filtered, runs_there, scan_is_for, scan_leaves, scan_refused, scan_undamaged}
+use Rattle.slate_db.proofs.ScanMerges.{LeavesSeen, OpensScan, asking_refused, opening_refused, opening_whole, refused_later, runs_filtered, runs_there, scan_is_for, scan_opened, scan_refused}
 use Rattle.slate_db.proofs.ScanReaders.{fine_reader, plain_reader}
 use Rattle.slate_db.proofs.engine.Core.opened.Goals as goal
 
@@ -48,15 +46,14 @@ returns g c =
     let are = sources.are from.ops (record { rows = own_range_of v.state c.args.id.now from (there from found) c.args.range own_list own.rows own.none; in_order = own.in_order; turn = own.turn; same_order = own.order }) in
     let rows = c.in_ok-rows.ensures in
     let made = c.new.ensures in
+    let laws : (u : Reader) → reader v.state c.args.id.now ≡ Some u → v.floor ≤ c.args.begin → OpensScan policies before after v c.args.begin u.ops c.args.range order c.new.result =
+    λ u at above.
+    let mine = sources.are u.ops (record { rows = own_range_of v.state c.args.id.now u at c.args.range own_list own.rows own.none; in_order = own.in_order; turn = own.turn; same_order = own.order }) in
+    scan_opened policies before middle after v x c.self.invariant sources.left c.args.range sources.asked first last order c.args.begin u.ops (fine_reader v.state c.args.id.now u at c.own_range.ensures.fine) above c.in_ok-sources.sources.items mine
+    (λ os r. plain_reader middle.meaning v c.args.id.now u at r.kept.2) c.in_ok-rows.rows c.new.result made.state made.range made.order rows.going rows.sound rows.rows rows.operable rows.checked rows.later.0 rows.later.1 rows.later.2 in
     record {
-      opened = λ u at. subst (λ (k : CoreModel). k.floor ≤ c.args.begin → (a : IsAnswered policies before after k) → (w : World) × IsWorldOf a.os m w × Leaves c.new.result w (rows_seen (rules_of k.settings m) k.state.commits c.args.begin u.ops order c.args.range)) c.self.view_is
-          (λ above a.
-          let mine = sources.are u.ops (record { rows = own_range_of v.state c.args.id.now u (there u at) c.args.range own_list own.rows own.none; in_order = own.in_order; turn = own.turn; same_order = own.order }) in
-          let b : IsAnswered policies middle after v = answered_last policies before middle after v first last a in
-          subst (λ (k : Meaning). (w : World) × IsWorldOf a.os k w × Leaves c.new.result w (rows_seen (rules_of v.settings k) v.state.commits c.args.begin u.ops order c.args.range)) first.meaning
-          (scan_leaves policies middle after v x c.self.invariant sources.left sources.asked.among c.args.range order c.args.begin u.ops (fine_reader v.state c.args.id.now u (there u at) c.own_range.ensures.fine) above c.in_ok-sources.sources.items mine b
-          (leaves_runs policies before middle after c.args.range x.runs sources.left sources.asked first a.os (from_first a.os before middle after first last a.answers))
-          (plain_reader middle.meaning v c.args.id.now u (there u at) b.readable.kept.2) c.in_ok-rows.rows c.new.result made.state made.range made.order rows.going rows.sound rows.rows rows.operable rows.later.0 rows.later.2));
+      opened = λ u at. subst (λ (k : CoreModel). k.floor ≤ c.args.begin → (a : IsAnswered policies before after k) → LeavesSeen a.os m k c.args.begin u.ops c.args.range order c.new.result) c.self.view_is (λ above a. (laws u (there u at) above).answered a);
+      checked = λ u at. subst (λ (k : CoreModel). k.floor ≤ c.args.begin → (os : Objects) → IsReadable policies m os k → OrSlips os before after (LeavesSeen os m k c.args.begin u.ops c.args.range order c.new.result)) c.self.view_is (λ above os r. (laws u (there u at) above).checked os r);
       later = subst (λ (k : CoreModel). IsFor m c.new.result × Made before after (λ reads. (later : List Act) (at : Option (List ℕ)) (e : SlateDBError) → ScanRefuses c.new.result m later at e → IsRefusedByScan m k (reads ++ later) at e)) c.self.view_is (
         subst (λ (k : Meaning). IsFor k c.new.result) first.meaning
             (scan_is_for middle.meaning v x c.self.invariant sources.left sources.asked.among c.args.range order c.args.begin from.ops _ c.in_ok-sources.sources.items are c.in_ok-rows.rows c.new.result rows.later.0 made.state made.range rows.going.0 rows.later.2),
@@ -83,6 +80,7 @@ returns-in_err-own g c =
     let fault = subst (IsFault (reach_of g.S.Store g.M.MergeOperator g.T.BlockTransformer c.args.env.now) (reach_of g.S.Store g.M.MergeOperator g.T.BlockTransformer c.args.env.now)) (sym c.in_err-own.ensures.cause) tt in
     record {
       opened = λ u at from a. IfOk-from_err c.from_residual.result _ c.from_residual.ensures.0;
+      checked = λ u at above os r. IfOk-from_err c.from_residual.result _ c.from_residual.ensures.0;
       later = IfOk-from_err c.from_residual.result _ c.from_residual.ensures.0;
       undamaged = λ from a. err_exit c.from_residual.result _ c.from_residual.ensures.1 _ fault;
       cause = err_exit c.from_residual.result _ c.from_residual.ensures.1 _ (inl fault);
@@ -103,6 +101,7 @@ returns-in_err-sources g c =
     let refused = c.in_err-sources.ensures.refused in
     record {
       opened = λ u at from a. IfOk-from_err c.from_residual-in_err-sources.result _ c.from_residual-in_err-sources.ensures.0;
+      checked = λ u at above os r. IfOk-from_err c.from_residual-in_err-sources.result _ c.from_residual-in_err-sources.ensures.0;
       later = IfOk-from_err c.from_residual-in_err-sources.result _ c.from_residual-in_err-sources.ensures.0;
       undamaged = λ above a. err_exit c.from_residual-in_err-sources.result _ c.from_residual-in_err-sources.ensures.1 _
           (subst (λ (k : CoreModel). IsAnswered policies before middle k → IsFault before middle e) c.self.view_is
@@ -136,15 +135,13 @@ returns-in_err-rows g c =
     let are = sources.are from.ops (record { rows = own_range_of v.state c.args.id.now from there c.args.range own_list own.rows own.none; in_order = own.in_order; turn = own.turn; same_order = own.order }) in
     record {
       opened = λ u at above a. IfOk-from_err c.from_residual-in_err-rows.result _ c.from_residual-in_err-rows.ensures.0;
+      checked = λ u at above os r. IfOk-from_err c.from_residual-in_err-rows.result _ c.from_residual-in_err-rows.ensures.0;
       later = IfOk-from_err c.from_residual-in_err-rows.result _ c.from_residual-in_err-rows.ensures.0;
       undamaged = λ above a. err_exit c.from_residual-in_err-rows.result _ c.from_residual-in_err-rows.ensures.1 _
           (subst (λ (k : CoreModel). k.floor ≤ c.args.begin → IsAnswered policies before after k → IsFault before after e) c.self.view_is
           (λ f a.
-          let b : IsAnswered policies middle after v = answered_last policies before middle after v first last a in
-          fault_earlier before middle after e first.later
-          (scan_undamaged policies middle after v x c.self.invariant sources.left sources.asked.among c.args.range order c.args.begin from.ops (fine_reader v.state c.args.id.now from there c.own_range.ensures.fine) f c.in_ok-sources.sources.items are b
-          (leaves_runs policies before middle after c.args.range x.runs sources.left sources.asked first a.os (from_first a.os before middle after first last a.answers))
-          (plain_reader middle.meaning v c.args.id.now from there b.readable.kept.2) e c.in_err-rows.ensures.cause)) above a);
+          opening_whole policies before middle after v x c.self.invariant sources.left c.args.range sources.asked first last order c.args.begin from.ops (fine_reader v.state c.args.id.now from there c.own_range.ensures.fine) f c.in_ok-sources.sources.items are
+          (λ os r. plain_reader middle.meaning v c.args.id.now from there r.kept.2) e c.in_err-rows.ensures.cause a) above a);
       cause = err_exit c.from_residual-in_err-rows.result _ c.from_residual-in_err-rows.ensures.1 _
           (subst (λ (k : CoreModel). IsOpeningError policies query before after k e) c.self.view_is
           (opening_refused middle.meaning v x c.self.invariant sources.left sources.asked.among c.args.range order c.args.begin from.ops _ c.in_ok-sources.sources.items are policies query before middle after e refl first c.in_ok-sources.ensures.made c.in_err-rows.ensures.cause));

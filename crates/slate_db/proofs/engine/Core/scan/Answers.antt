@@ -6,7 +6,6 @@ use Rattle.slate_types.specs.declared.error.SlateDBError.{SlateDBError}
 use Rattle.slate_types.specs.declared.iter.IterationOrder.{IterationOrder}
 use Rattle.slate_types.specs.declared.types.RowEntry.{RowEntry}
 use Rattle.slate_types.specs.Outside.{IsCounted, IsFault}
-use Rattle.slate_types.specs.World.{World}
 use Rattle.slate_types.proofs.Exits.{err_exit}
 use Rattle.slate_types.proofs.Reaching.{reads_none}
 use Rattle.slate_store.specs.Reach.{reach_of}
@@ -21,17 +20,16 @@ use Rattle.slate_txn.specs.State.{Tx}
 use Rattle.slate_txn.specs.Step.{Reader, noted, reader}
 use Rattle.slate_txn.proofs.NamedLaws.{open_is}
 use Rattle.slate_db.specs.declared.engine.Core.TheInside.{Inside}
+use Rattle.slate_db.specs.Checked.{OrSlips}
 use Rattle.slate_db.specs.Meaning.{Meaning, rules_of}
 use Rattle.slate_db.specs.Model.{CoreModel}
-use Rattle.slate_db.specs.Readable.{IsAnswered}
-use Rattle.slate_db.specs.Scans.{IsWorldOf, Leaves}
 use Rattle.slate_db.specs.Sound.{IsKept}
 use Rattle.slate_db.specs.View.{view_of, unseen_of, IsWholeInside}
 use Rattle.slate_db.specs.Vouched.{IsVouchedFor}
 use Rattle.slate_db.proofs.Keeps.{kept_event}
 use Rattle.slate_db.proofs.OpenNotes.{step_scan, vouched_scan}
 use Rattle.slate_db.proofs.Operands.{own_updated}
-use Rattle.slate_db.proofs.ScanMerges.{answered_as, opening_as}
+use Rattle.slate_db.proofs.ScanMerges.{LeavesSeen, answered_as, opening_as, readable_as}
 use Rattle.slate_db.proofs.Readers.{floor_at, own_at, scan_left, scans_of, start_at}
 use Rattle.slate_db.proofs.Wholes.{after_note, whole_note}
 use Rattle.slate_db.proofs.engine.Core.scan.Goals as goal
@@ -52,6 +50,7 @@ returns-in_err-how g c =
       step = rw p.1 tt;
       names = λ from found. IfOk-from_err c.from_residual.result _ c.from_residual.ensures.0;
       opened = λ from found a. IfOk-from_err c.from_residual.result _ c.from_residual.ensures.0;
+      checked = λ from found os r. IfOk-from_err c.from_residual.result _ c.from_residual.ensures.0;
       left = λ from found. IfOk-from_err c.from_residual.result _ c.from_residual.ensures.0;
       later = IfOk-from_err c.from_residual.result _ c.from_residual.ensures.0;
       undamaged = λ a. err_exit c.from_residual.result _ c.from_residual.ensures.1 _ (subst (IsFault (reach_of g.S.Store g.M.MergeOperator g.T.BlockTransformer c.args.env.now) (reach_of g.S.Store g.M.MergeOperator g.T.BlockTransformer c.args.env.now)) (sym c.in_err-how.ensures.cause) tt);
@@ -75,6 +74,7 @@ returns-in_err-rows g c =
       step = rw p.1 tt;
       names = λ from found. IfOk-from_err c.from_residual-in_err-rows.result _ c.from_residual-in_err-rows.ensures.0;
       opened = λ from found a. IfOk-from_err c.from_residual-in_err-rows.result _ c.from_residual-in_err-rows.ensures.0;
+      checked = λ from found os r. IfOk-from_err c.from_residual-in_err-rows.result _ c.from_residual-in_err-rows.ensures.0;
       left = λ from found. IfOk-from_err c.from_residual-in_err-rows.result _ c.from_residual-in_err-rows.ensures.0;
       later = IfOk-from_err c.from_residual-in_err-rows.result _ c.from_residual-in_err-rows.ensures.0;
       undamaged = λ a. err_exit c.from_residual-in_err-rows.result _ c.from_residual-in_err-rows.ensures.1 _
@@ -97,6 +97,7 @@ returns-in-Err g c = record {
   step = tt;
   names = λ from found. tt;
   opened = λ from found a. tt;
+  checked = λ from found os r. tt;
   left = λ from found. tt;
   later = tt;
   undamaged = λ a. subst (IsCounted _ _) (sym c.from.ensures) tt;
@@ -109,6 +110,10 @@ returns-in-Err g c = record {
   settings = ap (λ (v : CoreModel). v.settings) c.self.view_is;
   reads = c.opened.ensures.reads;
 }
+
+-- of equal orders, and equal starts
+seen_as : (means : IterationOrder → ℕ → Type 0) {o p : IterationOrder} {m n : ℕ} → o ≡ p → m ≡ n → means o m → means p n
+seen_as means {p = p} {m = m} order start h = subst (means p) start (subst (λ (o : IterationOrder). means o m) order h)
 
 -- ---- the opening is noted
 
@@ -144,18 +149,20 @@ returns g c =
     let rows = c.in_ok-rows.rows in
     let e = c.in_ok-rows.ensures in
     let how = c.in_ok-how.ensures.order in
+    let begins : (from : Reader) → reader old.state id ≡ Some from → c.in-Some.begin ≡ from.at = λ from found. start_at s old c.self.view_is id from found c.in-Some.begin c.in-Some.ensures in
+    let above : (from : Reader) → reader old.state id ≡ Some from → old.floor ≤ c.in-Some.begin = λ from found. subst (λ (n : ℕ). old.floor ≤ n) (sym (begins from found)) (floor_at s old c.self.view_is id from found c.self.invariant) in
     record {
       noted = noted_is g c;
       step = λ k h. step_scan (rules_of old.settings k) old.state id order range (open_is (reader old.state id) c.requires.open).value (open_is (reader old.state id) c.requires.open).is c.requires.range
           ∙ ap (λ (v : CoreModel). (v.state, RowsAre [])) (sym (noted_is g c));
       names = λ from found. record { named = refl; number = number_is g c from found; ordered = e.order ∙ how; ranged = e.range };
-      opened = (λ from found a.
-          let begins : c.in-Some.begin ≡ from.at = start_at s old c.self.view_is id from found c.in-Some.begin c.in-Some.ensures in
-          let above : old.floor ≤ c.in-Some.begin = subst (λ (n : ℕ). old.floor ≤ n) (sym begins) (floor_at s old c.self.view_is id from found c.self.invariant) in
-          subst (λ (o : IterationOrder). (w : World) × IsWorldOf a.os m w × Leaves rows w (rows_seen (rules_of old.settings m) old.state.commits from.at from.ops o range)) how
-          (subst (λ (n : ℕ). (w : World) × IsWorldOf a.os m w × Leaves rows w (rows_seen (rules_of old.settings m) old.state.commits n from.ops c.in_ok-how.how.order range)) begins
+      opened = λ from found a.
+          seen_as (λ o n. LeavesSeen a.os m old n from.ops range o rows) how (begins from found)
           (answered_as (λ p. (goal.FilterPolicy-dyn g (p.vtable, p.value)).meaning p.value) c.as_slice.result.now c.args.laws.now.policies.items c.as_slice.ensures.value before after old
-          (λ os. (w : World) × IsWorldOf os m w × Leaves rows w (rows_seen (rules_of old.settings m) old.state.commits c.in-Some.begin from.ops c.in_ok-how.how.order range)) (λ b. e.opened from found above b) a)));
+          (λ os. LeavesSeen os m old c.in-Some.begin from.ops range c.in_ok-how.how.order rows) (λ b. e.opened from found (above from found) b) a);
+      checked = λ from found os r.
+          seen_as (λ o n. OrSlips os before after (LeavesSeen os m old n from.ops range o rows)) how (begins from found)
+          (e.checked from found (above from found) os (readable_as (λ p. (goal.FilterPolicy-dyn g (p.vtable, p.value)).meaning p.value) c.as_slice.result.now c.args.laws.now.policies.items c.as_slice.ensures.value m os old r));
       left = λ from found. subst (λ (k : CoreModel). (u : Tx) → find_named id k.state.txns ≡ Some u → slice_get (scans_left (rules_of k.settings m) k.state.commits u.begin u.transcript) c.in-Ok.scan ≡ Some (rows.order, rows_seen (rules_of old.settings m) old.state.commits from.at from.ops order range)) (sym (noted_is g c))
           (λ u at. scan_left m old id order range from c.in-Ok.scan found (number_is g c from found) (own_at s old c.self.view_is id c.self.invariant) u at
           ∙ ap (λ (o : IterationOrder). Some (o, rows_seen (rules_of old.settings m) old.state.commits from.at from.ops order range)) (sym (e.order ∙ how)));

@@ -31,6 +31,7 @@ use Rattle.slate_db.specs.Whole.{IsWhole}
 use Rattle.slate_db.proofs.Behind.{acts_answered, asks_by, asks_none, made_quiet}
 use Rattle.slate_db.proofs.Blocks.{if_ok_where}
 use Rattle.slate_db.proofs.Causes.{fold_fault}
+use Rattle.slate_db.proofs.Checks.{checks_err, checks_ok}
 use Rattle.slate_db.proofs.Shown.{fold_refused, found_rows, from_memory, journal_damage}
 use Rattle.slate_db.proofs.Filters.{filtered_known}
 use Rattle.slate_db.proofs.Finds.{brought_key, if_any, none_brought, some_brought}
@@ -120,6 +121,7 @@ returns-in_err-near g c =
         answer = λ is. let p = err_from_is_err_and c.from_residual.result c.from_residual.ensures.1 in rw p.1 tt;
         undamaged = λ is. let p = err_from_is_err_and c.from_residual.result c.from_residual.ensures.1 in rw (p.1, p.2) (subst (IsCounted _ _) (sym c.in_err-near.ensures.cause) tt);
         cause = rw (p.1, p.2) (inl (subst (IsCounted _ _) (sym c.in_err-near.ensures.cause) tt));
+        checked = λ os is. checks_err c.from_residual.result os (reach_of g.S.Store g.M.MergeOperator g.T.BlockTransformer c.args.env.now) (reach_of g.S.Store g.M.MergeOperator g.T.BlockTransformer c.args.env.now) c.from_residual.ensures.0;
         reads = reads_none _;
       };
       asks = asks_none (record { policies = map (λ p. (goal.FilterPolicy-dyn g (p.vtable, p.value)).meaning p.value) c.args.policies.now; query = c.args.query.now }) _ _ _ (call_none _);
@@ -142,6 +144,7 @@ returns-in_err-found g c =
             rw (p.1, p.2) (c.in_err-found.ensures.whole sound.layers is.os (stored_as m c.args.self.now (view_of c.self.inside) (unseen_of c.self.inside) (handles_of c.runs.result.now) is.os sound.layers c.self.view_is (ap handles_of c.runs.ensures) c.self.invariant is.readable.lawful sound.tables is.readable.holds)
             (filtered_known (map (λ p. (goal.FilterPolicy-dyn g (p.vtable, p.value)).meaning p.value) c.args.policies.now) m is.os (tables_of c.args.self.now.events) (handles_of c.runs.result.now) is.readable.lawful_policies is.readable.filtered handles is.readable.holds) is.answers));
         cause = rw (p.1, p.2) (journal_damage _ _ _ c.args.self.now (handles_of c.runs.result.now) _ handles c.in_err-found.ensures.cause);
+        checked = λ os is. checks_err c.from_residual-in_err-found.result os (reach_of g.S.Store g.M.MergeOperator g.T.BlockTransformer c.args.env.now) (reach_of g.S.Store g.M.MergeOperator g.T.BlockTransformer c.newest_of_runs.new.env) c.from_residual-in_err-found.ensures.0;
         reads = c.newest_of_runs.ensures.reads;
       };
       asks = asks_by (record { policies = map (λ p. (goal.FilterPolicy-dyn g (p.vtable, p.value)).meaning p.value) c.args.policies.now; query = c.args.query.now }) _ _ c.args.self.now (handles_of c.runs.result.now) handles c.newest_of_runs.ensures.behind;
@@ -166,6 +169,10 @@ returns g c =
             IfErr-weaker c.fold_found.result _ _ (λ e h. fold_fault _ _ _ (is_merge_among c.in_ok-found.found.items) e tables.later none h) c.fold_found.ensures.cause);
         cause = IfErr-weaker c.fold_found.result _ _ (λ e h. fold_refused _ (before g c) (between g c) (after g c) c.args.self.now (handles_of c.runs.result.now) c.in_ok-near.near.items c.in_ok-found.found.items e (handles g c) (near_among g c) tables.later refl
             (λ i. record (between g c).meaning { combine = c.fold_found.ensures.same i }) refl (found_rows _ _ _ (handles_of c.runs.result.now) c.in_ok-near.near.items c.in_ok-found.found.items c.in_ok-found.ensures.rows) h) c.fold_found.ensures.cause;
+        checked = (λ os is.
+            let all : IsSound (before g c).meaning c.args.self.now = is.kept.1 is.lawful in
+            checks_ok c.fold_found.result os (before g c) (after g c)
+            (c.in_ok-found.ensures.checked all.layers os (stored_as (before g c).meaning c.args.self.now (view_of c.self.inside) (unseen_of c.self.inside) (handles_of c.runs.result.now) os all.layers c.self.view_is (ap handles_of c.runs.ensures) c.self.invariant is.lawful all.tables is.holds)));
         reads = reads_then _ _ _ tables (reads_of _ _ refl c.fold_found.ensures.same refl refl (adds_none _) (record { store = omega arith; operator = c.fold_found.ensures.later; transformer = omega arith }) refl);
       };
       asks = asks_by (record { policies = policies g c; query = c.args.query.now }) (before g c) (after g c) c.args.self.now (handles_of c.runs.result.now) (handles g c)

@@ -29,6 +29,7 @@ use Rattle.slate_db.specs.View.{unseen_of, view_of}
 use Rattle.slate_db.proofs.Bases.{no_merge_among}
 use Rattle.slate_db.proofs.Behind.{asks_none}
 use Rattle.slate_db.proofs.Causes.{fold_fault}
+use Rattle.slate_db.proofs.Checks.{checks_ok, checks_quiet}
 use Rattle.slate_db.proofs.Gets.{own_pairs}
 use Rattle.slate_db.proofs.NoMerges.{own_bases_of}
 use Rattle.slate_db.proofs.Needs.{decided_needs}
@@ -79,6 +80,7 @@ returns-then-is_decided g c =
             cause = IfErr-weaker c.fold_found.result _ _ (λ e h. fold_refused _ before before after c.args.self.now (handles_of c.self.inside.layers.runs) own own e handles
                 (λ r among. inl (All-contains (IsOwnRow c.args.self.now) own r (All-from_recursion _ own owns) among)) (later_none before.faults) refl
                 (λ i. record before.meaning { combine = c.fold_found.ensures.same i }) refl ([], call_none before, newer_found before.meaning.decode _ (handles_of c.self.inside.layers.runs) own []) h) c.fold_found.ensures.cause;
+            checked = λ os is. checks_ok c.fold_found.result os before after (checks_quiet os before after refl);
             reads = reads_of before after refl c.fold_found.ensures.same refl refl (adds_none before.acts) (record { store = omega arith; operator = c.fold_found.ensures.later; transformer = omega arith }) refl;
           };
       asks = asks_none (record { policies = map (λ p. (goal.FilterPolicy-dyn g (p.vtable, p.value)).meaning p.value) c.args.policies.now; query = c.args.query.now }) before after c.args.self.now (call_quiet before after refl (λ i. record before.meaning { combine = c.fold_found.ensures.same i }) refl);
@@ -126,6 +128,7 @@ returns g c =
             answer = λ is. IfOk-weaker c.seen.result _ _ (λ row h above. h above ∙ ap (λ (xs : Rows). fold_rows (combine_of before.meaning k) (older ++ xs)) (oldest_first k from.ops own rows)) (c.seen.ensures.read.answer is);
             undamaged = c.seen.ensures.read.undamaged;
             cause = c.seen.ensures.read.cause;
+            checked = c.seen.ensures.read.checked;
             reads = c.seen.ensures.read.reads;
           };
       asks = c.seen.ensures.asks;
