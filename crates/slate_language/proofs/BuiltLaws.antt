@@ -22,11 +22,11 @@ split_by_some b (t ∷ ts) = by (b == 32)
     by true = omega arith
     by false = omega arith
 
-tokens_some : (bytes : List ℕ) → 0 < length (tokens_of bytes)
+pub tokens_some : (bytes : List ℕ) → 0 < length (tokens_of bytes)
 tokens_some [] = omega arith
 tokens_some (b ∷ bs) = split_by_some b (tokens_of bs)
 
-split_by_is : (b : ℕ) (ts : List (List ℕ)) → 0 < length ts → cond (b == 32) ([] ∷ ts) (onto_first b ts) ≡ split_by 32 b ts
+pub split_by_is : (b : ℕ) (ts : List (List ℕ)) → 0 < length ts → cond (b == 32) ([] ∷ ts) (onto_first b ts) ≡ split_by 32 b ts
 split_by_is b [] h = absurd (omega (arith, h))
 split_by_is b (t ∷ ts) h = refl
 

@@ -4,6 +4,7 @@ pub mod TokenLaws
 pub mod SpelledLaws
 pub mod OpLaws
 pub mod BuiltLaws
+pub mod SplitLaws
 pub mod TextLaws
 pub mod ShownLaws
 pub mod PartsLaws

@@ -1,13 +1,12 @@
 -- Lines read from their tokens, in the order in which the code reads them.
---     texts ts      the tokens' bytes
+--     until_space bytes      how many bytes stand before the first space
 --     is_name t, is_numeral t, is_moment_text t      what a name, a number and a moment look like
 --     keyword t      the word that begins a line
 --     built_ops ts      the operations that the tokens of a write mean
 --     built_tokens ts      the line that the tokens mean
 -- `built_tokens` of a line's tokens is `parse`, as proved in proofs/BuiltLaws.antt.
-use Rattle.std.specs.Prelude.{ℕ, Bool, false, ◌&&◌, ◌||◌, not, if◌then◌else◌, ◌==◌, nat_lt, nat_le, List, [], ◌∷◌, length, map, Option, Some, None, option_map, codes, bytes_eq, is_some}
-use Rattle.std.specs.List.{list_all}
-use Rattle.std.specs.Borrow.{Bor}
+use Rattle.std.specs.Prelude.{ℕ, Bool, false, ◌&&◌, ◌||◌, not, if◌then◌else◌, ◌==◌, nat_lt, nat_le, List, [], ◌∷◌, length, Option, Some, None, option_map, codes, bytes_eq, is_some}
+use Rattle.std.specs.List.{list_all, position_or_len}
 use Rattle.slate_mem.specs.declared.WriteOp.{WriteOp}
 use Rattle.slate_mem.specs.declared.WriteOp.TheVariants as ops
 use Rattle.slate_mem.specs.Batch.{Ops}
@@ -18,10 +17,11 @@ use Rattle.slate_language.specs.declared.parse.Keyword.TheVariants.{Begin, Snaps
 use Rattle.slate_language.specs.Grammar.{is_name_byte}
 use Rattle.slate_language.specs.Parse.{◌>>=◌, both, read_bytes, read_moment, read_name, read_level, read_order, read_pair, read_way, named, keyed, many_keyed, op_word, grouped, ops_of_groups}
 
-abbrev pub texts : List (Bor (List ℕ)) → List (List ℕ)
-texts ts = map (λ t. t.now) ts
-
 -- ---- tokens
+
+-- all, where there is no space
+abbrev pub until_space : List ℕ → ℕ
+until_space bytes = position_or_len (λ b. b == 32) bytes
 
 abbrev pub is_name : List ℕ → Bool
 is_name t = nat_lt 0 (length t) && nat_le (length t) 64 && list_all is_name_byte t

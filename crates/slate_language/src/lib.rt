@@ -26,13 +26,22 @@ pub use parts::Xor;
 pub use reply::{Answer, JournalEntry, reply_text};
 pub use tally::Tally;
 pub use text::show;
-pub use token::{is_word, read_bytes, read_moment, read_name, read_number, split_tokens};
+pub use token::{Token, is_word, read_bytes, read_moment, read_name, read_number, split_tokens};
 pub use words::{Generated, Settings, keep_used, parse_generated, parse_words};
 
 fn crosses<T: Send + Sync>() {}
 
 /// The types of this crate go to other threads, and are shared between them.
 pub fn types_cross_threads() {
-    crosses::<(Answer, Generated, JournalEntry, Settings, Tally)>();
+    crosses::<
+        (
+            Answer,
+            Generated,
+            JournalEntry,
+            Settings,
+            Tally,
+            Token<'static>,
+        ),
+    >();
     crosses::<(Concat, Max, NamedExtractor, NamedOperator, Xor)>();
 }

@@ -1,12 +1,13 @@
 //! The meaning of a line.
 ghost use Rattle.std.specs.Prelude.{◌≡◌, ◌⊎◌, ◌≤◌, ◌∷◌, [], Ok, Some, None, IfOk, IfSome, IfErr, codes, length, option_map, true, false};
 ghost use Rattle.slate_language.specs.Parse.{parse, tokens_of, grouped, both, many_keyed, read_all, read_bytes, read_bound, read_level, read_name, read_order, read_pair, read_step, read_ttl, read_way};
-ghost use Rattle.slate_language.specs.Built.{texts, keyword, keyword_among, writing, marking, unnamed, built_begin, built_snapshot, built_get, built_scan, built_prefix, built_put, built_merge, built_delete, built_mark, built_unmark, built_commit, built_rollback, built_now, built_write, built_alone, built_as, built_tokens};
+ghost use Rattle.slate_language.specs.Built.{keyword, keyword_among, writing, marking, unnamed, built_begin, built_snapshot, built_get, built_scan, built_prefix, built_put, built_merge, built_delete, built_mark, built_unmark, built_commit, built_rollback, built_now, built_write, built_alone, built_as, built_tokens};
 ghost use Rattle.slate_language.specs.Built.{is_op_word, built_put_op, built_merge_op, built_delete_op, built_op, built_ops};
 ghost use Rattle.slate_language.specs.Replies.{is_silent};
 
 use crate::token::{
-    is_word, read_bound, read_bytes, read_moment, read_name, read_step, read_ttl, split_tokens,
+    Token, is_word, read_bound, read_bytes, read_moment, read_name, read_step, read_ttl,
+    split_tokens,
 };
 use bytes::Bytes;
 use slate_mem::WriteOp;
@@ -61,8 +62,18 @@ fn is_silent(line: &[u8]) -> bool
     line.first().is_none_or(|byte| *byte == b'#')
 }
 
-/// The line that the text means, if any.
+/// The line that the text means, if any. Its names, keys and values share one copy of the text.
 fn read_text(alloc: Global, text: &[u8]) -> Result<Option<Line>, AllocError>
+    ensures line { IfOk result (λ o. o ≡ built_tokens (tokens_of text.now)) }
+{
+    let text = Bytes::copy_from_slice(alloc, text)?;
+    let line = read_shared(alloc, &text);
+    drop(text);
+    line
+}
+
+/// The line that the text means, if any, in the text's buffer.
+fn read_shared(alloc: Global, text: &Bytes) -> Result<Option<Line>, AllocError>
     ensures line { IfOk result (λ o. o ≡ built_tokens (tokens_of text.now)) }
 {
     let tokens = split_tokens(alloc, text)?;
@@ -72,13 +83,13 @@ fn read_text(alloc: Global, text: &[u8]) -> Result<Option<Line>, AllocError>
 }
 
 /// The line that the tokens mean, if any.
-fn read_line(alloc: Global, tokens: &[&[u8]]) -> Result<Option<Line>, AllocError>
-    ensures line { IfOk result (λ o. o ≡ built_tokens (texts tokens.now)) }
+fn read_line(alloc: Global, tokens: &[Token<'_>]) -> Result<Option<Line>, AllocError>
+    ensures line { IfOk result (λ o. o ≡ built_tokens tokens.now) }
 {
     let Some((word, rest)) = tokens.split_first() else {
         return Ok(None);
     };
-    match read_keyword(word) {
+    match read_keyword(word.text()) {
         Some(keyword) => read_as(alloc, keyword, rest),
         None => Ok(None),
     }
@@ -154,12 +165,16 @@ fn read_unnamed(token: &[u8]) -> Option<Keyword>
 }
 
 /// The line of the word and the tokens behind it.
-fn read_as(alloc: Global, keyword: Keyword, tokens: &[&[u8]]) -> Result<Option<Line>, AllocError>
-    ensures line { IfOk result (λ o. o ≡ built_as keyword (texts tokens.now)) }
+fn read_as(
+    alloc: Global,
+    keyword: Keyword,
+    tokens: &[Token<'_>],
+) -> Result<Option<Line>, AllocError>
+    ensures line { IfOk result (λ o. o ≡ built_as keyword tokens.now) }
 {
     match keyword {
-        Keyword::Begin => read_begin(alloc, tokens),
-        Keyword::Snapshot => read_snapshot(alloc, tokens),
+        Keyword::Begin => read_begin(tokens),
+        Keyword::Snapshot => read_snapshot(tokens),
         Keyword::Get => read_get(alloc, tokens),
         Keyword::Scan => read_scan(alloc, tokens),
         Keyword::Prefix => read_prefix(alloc, tokens),
@@ -168,8 +183,8 @@ fn read_as(alloc: Global, keyword: Keyword, tokens: &[&[u8]]) -> Result<Option<L
         Keyword::Delete => read_delete(alloc, tokens),
         Keyword::Mark => read_mark(alloc, tokens),
         Keyword::Unmark => read_unmark(alloc, tokens),
-        Keyword::Commit => read_commit(alloc, tokens),
-        Keyword::Rollback => read_rollback(alloc, tokens),
+        Keyword::Commit => read_commit(tokens),
+        Keyword::Rollback => read_rollback(tokens),
         Keyword::Now => Ok(read_now(tokens)),
         Keyword::Write => read_write(alloc, tokens),
         Keyword::Freeze => Ok(read_freeze(tokens)),
@@ -179,38 +194,38 @@ fn read_as(alloc: Global, keyword: Keyword, tokens: &[&[u8]]) -> Result<Option<L
 }
 
 /// `now` and a moment
-fn read_now(tokens: &[&[u8]]) -> Option<Line>
-    ensures { result ≡ built_now (texts tokens.now) }
+fn read_now(tokens: &[Token<'_>]) -> Option<Line>
+    ensures { result ≡ built_now tokens.now }
 {
     let [moment] = tokens else {
         return None;
     };
-    let moment = read_moment(moment)?;
+    let moment = read_moment(moment.text())?;
     Some(Line::Now { moment })
 }
 
 /// `begin N si` or `begin N ssi`
-fn read_begin(alloc: Global, tokens: &[&[u8]]) -> Result<Option<Line>, AllocError>
-    ensures line { IfOk result (λ o. o ≡ built_begin (texts tokens.now)) }
+fn read_begin(tokens: &[Token<'_>]) -> Result<Option<Line>, AllocError>
+    ensures line { IfOk result (λ o. o ≡ built_begin tokens.now) }
 {
     let [name, level] = tokens else {
         return Ok(None);
     };
-    let Some(level) = read_level(level) else {
+    let Some(level) = read_level(level.text()) else {
         return Ok(None);
     };
-    match copy_name(alloc, name)? {
+    match cut_name(name)? {
         Some(name) => Ok(Some(Line::Begin { name, level })),
         None => Ok(None),
     }
 }
 
-/// A copy of the name.
-fn copy_name(alloc: Global, token: &[u8]) -> Result<Option<Bytes>, AllocError>
+/// The name, cut out of its line.
+fn cut_name(token: &Token<'_>) -> Result<Option<Bytes>, AllocError>
     ensures name { IfOk result (λ o. o ≡ read_name token.now) }
 {
-    match read_name(token) {
-        Some(name) => Ok(Some(Bytes::copy_from_slice(alloc, name)?)),
+    match read_name(token.text()) {
+        Some(_) => Ok(Some(token.cut()?)),
         None => Ok(None),
     }
 }
@@ -228,21 +243,21 @@ fn read_level(token: &[u8]) -> Option<IsolationLevel>
 }
 
 /// `snapshot N`
-fn read_snapshot(alloc: Global, tokens: &[&[u8]]) -> Result<Option<Line>, AllocError>
-    ensures line { IfOk result (λ o. o ≡ built_snapshot (texts tokens.now)) }
+fn read_snapshot(tokens: &[Token<'_>]) -> Result<Option<Line>, AllocError>
+    ensures line { IfOk result (λ o. o ≡ built_snapshot tokens.now) }
 {
     let [name] = tokens else {
         return Ok(None);
     };
-    match copy_name(alloc, name)? {
+    match cut_name(name)? {
         Some(name) => Ok(Some(Line::Snapshot { name })),
         None => Ok(None),
     }
 }
 
 /// `get N K`
-fn read_get(alloc: Global, tokens: &[&[u8]]) -> Result<Option<Line>, AllocError>
-    ensures line { IfOk result (λ o. o ≡ built_get (texts tokens.now)) }
+fn read_get(alloc: Global, tokens: &[Token<'_>]) -> Result<Option<Line>, AllocError>
+    ensures line { IfOk result (λ o. o ≡ built_get tokens.now) }
 {
     let [name, key] = tokens else {
         return Ok(None);
@@ -254,13 +269,17 @@ fn read_get(alloc: Global, tokens: &[&[u8]]) -> Result<Option<Line>, AllocError>
 }
 
 /// The name of one token and the bytes of another.
-fn read_named(alloc: Global, name: &[u8], key: &[u8]) -> Result<Option<(Bytes, Bytes)>, AllocError>
+fn read_named(
+    alloc: Global,
+    name: &Token<'_>,
+    key: &Token<'_>,
+) -> Result<Option<(Bytes, Bytes)>, AllocError>
     ensures pair { IfOk result (λ o. o ≡ both (λ n k. (n, k)) (read_name name.now) (read_bytes key.now)) }
 {
     let Some(key) = read_bytes(alloc, key)? else {
         return Ok(None);
     };
-    match copy_name(alloc, name) {
+    match cut_name(name) {
         Ok(Some(name)) => Ok(Some((name, key))),
         Ok(None) => {
             drop(key);
@@ -274,16 +293,16 @@ fn read_named(alloc: Global, name: &[u8], key: &[u8]) -> Result<Option<(Bytes, B
 }
 
 /// `scan N <order> B B`, and maybe steps
-fn read_scan(alloc: Global, tokens: &[&[u8]]) -> Result<Option<Line>, AllocError>
-    ensures line { IfOk result (λ o. o ≡ built_scan (texts tokens.now)) }
+fn read_scan(alloc: Global, tokens: &[Token<'_>]) -> Result<Option<Line>, AllocError>
+    ensures line { IfOk result (λ o. o ≡ built_scan tokens.now) }
 {
     let [name, order, rest @ ..] = tokens else {
         return Ok(None);
     };
-    let Some(order) = read_order(order) else {
+    let Some(order) = read_order(order.text()) else {
         return Ok(None);
     };
-    let Some(name) = copy_name(alloc, name)? else {
+    let Some(name) = cut_name(name)? else {
         return Ok(None);
     };
     match read_way(alloc, rest) {
@@ -306,13 +325,13 @@ fn read_scan(alloc: Global, tokens: &[&[u8]]) -> Result<Option<Line>, AllocError
 }
 
 /// `prefix N <order> K B B`, and maybe steps
-fn read_prefix(alloc: Global, tokens: &[&[u8]]) -> Result<Option<Line>, AllocError>
-    ensures line { IfOk result (λ o. o ≡ built_prefix (texts tokens.now)) }
+fn read_prefix(alloc: Global, tokens: &[Token<'_>]) -> Result<Option<Line>, AllocError>
+    ensures line { IfOk result (λ o. o ≡ built_prefix tokens.now) }
 {
     let [name, order, prefix, rest @ ..] = tokens else {
         return Ok(None);
     };
-    let Some(order) = read_order(order) else {
+    let Some(order) = read_order(order.text()) else {
         return Ok(None);
     };
     let Some((name, prefix)) = read_named(alloc, name, prefix)? else {
@@ -353,9 +372,9 @@ fn read_order(token: &[u8]) -> Option<IterationOrder>
 /// Two bounds, and maybe steps
 fn read_way(
     alloc: Global,
-    tokens: &[&[u8]],
+    tokens: &[Token<'_>],
 ) -> Result<Option<(Bound<Bytes>, Bound<Bytes>, StepList)>, AllocError>
-    ensures way { IfOk result (λ o. o ≡ read_way (λ start end steps. (start, end, steps)) (texts tokens.now)) }
+    ensures way { IfOk result (λ o. o ≡ read_way (λ start end steps. (start, end, steps)) tokens.now) }
 {
     let [start, end, rest @ ..] = tokens else {
         return Ok(None);
@@ -379,8 +398,8 @@ fn read_way(
 /// The bounds of two tokens.
 fn read_bounds(
     alloc: Global,
-    start: &[u8],
-    end: &[u8],
+    start: &Token<'_>,
+    end: &Token<'_>,
 ) -> Result<Option<(Bound<Bytes>, Bound<Bytes>)>, AllocError>
     ensures bounds { IfOk result (λ o. o ≡ both (λ a b. (a, b)) (read_bound start.now) (read_bound end.now)) }
 {
@@ -401,8 +420,8 @@ fn read_bounds(
 }
 
 /// The step of each token.
-fn read_steps(alloc: Global, tokens: &[&[u8]]) -> Result<Option<StepList>, AllocError>
-    ensures steps { IfOk result (λ o. o ≡ read_all read_step (texts tokens.now)) }
+fn read_steps(alloc: Global, tokens: &[Token<'_>]) -> Result<Option<StepList>, AllocError>
+    ensures steps { IfOk result (λ o. o ≡ read_all read_step tokens.now) }
 {
     let mut steps = Vec::new(alloc);
     for token in tokens {
@@ -415,13 +434,13 @@ fn read_steps(alloc: Global, tokens: &[&[u8]]) -> Result<Option<StepList>, Alloc
 }
 
 /// `put N K V`, and maybe a time to live
-fn read_put(alloc: Global, tokens: &[&[u8]]) -> Result<Option<Line>, AllocError>
-    ensures line { IfOk result (λ o. o ≡ built_put (texts tokens.now)) }
+fn read_put(alloc: Global, tokens: &[Token<'_>]) -> Result<Option<Line>, AllocError>
+    ensures line { IfOk result (λ o. o ≡ built_put tokens.now) }
 {
     let Some((name, rest)) = tokens.split_first() else {
         return Ok(None);
     };
-    let Some(name) = copy_name(alloc, name)? else {
+    let Some(name) = cut_name(name)? else {
         return Ok(None);
     };
     match read_pair(alloc, rest) {
@@ -443,13 +462,13 @@ fn read_put(alloc: Global, tokens: &[&[u8]]) -> Result<Option<Line>, AllocError>
 }
 
 /// `merge N K V`, and maybe a time to live
-fn read_merge(alloc: Global, tokens: &[&[u8]]) -> Result<Option<Line>, AllocError>
-    ensures line { IfOk result (λ o. o ≡ built_merge (texts tokens.now)) }
+fn read_merge(alloc: Global, tokens: &[Token<'_>]) -> Result<Option<Line>, AllocError>
+    ensures line { IfOk result (λ o. o ≡ built_merge tokens.now) }
 {
     let Some((name, rest)) = tokens.split_first() else {
         return Ok(None);
     };
-    let Some(name) = copy_name(alloc, name)? else {
+    let Some(name) = cut_name(name)? else {
         return Ok(None);
     };
     match read_pair(alloc, rest) {
@@ -471,8 +490,8 @@ fn read_merge(alloc: Global, tokens: &[&[u8]]) -> Result<Option<Line>, AllocErro
 }
 
 /// `delete N K`
-fn read_delete(alloc: Global, tokens: &[&[u8]]) -> Result<Option<Line>, AllocError>
-    ensures line { IfOk result (λ o. o ≡ built_delete (texts tokens.now)) }
+fn read_delete(alloc: Global, tokens: &[Token<'_>]) -> Result<Option<Line>, AllocError>
+    ensures line { IfOk result (λ o. o ≡ built_delete tokens.now) }
 {
     let [name, key] = tokens else {
         return Ok(None);
@@ -484,8 +503,8 @@ fn read_delete(alloc: Global, tokens: &[&[u8]]) -> Result<Option<Line>, AllocErr
 }
 
 /// `mark N K..`
-fn read_mark(alloc: Global, tokens: &[&[u8]]) -> Result<Option<Line>, AllocError>
-    ensures line { IfOk result (λ o. o ≡ built_mark (texts tokens.now)) }
+fn read_mark(alloc: Global, tokens: &[Token<'_>]) -> Result<Option<Line>, AllocError>
+    ensures line { IfOk result (λ o. o ≡ built_mark tokens.now) }
 {
     match read_many(alloc, tokens)? {
         Some((name, keys)) => Ok(Some(Line::Mark { name, keys })),
@@ -494,8 +513,8 @@ fn read_mark(alloc: Global, tokens: &[&[u8]]) -> Result<Option<Line>, AllocError
 }
 
 /// `unmark N K..`
-fn read_unmark(alloc: Global, tokens: &[&[u8]]) -> Result<Option<Line>, AllocError>
-    ensures line { IfOk result (λ o. o ≡ built_unmark (texts tokens.now)) }
+fn read_unmark(alloc: Global, tokens: &[Token<'_>]) -> Result<Option<Line>, AllocError>
+    ensures line { IfOk result (λ o. o ≡ built_unmark tokens.now) }
 {
     match read_many(alloc, tokens)? {
         Some((name, keys)) => Ok(Some(Line::Unmark { name, keys })),
@@ -504,8 +523,8 @@ fn read_unmark(alloc: Global, tokens: &[&[u8]]) -> Result<Option<Line>, AllocErr
 }
 
 /// A name, and one key or more
-fn read_many(alloc: Global, tokens: &[&[u8]]) -> Result<Option<(Bytes, KeyList)>, AllocError>
-    ensures pair { IfOk result (λ o. o ≡ many_keyed (λ n ks. (n, ks)) (texts tokens.now)) }
+fn read_many(alloc: Global, tokens: &[Token<'_>]) -> Result<Option<(Bytes, KeyList)>, AllocError>
+    ensures pair { IfOk result (λ o. o ≡ many_keyed (λ n ks. (n, ks)) tokens.now) }
 {
     let Some((name, keys)) = tokens.split_first() else {
         return Ok(None);
@@ -516,7 +535,7 @@ fn read_many(alloc: Global, tokens: &[&[u8]]) -> Result<Option<(Bytes, KeyList)>
     let Some(keys) = read_keys(alloc, keys)? else {
         return Ok(None);
     };
-    match copy_name(alloc, name) {
+    match cut_name(name) {
         Ok(Some(name)) => Ok(Some((name, keys))),
         Ok(None) => {
             drop(keys);
@@ -530,8 +549,8 @@ fn read_many(alloc: Global, tokens: &[&[u8]]) -> Result<Option<(Bytes, KeyList)>
 }
 
 /// The bytes of each token.
-fn read_keys(alloc: Global, tokens: &[&[u8]]) -> Result<Option<KeyList>, AllocError>
-    ensures keys { IfOk result (λ o. o ≡ read_all read_bytes (texts tokens.now)) }
+fn read_keys(alloc: Global, tokens: &[Token<'_>]) -> Result<Option<KeyList>, AllocError>
+    ensures keys { IfOk result (λ o. o ≡ read_all read_bytes tokens.now) }
 {
     let mut keys = Vec::new(alloc);
     for token in tokens {
@@ -544,34 +563,34 @@ fn read_keys(alloc: Global, tokens: &[&[u8]]) -> Result<Option<KeyList>, AllocEr
 }
 
 /// `commit N`
-fn read_commit(alloc: Global, tokens: &[&[u8]]) -> Result<Option<Line>, AllocError>
-    ensures line { IfOk result (λ o. o ≡ built_commit (texts tokens.now)) }
+fn read_commit(tokens: &[Token<'_>]) -> Result<Option<Line>, AllocError>
+    ensures line { IfOk result (λ o. o ≡ built_commit tokens.now) }
 {
     let [name] = tokens else {
         return Ok(None);
     };
-    match copy_name(alloc, name)? {
+    match cut_name(name)? {
         Some(name) => Ok(Some(Line::Commit { name })),
         None => Ok(None),
     }
 }
 
 /// `rollback N`
-fn read_rollback(alloc: Global, tokens: &[&[u8]]) -> Result<Option<Line>, AllocError>
-    ensures line { IfOk result (λ o. o ≡ built_rollback (texts tokens.now)) }
+fn read_rollback(tokens: &[Token<'_>]) -> Result<Option<Line>, AllocError>
+    ensures line { IfOk result (λ o. o ≡ built_rollback tokens.now) }
 {
     let [name] = tokens else {
         return Ok(None);
     };
-    match copy_name(alloc, name)? {
+    match cut_name(name)? {
         Some(name) => Ok(Some(Line::Rollback { name })),
         None => Ok(None),
     }
 }
 
 /// `write` and operations
-fn read_write(alloc: Global, tokens: &[&[u8]]) -> Result<Option<Line>, AllocError>
-    ensures line { IfOk result (λ o. o ≡ built_write (texts tokens.now)) }
+fn read_write(alloc: Global, tokens: &[Token<'_>]) -> Result<Option<Line>, AllocError>
+    ensures line { IfOk result (λ o. o ≡ built_write tokens.now) }
 {
     match read_ops(alloc, tokens)? {
         Some(ops) => Ok(Some(Line::Write {
@@ -582,8 +601,8 @@ fn read_write(alloc: Global, tokens: &[&[u8]]) -> Result<Option<Line>, AllocErro
 }
 
 /// `freeze`
-fn read_freeze(tokens: &[&[u8]]) -> Option<Line>
-    ensures { result ≡ built_alone Line.Freeze (texts tokens.now) }
+fn read_freeze(tokens: &[Token<'_>]) -> Option<Line>
+    ensures { result ≡ built_alone Line.Freeze tokens.now }
 {
     match tokens {
         [] => Some(Line::Freeze),
@@ -592,8 +611,8 @@ fn read_freeze(tokens: &[&[u8]]) -> Option<Line>
 }
 
 /// `flush`
-fn read_flush(tokens: &[&[u8]]) -> Option<Line>
-    ensures { result ≡ built_alone Line.Flush (texts tokens.now) }
+fn read_flush(tokens: &[Token<'_>]) -> Option<Line>
+    ensures { result ≡ built_alone Line.Flush tokens.now }
 {
     match tokens {
         [] => Some(Line::Flush),
@@ -602,8 +621,8 @@ fn read_flush(tokens: &[&[u8]]) -> Option<Line>
 }
 
 /// `journal`
-fn read_journal(tokens: &[&[u8]]) -> Option<Line>
-    ensures { result ≡ built_alone Line.Journal (texts tokens.now) }
+fn read_journal(tokens: &[Token<'_>]) -> Option<Line>
+    ensures { result ≡ built_alone Line.Journal tokens.now }
 {
     match tokens {
         [] => Some(Line::Journal),
@@ -612,14 +631,17 @@ fn read_journal(tokens: &[&[u8]]) -> Option<Line>
 }
 
 /// The operations, each a word with the tokens up to the next such word.
-fn read_ops(alloc: Global, tokens: &[&[u8]]) -> Result<Option<Vec<(Bytes, WriteOp)>>, AllocError>
-    ensures ops { IfOk result (λ o. option_map (λ v. v.items) o ≡ built_ops (texts tokens.now)) }
+fn read_ops(
+    alloc: Global,
+    tokens: &[Token<'_>],
+) -> Result<Option<Vec<(Bytes, WriteOp)>>, AllocError>
+    ensures ops { IfOk result (λ o. option_map (λ v. v.items) o ≡ built_ops tokens.now) }
 {
     let mut ops = Vec::new(alloc);
     let mut at = 0;
     while at < tokens.len() {
         let end = at + 1 + own_len(&tokens[at + 1..]);
-        let Some(op) = read_op(alloc, tokens[at], &tokens[at + 1..end])? else {
+        let Some(op) = read_op(alloc, tokens[at].text(), &tokens[at + 1..end])? else {
             return Ok(None);
         };
         ops.push(op)?;
@@ -629,12 +651,12 @@ fn read_ops(alloc: Global, tokens: &[&[u8]]) -> Result<Option<Vec<(Bytes, WriteO
 }
 
 /// How many tokens stand before the next word of an operation.
-fn own_len(tokens: &[&[u8]]) -> usize
-    ensures len { result ≡ length (grouped (texts tokens.now)).0 }
+fn own_len(tokens: &[Token<'_>]) -> usize
+    ensures len { result ≡ length (grouped tokens.now).0 }
     ensures within { result ≤ length tokens.now }
 {
     for (i, token) in tokens.iter().enumerate() {
-        if is_op_word(token) {
+        if is_op_word(token.text()) {
             return i;
         }
     }
@@ -651,9 +673,9 @@ fn is_op_word(token: &[u8]) -> bool
 fn read_op(
     alloc: Global,
     word: &[u8],
-    tokens: &[&[u8]],
+    tokens: &[Token<'_>],
 ) -> Result<Option<(Bytes, WriteOp)>, AllocError>
-    ensures op { IfOk result (λ o. o ≡ built_op word.now (texts tokens.now)) }
+    ensures op { IfOk result (λ o. o ≡ built_op word.now tokens.now) }
 {
     if is_word(word, b"put") {
         read_put_op(alloc, tokens)
@@ -667,8 +689,8 @@ fn read_op(
 }
 
 /// `K V`, and maybe a time to live
-fn read_put_op(alloc: Global, tokens: &[&[u8]]) -> Result<Option<(Bytes, WriteOp)>, AllocError>
-    ensures op { IfOk result (λ o. o ≡ built_put_op (texts tokens.now)) }
+fn read_put_op(alloc: Global, tokens: &[Token<'_>]) -> Result<Option<(Bytes, WriteOp)>, AllocError>
+    ensures op { IfOk result (λ o. o ≡ built_put_op tokens.now) }
 {
     match read_pair(alloc, tokens)? {
         Some((key, value, ttl)) => Ok(Some((key, WriteOp::Put(value, PutOptions { ttl })))),
@@ -677,8 +699,11 @@ fn read_put_op(alloc: Global, tokens: &[&[u8]]) -> Result<Option<(Bytes, WriteOp
 }
 
 /// `K V`, and maybe a time to live
-fn read_merge_op(alloc: Global, tokens: &[&[u8]]) -> Result<Option<(Bytes, WriteOp)>, AllocError>
-    ensures op { IfOk result (λ o. o ≡ built_merge_op (texts tokens.now)) }
+fn read_merge_op(
+    alloc: Global,
+    tokens: &[Token<'_>],
+) -> Result<Option<(Bytes, WriteOp)>, AllocError>
+    ensures op { IfOk result (λ o. o ≡ built_merge_op tokens.now) }
 {
     match read_pair(alloc, tokens)? {
         Some((key, value, ttl)) => Ok(Some((key, WriteOp::Merge(value, MergeOptions { ttl })))),
@@ -687,8 +712,8 @@ fn read_merge_op(alloc: Global, tokens: &[&[u8]]) -> Result<Option<(Bytes, Write
 }
 
 /// A key, a value, and maybe a time to live
-fn read_pair(alloc: Global, tokens: &[&[u8]]) -> Result<Option<(Bytes, Bytes, Ttl)>, AllocError>
-    ensures pair { IfOk result (λ o. o ≡ read_pair (λ k v ttl. (k, v, ttl)) (texts tokens.now)) }
+fn read_pair(alloc: Global, tokens: &[Token<'_>]) -> Result<Option<(Bytes, Bytes, Ttl)>, AllocError>
+    ensures pair { IfOk result (λ o. o ≡ read_pair (λ k v ttl. (k, v, ttl)) tokens.now) }
 {
     let [key, value, rest @ ..] = tokens else {
         return Ok(None);
@@ -705,8 +730,8 @@ fn read_pair(alloc: Global, tokens: &[&[u8]]) -> Result<Option<(Bytes, Bytes, Tt
 /// The bytes of two byte tokens.
 fn read_two(
     alloc: Global,
-    first: &[u8],
-    second: &[u8],
+    first: &Token<'_>,
+    second: &Token<'_>,
 ) -> Result<Option<(Bytes, Bytes)>, AllocError>
     ensures bytes { IfOk result (λ o. o ≡ both (λ a b. (a, b)) (read_bytes first.now) (read_bytes second.now)) }
 {
@@ -727,19 +752,22 @@ fn read_two(
 }
 
 /// The time to live where there is one, and else the default.
-fn read_last_ttl(tokens: &[&[u8]]) -> Option<Ttl>
-    ensures { result ≡ read_ttl (texts tokens.now) }
+fn read_last_ttl(tokens: &[Token<'_>]) -> Option<Ttl>
+    ensures { result ≡ read_ttl tokens.now }
 {
     match tokens {
         [] => Some(Ttl::Default),
-        [ttl] => read_ttl(ttl),
+        [ttl] => read_ttl(ttl.text()),
         _ => None,
     }
 }
 
 /// `K`
-fn read_delete_op(alloc: Global, tokens: &[&[u8]]) -> Result<Option<(Bytes, WriteOp)>, AllocError>
-    ensures op { IfOk result (λ o. o ≡ built_delete_op (texts tokens.now)) }
+fn read_delete_op(
+    alloc: Global,
+    tokens: &[Token<'_>],
+) -> Result<Option<(Bytes, WriteOp)>, AllocError>
+    ensures op { IfOk result (λ o. o ≡ built_delete_op tokens.now) }
 {
     let [key] = tokens else {
         return Ok(None);

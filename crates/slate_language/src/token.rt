@@ -1,11 +1,11 @@
 //! The tokens of a line, and what single ones spell.
-ghost use Rattle.std.specs.Prelude.{◌≡◌, ◌↔◌, ℕ, ℤ, List, Some, IfOk, bytes_eq};
+ghost use Rattle.std.specs.Prelude.{◌≡◌, ◌↔◌, ◌<◌, ◌≤◌, ℕ, ℤ, List, Some, IfOk, bytes_eq, drop, length};
 ghost use Rattle.std.specs.List.{list_all, join_with_byte};
 ghost use Rattle.std.specs.Option.{option_copied};
 ghost use Rattle.slate_language.specs.Text.{is_visible};
 ghost use Rattle.slate_language.specs.Grammar.{IsBytes, IsMoment, IsName, IsNumber, is_name_byte};
 ghost use Rattle.slate_language.specs.Parse.{only_if, unhex, tokens_of, read_bytes, read_number, read_moment, read_name, read_bound, read_step, read_ttl_token};
-ghost use Rattle.slate_language.specs.Built.{texts, is_name, is_digit, is_numeral, is_moment_text, is_hex_digit};
+ghost use Rattle.slate_language.specs.Built.{until_space, is_name, is_digit, is_numeral, is_moment_text, is_hex_digit};
 
 use crate::text::is_visible;
 use bytes::Bytes;
@@ -13,17 +13,87 @@ use hex::FromHexError;
 use slate_txn::ScanStep;
 use slate_types::Ttl;
 use std::alloc::{AllocError, Global};
+use std::marker::Model;
 use std::ops::Bound;
 
 /// The most bytes of a name.
 const MAX_NAME_LEN: usize = 64;
 
+/// A token, by its place in its line. What is cut out of it shares the line's buffer.
+#[derive(Drop)]
+pub struct Token<'a> {
+    line: &'a Bytes,
+    start: usize,
+    end: usize,
+}
+
+impl<'a> Model for Token<'a> {
+    ghost use Rattle.std.specs.Prelude.{ℕ, List, ◌≤◌, length, slice_range};
+
+    ghost Value = { List ℕ };
+
+    ghost view = { λ t. slice_range t.line.now t.start t.«end» };
+
+    ghost invariant = { λ t. (t.start ≤ t.«end») × (t.«end» ≤ length t.line.now) };
+}
+
+impl<'a> Token<'a> {
+    /// Its bytes.
+    pub fn text(&self) -> &[u8]
+        ensures { result.now ≡ self.now }
+    {
+        &self.line.as_slice()[self.start..self.end]
+    }
+
+    /// The token without its first byte.
+    fn behind_first(&self) -> Token<'a>
+        requires { 0 < length self.now }
+        ensures { result ≡ drop 1 self.now }
+    {
+        Token {
+            line: self.line,
+            start: self.start + 1,
+            end: self.end,
+        }
+    }
+
+    /// Its bytes, in the line's buffer.
+    pub(crate) fn cut(&self) -> Result<Bytes, AllocError>
+        ensures bytes { IfOk result (λ b. b ≡ self.now) }
+    {
+        self.line.slice(self.start..self.end)
+    }
+}
+
 /// The bytes between single spaces.
-pub fn split_tokens(alloc: Global, line: &[u8]) -> Result<Vec<&[u8]>, AllocError>
-    ensures tokens { IfOk result (λ v. texts v.items ≡ tokens_of line.now) }
-    ensures joined { IfOk result (λ v. join_with_byte 32 (texts v.items) ≡ line.now) }
+pub fn split_tokens(alloc: Global, line: &Bytes) -> Result<Vec<Token<'_>>, AllocError>
+    ensures tokens { IfOk result (λ v. v.items ≡ tokens_of line.now) }
+    ensures joined { IfOk result (λ v. join_with_byte 32 v.items ≡ line.now) }
 {
-    line.split(|byte| *byte == b' ').collect(alloc)
+    let bytes = line.as_slice();
+    let mut tokens = Vec::new(alloc);
+    let mut start = 0;
+    loop {
+        let end = start + until_space(&bytes[start..]);
+        tokens.push(Token { line, start, end })?;
+        if end == bytes.len() {
+            return Ok(tokens);
+        }
+        start = end + 1;
+    }
+}
+
+/// How many bytes stand before the first space, or all where there is none.
+fn until_space(bytes: &[u8]) -> usize
+    ensures len { result ≡ until_space bytes.now }
+    ensures within { result ≤ length bytes.now }
+{
+    for (i, byte) in bytes.iter().enumerate() {
+        if *byte == b' ' {
+            return i;
+        }
+    }
+    bytes.len()
 }
 
 /// Whether the token is this word.
@@ -55,30 +125,30 @@ fn is_alphanumeric(bytes: &[u8]) -> bool
 }
 
 /// The bytes that the token spells, if any: text behind `'`, or pairs of lower-case hex digits behind `0x`.
-pub fn read_bytes(alloc: Global, token: &[u8]) -> Result<Option<Bytes>, AllocError>
+pub fn read_bytes(alloc: Global, token: &Token<'_>) -> Result<Option<Bytes>, AllocError>
     ensures bytes { IfOk result (λ o. o ≡ read_bytes token.now) }
     ensures spelled { IfOk result (λ o. (v : List ℕ) → IsBytes token.now v ↔ (o ≡ Some v)) }
 {
     read_text_or_hex(alloc, token)
 }
 
-fn read_text_or_hex(alloc: Global, token: &[u8]) -> Result<Option<Bytes>, AllocError>
+fn read_text_or_hex(alloc: Global, token: &Token<'_>) -> Result<Option<Bytes>, AllocError>
     ensures bytes { IfOk result (λ o. o ≡ read_bytes token.now) }
 {
-    match token {
-        [b'\'', text @ ..] => read_text(alloc, text),
+    match token.text() {
+        [b'\'', ..] => read_text(&token.behind_first()),
         [b'0', b'x', digits @ ..] => read_hex(alloc, digits),
         _ => Ok(None),
     }
 }
 
-fn read_text(alloc: Global, text: &[u8]) -> Result<Option<Bytes>, AllocError>
+fn read_text(text: &Token<'_>) -> Result<Option<Bytes>, AllocError>
     ensures bytes { IfOk result (λ o. o ≡ only_if (list_all is_visible text.now) text.now) }
 {
-    if !is_visible(text) {
+    if !is_visible(text.text()) {
         return Ok(None);
     }
-    Bytes::copy_from_slice(alloc, text).map(Some)
+    text.cut().map(Some)
 }
 
 /// Digits are lower case.
@@ -176,15 +246,18 @@ pub(crate) fn read_ttl(token: &[u8]) -> Option<Ttl>
 }
 
 /// A bound of a range: `i` or `e` and a byte token, or `*` for none.
-pub(crate) fn read_bound(alloc: Global, token: &[u8]) -> Result<Option<Bound<Bytes>>, AllocError>
+pub(crate) fn read_bound(
+    alloc: Global,
+    token: &Token<'_>,
+) -> Result<Option<Bound<Bytes>>, AllocError>
     ensures bound { IfOk result (λ o. o ≡ read_bound token.now) }
 {
-    match token {
-        [b'i', key @ ..] => match read_bytes(alloc, key)? {
+    match token.text() {
+        [b'i', ..] => match read_bytes(alloc, &token.behind_first())? {
             Some(key) => Ok(Some(Bound::Included(key))),
             None => Ok(None),
         },
-        [b'e', key @ ..] => match read_bytes(alloc, key)? {
+        [b'e', ..] => match read_bytes(alloc, &token.behind_first())? {
             Some(key) => Ok(Some(Bound::Excluded(key))),
             None => Ok(None),
         },
@@ -194,15 +267,15 @@ pub(crate) fn read_bound(alloc: Global, token: &[u8]) -> Result<Option<Bound<Byt
 }
 
 /// A step of a scan: `n` and how many rows, or `s` and the byte token of a key.
-pub(crate) fn read_step(alloc: Global, token: &[u8]) -> Result<Option<ScanStep>, AllocError>
+pub(crate) fn read_step(alloc: Global, token: &Token<'_>) -> Result<Option<ScanStep>, AllocError>
     ensures step { IfOk result (λ o. o ≡ read_step token.now) }
 {
-    match token {
+    match token.text() {
         [b'n', digits @ ..] => match read_number(digits) {
             Some(rows) => Ok(Some(ScanStep::Rows(rows))),
             None => Ok(None),
         },
-        [b's', key @ ..] => match read_bytes(alloc, key)? {
+        [b's', ..] => match read_bytes(alloc, &token.behind_first())? {
             Some(key) => Ok(Some(ScanStep::Seek(key))),
             None => Ok(None),
         },

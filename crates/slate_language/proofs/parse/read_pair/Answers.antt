@@ -9,13 +9,13 @@ returns-in_default-read_last_ttl c = record { pair = pair_unread c.args.tokens.n
 pub returns-in-Some-2 : goal.returns-in-Some-2
 returns-in-Some-2 c = record {
   pair = (λ i. with_third (sym c.in-Some-2.is i) (sym c.in-Some.is i))
-      ∙ pair_is c.args.tokens.now c.in_ok-key.field-0 c.read_last_ttl.result c.in-len2-up.len_at_least c.in_ok-key.ensures.bytes c.read_last_ttl.ensures;
+      ∙ pair_is c.args.tokens.now c.key-item.result c.value-item.result c.in_ok-key.field-0 c.read_last_ttl.result c.in-len2-up.len_at_least c.key-item.is c.value-item.is c.in_ok-key.ensures.bytes c.read_last_ttl.ensures;
 }
 
 pub returns-in-None : goal.returns-in-None
 returns-in-None c = record {
   pair = ap (λ p. with_third p c.read_last_ttl.result) (sym c.in-None.is)
-      ∙ pair_is c.args.tokens.now c.in_ok-key.field-0 c.read_last_ttl.result c.in-len2-up.len_at_least c.in_ok-key.ensures.bytes c.read_last_ttl.ensures;
+      ∙ pair_is c.args.tokens.now c.key-item.result c.value-item.result c.in_ok-key.field-0 c.read_last_ttl.result c.in-len2-up.len_at_least c.key-item.is c.value-item.is c.in_ok-key.ensures.bytes c.read_last_ttl.ensures;
 }
 
 pub returns-in_err-key : goal.returns-in_err-key
