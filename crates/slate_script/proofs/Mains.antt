@@ -1,12 +1,14 @@
 -- The parts that the words of a run name.
-use Rattle.std.proofs.Common.{◌≡◌, ℕ, List, map, Option, Some, None, option_map, ◌⊎◌, inl, inr, refl, sym, ap, ◌∙◌, arith}
+use Rattle.std.proofs.Common.{◌≡◌, ℕ, [], ◌++◌, Ok, List, map, Option, Some, None, option_map, ◌⊎◌, inl, inr, refl, sym, ap, subst, ◌∙◌, arith}
 use Rattle.slate_types.specs.Faults.{Rose, faults_of}
 use Rattle.slate_types.specs.Fold.{IsLawful, KeepsShort}
 use Rattle.slate_types.specs.Lawful.{IsLawfulTransform}
-use Rattle.slate_types.specs.Outside.{Objects}
+use Rattle.slate_types.specs.Outside.{Act, Objects}
 use Rattle.slate_store.specs.Store.{IsEmpty}
 use Rattle.slate_filter.specs.Policy.{Policy}
 use Rattle.slate_table.specs.Filtered.{AreLawful}
+use Rattle.slate_txn.specs.State.{Rules}
+use Rattle.slate_db.specs.Checked.{SlipsFrom}
 use Rattle.slate_db.specs.Meaning.{Meaning, IsLawfulMeaning, combine_of}
 use Rattle.slate_language.specs.declared.operators.NamedOperator.{NamedOperator}
 use Rattle.slate_language.specs.declared.parts.Xor.{Xor}
@@ -74,6 +76,12 @@ words_are s transformer is = by s.operator transformer ∙ ap (parts s.operator)
 
 pub rules_are : (s : Settings) (transformer : Option Xor) → option_map (λ x. x.mask) transformer ≡ s.mask → run_rules s.options (words_mean s.operator transformer) (segments_of s) ≡ main_rules s
 rules_are s transformer is = ap (λ m. run_rules s.options m (segments_of s)) (words_are s transformer is)
+
+-- what is said by the words' rules, or a section that slipped by their encoding
+pub words_or_slips : (Q : Rules → Type 0) (s : Settings) (transformer : Option Xor) → option_map (λ x. x.mask) transformer ≡ s.mask → (before after : Option (List Act)) →
+    Q (run_rules s.options (words_mean s.operator transformer) (segments_of s)) ⊎ SlipsFrom (words_mean s.operator transformer).encode [] before after → Q (main_rules s) ⊎ SlipsFrom (parts_of s).encode [] before after
+words_or_slips Q s transformer is before after (inl holds) = inl (subst Q (rules_are s transformer is) holds)
+words_or_slips Q s transformer is before after (inr slips) = inr (subst (λ (m : Meaning). SlipsFrom m.encode [] before after) (words_are s transformer is) slips)
 
 -- ---- words that name a script of the run's own
 

@@ -1,6 +1,5 @@
 -- What is kept from line to line.
-use Rattle.std.proofs.Common.{◌≡◌, ℕ, true, false, ◌||◌, is_some, List, [], ◌∷◌, Option, Some, Result, Ok, Err, OnOk, IsTrue, ◌⊎◌, inl, inr, refl, sym, ap, ◌∙◌, subst, arith}
-use Rattle.std.specs.List.{flat_map}
+use Rattle.std.proofs.Common.{◌≡◌, ℕ, List, [], Option, Some, Result, Ok, Err, OnOk, IsTrue, ◌⊎◌, inl, inr, refl, sym, ap, ◌∙◌, subst, arith}
 use Rattle.slate_types.specs.declared.config.Options.{Options}
 use Rattle.slate_types.specs.declared.error.SlateDBError.{SlateDBError}
 use Rattle.slate_types.specs.declared.error.SlateDBError.TheVariants.{ChecksumMismatch, InvalidRowFlags, CorruptTable, InvalidFilterBlock, InvalidSequenceOrder, MergeOperatorMissing, LimitReached}
@@ -9,8 +8,7 @@ use Rattle.slate_filter.specs.Policy.{Policy}
 use Rattle.slate_txn.specs.declared.line.Line.{Line}
 use Rattle.slate_txn.specs.declared.line.Line.TheVariants as lines
 use Rattle.slate_txn.specs.Settings.{settings_of}
-use Rattle.slate_txn.specs.State.{Rules, State}
-use Rattle.slate_txn.specs.Step.{step, after, answers}
+use Rattle.slate_txn.specs.State.{Rules}
 use Rattle.slate_mem.specs.KeyTests.{Segments}
 use Rattle.slate_db.specs.Installs.{HoldsTables, tables_of}
 use Rattle.slate_db.specs.Meaning.{Meaning, rules_in}
@@ -18,18 +16,10 @@ use Rattle.slate_db.specs.Parts.{IsTableError}
 use Rattle.slate_db.specs.Readable.{AreFiltered}
 use Rattle.slate_db.specs.Segmented.{IsSegmented}
 use Rattle.slate_db.specs.Sound.{IsKept}
-use Rattle.slate_language.specs.declared.reply.Answer.{Answer}
 use Rattle.slate_language.specs.Parse.{parse}
-use Rattle.slate_language.specs.Answers.{as_shown, reply_of}
-use Rattle.slate_language.proofs.ShownLaws.{shown_line}
-use Rattle.slate_language.specs.Tally.{counted, tallied}
-use Rattle.slate_language.specs.declared.tally.Tally.{Tally}
-use Rattle.slate_language.proofs.TallyLaws.{counted_shown}
-use Rattle.slate_language.specs.Replies.{is_silent, meanings, onto_meanings, reply_line, after_lines, replies_from}
-use Rattle.slate_script.specs.Run.{run_rules, Premises, is_line}
-use Rattle.slate_script.specs.Session.{SessionModel, StandsFor, StepsAs, HasTables, IsSettled, IsRunning, has_moment}
+use Rattle.slate_script.specs.Run.{run_rules, Premises}
+use Rattle.slate_script.specs.Session.{SessionModel, HasTables, IsSettled, IsRunning, has_moment}
 use Rattle.slate_language.specs.Grammar.{IsLine}
-use Rattle.slate_script.proofs.Answered.{one_reply}
 use Rattle.slate_language.proofs.ParseOnly.{parse_only}
 
 pub is_settled : {policies : List Policy} {m : Meaning} {seg : Segments} {r : Rules} {parts : Meaning} {objects : Option Objects} {e : SessionModel} → IsRunning policies m seg r parts objects e → IsSettled policies parts seg objects e
@@ -46,39 +36,6 @@ runs_on {policies = policies} {m = m} {seg = seg} {after = after} {new = new} h 
   rules = ap (λ x. rules_in x m seg) settings ∙ h.rules;
   settled = subst (λ (x : Meaning). IsSettled policies x seg after new) h.meaning settled;
 }
-
--- ---- one line
-
-pub silent_line : (l : List ℕ) → is_silent l ≡ true → IsTrue (is_line l)
-silent_line l silent = ap (λ b. b || is_some (parse l)) silent
-
-pub silent_after : (r : Rules) (s : State) (l : List ℕ) → is_silent l ≡ true → s ≡ after_lines r s (l ∷ [])
-silent_after r s l silent = let none = sym silent in λ i. after r s (onto_meanings (none i) (parse l) [])
-
-pub silent_says : (r : Rules) (s : State) (l : List ℕ) → is_silent l ≡ true → [] ≡ replies_from r s (l ∷ [])
-silent_says r s l silent = let none = sym silent in λ i. flat_map reply_line (answers r s (onto_meanings (none i) (parse l) []))
-
-one_after : (r : Rules) (s : State) (l : List ℕ) (line : Line) → is_silent l ≡ false → parse l ≡ Some line → after_lines r s (l ∷ []) ≡ (step r s line).0
-one_after r s l line loud is = λ i. after r s (onto_meanings (loud i) (is i) [])
-
-pub line_stands : {policies : List Policy} {m : Meaning} {seg : Segments} {r : Rules} {parts : Meaning} {objects : Option Objects} {e new : SessionModel} (l : List ℕ) (line : Line) (a : Answer) → IsRunning policies m seg r parts objects e → is_silent l ≡ false → parse l ≡ Some line →
-    (IsSettled policies parts seg objects e → StepsAs parts seg e new line (Ok a)) → (s : State) → StandsFor e s → StandsFor new (after_lines r s (l ∷ []))
-line_stands {r = r} {new = new} l line a h loud is steps s stands =
-    subst (StandsFor new) (sym (one_after r s l line loud is)) (subst (λ x. StandsFor new (step x s line).0) (its_rules h) (steps (is_settled h) s stands).0)
-
-pub line_reply : {policies : List Policy} {m : Meaning} {seg : Segments} {r : Rules} {parts : Meaning} {objects : Option Objects} {e new : SessionModel} (l : List ℕ) (line : Line) (a : Answer) → IsRunning policies m seg r parts objects e → is_silent l ≡ false → parse l ≡ Some line →
-    (IsSettled policies parts seg objects e → StepsAs parts seg e new line (Ok a)) → (s : State) → StandsFor e s → reply_line (reply_of a) ≡ replies_from r s (l ∷ [])
-line_reply {r = r} l line a h loud is steps s stands =
-    ap reply_line ((steps (is_settled h) s stands).1 ∙ ap (λ x. as_shown (step x s line).1) (its_rules h)) ∙ shown_line (step r s line).1 ∙ sym (one_reply r s l line loud is)
-
-pub silent_counts : (t : Tally) (r : Rules) (s : State) (l : List ℕ) → is_silent l ≡ true → t ≡ tallied t (answers r s (meanings (l ∷ [])))
-silent_counts t r s l silent = let none = sym silent in λ i. tallied t (answers r s (onto_meanings (none i) (parse l) []))
-
-pub line_counts : {policies : List Policy} {m : Meaning} {seg : Segments} {r : Rules} {parts : Meaning} {objects : Option Objects} {e new : SessionModel} (t : Tally) (l : List ℕ) (line : Line) (a : Answer) → IsRunning policies m seg r parts objects e → is_silent l ≡ false → parse l ≡ Some line →
-    (IsSettled policies parts seg objects e → StepsAs parts seg e new line (Ok a)) → (s : State) → StandsFor e s → counted t (reply_of a) ≡ tallied t (answers r s (meanings (l ∷ [])))
-line_counts {r = r} t l line a h loud is steps s stands =
-    ap (counted t) ((steps (is_settled h) s stands).1 ∙ ap (λ x. as_shown (step x s line).1) (its_rules h)) ∙ counted_shown t (step r s line).1
-    ∙ sym (λ i. tallied t (answers r s (onto_meanings (loud i) (is i) [])))
 
 -- ---- the beginning
 

@@ -10,10 +10,10 @@ use Rattle.slate_types.specs.declared.types.KeyValue.{KeyValue}
 use Rattle.slate_types.specs.declared.types.RowEntry.{RowEntry}
 use Rattle.slate_types.specs.Iteration.{drop_before}
 use Rattle.slate_types.specs.Keys.{is_refused}
-use Rattle.slate_types.specs.Outside.{Act, IsFault, OnlyReads, Reach}
+use Rattle.slate_types.specs.Outside.{Act, IsFault, Objects, OnlyReads, Reach}
 use Rattle.slate_types.specs.Refusing.{NoMore}
-use Rattle.slate_types.specs.World.{World, Made, Sees}
-use Rattle.slate_types.proofs.Calls.{call_none, call_both, no_more_both, sees_first, sees_last}
+use Rattle.slate_types.specs.World.{World, Checks, Made, Sees}
+use Rattle.slate_types.proofs.Calls.{call_none, call_both, checks_none, checks_both, no_more_both, sees_first, sees_last}
 use Rattle.slate_types.proofs.Reaching.{fault_earlier}
 use Rattle.slate_filter.specs.Policy.{Policy}
 use Rattle.slate_mem.specs.KeyTests.{Segments}
@@ -29,14 +29,17 @@ use Rattle.slate_txn.specs.Reply.{RowsAre}
 use Rattle.slate_txn.specs.State.{Rules, Tx}
 use Rattle.slate_txn.specs.Step.{Reader, is_scan, noted, reader, scan, scan_walked, step}
 use Rattle.slate_db.specs.declared.scan.TxnIterator.{TxnIterator}
+use Rattle.slate_db.specs.Checked.{OrSlips}
 use Rattle.slate_db.specs.Meaning.{rules_in, Meaning, rules_of}
 use Rattle.slate_db.specs.Model.{CoreModel}
-use Rattle.slate_db.specs.Readable.{IsAnswered}
-use Rattle.slate_db.specs.Scans.{IsOpenScan, IsRefusedByScan, IsScanError, IsScanOf, Leaves, LeavesIn, ScanRefuses, id_of, number_of, scan_of}
+use Rattle.slate_db.specs.Readable.{IsAnswered, IsReadable}
+use Rattle.slate_db.specs.Scans.{IsOpenScan, IsRefusedByScan, IsScanError, IsScanOf, IsWorldOf, Leaves, LeavesIn, ScanRefuses, id_of, number_of, scan_of}
 use Rattle.slate_db.specs.Sound.{IsKept}
-use Rattle.slate_script.specs.Scanning.{Took, Fails, HasScanned, IsNoted}
+use Rattle.slate_db.proofs.ScanWorlds.{or_slips_world, world_holds}
+use Rattle.slate_script.specs.Scanning.{Took, Fails, HandsOut, HasScanned, IsNoted}
 use Rattle.slate_script.specs.Walking.{Means, TakesStep, TakesSteps, Walks}
 use Rattle.slate_script.proofs.Answers.{answers_first, answers_sees}
+use Rattle.slate_script.proofs.Slips.{slips_between}
 use Rattle.slate_script.proofs.Noting.{noted_none, noted_both, noted_reads, noted_scan, noted_scans}
 use Rattle.slate_script.proofs.SessionSteps.{named_of}
 use Rattle.slate_script.proofs.WalkLaws.{first_ended, first_filled, first_one, handed_both, rest_all, rest_one, walks_all, walks_some, TakesFirst, TakesNext, TakesRest}
@@ -74,6 +77,7 @@ took_none means a c x old none = record {
   hands = sym (append-nil old);
   names = same_scan x;
   rows = λ w rows leaves sees. (rows, leaves, none rows);
+  checked = λ w rows leaves. checks_none w a;
   later = ([], call_none a, λ later at e h. h);
   kept = λ m k. k;
 }
@@ -93,6 +97,7 @@ took_both first second means a b c k l m x y z old mid new f g both = record {
       let one = f.rows w rows leaves (sees_first w a b c f.later.0 g.later.0 f.later.1 g.later.1 sees) in
       let two = g.rows w one.0 one.1 (sees_last w a b c f.later.0 g.later.0 f.later.1 g.later.1 sees) in
       (two.0, two.1, both rows one.0 two.0 f.ts g.ts one.2 two.2));
+  checked = λ w rows leaves. checks_both w a b c f.later.0 g.later.0 f.later.1 g.later.1 (f.checked w rows leaves) (λ sees. let one = f.rows w rows leaves sees in g.checked w one.0 one.1);
   later = (
     f.later.0 ++ g.later.0,
     call_both a b c f.later.0 g.later.0 f.later.1 g.later.1,
@@ -110,6 +115,7 @@ took_as first means a b c d x y old new f weaker = record {
   hands = f.hands;
   names = f.names;
   rows = λ w rows leaves sees. let one = f.rows w rows leaves sees in (one.0, one.1, weaker rows one.0 one.2);
+  checked = f.checked;
   later = f.later;
   kept = f.kept;
 }
@@ -121,6 +127,7 @@ pub record Nexts (a b : Reach) (c d : CoreModel) (x y : TxnIterator) (answer : O
   pub notes : d ≡ record c { state = noted c.state (id_of x) (steps.Next (number_of x) answer ∷ []) }
   pub names : IsScanOf (id_of x) (number_of x) (scan_of x).order (scan_of x).range y
   pub rows : (w : World) (rows : List RowEntry) → Leaves (scan_of x) w rows → Sees w a b → (answer ≡ first_left rows) × Leaves (scan_of y) w (drop 1 rows)
+  pub checked : (w : World) (rows : List RowEntry) → Leaves (scan_of x) w rows → Checks w a b
   pub later : Made a b (λ reads. NoMore (ScanRefuses (scan_of x) a.meaning) reads (ScanRefuses (scan_of y) a.meaning))
   pub kept : (m : Meaning) → IsKept m c → IsKept m d
 
@@ -131,6 +138,7 @@ took_next a b c d x y answer old h = record {
   hands = ap (λ rs. old ++ rs) (sym (given_handed (number_of x) answer));
   names = h.names;
   rows = λ w left leaves sees. let one = h.rows w left leaves sees in (drop 1 left, one.1, (refl, one.0, refl));
+  checked = h.checked;
   later = h.later;
   kept = h.kept;
 }
@@ -191,14 +199,16 @@ took_some (Ok u) a b k l x y sts old new some f =
 pub took_seek : (a b : Reach) (c d : CoreModel) (x y : TxnIterator) (key : List ℕ) (old : List KeyValue) →
     d ≡ record c { state = noted c.state (id_of x) (steps.Seek (number_of x) key ∷ []) } → IsScanOf (id_of x) (number_of x) (scan_of x).order (scan_of x).range y →
     ((w : World) (rows : List RowEntry) → Leaves (scan_of x) w rows → Sees w a b → Leaves (scan_of y) w (drop_before (scan_of x).order key rows)) →
+    ((w : World) (rows : List RowEntry) → Leaves (scan_of x) w rows → Checks w a b) →
     Made a b (λ reads. NoMore (ScanRefuses (scan_of x) a.meaning) reads (ScanRefuses (scan_of y) a.meaning)) → ((m : Meaning) → IsKept m c → IsKept m d) →
     Took (TakesStep (number_of x) (scan_of x).order (Seek key)) a b c d x y old old
-took_seek a b c d x y key old noted names rows later kept = record {
+took_seek a b c d x y key old noted names rows checked later kept = record {
   ts = steps.Seek (number_of x) key ∷ [];
   notes = noted;
   hands = sym (append-nil old);
   names = names;
   rows = λ w left leaves sees. (drop_before (scan_of x).order key left, rows w left leaves sees, (refl, refl));
+  checked = checked;
   later = later;
   kept = kept;
 }
@@ -253,41 +263,48 @@ pub record Opened (policies : List Policy) (a b : Reach) (k l : CoreModel) (id :
   pub notes : l ≡ record k { state = noted k.state id (steps.Scan order range ∷ []) }
   pub names : IsScanOf id from.scans order range x
   pub left : (is : IsAnswered policies a b k) → LeavesIn is.os a.meaning x (rows_seen (rules_of k.settings a.meaning) k.state.commits from.at from.ops order range)
+  pub checked : (os : Objects) → IsReadable policies a.meaning os k → OrSlips os a b (LeavesIn os a.meaning x (rows_seen (rules_of k.settings a.meaning) k.state.commits from.at from.ops order range))
   pub later : Made a b (λ reads. (later : List Act) (at : Option (List ℕ)) (e : SlateDBError) → ScanRefuses (scan_of x) a.meaning later at e → IsRefusedByScan a.meaning k (reads ++ later) at e)
   pub kept : (m : Meaning) → IsKept m k → IsKept m l
 
 pub opened_by : (policies : List Policy) (a b : Reach) (k l : CoreModel) (id : List ℕ) (order : IterationOrder) (range : BytesRange) (x : TxnIterator) → IsSome (reader k.state id) → l ≡ record k { state = noted k.state id (steps.Scan order range ∷ []) } →
     ((from : Reader) → reader k.state id ≡ Some from → IsScanOf id from.scans order range x) →
     ((from : Reader) → reader k.state id ≡ Some from → (is : IsAnswered policies a b k) → LeavesIn is.os a.meaning x (rows_seen (rules_of k.settings a.meaning) k.state.commits from.at from.ops order range)) →
+    ((from : Reader) → reader k.state id ≡ Some from → (os : Objects) → IsReadable policies a.meaning os k → OrSlips os a b (LeavesIn os a.meaning x (rows_seen (rules_of k.settings a.meaning) k.state.commits from.at from.ops order range))) →
     Made a b (λ reads. (later : List Act) (at : Option (List ℕ)) (e : SlateDBError) → ScanRefuses (scan_of x) a.meaning later at e → IsRefusedByScan a.meaning k (reads ++ later) at e) → ((m : Meaning) → IsKept m k → IsKept m l) →
     Opened policies a b k l id order range x
-opened_by policies a b k l id order range x some notes names left later kept =
+opened_by policies a b k l id order range x some notes names left checked later kept =
     let from = named_of (reader k.state id) some in
-    record { from = from.value; found = from.is; notes = notes; names = names from.value from.is; left = left from.value from.is; later = later; kept = kept }
+    record { from = from.value; found = from.is; notes = notes; names = names from.value from.is; left = left from.value from.is; checked = checked from.value from.is; later = later; kept = kept }
 
 pub opens_scan : (policies : List Policy) (a b : Reach) (k l : CoreModel) (id : List ℕ) (order : IterationOrder) (range : BytesRange) (x : TxnIterator) → Opened policies a b k l id order range x → IsOpenScan l x
 opens_scan policies a b k l id order range x h = stays_open k l id (steps.Scan order range ∷ []) x h.notes h.names.named (noted_reads k.state id (steps.Scan order range ∷ []) (subst IsSome (sym h.found) refl))
     (λ t found. subst (λ n. n < count_by is_scan t.transcript) (sym h.names.number) (noted_scan k.state id order range h.from h.found t found))
 
 pub scan_whole : (policies : List Policy) (a b c : Reach) (k l m : CoreModel) (id : List ℕ) (order : IterationOrder) (range : BytesRange) (sts : List ScanStep) (x y : TxnIterator) (rows : List KeyValue) → is_refused range.start range.end ≡ false →
-    Opened policies a b k l id order range x → Took (Walks (number_of x) (scan_of x).order sts) b c l m x y [] rows → HasScanned policies a c k m id order range sts rows
-scan_whole policies a b c k l m id order range sts x y rows some h f = record {
+    Opened policies a b k l id order range x → OnlyReads a b → OnlyReads b c → Took (Walks (number_of x) (scan_of x).order sts) b c l m x y [] rows → HasScanned policies a c k m id order range sts rows
+scan_whole policies a b c k l m id order range sts x y rows some h before behind f = record {
   ts = f.ts;
   notes = notes;
   kept = λ p was. f.kept p (h.kept p was);
   answers = answers;
+  checked = λ seg os readable. slips_between (LeavesIn os a.meaning x seen) (HandsOut a.meaning seg k m id order range sts rows) os a b c before behind (h.checked os readable) (walked_in seg os);
 }
   where
     n : ℕ
     n = h.from.scans
+
+    seen : List RowEntry
+    seen = rows_seen (rules_of k.settings a.meaning) k.state.commits h.from.at h.from.ops order range
 
     notes : m ≡ record k { state = noted k.state id (steps.Scan order range ∷ f.ts) }
     notes =
         f.notes ∙ (λ i. let v = h.notes i in record v { state = noted v.state (h.names.named i) f.ts })
         ∙ ap (λ s. record k { state = s }) (noted_both k.state id (steps.Scan order range ∷ []) f.ts)
 
-    answers : (seg : Segments) → IsAnswered policies a c k → step (rules_in k.settings a.meaning seg) k.state (lines.Scan id order range.start range.end sts) ≡ (m.state, RowsAre rows)
-    answers seg is =
+    -- where the walk met the world that the opening left
+    hands : (seg : Segments) (w : World) → Leaves (scan_of x) w seen → Sees w b c → HandsOut a.meaning seg k m id order range sts rows
+    hands seg w leaves sees =
         ap (λ b. scan r k.state id order (cond b None (Some range)) sts (reader k.state id)) some
         ∙ ap (scan r k.state id order (Some range) sts) h.found
         ∙ ap (scan_walked k.state id order range) (sym noted_is)
@@ -296,23 +313,29 @@ scan_whole policies a b c k l m id order range sts x y rows some h f = record {
         r : Rules
         r = rules_in k.settings a.meaning seg
 
-        seen : List RowEntry
-        seen = rows_seen r k.state.commits h.from.at h.from.ops order range
-
-        early : IsAnswered policies a b k
-        early = record { os = is.os; readable = is.readable; answers = answers_first is.os a b c h.later.0 f.later.0 h.later.1 f.later.1 is.answers }
-
-        taken : (left : List RowEntry) × Leaves (scan_of y) (h.left early).0 left × Walks (number_of x) (scan_of x).order sts seen left f.ts
-        taken = f.rows (h.left early).0 seen (h.left early).2
-            (answers_sees (h.left early).0 is.os a b c h.later.0 f.later.0 h.later.1 f.later.1 (h.left early).1.meaning (h.left early).1.holds is.answers)
+        taken : (left : List RowEntry) × Leaves (scan_of y) w left × Walks (number_of x) (scan_of x).order sts seen left f.ts
+        taken = f.rows w seen leaves sees
 
         noted_is : f.ts ≡ walk order n seen sts
         noted_is = taken.2 ∙ (λ i. walk (h.names.ordered i) (h.names.number i) seen sts)
 
+    answers : (seg : Segments) → IsAnswered policies a c k → HandsOut a.meaning seg k m id order range sts rows
+    answers seg is =
+        hands seg (h.left early).0 (h.left early).2
+        (answers_sees (h.left early).0 is.os a b c h.later.0 f.later.0 h.later.1 f.later.1 (h.left early).1.meaning (world_holds is.os a.meaning (h.left early).0 (h.left early).1) is.answers)
+      where
+        early : IsAnswered policies a b k
+        early = record { os = is.os; readable = is.readable; answers = answers_first is.os a b c h.later.0 f.later.0 h.later.1 f.later.1 is.answers }
+
+    walked_in : (seg : Segments) (os : Objects) → LeavesIn os a.meaning x seen → OrSlips os b c (HandsOut a.meaning seg k m id order range sts rows)
+    walked_in seg os left =
+        or_slips_world os left.0 b c f.later.0 (HandsOut a.meaning seg k m id order range sts rows) (subst (λ (p : Meaning). IsWorldOf os p left.0) (sym h.later.1.meaning) left.1) f.later.1 (f.checked left.0 seen left.2)
+        (hands seg left.0 left.2)
+
 pub scan_fault : (policies : List Policy) (a b c : Reach) (k l : CoreModel) (id : List ℕ) (order : IterationOrder) (range : BytesRange) (x : TxnIterator) (e : SlateDBError) → Opened policies a b k l id order range x → OnlyReads a b → Fails b c x e → IsAnswered policies a c k → IsFault a c e
 scan_fault policies a b c k l id order range x e h reads g is =
     fault_earlier a b c e reads.later (g.undamaged (h.left early).0 _ (h.left early).2
-    (answers_sees (h.left early).0 is.os a b c h.later.0 g.cause.0 h.later.1 g.cause.1 (h.left early).1.meaning (h.left early).1.holds is.answers))
+    (answers_sees (h.left early).0 is.os a b c h.later.0 g.cause.0 h.later.1 g.cause.1 (h.left early).1.meaning (world_holds is.os a.meaning (h.left early).0 (h.left early).1) is.answers))
   where
     early : IsAnswered policies a b k
     early = record { os = is.os; readable = is.readable; answers = answers_first is.os a b c h.later.0 g.cause.0 h.later.1 g.cause.1 is.answers }
@@ -333,22 +356,23 @@ scan_cause policies a b c k l id order range x e h reads g = by g.cause.2
 pub sought : {E : Type 0} (r : Result (Unit {0}) E) (a b : Reach) (c d : CoreModel) (x y : TxnIterator) (st : ScanStep) (key bytes : List ℕ) (old : List KeyValue) → st ≡ Seek key → bytes ≡ key →
     OnOk r (d ≡ record c { state = noted c.state (id_of x) (steps.Seek (number_of x) bytes ∷ []) }) → IsScanOf (id_of x) (number_of x) (scan_of x).order (scan_of x).range y →
     ((w : World) (rows : List RowEntry) → Leaves (scan_of x) w rows → Sees w a b → OnOk r (Leaves (scan_of y) w (drop_before (scan_of x).order bytes rows))) →
+    ((w : World) (rows : List RowEntry) → Leaves (scan_of x) w rows → OnOk r (Checks w a b)) →
     OnOk r (Made a b (λ reads. NoMore (ScanRefuses (scan_of x) a.meaning) reads (ScanRefuses (scan_of y) a.meaning))) → ((m : Meaning) → IsKept m c → IsKept m d) →
     OnOk r (Took (TakesStep (number_of x) (scan_of x).order st) a b c d x y old old)
-sought (Err e) a b c d x y st key bytes old is same noted names rows later kept = tt
-sought (Ok u) a b c d x y st key bytes old is same noted names rows later kept =
+sought (Err e) a b c d x y st key bytes old is same noted names rows checked later kept = tt
+sought (Ok u) a b c d x y st key bytes old is same noted names rows checked later kept =
     subst (λ (s : ScanStep). Took (TakesStep (number_of x) (scan_of x).order s) a b c d x y old old) (ap Seek same ∙ sym is)
-    (took_seek a b c d x y bytes old noted names rows later kept)
+    (took_seek a b c d x y bytes old noted names rows checked later kept)
 
 pub seek_failed : {T : Type 0} (r : Result T SlateDBError) (a b : Reach) (x : TxnIterator) (at : Option (List ℕ)) →
     ((w : World) (rows : List RowEntry) → Leaves (scan_of x) w rows → Sees w a b → IfErr r (IsFault a b)) → IfErr r (λ e. Made a b (λ reads. IsFault a b e ⊎ ScanRefuses (scan_of x) a.meaning reads at e)) → IfErr r (Fails a b x)
 seek_failed (Ok t) a b x at undamaged made = tt
 seek_failed (Err e) a b x at undamaged made = fails_call a b x at e undamaged made
 
-pub walked : {V : Type 0} (policies : List Policy) (items : V → List KeyValue) (r : Result V SlateDBError) (a b c : Reach) (k l m : CoreModel) (id : List ℕ) (order : IterationOrder) (range : BytesRange) (sts : List ScanStep) (x y : TxnIterator) → is_refused range.start range.end ≡ false → Opened policies a b k l id order range x →
+pub walked : {V : Type 0} (policies : List Policy) (items : V → List KeyValue) (r : Result V SlateDBError) (a b c : Reach) (k l m : CoreModel) (id : List ℕ) (order : IterationOrder) (range : BytesRange) (sts : List ScanStep) (x y : TxnIterator) → is_refused range.start range.end ≡ false → Opened policies a b k l id order range x → OnlyReads a b → OnlyReads b c →
     IfOk r (λ v. Took (Walks (number_of x) (scan_of x).order sts) b c l m x y [] (items v)) → IfOk r (λ v. HasScanned policies a c k m id order range sts (items v))
-walked policies items (Err e) a b c k l m id order range sts x y some h f = tt
-walked policies items (Ok v) a b c k l m id order range sts x y some h f = scan_whole policies a b c k l m id order range sts x y (items v) some h f
+walked policies items (Err e) a b c k l m id order range sts x y some h before behind f = tt
+walked policies items (Ok v) a b c k l m id order range sts x y some h before behind f = scan_whole policies a b c k l m id order range sts x y (items v) some h before behind f
 
 pub walk_cause : {T : Type 0} (policies : List Policy) (r : Result T SlateDBError) (a b c : Reach) (k l : CoreModel) (id : List ℕ) (order : IterationOrder) (range : BytesRange) (x : TxnIterator) → Opened policies a b k l id order range x → OnlyReads a b → IfErr r (Fails b c x) → IfErr r (IsScanError policies a c k)
 walk_cause policies (Ok t) a b c k l id order range x h reads g = tt

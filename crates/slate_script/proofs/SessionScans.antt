@@ -31,7 +31,7 @@ use Rattle.slate_db.specs.Scans.{IsRefusedInScan, IsScanError}
 use Rattle.slate_language.specs.declared.reply.Answer.{Answer}
 use Rattle.slate_language.specs.declared.reply.Answer.TheVariants as answers
 use Rattle.slate_language.specs.Answers.{reply_of}
-use Rattle.slate_script.specs.Scanning.{BeginsWith, EndsBelow, ScansAs}
+use Rattle.slate_script.specs.Scanning.{BeginsWith, EndsBelow, HandsOut, ScansAs}
 use Rattle.slate_script.specs.Session.{SessionModel, IsLimit, IsStep, NamesStand, reader_id, reader_under}
 use Rattle.slate_script.proofs.Running.{not_damage}
 use Rattle.slate_script.proofs.SessionSteps.{ReadsAs, ReadsUnder, reads_as}
@@ -117,6 +117,14 @@ scan_found m seg e core name id order given range sts rows a stand known some fi
 
     noted_same : noted c id (steps.Scan order range ∷ taken c.commits) ≡ noted c id (steps.Scan order range ∷ taken s.commits)
     noted_same = ap (λ cs. noted c id (steps.Scan order range ∷ taken cs)) (sym h.commits)
+
+-- what the scan of the core handed out, by the session's own fields
+pub scan_handed : (m : Meaning) (seg : Segments) (before e : SessionModel) (core : CoreModel) (name id : List ℕ) (order : IterationOrder) (given : Option BytesRange) (range : BytesRange) (sts slice : List ScanStep) (rows : List KeyValue) (a : Answer) → before ≡ e →
+    NamesStand before.names before.snapshot_names before.core.state.txns before.core.state.snapshots → reader_id before name ≡ Some id → given ≡ Some range → is_refused range.start range.end ≡ false → slice ≡ sts → reply_of a ≡ replies.RowsAre rows →
+    HandsOut m seg before.core core id order range slice rows → ScansAs m seg e (record before { core = core }) name order given sts (Ok a)
+scan_handed m seg before e core name id order given range sts slice rows a same stand known some fits taken is hands =
+    subst (λ (v : SessionModel). ScansAs m seg v (record before { core = core }) name order given sts (Ok a)) same
+    (scan_found m seg before core name id order given range sts rows a stand known some fits (subst (λ (l : List ScanStep). HandsOut m seg before.core core id order range l rows) taken hands) is)
 
 -- ---- why it is refused
 

@@ -3,19 +3,19 @@
 --     Stands script done left      what was given of the script is whole lines, or all of it
 --     IsAt ..      all lines that were given are answered
 --     Took ..      a line was given, and isn't answered yet
-use Rattle.std.proofs.Common.{◌≡◌, ℕ, suc, ◌+◌, ◌-◌, ◌≤◌, ◌<◌, Bool, true, false, cond, ◌⊎◌, inl, inr, List, [], ◌∷◌, ◌++◌, length, take, Option, Some, None, MatchOption, IsTrue, refl, sym, ap, subst, ◌∙◌, arith, append_assoc}
+use Rattle.std.proofs.Common.{◌≡◌, ℕ, suc, ◌+◌, ◌-◌, ◌≤◌, ◌<◌, Bool, true, false, cond, ◌⊎◌, inl, inr, Ok, List, [], ◌∷◌, ◌++◌, length, take, Option, Some, None, MatchOption, IsTrue, refl, sym, ap, subst, ◌∙◌, arith, append_assoc}
 use Rattle.std.proofs.lemmas.List.{append-nil, length-append}
 use Rattle.std.proofs.lemmas.Bool.{lt-ltb, le-ltb, ltb-false}
 use Rattle.std.proofs.Math.Seq.{take-append_seam, take-append-add}
 use Rattle.slate_store.specs.Lines.{lines_of, whole_part, script_limit, HasNoEnd, LinesModel, GivesLine, IsEnd, KeepsAll}
 use Rattle.slate_store.proofs.LineLaws.{taken_line_is_first, whole_lines_join, whole_parts_join, partial_line_is_not_whole, end_makes_whole}
-use Rattle.slate_txn.specs.State.{Rules, State, opening}
+use Rattle.slate_txn.specs.State.{Rules, opening}
 use Rattle.slate_language.specs.declared.tally.Tally.{Tally}
 use Rattle.slate_language.specs.Tally.{tallied}
 use Rattle.slate_language.specs.Replies.{meanings, after_lines, replies_from, replies_to, IsWellFormed}
 use Rattle.slate_txn.specs.Step.{answers}
 use Rattle.slate_script.specs.Session.{SessionModel, StandsFor}
-use Rattle.slate_script.specs.Run.{is_line, first_other, is_too_long, lines_taken, error_of, script_error, AreLines}
+use Rattle.slate_script.specs.Run.{is_line, first_other, is_too_long, lines_taken, error_of, script_error, AnswersLine, AreLines}
 use Rattle.slate_script.proofs.Answered.{lines_more, replies_append, state_append, tally_append, other_none, none_other, lines_formed, formed_lines}
 
 -- whole lines: the last has its LF
@@ -276,12 +276,9 @@ take_line P r script line source told sink after first tally old new number e at
 one_more : (ls : List (List ℕ)) (l : List ℕ) → length ls + 1 ≡ length (ls ++ (l ∷ []))
 one_more ls l = sym (length-append ls (l ∷ []))
 
-pub answer_it : (P : Type 0) (r : Rules) (script line : List ℕ) (source told sink after : Option (List ℕ)) (first tally next : Tally) (m : LinesModel) (number : ℕ) (e new : SessionModel) → Took P r script source told sink first tally m line number e
-    → IsTrue (is_line line) → (P → (s : State) → StandsFor e s → StandsFor new (after_lines r s (line ∷ [])))
-    → (P → (s : State) (before : List ℕ) → StandsFor e s → sink ≡ Some before → after ≡ Some (before ++ replies_from r s (line ∷ [])))
-    → (P → (s : State) → StandsFor e s → next ≡ tallied tally (answers r s (meanings (line ∷ []))))
-    → IsAt P r script source told after first next m number new
-answer_it P r script line source told sink after first tally next m number e new took is stands says counts = record {
+pub answer_it : {V : Type 0} {v : V} (P : Type 0) (r : Rules) (script line : List ℕ) (source told sink after : Option (List ℕ)) (first tally next : Tally) (m : LinesModel) (number : ℕ) (e new : SessionModel) → Took P r script source told sink first tally m line number e
+    → IsTrue (is_line line) → (P → AnswersLine {T = V} r line e new sink after tally next (Ok v)) → IsAt P r script source told after first next m number new
+answer_it P r script line source told sink after first tally next m number e new took is says = record {
   left = took.left;
   rest = took.rest;
   done = took.more;
@@ -289,13 +286,13 @@ answer_it P r script line source told sink after first tally next m number e new
   given = took.given;
   meant = rw took.lines (lines_more (lines_of took.done) (line ∷ []) took.meant (is, tt));
   count = took.count ∙ one_more (lines_of took.done) line ∙ ap length (sym took.lines);
-  session = λ p. subst (StandsFor new) (sym (ap (after_lines r opening) took.lines ∙ state_append r opening (lines_of took.done) (line ∷ []) took.meant)) (stands p _ (took.session p));
+  session = λ p. subst (StandsFor new) (sym (ap (after_lines r opening) took.lines ∙ state_append r opening (lines_of took.done) (line ∷ []) took.meant)) ((says p).stands _ (took.session p));
   said = λ p before is.
-      says p _ (before ++ replies_to r (lines_of took.done)) (took.session p) (took.said p before is)
+      (says p).said _ (before ++ replies_to r (lines_of took.done)) (took.session p) (took.said p before is)
       ∙ ap Some (append_assoc before (replies_to r (lines_of took.done)) (replies_from r (after_lines r opening (lines_of took.done)) (line ∷ []))
       ∙ ap (λ bs. before ++ bs) (sym (ap (replies_to r) took.lines ∙ replies_append r opening (lines_of took.done) (line ∷ []) took.meant)));
   counts = λ p.
-      counts p _ (took.session p) ∙ ap (λ t. tallied t (answers r (after_lines r opening (lines_of took.done)) (meanings (line ∷ [])))) (took.counts p)
+      (says p).counts _ (took.session p) ∙ ap (λ t. tallied t (answers r (after_lines r opening (lines_of took.done)) (meanings (line ∷ [])))) (took.counts p)
       ∙ sym (ap (λ ls. tallied first (answers r opening (meanings ls))) took.lines ∙ tally_append first r opening (lines_of took.done) (line ∷ []) took.meant);
 }
 

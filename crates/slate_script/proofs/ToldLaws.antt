@@ -26,7 +26,8 @@ use Rattle.slate_db.specs.Segmented.{IsSegmented}
 use Rattle.slate_db.specs.Sound.{IsKept}
 use Rattle.slate_db.specs.Log.{LIMIT}
 use Rattle.slate_script.specs.Session.{SessionModel, IsSettled, StoresNothing}
-use Rattle.slate_script.specs.Told.{ArePut, AreTrue, Follows, IsRefusedAt, IsShownAtEnd, IsShownBy, IsUntrue, PutsTables, after_act, after_acts}
+use Rattle.slate_script.specs.Told.{ArePut, AreTrue, Follows, IsRefusedAt, IsShownAtEnd, IsShownBy, IsUntrue, PutsTables}
+use Rattle.slate_store.specs.Lying.{after_act, after_acts}
 use Rattle.slate_db.proofs.Logs.{tables_more}
 use Rattle.slate_script.proofs.Running.{not_damage}
 use Rattle.slate_script.proofs.SessionLeaves.{leaves_frozen}

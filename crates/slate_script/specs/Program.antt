@@ -8,7 +8,9 @@
 --     IsDamageStatus n      those of a table that isn't what was stored
 --     IsShownStatus policies m before after n      the status is that of an error which the last of the acts show that a store tells
 --     IsGeneratedStatus n      those of a run over a script that it makes for itself
-use Rattle.std.specs.Prelude.{◌≡◌, ℕ, ◌⊎◌, List, Option, Some, None, option_map, unwrap_or}
+--     HasWritten r script left before after n      what the sink took in a run that ended with the status; left: what the source still has; before, after: what the sink tells
+--     HasSummed line before after n      what it took in one that writes one line
+use Rattle.std.specs.Prelude.{◌≡◌, ◌<◌, ℕ, ◌⊎◌, List, ◌++◌, length, take, Option, Some, None, option_map, unwrap_or}
 use Rattle.slate_types.specs.declared.error.SlateDBError.{SlateDBError}
 use Rattle.slate_types.specs.ExitStatus as exit
 use Rattle.slate_types.specs.Outside.{Act}
@@ -20,6 +22,8 @@ use Rattle.slate_db.specs.Meaning.{Meaning, segments_by}
 use Rattle.slate_language.specs.Parts.{named, xored}
 use Rattle.slate_language.specs.Segments.{lengths_of}
 use Rattle.slate_language.specs.declared.words.Settings.{Settings}
+use Rattle.slate_language.specs.Replies.{replies, replies_to}
+use Rattle.slate_script.specs.Run.{HasAnswered, HasAnsweredAll, HasBegun, lines_taken}
 use Rattle.slate_script.specs.Told.{IsShown}
 
 abbrev pub segments_of : Settings → Segments
@@ -50,3 +54,16 @@ IsStatus n = (n ≡ 0) ⊎ (n ≡ 2) ⊎ (n ≡ 3) ⊎ (n ≡ 4) ⊎ (n ≡ 5) �
 
 abbrev pub IsGeneratedStatus : ℕ → Type 0
 IsGeneratedStatus n = (n ≡ 0) ⊎ (n ≡ 6) ⊎ (n ≡ 7) ⊎ IsDamageStatus n ⊎ (n ≡ 20)
+
+-- ---- what was written
+
+pub record HasWritten (r : Rules) (script : List ℕ) (left : Option (List ℕ)) (before : List ℕ) (after : Option (List ℕ)) (n : ℕ) : Type 0 where
+  pub whole : n ≡ 0 → after ≡ Some (before ++ replies r script)
+  pub by_script : (n ≡ 3) ⊎ (n ≡ 4) → after ≡ Some (before ++ replies_to r (lines_taken script))
+  pub by_source : n ≡ 5 → (rest said : List ℕ) × (left ≡ Some rest) × (after ≡ Some (before ++ said)) × HasAnsweredAll r script rest said
+  pub by_sink : n ≡ 6 → (said : List ℕ) × (after ≡ Some (before ++ said)) × HasBegun r script said
+  pub by_part : (n ≡ 7) ⊎ IsDamageStatus n ⊎ (n ≡ 20) → (said : List ℕ) × (after ≡ Some (before ++ said)) × HasAnswered r script said
+
+pub record HasSummed (line before : List ℕ) (after : Option (List ℕ)) (n : ℕ) : Type 0 where
+  pub whole : n ≡ 0 → after ≡ Some (before ++ line)
+  pub begun : n ≡ 6 → (k : ℕ) × (k < length line) × (after ≡ Some (before ++ take k line))

@@ -7,6 +7,7 @@
 --     IsPartError e      the error comes from a part, or a table isn't what was stored
 --     IsOutside e, IsScriptError e      the error comes from a source, a sink, a part or memory, or from the script
 --     IsPartCause before after e      a part's error has its cause
+--     AnswersLine r line old new sink after first tally result      a line was answered as the model answers it: what the session is then, what the sink took, and the counts
 --     HasAnswered r script said      what was written is the replies to the first lines
 --     HasBegun r script said      the same, and a front of one reply more
 --     HasSaid r script left before after result      what the sink took in a run, by what ended it
@@ -26,12 +27,16 @@ use Rattle.slate_store.specs.Store.{IsEmpty}
 use Rattle.slate_filter.specs.Policy.{Policy}
 use Rattle.slate_table.specs.Filtered.{AreLawful}
 use Rattle.slate_txn.specs.Settings.{settings_of}
-use Rattle.slate_txn.specs.State.{Rules}
+use Rattle.slate_txn.specs.State.{Rules, State}
+use Rattle.slate_txn.specs.Step.{answers}
 use Rattle.slate_mem.specs.KeyTests.{Segments}
 use Rattle.slate_db.specs.Meaning.{Meaning, IsLawfulMeaning, rules_in}
 use Rattle.slate_db.specs.Parts.{IsTableError}
 use Rattle.slate_language.specs.Parse.{parse}
-use Rattle.slate_language.specs.Replies.{is_silent, replies, replies_to, IsWellFormed}
+use Rattle.slate_language.specs.declared.tally.Tally.{Tally}
+use Rattle.slate_language.specs.Replies.{after_lines, is_silent, meanings, replies, replies_from, replies_to, IsWellFormed}
+use Rattle.slate_language.specs.Tally.{tallied}
+use Rattle.slate_script.specs.Session.{SessionModel, StandsFor}
 
 abbrev pub run_rules : Options → Meaning → Segments → Rules
 run_rules o m seg = rules_in (settings_of o) m seg
@@ -82,6 +87,14 @@ IsScriptError e = (e ≡ ScriptTooLong) ⊎ ((n : ℕ) × (e ≡ ScriptSyntax n)
 
 abbrev pub AreLines : List (List ℕ) → Type 0
 AreLines ls = AllByRecursion (λ l. IsTrue (is_line l)) ls
+
+-- old, new: the session; sink, after: what the sink tells; first, tally: the counts of replies
+pub record AnswersLine {T : Type 0} (r : Rules) (line : List ℕ) (old new : SessionModel) (sink after : Option (List ℕ)) (first tally : Tally) (result : Result T SlateDBError) : Type 0 where
+  pub stands : (s : State) → StandsFor old s → OnOk result (StandsFor new (after_lines r s (line ∷ [])))
+  pub said : (s : State) (before : List ℕ) → StandsFor old s → sink ≡ Some before → OnOk result (after ≡ Some (before ++ replies_from r s (line ∷ [])))
+  pub counts : (s : State) → StandsFor old s → OnOk result (tally ≡ tallied first (answers r s (meanings (line ∷ []))))
+  pub begun : (s : State) (before : List ℕ) → StandsFor old s → sink ≡ Some before → result ≡ Err WriteFault →
+      (n : ℕ) × (n < length (replies_from r s (line ∷ []))) × (after ≡ Some (before ++ take n (replies_from r s (line ∷ []))))
 
 -- done: the lines that were answered
 pub record HasAnswered (r : Rules) (script said : List ℕ) : Type 0 where

@@ -1,5 +1,4 @@
 -- What a store that tells its acts told of a run.
---     after_act os act, after_acts os acts      the objects once a put stands at its path; the same of several acts
 --     AreTrue os acts      each read was answered by the objects as they were by then
 --     IsUntrue os before after      behind the acts from before a store that tells its acts told of some that aren't so
 --     Follows policies m seg os e before after      behind those a session is settled over the objects as the acts left them
@@ -16,7 +15,8 @@ use Rattle.slate_types.specs.declared.error.SlateDBError.{SlateDBError}
 use Rattle.slate_types.specs.declared.types.Ulid.{Ulid}
 use Rattle.slate_types.specs.Outside.{Objects, Reach}
 use Rattle.slate_types.specs.World.{IsReadAct}
-use Rattle.slate_store.specs.Store.{Act, with_object}
+use Rattle.slate_store.specs.Lying.{after_act, after_acts}
+use Rattle.slate_store.specs.Store.{Act}
 use Rattle.slate_txn.specs.declared.line.Line.{Line}
 use Rattle.slate_txn.specs.declared.line.Line.TheVariants as lines
 use Rattle.slate_filter.specs.Policy.{Policy}
@@ -32,14 +32,6 @@ use Rattle.slate_db.specs.Scans.{IsRefusedInScan}
 use Rattle.slate_db.specs.Shown.{Asking}
 use Rattle.slate_db.specs.Sound.{IsKept}
 use Rattle.slate_script.specs.Session.{SessionModel, IsSettled}
-
-abbrev pub after_act : Objects → Act → Objects
-after_act os (Act.put path bytes) = with_object os path bytes
-after_act os _ = os
-
-abbrev pub after_acts : Objects → List Act → Objects
-after_acts os [] = os
-after_acts os (a ∷ acts) = after_acts (after_act os a) acts
 
 abbrev pub AreTrue : Objects → List Act → Type 0
 AreTrue os [] = Unit {0}

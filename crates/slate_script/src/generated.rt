@@ -7,6 +7,7 @@ ghost use Rattle.slate_store.specs.Lines.{lines_of};
 ghost use Rattle.slate_filter.specs.Laws.{AreValidNames};
 ghost use Rattle.slate_table.specs.Filtered.{AreLawful};
 ghost use Rattle.slate_txn.specs.State.{opening};
+ghost use Rattle.slate_db.specs.Checked.{OrSlips};
 ghost use Rattle.slate_db.specs.Flushed.{layout_of};
 ghost use Rattle.slate_db.specs.Meaning.{IsLawfulMeaning, segments_by};
 ghost use Rattle.slate_db.specs.Parts.{IsTableError};
@@ -101,6 +102,10 @@ pub fn run_generated<W: Sink, S: Store, M: MergeOperator, T: BlockTransformer, X
         let policies = map (λ p. meaning (p.vtable, p.value)) laws.now.policies.items in
         (before : List ℕ) → W.content sink.old ≡ Some before → Premises policies (reach env.old).meaning (reach env.old).objects →
         HasTold (summary (run_rules laws.now.options (reach env.old).meaning (segments_by X.lengths laws.now.segments)) (generate rounds seed)) before (W.content sink.new) result }
+    ensures checked { let reach = ⟦<EnvOf<S, M, T> as Outside>⟧.reach in
+        let policies = map (λ p. meaning (p.vtable, p.value)) laws.now.policies.items in
+        (before : List ℕ) → W.content sink.old ≡ Some before → AreLawful policies → IsLawfulMeaning (reach env.old).meaning →
+        OrSlips [] (reach env.old) (reach env.new) (HasTold (summary (run_rules laws.now.options (reach env.old).meaning (segments_by X.lengths laws.now.segments)) (generate rounds seed)) before (W.content sink.new) result) }
     ensures stored { let reach = ⟦<EnvOf<S, M, T> as Outside>⟧.reach in
         let policies = map (λ p. meaning (p.vtable, p.value)) laws.now.policies.items in
         Premises policies (reach env.old).meaning (reach env.old).objects →

@@ -1,22 +1,23 @@
 //! The program: its words, and the status that it ends with.
-ghost use Rattle.std.specs.Prelude.{◌≡◌, ◌≢◌, ◌⊎◌, ◌≤◌, ◌<◌, ◌++◌, [], ℕ, List, Some, None, map, take, drop, length, option_map};
+ghost use Rattle.std.specs.Prelude.{◌≡◌, ◌≢◌, ◌⊎◌, ◌≤◌, [], ℕ, List, Some, None, map, drop, option_map};
 ghost use Rattle.std.specs.String.{string_bytes};
 ghost use Rattle.slate_types.specs.Config.{IsValid};
 ghost use Rattle.slate_types.specs.Faults.{Rose};
 ghost use Rattle.slate_types.specs.declared.error.SlateDBError.TheVariants as errors;
 ghost use Rattle.slate_store.specs.Lines.{lines_of, script_limit};
-ghost use Rattle.slate_store.specs.Store.{IsEmpty};
+ghost use Rattle.slate_store.specs.Store.{Act, IsEmpty};
 ghost use Rattle.slate_filter.specs.Laws.{AreValidNames};
 ghost use Rattle.slate_table.specs.Filtered.{AreLawful};
 ghost use Rattle.slate_txn.specs.State.{opening};
+ghost use Rattle.slate_db.specs.Checked.{SlipsFrom};
 ghost use Rattle.slate_db.specs.Flushed.{layout_of};
 ghost use Rattle.slate_language.specs.Generate.{generate, summary};
 ghost use Rattle.slate_language.specs.declared.words.Generated.{Generated};
 ghost use Rattle.slate_language.specs.declared.words.Settings.{Settings};
-ghost use Rattle.slate_script.specs.Program.{main_rules, parts_of, segments_of, status, IsDamageStatus, IsGeneratedStatus, IsShownStatus, IsStatus};
-ghost use Rattle.slate_language.specs.Replies.{after_lines, replies, replies_to, IsWellFormed};
+ghost use Rattle.slate_script.specs.Program.{main_rules, parts_of, segments_of, status, IsDamageStatus, HasSummed, HasWritten, IsGeneratedStatus, IsShownStatus, IsStatus};
+ghost use Rattle.slate_language.specs.Replies.{after_lines, IsWellFormed};
 ghost use Rattle.slate_language.specs.Words.{max_rounds, read_generated, read_words, used};
-ghost use Rattle.slate_script.specs.Run.{script_error, lines_taken, IsOutside, IsScriptError, HasAnswered, HasAnsweredAll, HasBegun};
+ghost use Rattle.slate_script.specs.Run.{script_error, IsOutside, IsScriptError};
 ghost use Rattle.slate_script.specs.StoredState.{IsStoredState};
 ghost use Rattle.slate_script.specs.Told.{IsUntrue};
 
@@ -44,8 +45,9 @@ use std::alloc::Global;
 /// of replies and of stored tables where the policies are lawful and the store was empty and tells its objects besides.
 /// Over such a store 12, 14, 15, 16, 18 and 19 never come, and over one that tells its acts only where a read was answered
 /// otherwise than by what the run had put; by whichever policies, the last acts that it tells show the error. At 0 each line was answered, and the store's objects are the tables that flushes
-/// put, with the filters of the policies that the words use, and their rows alone fold to the state at the last flush. At 7
-/// and 20 the replies to some first lines are written.
+/// put, with the filters of the policies that the words use, and their rows alone fold to the state at the last flush. Over a store that
+/// tells its acts alone and whatever it answers, the replies at 0 are right, or a read returned a section of a table that isn't what the
+/// run had put there, and whose checksum fits. At 7 and 20 the replies to some first lines are written.
 pub fn run_main<R: Source, W: Sink, S: Store>(
     alloc: Global,
     words: &[String],
@@ -68,12 +70,20 @@ pub fn run_main<R: Source, W: Sink, S: Store>(
     ensures unwritten { result ≡ 2 → sink.new ≡ sink.old }
     ensures unstored { result ≡ 2 → store.new ≡ store.old }
 
-    // 0: each line was answered as the model answers it, to the end of a script of lines
-    ensures answered { let ws = map string_bytes words.now in
+    // what the sink took, by the status: replies, and at 0 those to each line
+    ensures said { let ws = map string_bytes words.now in
         let handed = map (λ p. (meaning p).name) policies.items in
         let given = map (λ p. meaning p) policies.items in
-        (s : Settings) (script before : List ℕ) → read_words handed ws ≡ Some s → R.left source.old ≡ Some script → W.content sink.old ≡ Some before → AreLawful given → IsEmpty (S.objects store.old) →
-        result ≡ 0 → W.content sink.new ≡ Some (before ++ replies (main_rules s) script) }
+        (s : Settings) (script before : List ℕ) → read_words handed ws ≡ Some s → R.left source.old ≡ Some script → W.content sink.old ≡ Some before →
+        AreLawful given → IsEmpty (S.objects store.old) → HasWritten (main_rules s) script (R.left source.new) before (W.content sink.new) result }
+    ensures checked { let ws = map string_bytes words.now in
+        let handed = map (λ p. (meaning p).name) policies.items in
+        let given = map (λ p. meaning p) policies.items in
+        (s : Settings) (script before : List ℕ) → read_words handed ws ≡ Some s → R.left source.old ≡ Some script → W.content sink.old ≡ Some before →
+        AreLawful given → (known : List Act) → S.acts store.old ≡ Some known →
+        HasWritten (main_rules s) script (R.left source.new) before (W.content sink.new) result ⊎ SlipsFrom (parts_of s).encode [] (S.acts store.old) (S.acts store.new) }
+
+    // 0: what is stored then, to the end of a script of lines
     ensures stored { let ws = map string_bytes words.now in
         let handed = map (λ p. (meaning p).name) policies.items in
         let given = map (λ p. meaning p) policies.items in
@@ -108,28 +118,6 @@ pub fn run_main<R: Source, W: Sink, S: Store>(
     ensures source_still { (result ≡ 5) ⊎ (R.faults source.new ≡ R.faults source.old) }
     ensures sink_still { (result ≡ 6) ⊎ (W.faults sink.new ≡ W.faults sink.old) }
 
-    // what the sink took then
-    ensures by_script { let ws = map string_bytes words.now in
-        let handed = map (λ p. (meaning p).name) policies.items in
-        let given = map (λ p. meaning p) policies.items in
-        (s : Settings) (script before : List ℕ) → read_words handed ws ≡ Some s → R.left source.old ≡ Some script → W.content sink.old ≡ Some before → AreLawful given → IsEmpty (S.objects store.old) →
-        (result ≡ 3) ⊎ (result ≡ 4) → W.content sink.new ≡ Some (before ++ replies_to (main_rules s) (lines_taken script)) }
-    ensures by_source { let ws = map string_bytes words.now in
-        let handed = map (λ p. (meaning p).name) policies.items in
-        let given = map (λ p. meaning p) policies.items in
-        (s : Settings) (script before : List ℕ) → read_words handed ws ≡ Some s → R.left source.old ≡ Some script → W.content sink.old ≡ Some before → AreLawful given → IsEmpty (S.objects store.old) → result ≡ 5 →
-        (left said : List ℕ) × (R.left source.new ≡ Some left) × (W.content sink.new ≡ Some (before ++ said)) × HasAnsweredAll (main_rules s) script left said }
-    ensures by_sink { let ws = map string_bytes words.now in
-        let handed = map (λ p. (meaning p).name) policies.items in
-        let given = map (λ p. meaning p) policies.items in
-        (s : Settings) (script before : List ℕ) → read_words handed ws ≡ Some s → R.left source.old ≡ Some script → W.content sink.old ≡ Some before → AreLawful given → IsEmpty (S.objects store.old) → result ≡ 6 →
-        (said : List ℕ) × (W.content sink.new ≡ Some (before ++ said)) × HasBegun (main_rules s) script said }
-    ensures by_part { let ws = map string_bytes words.now in
-        let handed = map (λ p. (meaning p).name) policies.items in
-        let given = map (λ p. meaning p) policies.items in
-        (s : Settings) (script before : List ℕ) → read_words handed ws ≡ Some s → R.left source.old ≡ Some script → W.content sink.old ≡ Some before → AreLawful given → IsEmpty (S.objects store.old) →
-        (result ≡ 7) ⊎ (result ≡ 20) → (said : List ℕ) × (W.content sink.new ≡ Some (before ++ said)) × HasAnswered (main_rules s) script said }
-
     // what was read: all that a run can take of a script that is too long, and never more
     ensures all { (script : List ℕ) → R.left source.old ≡ Some script → result ≡ 4 → R.left source.new ≡ Some (drop script_limit script) }
     ensures taken { (script : List ℕ) → R.left source.old ≡ Some script → (n : ℕ) × (n ≤ script_limit) × (R.left source.new ≡ Some (drop n script)) }
@@ -140,7 +128,13 @@ pub fn run_main<R: Source, W: Sink, S: Store>(
         let handed = map (λ p. (meaning p).name) policies.items in
         let given = map (λ p. meaning p) policies.items in
         (g : Generated) (before : List ℕ) → read_generated handed ws ≡ Some g → W.content sink.old ≡ Some before → AreLawful given → IsEmpty (S.objects store.old) →
-        result ≡ 0 → W.content sink.new ≡ Some (before ++ summary (main_rules g.settings) (generate g.rounds g.seed)) }
+        HasSummed (summary (main_rules g.settings) (generate g.rounds g.seed)) before (W.content sink.new) result }
+    ensures summed_checked { let ws = map string_bytes words.now in
+        let handed = map (λ p. (meaning p).name) policies.items in
+        let given = map (λ p. meaning p) policies.items in
+        (g : Generated) (before : List ℕ) → read_generated handed ws ≡ Some g → W.content sink.old ≡ Some before → AreLawful given → (known : List Act) → S.acts store.old ≡ Some known →
+        HasSummed (summary (main_rules g.settings) (generate g.rounds g.seed)) before (W.content sink.new) result
+        ⊎ SlipsFrom (parts_of g.settings).encode [] (S.acts store.old) (S.acts store.new) }
     ensures summed_stored { let ws = map string_bytes words.now in
         let handed = map (λ p. (meaning p).name) policies.items in
         let given = map (λ p. meaning p) policies.items in
@@ -161,11 +155,6 @@ pub fn run_main<R: Source, W: Sink, S: Store>(
         let handed = map (λ p. (meaning p).name) policies.items in
         let given = map (λ p. meaning p) policies.items in
         (g : Generated) → read_generated handed ws ≡ Some g → IsDamageStatus result → IsShownStatus (used ws given) (parts_of g.settings) (S.acts store.old) (S.acts store.new) result }
-    ensures summed_begun { let ws = map string_bytes words.now in
-        let handed = map (λ p. (meaning p).name) policies.items in
-        let given = map (λ p. meaning p) policies.items in
-        (g : Generated) (before : List ℕ) → read_generated handed ws ≡ Some g → W.content sink.old ≡ Some before → AreLawful given → IsEmpty (S.objects store.old) → result ≡ 6 →
-        (n : ℕ) × (n < length (summary (main_rules g.settings) (generate g.rounds g.seed))) × (W.content sink.new ≡ Some (before ++ take n (summary (main_rules g.settings) (generate g.rounds g.seed)))) }
     ensures summed_unwritten { let ws = map string_bytes words.now in
         let handed = map (λ p. (meaning p).name) policies.items in
         (g : Generated) → read_generated handed ws ≡ Some g → (result ≡ 0) ⊎ (result ≡ 6) ⊎ (W.content sink.new ≡ W.content sink.old) }
@@ -214,7 +203,10 @@ fn main_generated<W: Sink, S: Store>(
     requires few { generated.now.rounds ≤ max_rounds }
     ensures kinds { IsGeneratedStatus result }
     ensures summed { (before : List ℕ) → W.content sink.old ≡ Some before → AreLawful (map (λ p. meaning p) policies.items) → IsEmpty (S.objects store.old) →
-        result ≡ 0 → W.content sink.new ≡ Some (before ++ summary (main_rules generated.now.settings) (generate generated.now.rounds generated.now.seed)) }
+        HasSummed (summary (main_rules generated.now.settings) (generate generated.now.rounds generated.now.seed)) before (W.content sink.new) result }
+    ensures checked { (before : List ℕ) → W.content sink.old ≡ Some before → AreLawful (map (λ p. meaning p) policies.items) → (known : List Act) → S.acts store.old ≡ Some known →
+        HasSummed (summary (main_rules generated.now.settings) (generate generated.now.rounds generated.now.seed)) before (W.content sink.new) result
+        ⊎ SlipsFrom (parts_of generated.now.settings).encode [] (S.acts store.old) (S.acts store.new) }
     ensures stored { AreLawful (map (λ p. meaning p) policies.items) → IsEmpty (S.objects store.old) →
         result ≡ 0 → IsStoredState (parts_of generated.now.settings) (main_rules generated.now.settings) (layout_of generated.now.settings.options (map (λ p. meaning p) policies.items) (segments_of generated.now.settings)) (S.objects store.new) (after_lines (main_rules generated.now.settings) opening (lines_of (generate generated.now.rounds generated.now.seed))) }
     ensures write_fault { result ≡ 6 → Rose (W.faults sink.old) (W.faults sink.new) }
@@ -224,8 +216,6 @@ fn main_generated<W: Sink, S: Store>(
     ensures shown { IsDamageStatus result → IsShownStatus (map (λ p. meaning p) policies.items) (parts_of generated.now.settings) (S.acts store.old) (S.acts store.new) result }
     ensures complete { AreLawful (map (λ p. meaning p) policies.items) → IsEmpty (S.objects store.old) →
         (Rose (W.faults sink.old) (W.faults sink.new) → ⊥) → (Rose (S.faults store.old) (S.faults store.new) → ⊥) → (result ≡ 0) ⊎ (result ≡ 20) }
-    ensures begun { (before : List ℕ) → W.content sink.old ≡ Some before → AreLawful (map (λ p. meaning p) policies.items) → IsEmpty (S.objects store.old) → result ≡ 6 →
-        (n : ℕ) × (n < length (summary (main_rules generated.now.settings) (generate generated.now.rounds generated.now.seed))) × (W.content sink.new ≡ Some (before ++ take n (summary (main_rules generated.now.settings) (generate generated.now.rounds generated.now.seed)))) }
     ensures unwritten { (result ≡ 0) ⊎ (result ≡ 6) ⊎ (W.content sink.new ≡ W.content sink.old) }
     ensures sink_still { (result ≡ 6) ⊎ (W.faults sink.new ≡ W.faults sink.old) }
     ensures later { W.faults sink.old ≤ W.faults sink.new }

@@ -7,19 +7,21 @@ ghost use Rattle.slate_types.specs.World.{Made};
 ghost use Rattle.slate_store.specs.Lines.{lines_of, script_limit};
 ghost use Rattle.slate_filter.specs.Laws.{AreValidNames};
 ghost use Rattle.slate_table.specs.Filtered.{AreLawful};
-ghost use Rattle.slate_txn.specs.State.{Rules, State, opening};
+ghost use Rattle.slate_txn.specs.State.{Rules, opening};
+ghost use Rattle.slate_db.specs.Answered.{AddsActs};
+ghost use Rattle.slate_db.specs.Checked.{OrSlips};
 ghost use Rattle.slate_db.specs.Flushed.{layout_of};
 ghost use Rattle.slate_db.specs.Installs.{runs_of, tables_of};
 ghost use Rattle.slate_db.specs.Load.{weight};
 ghost use Rattle.slate_db.specs.Meaning.{Meaning, IsLawfulMeaning, segments_by};
 ghost use Rattle.slate_db.specs.Parts.{IsTableError};
 ghost use Rattle.slate_db.specs.Sound.{IsKept};
-ghost use Rattle.slate_language.specs.Replies.{meanings, replies, replies_to, after_lines, replies_from, reply_line, IsWellFormed};
+ghost use Rattle.slate_language.specs.Replies.{meanings, replies, replies_to, after_lines, reply_line, IsWellFormed};
 ghost use Rattle.slate_language.specs.Answers.{reply_of};
 ghost use Rattle.slate_language.specs.Tally.{tallied};
 ghost use Rattle.slate_txn.specs.Step.{answers};
-ghost use Rattle.slate_script.specs.Session.{StandsFor, HasTablesAlone, IsRunning, IsSettled, IsLimit, held_load};
-ghost use Rattle.slate_script.specs.Run.{run_rules, Premises, is_line, script_error, lines_taken, IsPartError, IsPartCause, HasCause, HasRead, HasSaid, NoneRose};
+ghost use Rattle.slate_script.specs.Session.{HasTablesAlone, IsRunning, IsSettled, IsLimit, held_load};
+ghost use Rattle.slate_script.specs.Run.{run_rules, Premises, is_line, script_error, lines_taken, IsPartError, IsPartCause, AnswersLine, HasCause, HasRead, HasSaid, NoneRose};
 ghost use Rattle.slate_script.specs.StoredState.{IsStoredState};
 ghost use Rattle.slate_script.specs.Told.{Follows, IsShownAtEnd, IsShownBy, IsUntrue, PutsTables};
 
@@ -35,7 +37,9 @@ use std::alloc::Global;
 /// What is said of the script and of what was written holds where source and sink tell their bytes, and what is said
 /// of replies and of stored tables where the parts and the policies of filters are lawful and the store is honest and
 /// was empty besides. At Ok each line was answered, and the store's objects are the tables that flushes put, with the
-/// filters of the policies, and their rows alone fold to the state at the last flush.
+/// filters of the policies, and their rows alone fold to the state at the last flush. What is said of replies holds over a store
+/// that tells its acts alone, too, or a section slipped through: a read returned a section of a table that isn't what this run had
+/// put there, and whose checksum fits.
 ///
 /// An error of the script itself, `ScriptSyntax` or `ScriptTooLong`, comes exactly where `script_error` has it, unless
 /// another error came first. `ReadFault`, `WriteFault`, `StoreFault`, `Callback` and `BlockTransformError` come only
@@ -71,6 +75,10 @@ pub fn run_script<
         let policies = map (λ p. meaning (p.vtable, p.value)) laws.now.policies.items in
         (script before : List ℕ) → R.left source.old ≡ Some script → W.content sink.old ≡ Some before → Premises policies (reach env.old).meaning (reach env.old).objects →
         HasSaid (run_rules laws.now.options (reach env.old).meaning (segments_by X.lengths laws.now.segments)) script (R.left source.new) before (W.content sink.new) result }
+    ensures checked { let reach = ⟦<EnvOf<S, M, T> as Outside>⟧.reach in
+        let policies = map (λ p. meaning (p.vtable, p.value)) laws.now.policies.items in
+        (script before : List ℕ) → R.left source.old ≡ Some script → W.content sink.old ≡ Some before → AreLawful policies → IsLawfulMeaning (reach env.old).meaning →
+        OrSlips [] (reach env.old) (reach env.new) (HasSaid (run_rules laws.now.options (reach env.old).meaning (segments_by X.lengths laws.now.segments)) script (R.left source.new) before (W.content sink.new) result) }
     ensures stored { let reach = ⟦<EnvOf<S, M, T> as Outside>⟧.reach in
         let policies = map (λ p. meaning (p.vtable, p.value)) laws.now.policies.items in
         (script : List ℕ) → R.left source.old ≡ Some script → Premises policies (reach env.old).meaning (reach env.old).objects →
@@ -125,10 +133,18 @@ pub(crate) fn answer_lines<
         let policies = map (λ p. meaning (p.vtable, p.value)) laws.now.policies.items in
         (script before : List ℕ) → R.left source.old ≡ Some script → W.content sink.old ≡ Some before → Premises policies (reach env.old).meaning (reach env.old).objects →
         HasSaid (run_rules laws.now.options (reach env.old).meaning (segments_by X.lengths laws.now.segments)) script (R.left source.new) before (W.content sink.new) result }
+    ensures checked { let reach = ⟦<EnvOf<S, M, T> as Outside>⟧.reach in
+        let policies = map (λ p. meaning (p.vtable, p.value)) laws.now.policies.items in
+        (script before : List ℕ) → R.left source.old ≡ Some script → W.content sink.old ≡ Some before → AreLawful policies → IsLawfulMeaning (reach env.old).meaning →
+        OrSlips [] (reach env.old) (reach env.new) (HasSaid (run_rules laws.now.options (reach env.old).meaning (segments_by X.lengths laws.now.segments)) script (R.left source.new) before (W.content sink.new) result) }
     ensures counted { let reach = ⟦<EnvOf<S, M, T> as Outside>⟧.reach in
         let policies = map (λ p. meaning (p.vtable, p.value)) laws.now.policies.items in
         (script : List ℕ) → R.left source.old ≡ Some script → Premises policies (reach env.old).meaning (reach env.old).objects →
         OnOk result (tally.new ≡ tallied tally.old (answers (run_rules laws.now.options (reach env.old).meaning (segments_by X.lengths laws.now.segments)) opening (meanings (lines_of script)))) }
+    ensures checked_count { let reach = ⟦<EnvOf<S, M, T> as Outside>⟧.reach in
+        let policies = map (λ p. meaning (p.vtable, p.value)) laws.now.policies.items in
+        (script : List ℕ) → R.left source.old ≡ Some script → AreLawful policies → IsLawfulMeaning (reach env.old).meaning →
+        OnOk result (OrSlips [] (reach env.old) (reach env.new) (tally.new ≡ tallied tally.old (answers (run_rules laws.now.options (reach env.old).meaning (segments_by X.lengths laws.now.segments)) opening (meanings (lines_of script))))) }
     ensures stored { let reach = ⟦<EnvOf<S, M, T> as Outside>⟧.reach in
         let policies = map (λ p. meaning (p.vtable, p.value)) laws.now.policies.items in
         (script : List ℕ) → R.left source.old ≡ Some script → Premises policies (reach env.old).meaning (reach env.old).objects →
@@ -209,17 +225,15 @@ fn answer_line<W: Sink, S: Store, M: MergeOperator, T: BlockTransformer, X: Pref
     ensures running { let reach = ⟦<EnvOf<S, M, T> as Outside>⟧.reach in
         let policies = map (λ p. meaning (p.vtable, p.value)) laws.now.policies.items in
         (m : Meaning) (r : Rules) → IsRunning policies m (segments_by X.lengths laws.now.segments) r (reach env.old).meaning (reach env.old).objects session.old → OnOk result (IsRunning policies m (segments_by X.lengths laws.now.segments) r (reach env.new).meaning (reach env.new).objects session.new) }
-    ensures stands { let reach = ⟦<EnvOf<S, M, T> as Outside>⟧.reach in
-        let policies = map (λ p. meaning (p.vtable, p.value)) laws.now.policies.items in
-        (m : Meaning) (r : Rules) → IsRunning policies m (segments_by X.lengths laws.now.segments) r (reach env.old).meaning (reach env.old).objects session.old → (s : State) → StandsFor session.old s → OnOk result (StandsFor session.new (after_lines r s (line.now ∷ []))) }
     ensures answered { let reach = ⟦<EnvOf<S, M, T> as Outside>⟧.reach in
         let policies = map (λ p. meaning (p.vtable, p.value)) laws.now.policies.items in
-        (m : Meaning) (r : Rules) → IsRunning policies m (segments_by X.lengths laws.now.segments) r (reach env.old).meaning (reach env.old).objects session.old → (s : State) (before : List ℕ) → StandsFor session.old s → W.content sink.old ≡ Some before →
-        OnOk result (W.content sink.new ≡ Some (before ++ replies_from r s (line.now ∷ []))) }
-    ensures counted { let reach = ⟦<EnvOf<S, M, T> as Outside>⟧.reach in
+        (m : Meaning) (r : Rules) → IsRunning policies m (segments_by X.lengths laws.now.segments) r (reach env.old).meaning (reach env.old).objects session.old →
+        AnswersLine r line.now session.old session.new (W.content sink.old) (W.content sink.new) tally.old tally.new result }
+    ensures checked { let reach = ⟦<EnvOf<S, M, T> as Outside>⟧.reach in
         let policies = map (λ p. meaning (p.vtable, p.value)) laws.now.policies.items in
-        (m : Meaning) (r : Rules) → IsRunning policies m (segments_by X.lengths laws.now.segments) r (reach env.old).meaning (reach env.old).objects session.old → (s : State) → StandsFor session.old s →
-        OnOk result (tally.new ≡ tallied tally.old (answers r s (meanings (line.now ∷ [])))) }
+        (m : Meaning) (r : Rules) (os : Objects) → IsRunning policies m (segments_by X.lengths laws.now.segments) r (reach env.old).meaning (Some os) session.old →
+        OrSlips os (reach env.old) (reach env.new) (AnswersLine r line.now session.old session.new (W.content sink.old) (W.content sink.new) tally.old tally.new result) }
+    ensures settings { OnOk result (session.new.core.settings ≡ session.old.core.settings) }
     ensures grows { OnOk result ((weight session.new.core ≤ weight session.old.core + 2) × (held_load session.new ≤ held_load session.old + length line.now)) }
     ensures alone { let reach = ⟦<EnvOf<S, M, T> as Outside>⟧.reach in
         let policies = map (λ p. meaning (p.vtable, p.value)) laws.now.policies.items in
@@ -237,15 +251,12 @@ fn answer_line<W: Sink, S: Store, M: MergeOperator, T: BlockTransformer, X: Pref
         let policies = map (λ p. meaning (p.vtable, p.value)) laws.now.policies.items in
         (os : Objects) → IsSettled policies (reach env.old).meaning (segments_by X.lengths laws.now.segments) (Some os) session.old → IfErr result (λ e. IsTableError e → IsUntrue os (reach env.old).acts (reach env.new).acts) }
     ensures tables { let reach = ⟦<EnvOf<S, M, T> as Outside>⟧.reach in OnOk result (PutsTables (tables_of session.old.core.events) (tables_of session.new.core.events) (reach env.old).acts (reach env.new).acts) }
+    ensures adds { let reach = ⟦<EnvOf<S, M, T> as Outside>⟧.reach in AddsActs (reach env.old).acts (reach env.new).acts }
     ensures core_kept { let reach = ⟦<EnvOf<S, M, T> as Outside>⟧.reach in IsKept (reach env.old).meaning session.old.core → OnOk result (IsKept (reach env.old).meaning session.new.core) }
     ensures shown { let reach = ⟦<EnvOf<S, M, T> as Outside>⟧.reach in
         let policies = map (λ p. meaning (p.vtable, p.value)) laws.now.policies.items in
         IsKept (reach env.old).meaning session.old.core → IfErr result (λ e. IsTableError e → Made (reach env.old) (reach env.new) (λ reads. IsShownBy policies (reach env.old).meaning session.old.core reads e)) }
     ensures write_fault { result ≡ Err SlateDBError.WriteFault → Rose (W.faults sink.old) (W.faults sink.new) × IsTrue (is_line line.now) }
-    ensures begun { let reach = ⟦<EnvOf<S, M, T> as Outside>⟧.reach in
-        let policies = map (λ p. meaning (p.vtable, p.value)) laws.now.policies.items in
-        (m : Meaning) (r : Rules) → IsRunning policies m (segments_by X.lengths laws.now.segments) r (reach env.old).meaning (reach env.old).objects session.old → (s : State) (before : List ℕ) → StandsFor session.old s → W.content sink.old ≡ Some before → result ≡ Err SlateDBError.WriteFault →
-        (n : ℕ) × (n < length (replies_from r s (line.now ∷ []))) × (W.content sink.new ≡ Some (before ++ take n (replies_from r s (line.now ∷ [])))) }
     ensures still { OnOk result (W.faults sink.new ≡ W.faults sink.old) }
     ensures puts { let reach = ⟦<EnvOf<S, M, T> as Outside>⟧.reach in Puts (reach env.old) (reach env.new) }
     ensures uncounted { IfErr result (λ e. (e ≡ SlateDBError.WriteFault) ⊎ (W.faults sink.new ≡ W.faults sink.old)) }

@@ -18,12 +18,14 @@ ghost use Rattle.slate_txn.specs.Reply.{Refused};
 ghost use Rattle.slate_txn.specs.Settings.{settings_of};
 ghost use Rattle.slate_txn.specs.State.{State, opening};
 ghost use Rattle.slate_txn.specs.Step.{reader};
+ghost use Rattle.slate_db.specs.Answered.{AddsActs};
+ghost use Rattle.slate_db.specs.Checked.{OrSlips};
 ghost use Rattle.slate_db.specs.Flushed.{layout_of};
 ghost use Rattle.slate_db.specs.Installs.{runs_of, tables_of};
 ghost use Rattle.slate_db.specs.Load.{weight};
 ghost use Rattle.slate_db.specs.Meaning.{Meaning, IsLawfulMeaning, segments_by};
 ghost use Rattle.slate_db.specs.Parts.{IsTableError};
-ghost use Rattle.slate_db.specs.Readable.{IsAnswered, IsReadError};
+ghost use Rattle.slate_db.specs.Readable.{IsAnswered, IsReadable, IsReadError};
 ghost use Rattle.slate_db.specs.Scans.{IsScanError};
 ghost use Rattle.slate_db.specs.Segmented.{IsSegmented};
 ghost use Rattle.slate_db.specs.Sound.{IsKept, IsOperable};
@@ -104,8 +106,10 @@ impl Session {
 
     /// The answer to a line. Where the parts and the policies of filters are lawful, what is kept of the rows holds and the
     /// store has the journal's tables with the filters of these policies, it is that of the model's step, and no damage is
-    /// answered; nor is it where the store's acts tell that each read of this call was answered by those tables. A part's fault
-    /// is answered only where its count rose in this call, and `LimitReached` only where the journal or memory holds more than a script can bring.
+    /// answered; nor is it where the store's acts tell that each read of this call was answered by those tables. Where they tell
+    /// otherwise, the answer is that of the model's step, or one of the reads returned a section of those tables that isn't what
+    /// stands there, and whose checksum fits. A part's fault is answered only where its count rose in this call, and `LimitReached`
+    /// only where the journal or memory holds more than a script can bring.
     pub fn answer<S: Store, M: MergeOperator, T: BlockTransformer, X: PrefixExtractor>(
         &mut self,
         line: Line,
@@ -119,6 +123,10 @@ impl Session {
             let policies = map (λ p. meaning (p.vtable, p.value)) laws.now.policies.items in
             IsSettledIn policies (segments_by X.lengths laws.now.segments) (reach env.old) self.old →
             StepsAs (reach env.old).meaning (segments_by X.lengths laws.now.segments) self.old self.new line result }
+        ensures checked { let reach = ⟦<EnvOf<S, M, T> as Outside>⟧.reach in
+            let policies = map (λ p. meaning (p.vtable, p.value)) laws.now.policies.items in
+            (os : Objects) → IsSettled policies (reach env.old).meaning (segments_by X.lengths laws.now.segments) (Some os) self.old →
+            OrSlips os (reach env.old) (reach env.new) (StepsAs (reach env.old).meaning (segments_by X.lengths laws.now.segments) self.old self.new line result) }
         ensures settings { OnOk result (self.new.core.settings ≡ self.old.core.settings) }
         ensures grows { OnOk result (Grows line self.old self.new) }
         ensures kept { let reach = ⟦<EnvOf<S, M, T> as Outside>⟧.reach in
@@ -142,6 +150,7 @@ impl Session {
             let policies = map (λ p. meaning (p.vtable, p.value)) laws.now.policies.items in
             (os : Objects) → IsSettled policies (reach env.old).meaning (segments_by X.lengths laws.now.segments) (Some os) self.old → OnOk result (Follows policies (reach env.old).meaning (segments_by X.lengths laws.now.segments) os self.new (reach env.old).acts (reach env.new).acts) }
         ensures tables { let reach = ⟦<EnvOf<S, M, T> as Outside>⟧.reach in OnOk result (PutsTables (tables_of self.old.core.events) (tables_of self.new.core.events) (reach env.old).acts (reach env.new).acts) }
+        ensures adds { let reach = ⟦<EnvOf<S, M, T> as Outside>⟧.reach in AddsActs (reach env.old).acts (reach env.new).acts }
         ensures untrue { let reach = ⟦<EnvOf<S, M, T> as Outside>⟧.reach in
             let policies = map (λ p. meaning (p.vtable, p.value)) laws.now.policies.items in
             (os : Objects) → IsSettled policies (reach env.old).meaning (segments_by X.lengths laws.now.segments) (Some os) self.old → IfErr result (λ e. IsTableError e → IsUntrue os (reach env.old).acts (reach env.new).acts) }
@@ -279,6 +288,10 @@ impl Session {
             let policies = map (λ p. meaning (p.vtable, p.value)) laws.now.policies.items in
             IsAnswered policies (reach env.old) (reach env.new) self.old.core →
             (seg : Segments) → StepsAs (reach env.old).meaning seg self.old self.new (Line.Get name key) result }
+        ensures checked { let reach = ⟦<EnvOf<S, M, T> as Outside>⟧.reach in
+            let policies = map (λ p. meaning (p.vtable, p.value)) laws.now.policies.items in
+            (os : Objects) → IsReadable policies (reach env.old).meaning os self.old.core →
+            (seg : Segments) → OrSlips os (reach env.old) (reach env.new) (StepsAs (reach env.old).meaning seg self.old self.new (Line.Get name key) result) }
         ensures stores { OnOk result ((m : Meaning) (seg : Segments) → StoresNothing m seg self.old self.new) }
         ensures grows { OnOk result (Grows (Line.Get name key) self.old self.new) }
         ensures cause { let reach = ⟦<EnvOf<S, M, T> as Outside>⟧.reach in
@@ -316,6 +329,10 @@ impl Session {
             let policies = map (λ p. meaning (p.vtable, p.value)) laws.now.policies.items in
             IsAnswered policies (reach env.old) (reach env.new) self.old.core →
             (seg : Segments) → StepsAs (reach env.old).meaning seg self.old self.new (Line.Scan name order start end steps) result }
+        ensures checked { let reach = ⟦<EnvOf<S, M, T> as Outside>⟧.reach in
+            let policies = map (λ p. meaning (p.vtable, p.value)) laws.now.policies.items in
+            (os : Objects) → IsReadable policies (reach env.old).meaning os self.old.core →
+            (seg : Segments) → OrSlips os (reach env.old) (reach env.new) (StepsAs (reach env.old).meaning seg self.old self.new (Line.Scan name order start end steps) result) }
         ensures stores { OnOk result ((m : Meaning) (seg : Segments) → StoresNothing m seg self.old self.new) }
         ensures grows { OnOk result (Grows (Line.Scan name order start end steps) self.old self.new) }
         ensures cause { let reach = ⟦<EnvOf<S, M, T> as Outside>⟧.reach in
@@ -347,6 +364,10 @@ impl Session {
             let policies = map (λ p. meaning (p.vtable, p.value)) laws.now.policies.items in
             IsAnswered policies (reach env.old) (reach env.new) self.old.core →
             (seg : Segments) → StepsAs (reach env.old).meaning seg self.old self.new (Line.Prefix name order prefix start end steps) result }
+        ensures checked { let reach = ⟦<EnvOf<S, M, T> as Outside>⟧.reach in
+            let policies = map (λ p. meaning (p.vtable, p.value)) laws.now.policies.items in
+            (os : Objects) → IsReadable policies (reach env.old).meaning os self.old.core →
+            (seg : Segments) → OrSlips os (reach env.old) (reach env.new) (StepsAs (reach env.old).meaning seg self.old self.new (Line.Prefix name order prefix start end steps) result) }
         ensures stores { OnOk result ((m : Meaning) (seg : Segments) → StoresNothing m seg self.old self.new) }
         ensures grows { OnOk result (Grows (Line.Prefix name order prefix start end steps) self.old self.new) }
         ensures cause { let reach = ⟦<EnvOf<S, M, T> as Outside>⟧.reach in
@@ -388,6 +409,10 @@ impl Session {
             let policies = map (λ p. meaning (p.vtable, p.value)) laws.now.policies.items in
             IsAnswered policies (reach env.old) (reach env.new) self.old.core →
             (seg : Segments) → ScansAs (reach env.old).meaning seg self.old self.new name order range steps result }
+        ensures checked { let reach = ⟦<EnvOf<S, M, T> as Outside>⟧.reach in
+            let policies = map (λ p. meaning (p.vtable, p.value)) laws.now.policies.items in
+            (os : Objects) → IsReadable policies (reach env.old).meaning os self.old.core →
+            (seg : Segments) → OrSlips os (reach env.old) (reach env.new) (ScansAs (reach env.old).meaning seg self.old self.new name order range steps result) }
         ensures stores { OnOk result ((m : Meaning) (seg : Segments) → StoresNothing m seg self.old self.new) }
         ensures grows { (line : Line) → line_load line ≡ 0 → OnOk result (Grows line self.old self.new) }
         ensures cause { let reach = ⟦<EnvOf<S, M, T> as Outside>⟧.reach in
@@ -658,6 +683,7 @@ impl Session {
             let policies = map (λ p. meaning (p.vtable, p.value)) laws.now.policies.items in
             (os : Objects) → IsSettled policies (reach env.old).meaning (segments_by X.lengths laws.now.segments) (Some os) self.old → OnOk result (Follows policies (reach env.old).meaning (segments_by X.lengths laws.now.segments) os self.new (reach env.old).acts (reach env.new).acts) }
         ensures tables { let reach = ⟦<EnvOf<S, M, T> as Outside>⟧.reach in OnOk result (PutsTables (tables_of self.old.core.events) (tables_of self.new.core.events) (reach env.old).acts (reach env.new).acts) }
+        ensures adds { let reach = ⟦<EnvOf<S, M, T> as Outside>⟧.reach in AddsActs (reach env.old).acts (reach env.new).acts }
         ensures cause { let reach = ⟦<EnvOf<S, M, T> as Outside>⟧.reach in IfErr result (λ e. IsFault (reach env.old) (reach env.new) e ⊎ IsLimit self.old e ⊎ (e ≡ SlateDBError.MergeOperatorMissing)) }
         ensures operable { let reach = ⟦<EnvOf<S, M, T> as Outside>⟧.reach in IsKept (reach env.old).meaning self.old.core → IfErr result (λ e. IsFault (reach env.old) (reach env.new) e ⊎ IsLimit self.old e) }
         ensures puts { let reach = ⟦<EnvOf<S, M, T> as Outside>⟧.reach in Puts (reach env.old) (reach env.new) }

@@ -1,5 +1,6 @@
-use Rattle.std.proofs.Common.{◌≡◌, Some, Err, inr, refl, ap, subst, ◌∙◌, arith}
+use Rattle.std.proofs.Common.{◌≡◌, ℕ, [], List, Some, Err, inl, inr, refl, ap, subst, ◌∙◌, arith}
 use Rattle.slate_store.specs.Lines.{lines_of}
+use Rattle.slate_store.specs.Reach.{reach_of}
 use Rattle.slate_txn.specs.State.{opening}
 use Rattle.slate_txn.specs.Step.{answers}
 use Rattle.slate_db.specs.Meaning.{segments_by}
@@ -12,6 +13,7 @@ use Rattle.slate_script.specs.Run.{run_rules, HasTold, IsOutside}
 use Rattle.slate_script.proofs.GeneratedEnds.{formed_outside, lines_cause, lines_none, never_rose, only_cause, only_kinds, only_memory_left, told_none}
 use Rattle.slate_script.proofs.LineEnds.{writing_no_damage, writing_no_error}
 use Rattle.slate_script.proofs.Running.{always}
+use Rattle.slate_script.proofs.Slips.{holds_as}
 use Rattle.slate_script.proofs.generated.run_generated.Goals as goal
 use Rattle.slate_script.proofs.MeaningOf.{meaning_of}
 
@@ -22,11 +24,15 @@ returns-in-Ok g c =
     let script = generate c.args.rounds c.args.seed in
     let left : Some c.new-source.result ≡ Some script = ap Some (c.new-source.ensures ∙ c.in_ok-script.ensures.script) in
     let formed : IsWellFormed script = generated_formed c.args.rounds c.args.seed c.requires.few in
+    let tells : (before : List ℕ) → g.W.Sink.content c.args.sink.now ≡ Some before → c.answer_lines.new.tally ≡ tallied c.new-tally.result (answers r opening (meanings (lines_of script))) →
+    HasTold (summary r script) before (g.W.Sink.content c.write_tally.new.sink) c.write_tally.result = (λ before told counts.
+    let line : tally_text c.answer_lines.new.tally ≡ summary r script = ap tally_text (counts ∙ ap (λ t. tallied t (answers r opening (meanings (lines_of script)))) c.new-tally.ensures) ∙ tally_summary r script formed in
+    subst (λ bs. HasTold bs before (g.W.Sink.content c.write_tally.new.sink) c.write_tally.result) line (c.write_tally.ensures.told before told)) in
     record {
-      told = (λ before told premises.
-          let line : tally_text c.answer_lines.new.tally ≡ summary r script =
-          ap tally_text (c.in-Ok.ensures.counted script left premises ∙ ap (λ t. tallied t (answers r opening (meanings (lines_of script)))) c.new-tally.ensures) ∙ tally_summary r script formed in
-          subst (λ bs. HasTold bs before (g.W.Sink.content c.write_tally.new.sink) c.write_tally.result) line (c.write_tally.ensures.told before told));
+      told = λ before told premises. tells before told (c.in-Ok.ensures.counted script left premises);
+      checked = λ before told lawful_policies lawful. holds_as (c.answer_lines.new.tally ≡ tallied c.new-tally.result (answers r opening (meanings (lines_of script))))
+          (HasTold (summary r script) before (g.W.Sink.content c.write_tally.new.sink) c.write_tally.result) [] (reach_of g.S.Store g.M.MergeOperator g.T.BlockTransformer c.args.env.now) (reach_of g.S.Store g.M.MergeOperator g.T.BlockTransformer c.answer_lines.new.env)
+          (tells before told) (c.in-Ok.ensures.checked_count script left lawful_policies lawful);
       stored = λ premises. always c.write_tally.result (c.in-Ok.ensures.stored script left premises);
       outside = only_kinds c.write_tally.result c.write_tally.ensures.cause;
       cause = only_cause _ _ c.write_tally.result c.write_tally.ensures.cause c.write_tally.ensures.write_fault;
@@ -50,6 +56,7 @@ returns g c =
     let outside : IsOutside c.in-Err.error = formed_outside script c.in-Err.error formed (c.in-Err.ensures.read script left).error in
     record {
       told = λ before told premises. told_none (summary r script) before (g.W.Sink.content c.args.sink.now) c.in-Err.error (λ is. never_rose (c.in-Err.ensures.cause.write_fault (ap Err is)));
+      checked = λ before told lawful_policies lawful known began. inl (told_none (summary r script) before (g.W.Sink.content c.args.sink.now) c.in-Err.error (λ is. never_rose (c.in-Err.ensures.cause.write_fault (ap Err is))));
       stored = λ premises. tt;
       outside = outside;
       cause = lines_cause _ _ c.in-Err.error outside c.in-Err.ensures.cause;

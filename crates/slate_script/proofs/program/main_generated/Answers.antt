@@ -1,17 +1,19 @@
-use Rattle.std.proofs.Common.{[], ◌≡◌, ◌≤◌, ◌<◌, ◌++◌, ℕ, Some, None, inl, inr, Err, length, take, sym, ap, subst, refl, ◌∙◌, arith, map}
+use Rattle.std.proofs.Common.{[], ◌≡◌, ◌⊎◌, ◌≤◌, ◌<◌, ◌++◌, ℕ, Some, None, inl, inr, Err, length, take, sym, ap, subst, refl, ◌∙◌, arith, map}
 use Rattle.slate_types.specs.declared.error.SlateDBError.TheVariants.{WriteFault}
 use Rattle.slate_types.specs.Faults.{Rose}
 use Rattle.slate_store.specs.Lines.{lines_of}
 use Rattle.slate_txn.specs.State.{Rules, opening}
+use Rattle.slate_db.specs.Checked.{SlipsFrom}
 use Rattle.slate_db.specs.Flushed.{layout_of}
 use Rattle.slate_db.specs.Meaning.{Meaning}
 use Rattle.slate_language.specs.Generate.{generate, summary}
 use Rattle.slate_language.specs.Replies.{after_lines}
-use Rattle.slate_script.specs.Program.{segments_of, main_rules, parts_of, status, IsShownStatus}
+use Rattle.slate_script.specs.Program.{segments_of, main_rules, parts_of, status, HasSummed, IsShownStatus}
 use Rattle.slate_script.specs.Run.{run_rules}
 use Rattle.slate_script.specs.StoredState.{IsStoredState}
 use Rattle.slate_script.specs.Told.{IsShown, IsUntrue}
-use Rattle.slate_script.proofs.Mains.{lawful, premises, none_rose, rules_are, words_are}
+use Rattle.slate_script.proofs.Mains.{lawful, premises, none_rose, rules_are, words_are, words_or_slips}
+use Rattle.slate_script.proofs.Written.{cut_or_slips, summed_err, summed_ok, summed_or_slips}
 use Rattle.slate_script.proofs.RunEnds.{unless_error}
 use Rattle.slate_script.proofs.Statuses.{damage_between, is_damage, is_ended, is_generated, is_store, is_write, status_or, written_or}
 use Rattle.slate_script.proofs.program.main_generated.Goals as goal
@@ -20,8 +22,21 @@ pub returns-in-Ok : goal.returns-in-Ok
 returns-in-Ok g c =
     record {
       kinds = inl refl;
-      summed = λ before told lawful_policies empty zero. subst (λ (r : Rules). g.W.Sink.content c.run_generated-ran.new.sink ≡ Some (before ++ summary r (generate c.args.generated.now.rounds c.args.generated.now.seed))) (rules_are c.args.generated.now.settings c.transformer_of.result c.transformer_of.ensures)
-          (c.in-Ok.ensures.told before told (premises _ c.args.generated.now.settings.operator c.transformer_of.result _ lawful_policies empty)).whole;
+      summed = (λ before told lawful_policies empty.
+          let s = c.args.generated.now.settings in
+          let script = generate c.args.generated.now.rounds c.args.generated.now.seed in
+          let content = g.W.Sink.content c.run_generated-ran.new.sink in
+          let says = λ (r : Rules). HasSummed (summary r script) before content (0) in
+          subst says (rules_are s c.transformer_of.result c.transformer_of.ensures) (summed_ok _ before content (c.in-Ok.ensures.told before told (premises _ s.operator c.transformer_of.result _ lawful_policies empty))));
+      checked = (λ before told lawful_policies known began.
+          let s = c.args.generated.now.settings in
+          let script = generate c.args.generated.now.rounds c.args.generated.now.seed in
+          let content = g.W.Sink.content c.run_generated-ran.new.sink in
+          let says = λ (r : Rules). HasSummed (summary r script) before content (0) in
+          let acts = g.S.Store.acts in
+          subst (λ t. says (main_rules s) ⊎ SlipsFrom (parts_of s).encode [] (acts c.args.store.now) (acts t)) (sym (c.store-1.given.1 (sym c.in-Ok.ensures.puts.store)))
+          (words_or_slips says s c.transformer_of.result c.transformer_of.ensures (acts c.args.store.now) (acts c.run_generated-ran.new.env.store.now)
+          (summed_or_slips _ before content (c.in-Ok.ensures.checked before told lawful_policies (lawful s.operator c.transformer_of.result) known began))));
       stored = (λ lawful_policies empty zero.
           let o = c.args.generated.now.settings.options in
           let given = map (λ p. (goal.FilterPolicy-dyn g (p.vtable, p.value)).meaning p.value) c.args.policies.items in
@@ -35,7 +50,6 @@ returns-in-Ok g c =
       untrue = λ lawful_policies which. absurd (omega (arith, (damage_between 0 which).0));
       shown = λ which. absurd (omega (arith, (damage_between 0 which).0));
       complete = λ lawful_policies empty no-write no-store. inl refl;
-      begun = λ before told lawful_policies empty six. absurd (omega (arith, six));
       unwritten = inl refl;
       sink_still = inr (unless_error _ WriteFault c.in-Ok.ensures.sink_still);
       later = c.run_generated-ran.ensures.later;
@@ -45,7 +59,21 @@ pub returns-in-Err : goal.returns-in-Err
 returns-in-Err g c =
     record {
       kinds = rw c.status_of-status.ensures (is_generated c.in-Err.error c.in-Err.ensures.outside (λ h. c.in-Err.ensures.cause.read_fault (ap Err h)) (λ message h. none_rose c.args.generated.now.settings.operator c.run_generated-ran.new.env.operator (c.in-Err.ensures.cause.operator_fault message (ap Err h))) (λ h. none_rose c.transformer_of.result c.run_generated-ran.new.env.transformer (c.in-Err.ensures.cause.transform_fault (ap Err h))));
-      summed = λ before told lawful_policies empty zero. absurd (is_ended c.in-Err.error c.in-Err.ensures.cause.kinds (inl (sym c.status_of-status.ensures ∙ zero)));
+      summed = (λ before told lawful_policies empty.
+          let s = c.args.generated.now.settings in
+          let script = generate c.args.generated.now.rounds c.args.generated.now.seed in
+          let content = g.W.Sink.content c.run_generated-ran.new.sink in
+          let says = λ (r : Rules). HasSummed (summary r script) before content (c.status_of-status.result) in
+          subst says (rules_are s c.transformer_of.result c.transformer_of.ensures) (summed_err _ before content c.in-Err.error c.status_of-status.result c.status_of-status.ensures c.in-Err.ensures.cause.kinds (c.in-Err.ensures.told before told (premises _ s.operator c.transformer_of.result _ lawful_policies empty))));
+      checked = (λ before told lawful_policies known began.
+          let s = c.args.generated.now.settings in
+          let script = generate c.args.generated.now.rounds c.args.generated.now.seed in
+          let content = g.W.Sink.content c.run_generated-ran.new.sink in
+          let says = λ (r : Rules). HasSummed (summary r script) before content (c.status_of-status.result) in
+          let acts = g.S.Store.acts in
+          subst (λ t. says (main_rules s) ⊎ SlipsFrom (parts_of s).encode [] (acts c.args.store.now) (acts t)) (sym (c.store-1.given.1 (sym c.in-Err.ensures.puts.store)))
+          (words_or_slips says s c.transformer_of.result c.transformer_of.ensures (acts c.args.store.now) (acts c.run_generated-ran.new.env.store.now)
+          (cut_or_slips _ before content c.in-Err.error c.status_of-status.result c.status_of-status.ensures c.in-Err.ensures.cause.kinds (c.in-Err.ensures.checked before told lawful_policies (lawful s.operator c.transformer_of.result) known began))));
       stored = λ lawful_policies empty zero. absurd (is_ended c.in-Err.error c.in-Err.ensures.cause.kinds (inl (sym c.status_of-status.ensures ∙ zero)));
       write_fault = λ six. c.in-Err.ensures.cause.write_fault (ap Err (is_write c.in-Err.error c.in-Err.ensures.cause.kinds (sym c.status_of-status.ensures ∙ six)));
       store_fault = (λ seven.
@@ -70,9 +98,6 @@ returns-in-Err g c =
           ));
       complete = (λ lawful_policies empty no-write no-store.
           inr (c.status_of-status.ensures ∙ ap status (c.in-Err.ensures.complete (premises _ c.args.generated.now.settings.operator c.transformer_of.result _ lawful_policies empty) (record { source_still = λ h. h; sink_still = no-write; store = λ h. no-store (subst (λ t. Rose (g.S.Store.faults c.args.store.now) (g.S.Store.faults t)) (sym (c.store-1.given.1 (sym c.in-Err.ensures.puts.store))) h); operator = none_rose c.args.generated.now.settings.operator c.run_generated-ran.new.env.operator; transformer = none_rose c.transformer_of.result c.run_generated-ran.new.env.transformer }))));
-      begun = λ before told lawful_policies empty six.
-          subst (λ (r : Rules). (n : ℕ) × (n < length (summary r (generate c.args.generated.now.rounds c.args.generated.now.seed))) × (g.W.Sink.content c.run_generated-ran.new.sink ≡ Some (before ++ take n (summary r (generate c.args.generated.now.rounds c.args.generated.now.seed))))) (rules_are c.args.generated.now.settings c.transformer_of.result c.transformer_of.ensures)
-          ((c.in-Err.ensures.told before told (premises _ c.args.generated.now.settings.operator c.transformer_of.result _ lawful_policies empty)).begun (ap Err (is_write c.in-Err.error c.in-Err.ensures.cause.kinds (sym c.status_of-status.ensures ∙ six))));
       unwritten = written_or c.status_of-status.result c.in-Err.error c.status_of-status.ensures c.in-Err.ensures.unwritten;
       sink_still = status_or c.in-Err.error WriteFault c.status_of-status.result _ c.status_of-status.ensures refl c.in-Err.ensures.sink_still;
       later = c.run_generated-ran.ensures.later;

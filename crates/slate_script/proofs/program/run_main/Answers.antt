@@ -1,10 +1,10 @@
-use Rattle.std.proofs.Common.{[], ◌≡◌, ◌≤◌, ◌++◌, ℕ, List, Option, inl, inr, Err, Some, None, sym, ap, subst, refl, ◌∙◌, arith}
+use Rattle.std.proofs.Common.{[], ◌≡◌, ◌⊎◌, ◌≤◌, ◌++◌, ℕ, List, Option, inl, inr, Err, Some, None, sym, ap, subst, refl, ◌∙◌, arith}
 use Rattle.slate_types.specs.declared.error.SlateDBError.TheVariants.{ReadFault, WriteFault}
 use Rattle.slate_script.specs.Program.{segments_of, status}
 use Rattle.slate_script.specs.Run.{run_rules, script_error}
 use Rattle.slate_script.proofs.Statuses.{is_status, is_ended, is_read, is_write, is_store, is_too_long, is_syntax, is_damage, is_part, damage_between, its_own, status_or}
 use Rattle.slate_language.specs.declared.words.Settings.{Settings}
-use Rattle.slate_script.specs.Program.{segments_of, main_rules, parts_of, IsShownStatus}
+use Rattle.slate_script.specs.Program.{segments_of, main_rules, parts_of, HasSummed, HasWritten, IsShownStatus}
 use Rattle.slate_language.specs.Replies.{after_lines, replies, replies_to}
 use Rattle.slate_script.specs.Run.{lines_taken, HasAnswered, HasAnsweredAll, HasBegun}
 use Rattle.slate_script.specs.StoredState.{IsStoredState}
@@ -13,6 +13,7 @@ use Rattle.slate_store.specs.Lines.{lines_of}
 use Rattle.slate_txn.specs.State.{Rules, opening}
 use Rattle.slate_types.specs.Faults.{Rose}
 use Rattle.slate_types.specs.Outside.{Objects}
+use Rattle.slate_db.specs.Checked.{SlipsFrom}
 use Rattle.slate_db.specs.Flushed.{layout_of}
 use Rattle.slate_db.specs.Meaning.{Meaning}
 use Rattle.std.proofs.Common.{◌<◌, length, map, take}
@@ -24,7 +25,8 @@ use Rattle.slate_language.specs.declared.words.Generated.{Generated}
 use Rattle.slate_script.proofs.Mains.{generated_not_none, one_script, read_as, same_generated}
 use Rattle.slate_script.proofs.Used.{lawful_kept, valid_used}
 use Rattle.slate_script.proofs.Statuses.{generated_not, generated_status}
-use Rattle.slate_script.proofs.Mains.{lawful, premises, none_rose, rules_are, same_settings, status_or_either, words_are, some_not_none, neither}
+use Rattle.slate_script.proofs.Mains.{lawful, premises, none_rose, rules_are, same_settings, status_or_either, words_are, words_or_slips, some_not_none, neither}
+use Rattle.slate_script.proofs.Written.{refused_or_slips, written_err, written_ok, written_or_slips}
 use Rattle.slate_script.proofs.RunEnds.{unless_error}
 use Rattle.slate_script.proofs.program.run_main.Goals as goal
 
@@ -50,11 +52,26 @@ returns-in-Ok g c =
       unread = λ two. absurd (omega (arith, two));
       unwritten = λ two. absurd (omega (arith, two));
       unstored = λ two. absurd (omega (arith, two));
-      answered = (λ s script before named is told lawful_policies empty zero.
+      said = (λ s script before named is told lawful_policies empty.
           let same : c.in-Some-parse_words.settings ≡ s = same_settings c.parse_words.result c.in-Some-parse_words.settings s c.in-Some-parse_words.is (settings ∙ named) in
-          subst (λ (t : Settings). g.W.Sink.content c.run_script-ran.new.sink ≡ Some (before ++ replies (main_rules t) script)) same
-          (subst (λ (r : Rules). g.W.Sink.content c.run_script-ran.new.sink ≡ Some (before ++ replies r script)) (rules_are c.in-Some-parse_words.settings c.transformer_of.result c.transformer_of.ensures)
-          (c.in-Ok.ensures.said script before is told (premises _ c.in-Some-parse_words.settings.operator c.transformer_of.result _ (fit lawful_policies) empty)).whole));
+          let its = c.in-Some-parse_words.settings in
+          let left = g.R.Source.left c.run_script-ran.new.source in
+          let content = g.W.Sink.content c.run_script-ran.new.sink in
+          let says = λ (r : Rules). HasWritten r script left before content (0) in
+          subst (λ (t : Settings). says (main_rules t)) same (subst says (rules_are its c.transformer_of.result c.transformer_of.ensures)
+          (written_ok _ script left before content (c.in-Ok.ensures.said script before is told (premises _ its.operator c.transformer_of.result _ (fit lawful_policies) empty)))));
+      checked = (λ s script before named is told lawful_policies known began.
+          let same : c.in-Some-parse_words.settings ≡ s = same_settings c.parse_words.result c.in-Some-parse_words.settings s c.in-Some-parse_words.is (settings ∙ named) in
+          let its = c.in-Some-parse_words.settings in
+          let left = g.R.Source.left c.run_script-ran.new.source in
+          let content = g.W.Sink.content c.run_script-ran.new.sink in
+          let says = λ (r : Rules). HasWritten r script left before content (0) in
+          let acts = g.S.Store.acts in
+          let after = acts c.run_script-ran.new.env.store.now in
+          subst (λ t. says (main_rules s) ⊎ SlipsFrom (parts_of s).encode [] (acts c.args.store.now) (acts t)) (sym (c.store-1.given.1 (sym c.in-Ok.ensures.puts.store)))
+          (subst (λ (t : Settings). says (main_rules t) ⊎ SlipsFrom (parts_of t).encode [] (acts c.args.store.now) after) same
+          (words_or_slips says its c.transformer_of.result c.transformer_of.ensures (acts c.args.store.now) after
+          (written_or_slips _ script left before content (c.in-Ok.ensures.checked script before is told (fit lawful_policies) (lawful its.operator c.transformer_of.result) known began)))));
       stored = (λ s script named is lawful_policies empty zero.
           let same : c.in-Some-parse_words.settings ≡ s = same_settings c.parse_words.result c.in-Some-parse_words.settings s c.in-Some-parse_words.is (settings ∙ named) in
           let given : List Policy = map (λ p. (goal.FilterPolicy-dyn g (p.vtable, p.value)).meaning p.value) c.args.policies.items in
@@ -79,20 +96,16 @@ returns-in-Ok g c =
       complete = λ s script named is formed lawful_policies empty no-read no-write no-store. inl refl;
       source_still = inr (unless_error _ ReadFault c.in-Ok.ensures.source_still);
       sink_still = inr (unless_error _ WriteFault c.in-Ok.ensures.sink_still);
-      by_script = λ s script before named is told lawful_policies empty which. neither (λ h. omega (arith, h)) (λ h. omega (arith, h)) which;
-      by_source = λ s script before named is told lawful_policies empty five. absurd (omega (arith, five));
-      by_sink = λ s script before named is told lawful_policies empty six. absurd (omega (arith, six));
-      by_part = λ s script before named is told lawful_policies empty which. neither (λ h. omega (arith, h)) (λ h. omega (arith, h)) which;
       all = λ script is four. absurd (omega (arith, four));
       taken = λ script is. (c.run_script-ran.ensures.read script is).taken;
       later = c.run_script-ran.ensures.later;
-      summed = λ named-g before named told lawful_policies empty zero. absurd (no_generated named-g named);
+      summed = λ named-g before named told lawful_policies empty. absurd (no_generated named-g named);
+      summed_checked = λ named-g before named told lawful_policies known began. absurd (no_generated named-g named);
       summed_stored = λ named-g named lawful_policies empty zero. absurd (no_generated named-g named);
       summed_kinds = λ named-g named. absurd (no_generated named-g named);
       summed_alone = λ named-g named. absurd (no_generated named-g named);
       summed_complete = λ named-g named lawful_policies empty no-write no-store. absurd (no_generated named-g named);
       summed_shown = λ named-g named which. absurd (no_generated named-g named);
-      summed_begun = λ named-g before named told lawful_policies empty six. absurd (no_generated named-g named);
       summed_unwritten = λ named-g named. absurd (no_generated named-g named);
     }
 
@@ -113,7 +126,26 @@ returns-in-Err g c =
       unread = λ two. absurd (is_ended c.in-Err.error c.in-Err.ensures.cause.kinds (inr (sym c.status_of-status.ensures ∙ two)));
       unwritten = λ two. absurd (is_ended c.in-Err.error c.in-Err.ensures.cause.kinds (inr (sym c.status_of-status.ensures ∙ two)));
       unstored = λ two. absurd (is_ended c.in-Err.error c.in-Err.ensures.cause.kinds (inr (sym c.status_of-status.ensures ∙ two)));
-      answered = λ s script before named is told lawful_policies empty zero. absurd (is_ended c.in-Err.error c.in-Err.ensures.cause.kinds (inl (sym c.status_of-status.ensures ∙ zero)));
+      said = (λ s script before named is told lawful_policies empty.
+          let same : c.in-Some-parse_words.settings ≡ s = same_settings c.parse_words.result c.in-Some-parse_words.settings s c.in-Some-parse_words.is (settings ∙ named) in
+          let its = c.in-Some-parse_words.settings in
+          let left = g.R.Source.left c.run_script-ran.new.source in
+          let content = g.W.Sink.content c.run_script-ran.new.sink in
+          let says = λ (r : Rules). HasWritten r script left before content (c.status_of-status.result) in
+          subst (λ (t : Settings). says (main_rules t)) same (subst says (rules_are its c.transformer_of.result c.transformer_of.ensures)
+          (written_err _ script left before content c.in-Err.error c.status_of-status.result c.status_of-status.ensures c.in-Err.ensures.cause.kinds (c.in-Err.ensures.read script is).error (c.in-Err.ensures.said script before is told (premises _ its.operator c.transformer_of.result _ (fit lawful_policies) empty)))));
+      checked = (λ s script before named is told lawful_policies known began.
+          let same : c.in-Some-parse_words.settings ≡ s = same_settings c.parse_words.result c.in-Some-parse_words.settings s c.in-Some-parse_words.is (settings ∙ named) in
+          let its = c.in-Some-parse_words.settings in
+          let left = g.R.Source.left c.run_script-ran.new.source in
+          let content = g.W.Sink.content c.run_script-ran.new.sink in
+          let says = λ (r : Rules). HasWritten r script left before content (c.status_of-status.result) in
+          let acts = g.S.Store.acts in
+          let after = acts c.run_script-ran.new.env.store.now in
+          subst (λ t. says (main_rules s) ⊎ SlipsFrom (parts_of s).encode [] (acts c.args.store.now) (acts t)) (sym (c.store-1.given.1 (sym c.in-Err.ensures.puts.store)))
+          (subst (λ (t : Settings). says (main_rules t) ⊎ SlipsFrom (parts_of t).encode [] (acts c.args.store.now) after) same
+          (words_or_slips says its c.transformer_of.result c.transformer_of.ensures (acts c.args.store.now) after
+          (refused_or_slips _ script left before content c.in-Err.error c.status_of-status.result c.status_of-status.ensures c.in-Err.ensures.cause.kinds (c.in-Err.ensures.read script is).error (c.in-Err.ensures.checked script before is told (fit lawful_policies) (lawful its.operator c.transformer_of.result) known began)))));
       stored = λ s script named is lawful_policies empty zero. absurd (is_ended c.in-Err.error c.in-Err.ensures.cause.kinds (inl (sym c.status_of-status.ensures ∙ zero)));
       read = λ script other is zero. absurd (is_ended c.in-Err.error c.in-Err.ensures.cause.kinds (inl (sym c.status_of-status.ensures ∙ zero)));
       no_error = λ script other is zero. absurd (is_ended c.in-Err.error c.in-Err.ensures.cause.kinds (inl (sym c.status_of-status.ensures ∙ zero)));
@@ -155,36 +187,16 @@ returns-in-Err g c =
           inr (c.status_of-status.ensures ∙ ap status (c.in-Err.ensures.complete script is formed (premises _ c.in-Some-parse_words.settings.operator c.transformer_of.result _ (fit lawful_policies) empty) (record { source_still = no-read; sink_still = no-write; store = λ h. no-store (subst (λ t. Rose (g.S.Store.faults c.args.store.now) (g.S.Store.faults t)) (sym (c.store-1.given.1 (sym c.in-Err.ensures.puts.store))) h); operator = none_rose c.in-Some-parse_words.settings.operator c.run_script-ran.new.env.operator; transformer = none_rose c.transformer_of.result c.run_script-ran.new.env.transformer }))));
       source_still = status_or c.in-Err.error ReadFault c.status_of-status.result _ c.status_of-status.ensures refl c.in-Err.ensures.source_still;
       sink_still = status_or c.in-Err.error WriteFault c.status_of-status.result _ c.status_of-status.ensures refl c.in-Err.ensures.sink_still;
-      by_script = (λ s script before named is told lawful_policies empty which.
-          let same : c.in-Some-parse_words.settings ≡ s = same_settings c.parse_words.result c.in-Some-parse_words.settings s c.in-Some-parse_words.is (settings ∙ named) in
-          subst (λ (t : Settings). g.W.Sink.content c.run_script-ran.new.sink ≡ Some (before ++ replies_to (main_rules t) (lines_taken script))) same
-          (subst (λ (r : Rules). g.W.Sink.content c.run_script-ran.new.sink ≡ Some (before ++ replies_to r (lines_taken script))) (rules_are c.in-Some-parse_words.settings c.transformer_of.result c.transformer_of.ensures)
-          ((c.in-Err.ensures.said script before is told (premises _ c.in-Some-parse_words.settings.operator c.transformer_of.result _ (fit lawful_policies) empty)).by_script (its_own (script_error script) c.in-Err.error (c.in-Err.ensures.read script is).error (status_or_either c.status_of-status.ensures which)))));
-      by_source = (λ s script before named is told lawful_policies empty five.
-          let same : c.in-Some-parse_words.settings ≡ s = same_settings c.parse_words.result c.in-Some-parse_words.settings s c.in-Some-parse_words.is (settings ∙ named) in
-          subst (λ (t : Settings). (left : List ℕ) × (said : List ℕ) × (g.R.Source.left c.run_script-ran.new.source ≡ Some left) × (g.W.Sink.content c.run_script-ran.new.sink ≡ Some (before ++ said)) × HasAnsweredAll (main_rules t) script left said) same
-          (subst (λ (r : Rules). (left : List ℕ) × (said : List ℕ) × (g.R.Source.left c.run_script-ran.new.source ≡ Some left) × (g.W.Sink.content c.run_script-ran.new.sink ≡ Some (before ++ said)) × HasAnsweredAll r script left said) (rules_are c.in-Some-parse_words.settings c.transformer_of.result c.transformer_of.ensures)
-          ((c.in-Err.ensures.said script before is told (premises _ c.in-Some-parse_words.settings.operator c.transformer_of.result _ (fit lawful_policies) empty)).by_source (ap Err (is_read c.in-Err.error c.in-Err.ensures.cause.kinds (sym c.status_of-status.ensures ∙ five))))));
-      by_sink = (λ s script before named is told lawful_policies empty six.
-          let same : c.in-Some-parse_words.settings ≡ s = same_settings c.parse_words.result c.in-Some-parse_words.settings s c.in-Some-parse_words.is (settings ∙ named) in
-          subst (λ (t : Settings). (said : List ℕ) × (g.W.Sink.content c.run_script-ran.new.sink ≡ Some (before ++ said)) × HasBegun (main_rules t) script said) same
-          (subst (λ (r : Rules). (said : List ℕ) × (g.W.Sink.content c.run_script-ran.new.sink ≡ Some (before ++ said)) × HasBegun r script said) (rules_are c.in-Some-parse_words.settings c.transformer_of.result c.transformer_of.ensures)
-          ((c.in-Err.ensures.said script before is told (premises _ c.in-Some-parse_words.settings.operator c.transformer_of.result _ (fit lawful_policies) empty)).by_sink (ap Err (is_write c.in-Err.error c.in-Err.ensures.cause.kinds (sym c.status_of-status.ensures ∙ six))))));
-      by_part = (λ s script before named is told lawful_policies empty which.
-          let same : c.in-Some-parse_words.settings ≡ s = same_settings c.parse_words.result c.in-Some-parse_words.settings s c.in-Some-parse_words.is (settings ∙ named) in
-          subst (λ (t : Settings). (said : List ℕ) × (g.W.Sink.content c.run_script-ran.new.sink ≡ Some (before ++ said)) × HasAnswered (main_rules t) script said) same
-          (subst (λ (r : Rules). (said : List ℕ) × (g.W.Sink.content c.run_script-ran.new.sink ≡ Some (before ++ said)) × HasAnswered r script said) (rules_are c.in-Some-parse_words.settings c.transformer_of.result c.transformer_of.ensures)
-          ((c.in-Err.ensures.said script before is told (premises _ c.in-Some-parse_words.settings.operator c.transformer_of.result _ (fit lawful_policies) empty)).by_part (is_part c.in-Err.error c.in-Err.ensures.cause.kinds (status_or_either c.status_of-status.ensures which)))));
       all = λ script is four. (c.in-Err.ensures.read script is).too_long (ap Err (is_too_long c.in-Err.error c.in-Err.ensures.cause.kinds (sym c.status_of-status.ensures ∙ four)));
       taken = λ script is. (c.run_script-ran.ensures.read script is).taken;
       later = c.run_script-ran.ensures.later;
-      summed = λ named-g before named told lawful_policies empty zero. absurd (no_generated named-g named);
+      summed = λ named-g before named told lawful_policies empty. absurd (no_generated named-g named);
+      summed_checked = λ named-g before named told lawful_policies known began. absurd (no_generated named-g named);
       summed_stored = λ named-g named lawful_policies empty zero. absurd (no_generated named-g named);
       summed_kinds = λ named-g named. absurd (no_generated named-g named);
       summed_alone = λ named-g named. absurd (no_generated named-g named);
       summed_complete = λ named-g named lawful_policies empty no-write no-store. absurd (no_generated named-g named);
       summed_shown = λ named-g named which. absurd (no_generated named-g named);
-      summed_begun = λ named-g before named told lawful_policies empty six. absurd (no_generated named-g named);
       summed_unwritten = λ named-g named. absurd (no_generated named-g named);
     }
 
@@ -202,7 +214,8 @@ returns-in_default-parse_words g c =
       unread = λ two. refl;
       unwritten = λ two. refl;
       unstored = λ two. refl;
-      answered = λ s script before named is told lawful_policies empty zero. absurd (omega (arith, zero));
+      said = λ s script before named is told lawful_policies empty. absurd (some_not_none c.parse_words.result s (settings ∙ named) c.in_default-parse_words.is);
+      checked = λ s script before named is told lawful_policies known began. absurd (some_not_none c.parse_words.result s (settings ∙ named) c.in_default-parse_words.is);
       stored = λ s script named is lawful_policies empty zero. absurd (omega (arith, zero));
       read = λ script other is zero. absurd (omega (arith, zero));
       no_error = λ script other is zero. absurd (omega (arith, zero));
@@ -217,20 +230,16 @@ returns-in_default-parse_words g c =
       complete = λ s script named is formed lawful_policies empty no-read no-write no-store. absurd (some_not_none c.parse_words.result s (settings ∙ named) c.in_default-parse_words.is);
       source_still = inr refl;
       sink_still = inr refl;
-      by_script = λ s script before named is told lawful_policies empty which. neither (λ h. omega (arith, h)) (λ h. omega (arith, h)) which;
-      by_source = λ s script before named is told lawful_policies empty five. absurd (omega (arith, five));
-      by_sink = λ s script before named is told lawful_policies empty six. absurd (omega (arith, six));
-      by_part = λ s script before named is told lawful_policies empty which. neither (λ h. omega (arith, h)) (λ h. omega (arith, h)) which;
       all = λ script is four. absurd (omega (arith, four));
       taken = λ script is. (0, omega arith, is);
       later = (omega arith, omega arith);
-      summed = λ named-g before named told lawful_policies empty zero. absurd (no_generated named-g named);
+      summed = λ named-g before named told lawful_policies empty. absurd (no_generated named-g named);
+      summed_checked = λ named-g before named told lawful_policies known began. absurd (no_generated named-g named);
       summed_stored = λ named-g named lawful_policies empty zero. absurd (no_generated named-g named);
       summed_kinds = λ named-g named. absurd (no_generated named-g named);
       summed_alone = λ named-g named. absurd (no_generated named-g named);
       summed_complete = λ named-g named lawful_policies empty no-write no-store. absurd (no_generated named-g named);
       summed_shown = λ named-g named which. absurd (no_generated named-g named);
-      summed_begun = λ named-g before named told lawful_policies empty six. absurd (no_generated named-g named);
       summed_unwritten = λ named-g named. absurd (no_generated named-g named);
     }
 
@@ -251,7 +260,8 @@ returns-in-Some g c =
       unread = λ two. refl;
       unwritten = λ two. generated_not c.main_generated.result 2 own two (omega arith) (omega arith);
       unstored = λ two. generated_not c.main_generated.result 2 own two (omega arith) (omega arith);
-      answered = λ s script before named is told lawful_policies empty zero. one_script handed ws its s read named;
+      said = λ s script before named is told lawful_policies empty. one_script handed ws its s read named;
+      checked = λ s script before named is told lawful_policies known began. one_script handed ws its s read named;
       stored = λ s script named is lawful_policies empty zero. one_script handed ws its s read named;
       read = λ script other is zero. absurd (generated_not_none (read_generated handed ws) its read other);
       no_error = λ script other is zero. absurd (generated_not_none (read_generated handed ws) its read other);
@@ -266,15 +276,13 @@ returns-in-Some g c =
       complete = λ s script named is formed lawful_policies empty no-read no-write no-store. one_script handed ws its s read named;
       source_still = inr refl;
       sink_still = c.main_generated.ensures.sink_still;
-      by_script = λ s script before named is told lawful_policies empty which. one_script handed ws its s read named;
-      by_source = λ s script before named is told lawful_policies empty five. one_script handed ws its s read named;
-      by_sink = λ s script before named is told lawful_policies empty six. one_script handed ws its s read named;
-      by_part = λ s script before named is told lawful_policies empty which. one_script handed ws its s read named;
       all = λ script is four. generated_not c.main_generated.result 4 own four (omega arith) (omega arith);
       taken = λ script is. (0, omega arith, is);
       later = (omega arith, c.main_generated.ensures.later);
-      summed = (λ x before named told lawful_policies empty zero.
-          subst (λ (y : Generated). g.W.Sink.content c.main_generated.new.sink ≡ Some (before ++ summary (main_rules y.settings) (generate y.rounds y.seed))) (same x named) (c.main_generated.ensures.summed before told (fit lawful_policies) empty zero));
+      summed = λ x before named told lawful_policies empty. subst (λ (y : Generated). HasSummed (summary (main_rules y.settings) (generate y.rounds y.seed)) before (g.W.Sink.content c.main_generated.new.sink) c.main_generated.result) (same x named) (c.main_generated.ensures.summed before told (fit lawful_policies) empty);
+      summed_checked = (λ x before named told lawful_policies known began.
+          let ends = λ (y : Generated). HasSummed (summary (main_rules y.settings) (generate y.rounds y.seed)) before (g.W.Sink.content c.main_generated.new.sink) c.main_generated.result ⊎ SlipsFrom (parts_of y.settings).encode [] (g.S.Store.acts c.args.store.now) (g.S.Store.acts c.main_generated.new.store) in
+          subst (λ (y : Generated). ends y) (same x named) (c.main_generated.ensures.checked before told (fit lawful_policies) known began));
       summed_stored = (λ x named lawful_policies empty zero.
           let given : List Policy = map (λ p. (goal.FilterPolicy-dyn g (p.vtable, p.value)).meaning p.value) c.args.policies.items in
           let kept : List Policy = map (λ p. (goal.FilterPolicy-dyn g (p.vtable, p.value)).meaning p.value) c.keep_used-kept.result.items in
@@ -290,8 +298,5 @@ returns-in-Some g c =
           let ends = λ (y : Generated) (ps : List Policy). IsShownStatus ps (parts_of y.settings) (g.S.Store.acts c.args.store.now) (g.S.Store.acts c.main_generated.new.store) c.main_generated.result in
           subst (λ (ps : List Policy). ends x ps) c.keep_used-kept.ensures
           (subst (λ (y : Generated). ends y kept) (same x named) (c.main_generated.ensures.shown which)));
-      summed_begun = (λ x before named told lawful_policies empty six.
-          subst (λ (y : Generated). (n : ℕ) × (n < length (summary (main_rules y.settings) (generate y.rounds y.seed))) × (g.W.Sink.content c.main_generated.new.sink ≡ Some (before ++ take n (summary (main_rules y.settings) (generate y.rounds y.seed))))) (same x named)
-          (c.main_generated.ensures.begun before told (fit lawful_policies) empty six));
       summed_unwritten = λ x named. c.main_generated.ensures.unwritten;
     }

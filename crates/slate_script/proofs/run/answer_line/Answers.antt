@@ -1,20 +1,23 @@
-use Rattle.std.proofs.Common.{◌≡◌, ◌<◌, ◌≤◌, arith, ◌++◌, ◌∷◌, [], ℕ, inr, Some, take, length, refl, sym, ap, subst, ◌∙◌, Ok, append-nil, map}
+use Rattle.std.proofs.Common.{◌≡◌, ◌≤◌, arith, inl, inr, Option, Some, length, refl, sym, ap, subst, Ok, map}
+use Rattle.slate_types.specs.Outside.{Objects}
 use Rattle.slate_types.proofs.Reaching.{puts_none}
+use Rattle.slate_store.specs.Reach.{reach_of}
+use Rattle.slate_txn.specs.State.{Rules}
 use Rattle.slate_db.specs.Flushed.{layout_of}
 use Rattle.slate_db.specs.Installs.{runs_of, tables_of}
+use Rattle.slate_db.proofs.Adding.{adds_same}
 use Rattle.slate_db.specs.Meaning.{Meaning, segments_by}
-use Rattle.slate_language.specs.Answers.{reply_of}
-use Rattle.slate_language.specs.Replies.{replies_from, reply_line}
-use Rattle.slate_script.specs.Run.{IsPartCause}
-use Rattle.slate_script.specs.Session.{HasTablesAlone, line_load, StandsFor}
+use Rattle.slate_script.specs.Run.{AnswersLine, IsPartCause}
+use Rattle.slate_script.specs.Session.{HasTablesAlone, IsRunning, StepsAs, line_load}
+use Rattle.slate_script.proofs.LineAnswers.{failed_answered, meant_answered, silent_answered, silent_line}
 use Rattle.slate_script.proofs.LineEnds.{parse_error, parse_cause, parse_no_part, parse_no_damage, parse_wrote, session_cause, session_part, session_wrote, writing_cause, writing_no_part, writing_no_damage, writing_no_error, error_of, meant_line}
 use Rattle.slate_script.proofs.LineLoads.{load_of_line}
 use Rattle.slate_script.proofs.RunEnds.{is_no_error}
+use Rattle.slate_script.proofs.Slips.{holds_as}
 use Rattle.slate_script.proofs.ToldLaws.{follows_itself, line_shown, stores_itself}
-use Rattle.slate_script.proofs.Running.{line_stands, line_reply, runs_on, is_settled, one_moment, always, not_damage, silent_line, silent_after, silent_says, silent_counts, line_counts}
+use Rattle.slate_script.proofs.Running.{runs_on, is_settled, one_moment, always, not_damage}
 use Rattle.slate_script.proofs.run.answer_line.Goals as goal
 use Rattle.slate_script.proofs.MeaningOf.{meaning_of, counts_of}
-use Rattle.slate_types.proofs.Exits.{on_ok_weaker}
 
 pub answer-requires-clause-moment : goal.answer-requires-clause-moment
 answer-requires-clause-moment g c = λ κs lives.
@@ -27,9 +30,9 @@ returns-in-Err-answer g c =
     record {
       meant = tt;
       running = λ m r running. tt;
-      stands = λ m r running s stands. tt;
-      answered = λ m r running s before stands told. tt;
-      counted = λ m r running s stands. tt;
+      answered = λ m r running. failed_answered c.in-Err-answer.error r c.args.line.now c.args.session.now c.answer.new.self (g.W.Sink.content c.args.sink.now) (g.W.Sink.content c.args.sink.now) c.args.tally.now c.args.tally.now (session_wrote _ _ c.args.session.now c.in-Err-answer.error c.in-Err-answer.ensures.cause);
+      checked = λ m r os running known began. inl (failed_answered c.in-Err-answer.error r c.args.line.now c.args.session.now c.answer.new.self (g.W.Sink.content c.args.sink.now) (g.W.Sink.content c.args.sink.now) c.args.tally.now c.args.tally.now (session_wrote _ _ c.args.session.now c.in-Err-answer.error c.in-Err-answer.ensures.cause));
+      settings = tt;
       grows = tt;
       alone = λ m r running alone. tt;
       cause = session_cause _ _ c.args.number c.args.line.now c.args.session.now c.in-Err-answer.error c.in-Err-answer.ensures.cause;
@@ -38,10 +41,10 @@ returns-in-Err-answer g c =
       follows = λ os settled. tt;
       untrue = λ os settled. c.in-Err-answer.ensures.untrue os settled;
       tables = tt;
+      adds = c.answer.ensures.adds;
       core_kept = λ kept. tt;
       shown = λ kept. line_shown policies c.in-Ok-Some.meaning _ _ c.args.session.now.core c.in-Err-answer.error (c.in-Err-answer.ensures.shown kept);
       write_fault = λ is. absurd (session_wrote _ _ c.args.session.now c.in-Err-answer.error c.in-Err-answer.ensures.cause (error_of c.in-Err-answer.error is));
-      begun = λ m r running s before stands told is. absurd (session_wrote _ _ c.args.session.now c.in-Err-answer.error c.in-Err-answer.ensures.cause (error_of c.in-Err-answer.error is));
       still = tt;
       puts = c.answer.ensures.puts;
       uncounted = inr refl;
@@ -52,20 +55,21 @@ returns-in-Err-answer g c =
 pub returns-in-Ok : goal.returns-in-Ok
 returns-in-Ok g c =
     let policies = map (λ p. (goal.FilterPolicy-dyn g (p.vtable, p.value)).meaning p.value) c.args.laws.now.policies.items in
+    let seg = segments_by g.X.PrefixExtractor.lengths c.args.laws.now.segments in
+    let parts = meaning_of g.M.MergeOperator.combine g.T.BlockTransformer.encoded g.T.BlockTransformer.decoded c.args.env.now.operator c.args.env.now.transformer in
+    let meant : (m : Meaning) (r : Rules) (objects : Option Objects) → IsRunning policies m seg r parts objects c.args.session.now → StepsAs parts seg c.args.session.now c.answer.new.self c.in-Ok-Some.meaning (Ok c.in-Ok.answer) →
+    AnswersLine r c.args.line.now c.args.session.now c.answer.new.self (g.W.Sink.content c.args.sink.now) (g.W.Sink.content c.write_reply.new.sink) c.args.tally.now c.count.new.self c.write_reply.result = (λ m r objects running.
+    let means = rw c.in-Ok-Some.field-0-is at c.in-Ok-Some.ensures.meant in
+    meant_answered c.write_reply.result c.args.line.now c.in-Ok-Some.meaning c.in-Ok.answer (g.W.Sink.content c.args.sink.now) (g.W.Sink.content c.write_reply.new.sink) c.args.tally.now c.count.new.self running means.0 means.1 c.count.ensures c.write_reply.ensures.ok c.write_reply.ensures.part) in
     record {
       meant = (let meant = rw c.in-Ok-Some.field-0-is at c.in-Ok-Some.ensures.meant in
           always c.write_reply.result (meant_line c.args.line.now c.in-Ok-Some.meaning meant.1));
       running = λ m r running. always c.write_reply.result (runs_on running c.answer.ensures.puts.meaning c.in-Ok.ensures.settings (c.in-Ok.ensures.kept (is_settled running)));
-      stands = (λ m r running s stands.
-          let meant = rw c.in-Ok-Some.field-0-is at c.in-Ok-Some.ensures.meant in
-          always c.write_reply.result (line_stands c.args.line.now c.in-Ok-Some.meaning c.in-Ok.answer running meant.0 meant.1 c.in-Ok.ensures.step s stands));
-      answered = (λ m r running s before stands told.
-          let meant = rw c.in-Ok-Some.field-0-is at c.in-Ok-Some.ensures.meant in
-          let text : reply_line (reply_of c.in-Ok.answer) ≡ replies_from r s (c.args.line.now ∷ []) = line_reply c.args.line.now c.in-Ok-Some.meaning c.in-Ok.answer running meant.0 meant.1 c.in-Ok.ensures.step s stands in
-          on_ok_weaker c.write_reply.result (λ is. is ∙ ap (λ bs. Some (before ++ bs)) text) (c.write_reply.ensures.ok before told));
-      counted = (λ m r running s stands.
-          let meant = rw c.in-Ok-Some.field-0-is at c.in-Ok-Some.ensures.meant in
-          always c.write_reply.result (c.count.ensures ∙ line_counts c.args.tally.now c.args.line.now c.in-Ok-Some.meaning c.in-Ok.answer running meant.0 meant.1 c.in-Ok.ensures.step s stands));
+      answered = λ m r running. meant m r (g.S.Store.objects c.args.env.now.store.now) running (c.in-Ok.ensures.step (is_settled running));
+      checked = λ m r os running. holds_as (StepsAs parts seg c.args.session.now c.answer.new.self c.in-Ok-Some.meaning (Ok c.in-Ok.answer))
+          (AnswersLine r c.args.line.now c.args.session.now c.answer.new.self (g.W.Sink.content c.args.sink.now) (g.W.Sink.content c.write_reply.new.sink) c.args.tally.now c.count.new.self c.write_reply.result) os
+          (reach_of g.S.Store g.M.MergeOperator g.T.BlockTransformer c.args.env.now) (reach_of g.S.Store g.M.MergeOperator g.T.BlockTransformer c.answer.new.env) (meant m r (Some os) running) (c.in-Ok.ensures.checked os (is_settled running));
+      settings = always c.write_reply.result c.in-Ok.ensures.settings;
       grows = (let meant = rw c.in-Ok-Some.field-0-is at c.in-Ok-Some.ensures.meant in
           always c.write_reply.result (c.in-Ok.ensures.grows.0, let few : line_load c.in-Ok-Some.meaning ≤ length c.args.line.now = load_of_line c.args.line.now c.in-Ok-Some.meaning meant.1 in omega (arith, c.in-Ok.ensures.grows.1, few)));
       alone = (λ m r running alone.
@@ -78,15 +82,12 @@ returns-in-Ok g c =
       follows = λ os settled. always c.write_reply.result (c.in-Ok.ensures.follows os settled);
       untrue = λ os settled. writing_no_damage _ c.write_reply.result c.write_reply.ensures.cause;
       tables = always c.write_reply.result c.in-Ok.ensures.tables;
+      adds = c.answer.ensures.adds;
       core_kept = λ kept. always c.write_reply.result (c.in-Ok.ensures.core_kept kept);
       shown = λ kept. writing_no_error _ c.write_reply.result c.write_reply.ensures.cause;
       write_fault = (λ is.
           let meant = rw c.in-Ok-Some.field-0-is at c.in-Ok-Some.ensures.meant in
           (c.write_reply.ensures.write_fault is, meant_line c.args.line.now c.in-Ok-Some.meaning meant.1));
-      begun = (λ m r running s before stands told is.
-          let meant = rw c.in-Ok-Some.field-0-is at c.in-Ok-Some.ensures.meant in
-          let text : reply_line (reply_of c.in-Ok.answer) ≡ replies_from r s (c.args.line.now ∷ []) = line_reply c.args.line.now c.in-Ok-Some.meaning c.in-Ok.answer running meant.0 meant.1 c.in-Ok.ensures.step s stands in
-          subst (λ bs. (n : ℕ) × (n < length bs) × (g.W.Sink.content c.write_reply.new.sink ≡ Some (before ++ take n bs))) text (c.write_reply.ensures.part before told is));
       still = c.write_reply.ensures.still;
       puts = c.answer.ensures.puts;
       uncounted = c.write_reply.ensures.uncounted;
@@ -96,37 +97,25 @@ returns-in-Ok g c =
 
 pub returns-in-Err : goal.returns-in-Err
 returns-in-Err g c =
+    let by = parse_error c.args.number c.args.line.now c.in-Err.error c.at_line.result c.in-Err.ensures.cause c.at_line.ensures.memory c.at_line.ensures.syntax in
     record {
       meant = tt;
       running = λ m r running. tt;
-      stands = λ m r running s stands. tt;
-      answered = λ m r running s before stands told. tt;
-      counted = λ m r running s stands. tt;
+      answered = λ m r running. failed_answered c.at_line.result r c.args.line.now c.args.session.now c.args.session.now (g.W.Sink.content c.args.sink.now) (g.W.Sink.content c.args.sink.now) c.args.tally.now c.args.tally.now (parse_wrote c.args.number c.args.line.now c.at_line.result by);
+      checked = λ m r os running known began. inl (failed_answered c.at_line.result r c.args.line.now c.args.session.now c.args.session.now (g.W.Sink.content c.args.sink.now) (g.W.Sink.content c.args.sink.now) c.args.tally.now c.args.tally.now (parse_wrote c.args.number c.args.line.now c.at_line.result by));
+      settings = tt;
       grows = tt;
       alone = λ m r running alone. tt;
-      cause = (let by = parse_error c.args.number c.args.line.now c.in-Err.error c.at_line.result c.in-Err.ensures.cause c.at_line.ensures.memory c.at_line.ensures.syntax in
-          parse_cause c.args.number c.args.line.now c.args.session.now c.at_line.result by);
-      part = (λ part.
-          let by = parse_error c.args.number c.args.line.now c.in-Err.error c.at_line.result c.in-Err.ensures.cause c.at_line.ensures.memory c.at_line.ensures.syntax in
-          absurd (parse_no_part c.args.number c.args.line.now c.at_line.result by part));
-      undamaged = (λ m r running.
-          let by = parse_error c.args.number c.args.line.now c.in-Err.error c.at_line.result c.in-Err.ensures.cause c.at_line.ensures.memory c.at_line.ensures.syntax in
-          parse_no_damage c.args.number c.args.line.now c.at_line.result by);
+      cause = parse_cause c.args.number c.args.line.now c.args.session.now c.at_line.result by;
+      part = λ part. absurd (parse_no_part c.args.number c.args.line.now c.at_line.result by part);
+      undamaged = λ m r running. parse_no_damage c.args.number c.args.line.now c.at_line.result by;
       follows = λ os settled. tt;
-      untrue = (λ os settled damage.
-          let by = parse_error c.args.number c.args.line.now c.in-Err.error c.at_line.result c.in-Err.ensures.cause c.at_line.ensures.memory c.at_line.ensures.syntax in
-          absurd (parse_no_damage c.args.number c.args.line.now c.at_line.result by damage));
+      untrue = λ os settled damage. absurd (parse_no_damage c.args.number c.args.line.now c.at_line.result by damage);
       tables = tt;
+      adds = adds_same _ _ refl;
       core_kept = λ kept. tt;
-      shown = (λ kept damage.
-          let by = parse_error c.args.number c.args.line.now c.in-Err.error c.at_line.result c.in-Err.ensures.cause c.at_line.ensures.memory c.at_line.ensures.syntax in
-          absurd (parse_no_damage c.args.number c.args.line.now c.at_line.result by damage));
-      write_fault = (λ is.
-          let by = parse_error c.args.number c.args.line.now c.in-Err.error c.at_line.result c.in-Err.ensures.cause c.at_line.ensures.memory c.at_line.ensures.syntax in
-          absurd (parse_wrote c.args.number c.args.line.now c.at_line.result by (error_of c.at_line.result is)));
-      begun = (λ m r running s before stands told is.
-          let by = parse_error c.args.number c.args.line.now c.in-Err.error c.at_line.result c.in-Err.ensures.cause c.at_line.ensures.memory c.at_line.ensures.syntax in
-          absurd (parse_wrote c.args.number c.args.line.now c.at_line.result by (error_of c.at_line.result is)));
+      shown = λ kept damage. absurd (parse_no_damage c.args.number c.args.line.now c.at_line.result by damage);
+      write_fault = λ is. absurd (parse_wrote c.args.number c.args.line.now c.at_line.result by (error_of c.at_line.result is));
       still = tt;
       puts = puts_none _;
       uncounted = inr refl;
@@ -137,12 +126,13 @@ returns-in-Err g c =
 pub returns-in-Ok-None : goal.returns-in-Ok-None
 returns-in-Ok-None g c =
     let policies = map (λ p. (goal.FilterPolicy-dyn g (p.vtable, p.value)).meaning p.value) c.args.laws.now.policies.items in
+    let silent = c.in-Ok-None.ensures.silent (ap Ok c.in-Ok-None.field-0-is) in
     record {
-      meant = silent_line c.args.line.now (c.in-Ok-None.ensures.silent (ap Ok c.in-Ok-None.field-0-is));
+      meant = silent_line c.args.line.now silent;
       running = λ m r running. running;
-      stands = λ m r running s stands. subst (StandsFor c.args.session.now) (silent_after r s c.args.line.now (c.in-Ok-None.ensures.silent (ap Ok c.in-Ok-None.field-0-is))) stands;
-      answered = λ m r running s before stands told. told ∙ ap Some (sym (append-nil before)) ∙ ap (λ bs. Some (before ++ bs)) (silent_says r s c.args.line.now (c.in-Ok-None.ensures.silent (ap Ok c.in-Ok-None.field-0-is)));
-      counted = λ m r running s stands. silent_counts c.args.tally.now r s c.args.line.now (c.in-Ok-None.ensures.silent (ap Ok c.in-Ok-None.field-0-is));
+      answered = λ m r running. silent_answered r c.args.line.now c.args.session.now (g.W.Sink.content c.args.sink.now) c.args.tally.now silent;
+      checked = λ m r os running known began. inl (silent_answered r c.args.line.now c.args.session.now (g.W.Sink.content c.args.sink.now) c.args.tally.now silent);
+      settings = refl;
       grows = (omega arith, omega arith);
       alone = λ m r running alone. alone;
       cause = tt;
@@ -151,10 +141,10 @@ returns-in-Ok-None g c =
       follows = λ os settled. follows_itself policies (meaning_of g.M.MergeOperator.combine g.T.BlockTransformer.encoded g.T.BlockTransformer.decoded c.args.env.now.operator c.args.env.now.transformer) (segments_by g.X.PrefixExtractor.lengths c.args.laws.now.segments) os c.args.session.now (g.S.Store.acts c.args.env.now.store.now) settled;
       untrue = λ os settled. tt;
       tables = stores_itself (tables_of c.args.session.now.core.events) (g.S.Store.acts c.args.env.now.store.now);
+      adds = adds_same _ _ refl;
       core_kept = λ kept. kept;
       shown = λ kept. tt;
       write_fault = λ is. absurd (is_no_error is);
-      begun = λ m r running s before stands told is. absurd (is_no_error is);
       still = refl;
       puts = puts_none _;
       uncounted = tt;

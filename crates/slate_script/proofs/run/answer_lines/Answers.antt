@@ -1,31 +1,38 @@
-use Rattle.std.proofs.Common.{◌≤◌, ◌≡◌, ◌⊎◌, ◌<◌, ◌++◌, ◌∷◌, [], ℕ, List, IfSome, Some, Result, Err, take, length, ◌+◌, sym, ap, subst, ◌∙◌, arith, append_assoc, refl, inl, inr, map}
+use Rattle.std.proofs.Common.{◌≤◌, ◌≡◌, ◌⊎◌, ◌<◌, ◌+◌, [], List, IfSome, Some, Result, Ok, Err, length, sym, ap, subst, ◌∙◌, arith, refl, inl, inr, map}
 use Rattle.slate_types.specs.declared.error.SlateDBError.{SlateDBError}
 use Rattle.slate_types.specs.declared.error.SlateDBError.TheVariants.{ScriptTooLong, ReadFault, WriteFault, StoreFault, Callback, BlockTransformError}
-use Rattle.slate_txn.specs.State.{opening}
-use Rattle.slate_language.specs.Tally.{tallied}
-use Rattle.slate_txn.specs.Step.{answers}
-use Rattle.slate_language.specs.Replies.{after_lines, meanings, replies_from, replies_to}
-use Rattle.slate_txn.specs.declared.event.Event.{Event}
-use Rattle.slate_db.specs.Flushed.{layout_of}
-use Rattle.slate_db.specs.Installs.{tables_of}
-use Rattle.slate_script.specs.Session.{StandsFor}
-use Rattle.slate_script.specs.Run.{run_rules, Premises, IsPartError}
+use Rattle.slate_types.specs.Outside.{Objects}
+use Rattle.slate_types.proofs.Reaching.{puts_none, puts_then}
 use Rattle.slate_store.specs.Lines.{lines_of}
 use Rattle.slate_store.specs.Reach.{reach_of}
-use Rattle.slate_types.proofs.Reaching.{puts_none, puts_then}
-use Rattle.slate_script.proofs.Taken.{begin, answer_it, took_told, end_told}
-use Rattle.slate_script.proofs.Running.{begins}
-use Rattle.slate_script.proofs.TablesAlone.{begins_alone, stored_state}
-use Rattle.slate_script.proofs.RunEnds.{LineError, unless_error, is_no_error, rose_from, line_cause, no_part, only_memory, store_rose, operator_rose, transformer_rose, reader_no_part, reader_not_write, reader_undamaged, reader_error, reader_complete, reader_kinds, reader_read, reader_full, line_not_long, line_not_read, line_kinds, line_read, line_complete, untouched, reader_script, reader_source, reader_memory, line_error, line_script, line_sink, line_memory, end_there, end_read, end_answered, end_formed, end_no_error}
-use Rattle.slate_types.specs.Outside.{Objects}
-use Rattle.slate_db.specs.Meaning.{Meaning, segments_by}
+use Rattle.slate_txn.specs.declared.event.Event.{Event}
+use Rattle.slate_txn.specs.State.{opening}
+use Rattle.slate_txn.specs.Step.{answers}
+use Rattle.slate_db.specs.Flushed.{layout_of}
+use Rattle.slate_db.specs.Installs.{tables_of}
+use Rattle.slate_db.specs.Meaning.{Meaning, rules_in, segments_by}
 use Rattle.slate_db.specs.Sound.{IsKept}
-use Rattle.slate_script.specs.Session.{IsSettled}
+use Rattle.slate_language.specs.Replies.{after_lines, meanings}
+use Rattle.slate_language.specs.Tally.{tallied}
+use Rattle.slate_script.specs.Run.{run_rules, AnswersLine, HasSaid, Premises, IsPartError}
+use Rattle.slate_script.specs.Session.{IsSettled, StandsFor}
 use Rattle.slate_script.specs.Told.{Follows, IsUntrue, PutsTables}
+use Rattle.slate_script.proofs.RunEnds.{LineError, unless_error, is_no_error, rose_from, line_cause, no_part, only_memory, store_rose, operator_rose, transformer_rose, reader_no_part, reader_not_write, reader_undamaged, reader_error, reader_complete, reader_kinds, reader_read, reader_full, line_not_long, line_not_read, line_kinds, line_read, line_complete, line_error, end_there, end_read, end_formed, end_no_error}
+use Rattle.slate_script.proofs.RunSays.{end_counts, end_says, line_says, reader_says}
+use Rattle.slate_script.proofs.Running.{begins}
+use Rattle.slate_script.proofs.Slips.{holds_as, slips_on}
+use Rattle.slate_script.proofs.TablesAlone.{begins_alone, stored_state}
+use Rattle.slate_script.proofs.Taken.{IsAt, begin, answer_it, took_told, end_told}
 use Rattle.slate_script.proofs.ToldLaws.{follows_itself, follows_on, shown_at_end, stores_itself, stores_on, untrue_on}
 use Rattle.slate_script.proofs.run.answer_lines.Given as given
 use Rattle.slate_script.proofs.run.answer_lines.Goals as goal
 use Rattle.slate_script.proofs.MeaningOf.{meaning_of, counts_of}
+
+abbrev failed : SlateDBError → Result (Unit {0}) SlateDBError
+failed e = Err e
+
+abbrev done : Result (Unit {0}) SlateDBError
+done = Ok tt
 
 same_error : {T : Type 0} (e f : SlateDBError) (r : Result T SlateDBError) → r ≡ Err e → r ≡ Err f → e ≡ f
 same_error e f r is was = cc
@@ -47,6 +54,9 @@ loop-line-init g c =
     record {
       told = λ script is.
           begin (Premises policies (meaning_of g.M.MergeOperator.combine g.T.BlockTransformer.encoded g.T.BlockTransformer.decoded c.args.env.now.operator c.args.env.now.transformer) (g.S.Store.objects c.args.env.now.store.now)) (run_rules c.args.laws.now.options (meaning_of g.M.MergeOperator.combine g.T.BlockTransformer.encoded g.T.BlockTransformer.decoded c.args.env.now.operator c.args.env.now.transformer) (segments_by g.X.PrefixExtractor.lengths c.args.laws.now.segments)) script (g.R.Source.left c.args.source.now) (g.W.Sink.content c.args.sink.now) c.args.tally.now c.new-lines.result c.new-session.result is c.new-lines.ensures.held c.new-lines.ensures.given c.new-session.ensures.opens;
+      checked = λ script is lawful_policies lawful known began. inl
+          (begin (Unit {0}) (run_rules c.args.laws.now.options (meaning_of g.M.MergeOperator.combine g.T.BlockTransformer.encoded g.T.BlockTransformer.decoded c.args.env.now.operator c.args.env.now.transformer) (segments_by g.X.PrefixExtractor.lengths c.args.laws.now.segments)) script (g.R.Source.left c.args.source.now) (g.W.Sink.content c.args.sink.now) c.args.tally.now c.new-lines.result c.new-session.result is c.new-lines.ensures.held c.new-lines.ensures.given c.new-session.ensures.opens);
+      settings = c.new-session.ensures.settings;
       counted = omega arith;
       within = let none : c.new-lines.result.given ≡ 0 = c.new-lines.ensures.given in omega (arith, none);
       weighs = omega (arith, c.new-session.ensures.holds.0);
@@ -68,22 +78,13 @@ loop-line-init g c =
 
 pub returns-in-Err : goal.returns-in-Err
 returns-in-Err g c =
+    let r = run_rules c.args.laws.now.options (meaning_of g.M.MergeOperator.combine g.T.BlockTransformer.encoded g.T.BlockTransformer.decoded c.args.env.now.operator c.args.env.now.transformer) (segments_by g.X.PrefixExtractor.lengths c.args.laws.now.segments) in
     record {
-      said = λ script before is told-is premises. record {
-        whole = (tt);
-        by_script = (let at = c.loop-line.invariant.told script is in
-            let told = c.in-Err.ensures.told at.left at.rest in
-            (λ by. reader_script c.next.new.self told.0 before c.in-Err.error at told.2 (λ h. c.in-Err.ensures.too_long (ap Err h)) c.in-Err.ensures.cause premises told-is by));
-        by_source = (λ fault.
-            let kind : c.in-Err.error ≡ ReadFault = same_error c.in-Err.error ReadFault (Err c.in-Err.error) refl fault in
-            let at = c.loop-line.invariant.told script is in
-            let told = c.in-Err.ensures.told at.left at.rest in
-            (told.0, replies_to (run_rules c.args.laws.now.options (meaning_of g.M.MergeOperator.combine g.T.BlockTransformer.encoded g.T.BlockTransformer.decoded c.args.env.now.operator c.args.env.now.transformer) (segments_by g.X.PrefixExtractor.lengths c.args.laws.now.segments)) (lines_of at.done), told.1, at.said premises before told-is, reader_source c.next.new.self told.0 at told.2 (c.in-Err.ensures.read_fault (ap Err kind)).1));
-        by_sink = (λ fault.
-            absurd (reader_not_write c.in-Err.error c.in-Err.ensures.cause (same_error c.in-Err.error WriteFault (Err c.in-Err.error) refl fault)));
-        by_part = (let at = c.loop-line.invariant.told script is in
-            (λ which. (replies_to (run_rules c.args.laws.now.options (meaning_of g.M.MergeOperator.combine g.T.BlockTransformer.encoded g.T.BlockTransformer.decoded c.args.env.now.operator c.args.env.now.transformer) (segments_by g.X.PrefixExtractor.lengths c.args.laws.now.segments)) (lines_of at.done), at.said premises before told-is, reader_memory at)));
-      };
+      said = λ script before is told-is premises. reader_says c.next.new.self before (g.R.Source.left c.next.new.source) c.in-Err.error c.in-Err.ensures.told (λ h. c.in-Err.ensures.too_long (ap Err h)) (λ h. (c.in-Err.ensures.read_fault (ap Err h)).1) c.in-Err.ensures.cause (c.loop-line.invariant.told script is) premises told-is;
+      checked = λ script before is told-is lawful_policies lawful. holds_as (IsAt (Unit {0}) r script (g.R.Source.left c.loop-line.source) (g.W.Sink.content c.args.sink.now) (g.W.Sink.content c.loop-line.sink) c.args.tally.now c.loop-line.tally c.loop-line.lines c.loop-line.number c.loop-line.session)
+          (HasSaid r script (g.R.Source.left c.next.new.source) before (g.W.Sink.content c.loop-line.sink) (failed c.in-Err.error)) [] (reach_of g.S.Store g.M.MergeOperator g.T.BlockTransformer c.args.env.now) (reach_of g.S.Store g.M.MergeOperator g.T.BlockTransformer c.loop-line.env)
+          (λ at. reader_says c.next.new.self before (g.R.Source.left c.next.new.source) c.in-Err.error c.in-Err.ensures.told (λ h. c.in-Err.ensures.too_long (ap Err h)) (λ h. (c.in-Err.ensures.read_fault (ap Err h)).1) c.in-Err.ensures.cause at tt told-is) (c.loop-line.invariant.checked script is lawful_policies lawful);
+      checked_count = λ script is lawful_policies lawful. tt;
       counted = λ script is premises. tt;
       stored = λ script is premises. tt;
       read = λ script is. record {
@@ -141,29 +142,17 @@ its_cause g c =
 pub returns-in-Err-answer_line : goal.returns-in-Err-answer_line
 returns-in-Err-answer_line g c =
     let policies = map (λ p. (goal.FilterPolicy-dyn g (p.vtable, p.value)).meaning p.value) c.args.laws.now.policies.items in
+    let m = meaning_of g.M.MergeOperator.combine g.T.BlockTransformer.encoded g.T.BlockTransformer.decoded c.args.env.now.operator c.args.env.now.transformer in
+    let seg = segments_by g.X.PrefixExtractor.lengths c.args.laws.now.segments in
+    let r = run_rules c.args.laws.now.options m seg in
     record {
-      said = λ script before is told-is premises. record {
-        whole = (tt);
-        by_script = (let took = took_told (λ v. v.items) c.in-Ok-Some.field-0 c.in-Ok-Some.line c.as_slice.result.now (g.R.Source.left c.next.new.source) c.next.new.self c.in-Ok-Some.ensures.told c.in-Ok-Some.ensures.within c.in-Ok-Some.field-0-is c.as_slice.ensures.value (c.loop-line.invariant.told script is) in
-            (λ by. line_script (g.W.Sink.content c.answer_line.new.sink) before c.in-Err-answer_line.error took (its_cause g c) c.in-Err-answer_line.ensures.unanswered premises told-is by));
-        by_source = (λ fault.
-            absurd (line_not_read (c.loop-line.number + 1) c.as_slice.result.now c.in-Err-answer_line.error (its_cause g c) (same_error c.in-Err-answer_line.error ReadFault (Err c.in-Err-answer_line.error) refl fault)));
-        by_sink = (λ fault.
-            let kind : c.in-Err-answer_line.error ≡ WriteFault = same_error c.in-Err-answer_line.error WriteFault (Err c.in-Err-answer_line.error) refl fault in
-            let took = took_told (λ v. v.items) c.in-Ok-Some.field-0 c.in-Ok-Some.line c.as_slice.result.now (g.R.Source.left c.next.new.source) c.next.new.self c.in-Ok-Some.ensures.told c.in-Ok-Some.ensures.within c.in-Ok-Some.field-0-is c.as_slice.ensures.value (c.loop-line.invariant.told script is) in
-            let done = replies_to (run_rules c.args.laws.now.options (meaning_of g.M.MergeOperator.combine g.T.BlockTransformer.encoded g.T.BlockTransformer.decoded c.args.env.now.operator c.args.env.now.transformer) (segments_by g.X.PrefixExtractor.lengths c.args.laws.now.segments)) (lines_of took.done) in
-            let state = after_lines (run_rules c.args.laws.now.options (meaning_of g.M.MergeOperator.combine g.T.BlockTransformer.encoded g.T.BlockTransformer.decoded c.args.env.now.operator c.args.env.now.transformer) (segments_by g.X.PrefixExtractor.lengths c.args.laws.now.segments)) opening (lines_of took.done) in
-            let reply = replies_from (run_rules c.args.laws.now.options (meaning_of g.M.MergeOperator.combine g.T.BlockTransformer.encoded g.T.BlockTransformer.decoded c.args.env.now.operator c.args.env.now.transformer) (segments_by g.X.PrefixExtractor.lengths c.args.laws.now.segments)) state (c.as_slice.result.now ∷ []) in
-            let begun : (n : ℕ) × (n < length reply) × (g.W.Sink.content c.answer_line.new.sink ≡ Some ((before ++ done) ++ take n reply)) =
-            c.in-Err-answer_line.ensures.begun (meaning_of g.M.MergeOperator.combine g.T.BlockTransformer.encoded g.T.BlockTransformer.decoded c.args.env.now.operator c.args.env.now.transformer) (run_rules c.args.laws.now.options (meaning_of g.M.MergeOperator.combine g.T.BlockTransformer.encoded g.T.BlockTransformer.decoded c.args.env.now.operator c.args.env.now.transformer) (segments_by g.X.PrefixExtractor.lengths c.args.laws.now.segments)) (c.loop-line.invariant.running premises) state (before ++ done) (took.session premises) (took.said premises before told-is) (ap Err kind) in
-            (done ++ take begun.0 reply, begun.2 ∙ ap Some (append_assoc before done (take begun.0 reply)), line_sink begun.0 took (c.in-Err-answer_line.ensures.write_fault (ap Err kind)).1 begun.1));
-        by_part = (let took = took_told (λ v. v.items) c.in-Ok-Some.field-0 c.in-Ok-Some.line c.as_slice.result.now (g.R.Source.left c.next.new.source) c.next.new.self c.in-Ok-Some.ensures.told c.in-Ok-Some.ensures.within c.in-Ok-Some.field-0-is c.as_slice.ensures.value (c.loop-line.invariant.told script is) in
-            (λ which. (
-              replies_to (run_rules c.args.laws.now.options (meaning_of g.M.MergeOperator.combine g.T.BlockTransformer.encoded g.T.BlockTransformer.decoded c.args.env.now.operator c.args.env.now.transformer) (segments_by g.X.PrefixExtractor.lengths c.args.laws.now.segments)) (lines_of took.done),
-              untouched c.in-Err-answer_line.error (g.W.Sink.content c.loop-line.sink) (g.W.Sink.content c.answer_line.new.sink) c.in-Err-answer_line.ensures.unanswered which ∙ took.said premises before told-is,
-              line_memory took,
-            )));
-      };
+      said = λ script before is told-is premises. line_says c.answer_line.new.session c.answer_line.new.tally before (g.R.Source.left c.next.new.source) (g.W.Sink.content c.answer_line.new.sink) c.in-Err-answer_line.error (its_cause g c) (λ h. (c.in-Err-answer_line.ensures.write_fault (ap Err h)).1) c.in-Err-answer_line.ensures.unanswered (took_told (λ v. v.items) c.in-Ok-Some.field-0 c.in-Ok-Some.line c.as_slice.result.now (g.R.Source.left c.next.new.source) c.next.new.self c.in-Ok-Some.ensures.told c.in-Ok-Some.ensures.within c.in-Ok-Some.field-0-is c.as_slice.ensures.value (c.loop-line.invariant.told script is)) (c.in-Err-answer_line.ensures.answered m r (c.loop-line.invariant.running premises)) premises told-is;
+      checked = λ script before is told-is lawful_policies lawful. slips_on (IsAt (Unit {0}) r script (g.R.Source.left c.loop-line.source) (g.W.Sink.content c.args.sink.now) (g.W.Sink.content c.loop-line.sink) c.args.tally.now c.loop-line.tally c.loop-line.lines c.loop-line.number c.loop-line.session) (AnswersLine r c.as_slice.result.now c.loop-line.session c.answer_line.new.session (g.W.Sink.content c.loop-line.sink) (g.W.Sink.content c.answer_line.new.sink) c.loop-line.tally c.answer_line.new.tally (failed c.in-Err-answer_line.error))
+          (HasSaid r script (g.R.Source.left c.next.new.source) before (g.W.Sink.content c.answer_line.new.sink) (failed c.in-Err-answer_line.error))
+          policies seg c.loop-line.session (reach_of g.S.Store g.M.MergeOperator g.T.BlockTransformer c.args.env.now) (reach_of g.S.Store g.M.MergeOperator g.T.BlockTransformer c.loop-line.env) (reach_of g.S.Store g.M.MergeOperator g.T.BlockTransformer c.answer_line.new.env) c.loop-line.invariant.puts.meaning (c.loop-line.invariant.followed lawful_policies lawful) c.answer_line.ensures.adds (c.loop-line.invariant.checked script is lawful_policies lawful)
+          (λ os settled. c.in-Err-answer_line.ensures.checked m r os (record { meaning = c.loop-line.invariant.puts.meaning; rules = ap (λ x. rules_in x m seg) c.loop-line.invariant.settings; settled = settled }))
+          (λ at says. line_says c.answer_line.new.session c.answer_line.new.tally before (g.R.Source.left c.next.new.source) (g.W.Sink.content c.answer_line.new.sink) c.in-Err-answer_line.error (its_cause g c) (λ h. (c.in-Err-answer_line.ensures.write_fault (ap Err h)).1) c.in-Err-answer_line.ensures.unanswered (took_told (λ v. v.items) c.in-Ok-Some.field-0 c.in-Ok-Some.line c.as_slice.result.now (g.R.Source.left c.next.new.source) c.next.new.self c.in-Ok-Some.ensures.told c.in-Ok-Some.ensures.within c.in-Ok-Some.field-0-is c.as_slice.ensures.value at) says tt told-is);
+      checked_count = λ script is lawful_policies lawful. tt;
       counted = λ script is premises. tt;
       stored = λ script is premises. tt;
       read = λ script is. record {
@@ -215,15 +204,19 @@ returns-in-Err-answer_line g c =
 pub loop-line-preserved : goal.loop-line-preserved
 loop-line-preserved g c =
     let policies = map (λ p. (goal.FilterPolicy-dyn g (p.vtable, p.value)).meaning p.value) c.args.laws.now.policies.items in
+    let m = meaning_of g.M.MergeOperator.combine g.T.BlockTransformer.encoded g.T.BlockTransformer.decoded c.args.env.now.operator c.args.env.now.transformer in
+    let seg = segments_by g.X.PrefixExtractor.lengths c.args.laws.now.segments in
+    let r = run_rules c.args.laws.now.options m seg in
     record {
-      told = λ script is.
-          answer_it (Premises policies (meaning_of g.M.MergeOperator.combine g.T.BlockTransformer.encoded g.T.BlockTransformer.decoded c.args.env.now.operator c.args.env.now.transformer) (g.S.Store.objects c.args.env.now.store.now)) (run_rules c.args.laws.now.options (meaning_of g.M.MergeOperator.combine g.T.BlockTransformer.encoded g.T.BlockTransformer.decoded c.args.env.now.operator c.args.env.now.transformer) (segments_by g.X.PrefixExtractor.lengths c.args.laws.now.segments)) script c.as_slice.result.now (g.R.Source.left c.next.new.source) (g.W.Sink.content c.args.sink.now) (g.W.Sink.content c.loop-line.sink) (g.W.Sink.content c.answer_line.new.sink)
-          c.args.tally.now c.loop-line.tally c.answer_line.new.tally c.next.new.self (c.loop-line.number + 1) c.loop-line.session c.answer_line.new.session
-          (took_told (λ v. v.items) c.in-Ok-Some.field-0 c.in-Ok-Some.line c.as_slice.result.now (g.R.Source.left c.next.new.source) c.next.new.self c.in-Ok-Some.ensures.told c.in-Ok-Some.ensures.within c.in-Ok-Some.field-0-is c.as_slice.ensures.value (c.loop-line.invariant.told script is))
-          c.in-Ok.ensures.meant
-          (λ premises. c.in-Ok.ensures.stands (meaning_of g.M.MergeOperator.combine g.T.BlockTransformer.encoded g.T.BlockTransformer.decoded c.args.env.now.operator c.args.env.now.transformer) (run_rules c.args.laws.now.options (meaning_of g.M.MergeOperator.combine g.T.BlockTransformer.encoded g.T.BlockTransformer.decoded c.args.env.now.operator c.args.env.now.transformer) (segments_by g.X.PrefixExtractor.lengths c.args.laws.now.segments)) (c.loop-line.invariant.running premises))
-          (λ premises. c.in-Ok.ensures.answered (meaning_of g.M.MergeOperator.combine g.T.BlockTransformer.encoded g.T.BlockTransformer.decoded c.args.env.now.operator c.args.env.now.transformer) (run_rules c.args.laws.now.options (meaning_of g.M.MergeOperator.combine g.T.BlockTransformer.encoded g.T.BlockTransformer.decoded c.args.env.now.operator c.args.env.now.transformer) (segments_by g.X.PrefixExtractor.lengths c.args.laws.now.segments)) (c.loop-line.invariant.running premises))
-          (λ premises. c.in-Ok.ensures.counted (meaning_of g.M.MergeOperator.combine g.T.BlockTransformer.encoded g.T.BlockTransformer.decoded c.args.env.now.operator c.args.env.now.transformer) (run_rules c.args.laws.now.options (meaning_of g.M.MergeOperator.combine g.T.BlockTransformer.encoded g.T.BlockTransformer.decoded c.args.env.now.operator c.args.env.now.transformer) (segments_by g.X.PrefixExtractor.lengths c.args.laws.now.segments)) (c.loop-line.invariant.running premises));
+      told = λ script is. answer_it (Premises policies m (g.S.Store.objects c.args.env.now.store.now)) r script c.as_slice.result.now (g.R.Source.left c.next.new.source) (g.W.Sink.content c.args.sink.now) (g.W.Sink.content c.loop-line.sink) (g.W.Sink.content c.answer_line.new.sink) c.args.tally.now c.loop-line.tally c.answer_line.new.tally c.next.new.self (c.loop-line.number + 1) c.loop-line.session c.answer_line.new.session
+          (took_told (λ v. v.items) c.in-Ok-Some.field-0 c.in-Ok-Some.line c.as_slice.result.now (g.R.Source.left c.next.new.source) c.next.new.self c.in-Ok-Some.ensures.told c.in-Ok-Some.ensures.within c.in-Ok-Some.field-0-is c.as_slice.ensures.value (c.loop-line.invariant.told script is)) c.in-Ok.ensures.meant (λ premises. c.in-Ok.ensures.answered m r (c.loop-line.invariant.running premises));
+      checked = λ script is lawful_policies lawful. slips_on (IsAt (Unit {0}) r script (g.R.Source.left c.loop-line.source) (g.W.Sink.content c.args.sink.now) (g.W.Sink.content c.loop-line.sink) c.args.tally.now c.loop-line.tally c.loop-line.lines c.loop-line.number c.loop-line.session) (AnswersLine r c.as_slice.result.now c.loop-line.session c.answer_line.new.session (g.W.Sink.content c.loop-line.sink) (g.W.Sink.content c.answer_line.new.sink) c.loop-line.tally c.answer_line.new.tally done)
+          (IsAt (Unit {0}) r script (g.R.Source.left c.next.new.source) (g.W.Sink.content c.args.sink.now) (g.W.Sink.content c.answer_line.new.sink) c.args.tally.now c.answer_line.new.tally c.next.new.self (c.loop-line.number + 1) c.answer_line.new.session)
+          policies seg c.loop-line.session (reach_of g.S.Store g.M.MergeOperator g.T.BlockTransformer c.args.env.now) (reach_of g.S.Store g.M.MergeOperator g.T.BlockTransformer c.loop-line.env) (reach_of g.S.Store g.M.MergeOperator g.T.BlockTransformer c.answer_line.new.env) c.loop-line.invariant.puts.meaning (c.loop-line.invariant.followed lawful_policies lawful) c.answer_line.ensures.adds (c.loop-line.invariant.checked script is lawful_policies lawful)
+          (λ os settled. c.in-Ok.ensures.checked m r os (record { meaning = c.loop-line.invariant.puts.meaning; rules = ap (λ x. rules_in x m seg) c.loop-line.invariant.settings; settled = settled }))
+          (λ at says. answer_it (Unit {0}) r script c.as_slice.result.now (g.R.Source.left c.next.new.source) (g.W.Sink.content c.args.sink.now) (g.W.Sink.content c.loop-line.sink) (g.W.Sink.content c.answer_line.new.sink) c.args.tally.now c.loop-line.tally c.answer_line.new.tally c.next.new.self (c.loop-line.number + 1) c.loop-line.session c.answer_line.new.session
+          (took_told (λ v. v.items) c.in-Ok-Some.field-0 c.in-Ok-Some.line c.as_slice.result.now (g.R.Source.left c.next.new.source) c.next.new.self c.in-Ok-Some.ensures.told c.in-Ok-Some.ensures.within c.in-Ok-Some.field-0-is c.as_slice.ensures.value at) c.in-Ok.ensures.meant (λ p. says));
+      settings = c.in-Ok.ensures.settings ∙ c.loop-line.invariant.settings;
       counted =
           let further : c.loop-line.lines.given < c.next.new.self.given = subst (λ o. IfSome o (λ _. c.loop-line.lines.given < c.next.new.self.given)) c.in-Ok-Some.field-0-is c.in-Ok-Some.ensures.further in
           omega (arith, c.loop-line.invariant.counted);
@@ -252,23 +245,16 @@ loop-line-preserved g c =
 pub returns : goal.returns
 returns g c =
     let policies = map (λ p. (goal.FilterPolicy-dyn g (p.vtable, p.value)).meaning p.value) c.args.laws.now.policies.items in
+    let r = run_rules c.args.laws.now.options (meaning_of g.M.MergeOperator.combine g.T.BlockTransformer.encoded g.T.BlockTransformer.decoded c.args.env.now.operator c.args.env.now.transformer) (segments_by g.X.PrefixExtractor.lengths c.args.laws.now.segments) in
     record {
-      said = λ script before is told-is premises. record {
-        whole = (let at = c.loop-line.invariant.told script is in
-            let end = end_told (λ v. v.items) c.in-Ok-None.field-0 (g.R.Source.left c.next.new.source) c.next.new.self c.in-Ok-None.ensures.told c.in-Ok-None.field-0-is at in
-            end_answered c.next.new.self end.0 before at end.2 premises told-is);
-        by_script = (tt);
-        by_source = (λ fault.
-            absurd (is_no_error fault));
-        by_sink = (λ fault.
-            absurd (is_no_error fault));
-        by_part = (tt);
-      };
-      counted = (λ script is premises.
-          let r = run_rules c.args.laws.now.options (meaning_of g.M.MergeOperator.combine g.T.BlockTransformer.encoded g.T.BlockTransformer.decoded c.args.env.now.operator c.args.env.now.transformer) (segments_by g.X.PrefixExtractor.lengths c.args.laws.now.segments) in
-          let at = c.loop-line.invariant.told script is in
-          let end = end_told (λ v. v.items) c.in-Ok-None.field-0 (g.R.Source.left c.next.new.source) c.next.new.self c.in-Ok-None.ensures.told c.in-Ok-None.field-0-is at in
-          subst (λ bs. c.loop-line.tally ≡ tallied c.args.tally.now (answers r opening (meanings (lines_of bs)))) (sym (end_there c.next.new.self end.0 at end.2).0) (at.counts premises));
+      said = λ script before is told-is premises. let at = c.loop-line.invariant.told script is in end_says c.next.new.self before (g.R.Source.left c.next.new.source) (g.R.Source.left c.next.new.source) at (end_told (λ v. v.items) c.in-Ok-None.field-0 (g.R.Source.left c.next.new.source) c.next.new.self c.in-Ok-None.ensures.told c.in-Ok-None.field-0-is at) premises told-is;
+      checked = λ script before is told-is lawful_policies lawful. holds_as (IsAt (Unit {0}) r script (g.R.Source.left c.loop-line.source) (g.W.Sink.content c.args.sink.now) (g.W.Sink.content c.loop-line.sink) c.args.tally.now c.loop-line.tally c.loop-line.lines c.loop-line.number c.loop-line.session)
+          (HasSaid r script (g.R.Source.left c.next.new.source) before (g.W.Sink.content c.loop-line.sink) done) [] (reach_of g.S.Store g.M.MergeOperator g.T.BlockTransformer c.args.env.now) (reach_of g.S.Store g.M.MergeOperator g.T.BlockTransformer c.loop-line.env)
+          (λ at. end_says c.next.new.self before (g.R.Source.left c.next.new.source) (g.R.Source.left c.next.new.source) at (end_told (λ v. v.items) c.in-Ok-None.field-0 (g.R.Source.left c.next.new.source) c.next.new.self c.in-Ok-None.ensures.told c.in-Ok-None.field-0-is at) tt told-is) (c.loop-line.invariant.checked script is lawful_policies lawful);
+      counted = λ script is premises. let at = c.loop-line.invariant.told script is in end_counts c.next.new.self (g.R.Source.left c.next.new.source) at (end_told (λ v. v.items) c.in-Ok-None.field-0 (g.R.Source.left c.next.new.source) c.next.new.self c.in-Ok-None.ensures.told c.in-Ok-None.field-0-is at) premises;
+      checked_count = λ script is lawful_policies lawful. holds_as (IsAt (Unit {0}) r script (g.R.Source.left c.loop-line.source) (g.W.Sink.content c.args.sink.now) (g.W.Sink.content c.loop-line.sink) c.args.tally.now c.loop-line.tally c.loop-line.lines c.loop-line.number c.loop-line.session)
+          (c.loop-line.tally ≡ tallied c.args.tally.now (answers r opening (meanings (lines_of script)))) [] (reach_of g.S.Store g.M.MergeOperator g.T.BlockTransformer c.args.env.now) (reach_of g.S.Store g.M.MergeOperator g.T.BlockTransformer c.loop-line.env)
+          (λ at. end_counts c.next.new.self (g.R.Source.left c.next.new.source) at (end_told (λ v. v.items) c.in-Ok-None.field-0 (g.R.Source.left c.next.new.source) c.next.new.self c.in-Ok-None.ensures.told c.in-Ok-None.field-0-is at) tt) (c.loop-line.invariant.checked script is lawful_policies lawful);
       stored = (λ script is premises.
           let m = meaning_of g.M.MergeOperator.combine g.T.BlockTransformer.encoded g.T.BlockTransformer.decoded c.args.env.now.operator c.args.env.now.transformer in
           let r = run_rules c.args.laws.now.options m (segments_by g.X.PrefixExtractor.lengths c.args.laws.now.segments) in

@@ -3,6 +3,8 @@ use Rattle.slate_types.specs.Outside.{Puts}
 use Rattle.slate_store.specs.Reach.{reach_of}
 use Rattle.slate_store.specs.Lines.{script_limit}
 use Rattle.slate_table.specs.Filtered.{AreLawful}
+use Rattle.slate_txn.specs.Settings.{settings_of}
+use Rattle.slate_db.specs.Checked.{OrSlips}
 use Rattle.slate_db.specs.Flushed.{layout_of}
 use Rattle.slate_db.specs.Installs.{runs_of, tables_of}
 use Rattle.slate_db.specs.Load.{weight}
@@ -24,6 +26,11 @@ invariant-loop-line g l =
           → IsAt (Premises policies before.meaning before.objects)
           (run_rules l.laws.options before.meaning (segments_by g.X.PrefixExtractor.lengths l.laws.segments))
           script (g.R.Source.left l.source) (g.W.Sink.content l.initial.sink) (g.W.Sink.content l.sink) l.initial.tally l.tally l.lines l.number l.session;
+      checked : (script : List ℕ) → g.R.Source.left l.initial.source ≡ Some script → AreLawful policies → IsLawfulMeaning before.meaning
+          → OrSlips [] before now (IsAt (Unit {0})
+          (run_rules l.laws.options before.meaning (segments_by g.X.PrefixExtractor.lengths l.laws.segments))
+          script (g.R.Source.left l.source) (g.W.Sink.content l.initial.sink) (g.W.Sink.content l.sink) l.initial.tally l.tally l.lines l.number l.session);
+      settings : l.session.core.settings ≡ settings_of l.laws.options;
       counted : l.number ≤ l.lines.given;
       within : l.lines.given ≤ script_limit;
       weighs : weight l.session.core ≤ l.number + l.number;

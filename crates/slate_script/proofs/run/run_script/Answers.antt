@@ -3,6 +3,7 @@ use Rattle.slate_script.proofs.run.run_script.Goals as goal
 pub returns : goal.returns
 returns g c = record {
   said = c.answer_lines.ensures.said;
+  checked = c.answer_lines.ensures.checked;
   stored = c.answer_lines.ensures.stored;
   read = c.answer_lines.ensures.read;
   cause = c.answer_lines.ensures.cause;

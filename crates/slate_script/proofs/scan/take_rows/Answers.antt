@@ -21,7 +21,7 @@ loop-preserved g c =
     let i = c.loop.invariant in
     let o = c.in_ok-row.ensures in
     let took = took_row _ _ _ c.args.core.now c.loop.core c.next.new.self c.args.scan.now c.loop.scan c.next.new.it c.loop.counter c.in_ok-row.field-0 c.in-Some.row c.args.rows.now.items c.loop.rows.items _ i.took
-    (record { notes = o.noted; names = o.names; rows = o.rows; later = o.later; kept = o.kept }) c.in-Some.is c.in_ok-push.ensures.items in
+    (record { notes = o.noted; names = o.names; rows = o.rows; checked = o.checked; later = o.later; kept = o.kept }) c.in-Some.is c.in_ok-push.ensures.items in
     record { took = took; opened = open_on c.args.core.now c.next.new.self c.args.scan.now c.next.new.it took c.requires; reads = reads_then _ _ _ i.reads c.next.ensures.reads }
 
 pub returns-in_err-row : goal.returns-in_err-row
@@ -40,7 +40,7 @@ returns-in_err-push g c =
     let i = c.loop.invariant in
     let o = c.in_ok-row.ensures in
     let took = took_row _ _ _ c.args.core.now c.loop.core c.next.new.self c.args.scan.now c.loop.scan c.next.new.it c.loop.counter c.in_ok-row.field-0 c.in-Some.row c.args.rows.now.items c.loop.rows.items _ i.took
-    (record { notes = o.noted; names = o.names; rows = o.rows; later = o.later; kept = o.kept }) c.in-Some.is refl in
+    (record { notes = o.noted; names = o.names; rows = o.rows; checked = o.checked; later = o.later; kept = o.kept }) c.in-Some.is refl in
     record {
       noted = (took.ts, took.notes);
       took = IfOk-from_err c.from_residual-in_err-push.result _ c.from_residual-in_err-push.ensures.0;
@@ -58,7 +58,7 @@ returns-clause-took g c =
       | then-loop-test+in_ok-row+in_default w ↦
           let o = w.in_ok-row.ensures in
           rw (w.core-is, w.scan-is, w.env-is) (took_end _ _ _ c.args.core.now c.loop.core w.next.new.self c.args.scan.now c.loop.scan w.next.new.it c.loop.counter c.args.count w.in_ok-row.field-0 _ _ i.took
-          (record { notes = o.noted; names = o.names; rows = o.rows; later = o.later; kept = o.kept }) w.in_default.is w.loop-test.true)
+          (record { notes = o.noted; names = o.names; rows = o.rows; checked = o.checked; later = o.later; kept = o.kept }) w.in_default.is w.loop-test.true)
     ]
 
 pub returns-clause-noted : goal.returns-clause-noted

@@ -15,7 +15,7 @@ returns-in-Rows-clause-took g c =
 pub returns-in-Seek-clause-took : goal.returns-in-Seek-clause-took
 returns-in-Seek-clause-took g c =
     let o = c.seek.ensures in
-    sought c.seek.result _ _ c.args.core.now c.seek.new.self c.args.scan.now c.seek.new.it c.args.step.now _ _ c.args.rows.now.items c.in-Seek.is c.as_slice.ensures o.noted o.names o.rows o.later o.kept
+    sought c.seek.result _ _ c.args.core.now c.seek.new.self c.args.scan.now c.seek.new.it c.args.step.now _ _ c.args.rows.now.items c.in-Seek.is c.as_slice.ensures o.noted o.names o.rows o.checked o.later o.kept
 
 pub returns-in-Seek-clause-refused : goal.returns-in-Seek-clause-refused
 returns-in-Seek-clause-refused g c = seek_failed c.seek.result _ _ c.args.scan.now (Some c.as_slice.result.now) c.seek.ensures.undamaged c.seek.ensures.cause

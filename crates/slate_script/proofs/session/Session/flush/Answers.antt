@@ -65,6 +65,7 @@ returns g c =
           c.flush.ensures.kept (c.flush.ensures.segmented (segments_by g.X.PrefixExtractor.lengths c.args.laws.now.segments))
           (subst (λ (v : SessionModel). IsSettled policies m (segments_by g.X.PrefixExtractor.lengths c.args.laws.now.segments) (Some os) v) (sym c.self.view_is) settled));
       tables = stores_added _ _ _ _ (subst (λ (v : SessionModel). AddsTables (tables_of v.core.events) (tables_of c.flush.new.self.events) (g.S.Store.acts c.args.env.now.store.now) (g.S.Store.acts c.flush.new.env.store.now)) c.self.view_is c.in_ok-seq.ensures.acts);
+      adds = c.flush.ensures.adds;
       cause = tt;
       operable = λ kept. tt;
       puts = c.flush.ensures.puts;
@@ -83,6 +84,7 @@ returns-in_err-seq g c =
       alone = λ settled alone. IfOk-from_err c.from_residual.result _ c.from_residual.ensures.0;
       follows = λ os settled. IfOk-from_err c.from_residual.result _ c.from_residual.ensures.0;
       tables = IfOk-from_err c.from_residual.result _ c.from_residual.ensures.0;
+      adds = c.flush.ensures.adds;
       cause = (let old = reach_of g.S.Store g.M.MergeOperator g.T.BlockTransformer c.args.env.now in
           let new = reach_of g.S.Store g.M.MergeOperator g.T.BlockTransformer c.flush.new.env in
           rw (p.1, p.2) (subst (λ (v : SessionModel). IsFault old new c.in_err-seq.field-0.0 ⊎ IsLimit v c.in_err-seq.field-0.0 ⊎ (c.in_err-seq.field-0.0 ≡ MergeOperatorMissing)) c.self.view_is

@@ -1,4 +1,4 @@
-use Rattle.std.proofs.Common.{◌≡◌, ℕ, List, length, Option, Ok, refl, sym, ap, subst, ◌∙◌, arith, map}
+use Rattle.std.proofs.Common.{◌≡◌, ℕ, inl, List, length, Option, Ok, refl, sym, ap, subst, ◌∙◌, arith, map}
 use Rattle.std.specs.Prelude.{IfSome, IsSome}
 use Rattle.std.proofs.lemmas.Result.{err_from_is_err_and, IfOk-from_err}
 use Rattle.slate_mem.specs.KeyTests.{Segments}
@@ -12,12 +12,13 @@ use Rattle.slate_txn.specs.declared.line.Line.TheVariants as lines
 use Rattle.slate_db.specs.Installs.{runs_of}
 use Rattle.slate_db.specs.Meaning.{Meaning, rules_in}
 use Rattle.slate_db.specs.Model.{CoreModel}
-use Rattle.slate_db.specs.Readable.{IsAnswered, IsReadError}
+use Rattle.slate_db.specs.Readable.{IsAnswered, IsReadable, IsReadError}
 use Rattle.slate_language.specs.declared.reply.Answer.TheVariants as answers
 use Rattle.slate_script.specs.Session.{SessionModel, StepsAs, Grows, NamesStand, StoresNothing, reader_id}
 use Rattle.slate_script.specs.Told.{asking_for}
 use Rattle.slate_script.proofs.SessionLeaves.{segmented_noted}
 use Rattle.slate_script.proofs.SessionNames.{names_updated}
+use Rattle.slate_script.proofs.SessionParts.{checked_reads}
 use Rattle.slate_script.proofs.SessionSteps.{get_refused, found_by_get}
 use Rattle.slate_script.proofs.Growth.{grows, takes_noted}
 use Rattle.slate_script.proofs.session.Session.get.Goals as goal
@@ -29,6 +30,9 @@ returns-in_default g c =
       step = (λ is seg.
           let m = meaning_of g.M.MergeOperator.combine g.T.BlockTransformer.encoded g.T.BlockTransformer.decoded c.args.env.now.operator c.args.env.now.transformer in
           get_refused m seg c.args.self.now c.args.name c.args.key c.reader_id.result c.reader_id.ensures.reads c.in_default.is);
+      checked = (λ os readable seg known began.
+          let m = meaning_of g.M.MergeOperator.combine g.T.BlockTransformer.encoded g.T.BlockTransformer.decoded c.args.env.now.operator c.args.env.now.transformer in
+          inl (get_refused m seg c.args.self.now c.args.name c.args.key c.reader_id.result c.reader_id.ensures.reads c.in_default.is));
       stores = λ m seg. record { settings = refl; runs = refl; later = omega arith; kept = λ k. k; segmented = λ k. k };
       grows = (omega arith, omega arith);
       cause = tt;
@@ -51,16 +55,20 @@ invariant_of-self-2 g c = (
 pub returns : goal.returns
 returns g c =
     let policies = map (λ p. (goal.FilterPolicy-dyn g (p.vtable, p.value)).meaning p.value) c.args.laws.now.policies.items in
+    let before : SessionModel = record { core = c.self.inside.core; names = c.self.inside.names.entries; snapshot_names = c.self.inside.snapshot_names.entries; now = c.self.inside.now } in
+    let m = meaning_of g.M.MergeOperator.combine g.T.BlockTransformer.encoded g.T.BlockTransformer.decoded c.args.env.now.operator c.args.env.now.transformer in
+    let old = reach_of g.S.Store g.M.MergeOperator g.T.BlockTransformer c.args.env.now in
+    let new = reach_of g.S.Store g.M.MergeOperator g.T.BlockTransformer c.get-read.new.env in
+    let steps = λ (v : SessionModel) (seg : Segments). StepsAs m seg v (record before { core = c.get-read.new.self }) (lines.Get c.args.name c.args.key) (Ok (answers.Found c.in_ok-row.row)) in
+    let found : IsAnswered policies old new c.args.self.now.core → (seg : Segments) → steps c.args.self.now seg = (λ is seg.
+    let stepped = c.in_ok-row.ensures.read.answer (subst (λ (v : SessionModel). IsAnswered policies old new v.core) (sym c.self.view_is) is) seg in
+    subst (λ (v : SessionModel). steps v seg) c.self.view_is
+    (found_by_get m seg before c.get-read.new.self c.args.name c.in-Some.id c.args.key c.in_ok-row.row c.self.invariant.0 (ap (λ (v : SessionModel). reader_id v c.args.name) c.self.view_is ∙ sym c.reader_id.ensures.id ∙ c.in-Some.is)
+    (subst (λ (k : List ℕ). ◌≡◌ {A = State × Reply} (step (rules_in c.self.inside.core.settings m seg) c.self.inside.core.state (lines.Get c.in-Some.id k)) (c.get-read.new.self.state, replies.Found c.in_ok-row.row)) c.as_slice.ensures stepped))) in
     record {
-      step = (λ is seg.
-          let before : SessionModel = record { core = c.self.inside.core; names = c.self.inside.names.entries; snapshot_names = c.self.inside.snapshot_names.entries; now = c.self.inside.now } in
-          let m = meaning_of g.M.MergeOperator.combine g.T.BlockTransformer.encoded g.T.BlockTransformer.decoded c.args.env.now.operator c.args.env.now.transformer in
-          let old = reach_of g.S.Store g.M.MergeOperator g.T.BlockTransformer c.args.env.now in
-          let new = reach_of g.S.Store g.M.MergeOperator g.T.BlockTransformer c.get-read.new.env in
-          let stepped = c.in_ok-row.ensures.read.answer (subst (λ (v : SessionModel). IsAnswered policies old new v.core) (sym c.self.view_is) is) seg in
-          subst (λ (v : SessionModel). StepsAs m seg v (record before { core = c.get-read.new.self }) (lines.Get c.args.name c.args.key) (Ok (answers.Found c.in_ok-row.row))) c.self.view_is
-          (found_by_get m seg before c.get-read.new.self c.args.name c.in-Some.id c.args.key c.in_ok-row.row c.self.invariant.0 (ap (λ (v : SessionModel). reader_id v c.args.name) c.self.view_is ∙ sym c.reader_id.ensures.id ∙ c.in-Some.is)
-          (subst (λ (k : List ℕ). ◌≡◌ {A = State × Reply} (step (rules_in c.self.inside.core.settings m seg) c.self.inside.core.state (lines.Get c.in-Some.id k)) (c.get-read.new.self.state, replies.Found c.in_ok-row.row)) c.as_slice.ensures stepped)));
+      step = found;
+      checked = λ os readable seg. checked_reads (steps c.args.self.now seg) policies os old new c.args.self.now.core readable (λ is. found is seg)
+          (c.in_ok-row.ensures.read.checked os (subst (λ (v : SessionModel). IsReadable policies m os v.core) (sym c.self.view_is) readable));
       stores = (let before : SessionModel = record { core = c.self.inside.core; names = c.self.inside.names.entries; snapshot_names = c.self.inside.snapshot_names.entries; now = c.self.inside.now } in
           let same : length c.get-read.new.self.events ≡ length c.self.inside.core.events = ap (λ (v : CoreModel). length v.events) c.in_ok-row.ensures.noted in
           subst (λ (v : SessionModel). (m : Meaning) (seg : Segments) → StoresNothing m seg v (record before { core = c.get-read.new.self })) c.self.view_is
@@ -80,6 +88,7 @@ returns-in_err-row g c =
     let p = err_from_is_err_and c.from_residual.result c.from_residual.ensures.1 in
     record {
       step = λ is seg s stands. IfOk-from_err c.from_residual.result _ c.from_residual.ensures.0;
+      checked = λ os readable seg known began. inl (λ s stands. IfOk-from_err c.from_residual.result _ c.from_residual.ensures.0);
       stores = IfOk-from_err c.from_residual.result _ c.from_residual.ensures.0;
       grows = IfOk-from_err c.from_residual.result _ c.from_residual.ensures.0;
       cause = (let old = reach_of g.S.Store g.M.MergeOperator g.T.BlockTransformer c.args.env.now in

@@ -1,25 +1,22 @@
-use Rattle.std.proofs.Common.{◌≡◌, ℕ, false, List, length, Ok, refl, sym, ap, subst, ◌∙◌, arith, map}
+use Rattle.std.proofs.Common.{◌≡◌, ℕ, inl, false, List, length, Ok, refl, sym, ap, subst, ◌∙◌, arith, map}
 use Rattle.std.specs.Prelude.{IfSome, IsSome, Option}
+use Rattle.std.proofs.lemmas.Result.{IfOk-from_err}
 use Rattle.slate_mem.specs.KeyTests.{Segments}
 use Rattle.slate_store.specs.Reach.{reach_of}
 use Rattle.slate_types.specs.declared.bytes_range.BytesRange.{BytesRange}
 use Rattle.slate_types.specs.Keys.{is_refused}
-use Rattle.slate_txn.specs.declared.line.ScanStep.{ScanStep}
-use Rattle.slate_txn.specs.declared.line.Line.TheVariants as lines
-use Rattle.slate_txn.specs.Reply as replies
-use Rattle.slate_txn.specs.Reply.{Reply}
-use Rattle.slate_txn.specs.State.{State}
-use Rattle.slate_txn.specs.Step.{reader, step}
+use Rattle.slate_txn.specs.Step.{reader}
 use Rattle.slate_db.specs.Installs.{runs_of}
-use Rattle.slate_db.specs.Meaning.{Meaning, rules_in}
+use Rattle.slate_db.specs.Meaning.{Meaning}
 use Rattle.slate_db.specs.Model.{CoreModel}
-use Rattle.slate_db.specs.Readable.{IsAnswered}
+use Rattle.slate_db.specs.Readable.{IsAnswered, IsReadable}
 use Rattle.slate_language.specs.declared.reply.Answer.TheVariants as answers
-use Rattle.slate_script.specs.Scanning.{BeginsWith, ScansAs}
+use Rattle.slate_script.specs.Scanning.{BeginsWith, HandsOut, ScansAs}
 use Rattle.slate_script.specs.Session.{SessionModel, Grows, NamesStand, StoresNothing, reader_id}
 use Rattle.slate_script.proofs.SessionLeaves.{segmented_noted}
 use Rattle.slate_script.proofs.SessionNames.{names_updated}
-use Rattle.slate_script.proofs.SessionScans.{range_refused, scan_found, scan_refused}
+use Rattle.slate_script.proofs.SessionScans.{range_refused, scan_handed, scan_refused}
+use Rattle.slate_script.proofs.Slips.{holds_as}
 use Rattle.slate_script.proofs.Growth.{grows, takes_noted}
 use Rattle.slate_script.proofs.session.Session.scan_range.Goals as goal
 use Rattle.slate_script.proofs.MeaningOf.{meaning_of}
@@ -33,6 +30,19 @@ pub returns-in_default-range-clause-step : goal.returns-in_default-range-clause-
 returns-in_default-range-clause-step g c = λ is seg.
     let m = meaning_of g.M.MergeOperator.combine g.T.BlockTransformer.encoded g.T.BlockTransformer.decoded c.args.env.now.operator c.args.env.now.transformer in
     range_refused m seg c.args.self.now c.args.name c.in-Some.id c.args.order c.args.range c.args.steps c.reader_id.result c.reader_id.ensures.reads c.reader_id.ensures.known c.in-Some.is c.in_default-range.is
+
+pub returns-in_default-clause-checked : goal.returns-in_default-clause-checked
+returns-in_default-clause-checked g c = λ os readable seg known began.
+    let m = meaning_of g.M.MergeOperator.combine g.T.BlockTransformer.encoded g.T.BlockTransformer.decoded c.args.env.now.operator c.args.env.now.transformer in
+    inl (scan_refused m seg c.args.self.now c.args.name c.args.order c.args.range c.args.steps c.reader_id.result c.reader_id.ensures.reads c.in_default.is)
+
+pub returns-in_default-range-clause-checked : goal.returns-in_default-range-clause-checked
+returns-in_default-range-clause-checked g c = λ os readable seg known began.
+    let m = meaning_of g.M.MergeOperator.combine g.T.BlockTransformer.encoded g.T.BlockTransformer.decoded c.args.env.now.operator c.args.env.now.transformer in
+    inl (range_refused m seg c.args.self.now c.args.name c.in-Some.id c.args.order c.args.range c.args.steps c.reader_id.result c.reader_id.ensures.reads c.reader_id.ensures.known c.in-Some.is c.in_default-range.is)
+
+pub returns-in_err-rows-clause-checked : goal.returns-in_err-rows-clause-checked
+returns-in_err-rows-clause-checked g c = λ os readable seg known began. inl (λ s stands. IfOk-from_err c.from_residual.result _ c.from_residual.ensures.0)
 
 pub scan_rows-scanned-requires-clause-open : goal.scan_rows-scanned-requires-clause-open
 scan_rows-scanned-requires-clause-open g c = λ κs lives.
@@ -69,11 +79,23 @@ returns-clause-step g c = λ is seg.
     let old = reach_of g.S.Store g.M.MergeOperator g.T.BlockTransformer c.args.env.now in
     let new = reach_of g.S.Store g.M.MergeOperator g.T.BlockTransformer c.scan_rows-scanned.new.env in
     let fits = subst (λ (o : Option BytesRange). IfSome o (λ r. is_refused r.start r.end ≡ false)) c.in-Some-range.is c.requires.range in
-    let stepped = c.in_ok-rows.ensures.scanned.answers seg (subst (λ (v : SessionModel). IsAnswered policies old new v.core) (sym c.self.view_is) is) in
-    subst (λ (v : SessionModel). ScansAs m seg v (record before { core = c.scan_rows-scanned.new.core }) c.args.name c.args.order c.args.range c.args.steps (Ok (answers.Rows c.in_ok-rows.rows))) c.self.view_is
-    (scan_found m seg before c.scan_rows-scanned.new.core c.args.name c.in-Some.id c.args.order c.args.range c.in-Some-range.range c.args.steps c.in_ok-rows.rows.items (answers.Rows c.in_ok-rows.rows) c.self.invariant.0
-    (ap (λ (v : SessionModel). reader_id v c.args.name) c.self.view_is ∙ sym c.reader_id.ensures.id ∙ c.in-Some.is) c.in-Some-range.is fits
-    (subst (λ (sts : List ScanStep). ◌≡◌ {A = State × Reply} (step (rules_in c.self.inside.core.settings m seg) c.self.inside.core.state (lines.Scan c.in-Some.id c.args.order c.in-Some-range.range.start c.in-Some-range.range.end sts)) (c.scan_rows-scanned.new.core.state, replies.RowsAre c.in_ok-rows.rows.items)) c.as_slice.ensures stepped) refl)
+    scan_handed m seg before c.args.self.now c.scan_rows-scanned.new.core c.args.name c.in-Some.id c.args.order c.args.range c.in-Some-range.range c.args.steps c.as_slice.result.now c.in_ok-rows.rows.items (answers.Rows c.in_ok-rows.rows) c.self.view_is c.self.invariant.0
+    (ap (λ (v : SessionModel). reader_id v c.args.name) c.self.view_is ∙ sym c.reader_id.ensures.id ∙ c.in-Some.is) c.in-Some-range.is fits c.as_slice.ensures refl
+    (c.in_ok-rows.ensures.scanned.answers seg (subst (λ (v : SessionModel). IsAnswered policies old new v.core) (sym c.self.view_is) is))
+
+pub returns-clause-checked : goal.returns-clause-checked
+returns-clause-checked g c = λ os readable seg.
+    let policies = map (λ p. (goal.FilterPolicy-dyn g (p.vtable, p.value)).meaning p.value) c.args.laws.now.policies.items in
+    let before : SessionModel = record { core = c.self.inside.core; names = c.self.inside.names.entries; snapshot_names = c.self.inside.snapshot_names.entries; now = c.self.inside.now } in
+    let m = meaning_of g.M.MergeOperator.combine g.T.BlockTransformer.encoded g.T.BlockTransformer.decoded c.args.env.now.operator c.args.env.now.transformer in
+    let old = reach_of g.S.Store g.M.MergeOperator g.T.BlockTransformer c.args.env.now in
+    let new = reach_of g.S.Store g.M.MergeOperator g.T.BlockTransformer c.scan_rows-scanned.new.env in
+    let fits = subst (λ (o : Option BytesRange). IfSome o (λ r. is_refused r.start r.end ≡ false)) c.in-Some-range.is c.requires.range in
+    holds_as (HandsOut m seg before.core c.scan_rows-scanned.new.core c.in-Some.id c.args.order c.in-Some-range.range c.as_slice.result.now c.in_ok-rows.rows.items)
+    (ScansAs m seg c.args.self.now (record before { core = c.scan_rows-scanned.new.core }) c.args.name c.args.order c.args.range c.args.steps (Ok (answers.Rows c.in_ok-rows.rows))) os old new
+    (scan_handed m seg before c.args.self.now c.scan_rows-scanned.new.core c.args.name c.in-Some.id c.args.order c.args.range c.in-Some-range.range c.args.steps c.as_slice.result.now c.in_ok-rows.rows.items (answers.Rows c.in_ok-rows.rows) c.self.view_is c.self.invariant.0
+    (ap (λ (v : SessionModel). reader_id v c.args.name) c.self.view_is ∙ sym c.reader_id.ensures.id ∙ c.in-Some.is) c.in-Some-range.is fits c.as_slice.ensures refl)
+    (c.in_ok-rows.ensures.scanned.checked seg os (subst (λ (v : SessionModel). IsReadable policies m os v.core) (sym c.self.view_is) readable))
 
 pub returns-clause-grows : goal.returns-clause-grows
 returns-clause-grows g c = λ line none.
