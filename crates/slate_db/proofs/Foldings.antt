@@ -10,10 +10,10 @@ use Rattle.slate_types.specs.Refusing.{IsDamage}
 use Rattle.slate_types.specs.Rows.{is_base, is_operand}
 use Rattle.slate_types.specs.World.{AnswersWorld, Made, Sees, World}
 use Rattle.slate_types.proofs.Calls.{seen}
-use Rattle.slate_read.specs.declared.operator_iterator.MergeOperatorIterator.{MergeOperatorIterator}
-use Rattle.slate_read.specs.Folding.{is_open, is_within}
-use Rattle.slate_read.specs.Folds.{NoneOpen, RefusesBrought, brings_taken, refuses_folds, rest_taken, sound_taken}
-use Rattle.slate_read.specs.OperatorIterators.{IsGoing, IsOperable, RefusesBy, SoundUnless, refuses_folding, sound_folding}
+use Rattle.slate_merge.specs.declared.operator_iterator.MergeOperatorIterator.{MergeOperatorIterator}
+use Rattle.slate_merge.specs.Folding.{is_open, is_within}
+use Rattle.slate_merge.specs.Folds.{NoneOpen, RefusesBrought, brings_taken, refuses_folds, rest_taken, sound_taken}
+use Rattle.slate_merge.specs.OperatorIterators.{IsGoing, IsOperable, RefusesBy, SoundUnless, refuses_folding, sound_folding}
 use Rattle.slate_db.specs.Sound.{AreBases}
 
 -- ---- what it refuses for

@@ -19,10 +19,10 @@ use Rattle.slate_types.specs.Keys.{key_cmp}
 use Rattle.slate_types.specs.RowTurns.{row_before, key_order, NoneEarlier, AreInTurn}
 use Rattle.slate_types.specs.Rows.{of_key, is_operand, is_deletion, is_tombstone, hide_tombstone}
 use Rattle.slate_types.proofs.FoldLaws.{hides_older}
-use Rattle.slate_read.specs.Folding.{fold_group}
-use Rattle.slate_read.specs.DecidedKeys.{upto_base}
-use Rattle.slate_read.specs.Merge.{all_rows}
-use Rattle.slate_read.proofs.Turns.{turn_back}
+use Rattle.slate_merge.specs.Folding.{fold_group}
+use Rattle.slate_merge.specs.DecidedKeys.{upto_base}
+use Rattle.slate_merge.specs.Merge.{all_rows}
+use Rattle.slate_merge.proofs.Turns.{turn_back}
 use Rattle.slate_db.specs.Layers.{AreRising}
 use Rattle.slate_db.specs.Model.{Rows}
 use Rattle.slate_types.proofs.Lists.{AllByRecursion_append, AllByRecursion_weaken, AllByRecursion_reverse}

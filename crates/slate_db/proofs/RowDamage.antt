@@ -19,12 +19,12 @@ use Rattle.slate_filter.specs.Policy.{Policy}
 use Rattle.slate_table.specs.Reading.{SectionRead}
 use Rattle.slate_table.specs.declared.info.SsTableHandle.{SsTableHandle}
 use Rattle.slate_table.specs.Parts.{Encode}
+use Rattle.slate_merge.specs.Folds.{IsRise, RefusesBrought}
 use Rattle.slate_read.specs.Showing.{RefusesBlockOf, ShowsByReads}
 use Rattle.slate_read.specs.TableWalk.{RefusesRows}
 use Rattle.slate_db.specs.Installs.{AreHandles, tables_of}
 use Rattle.slate_db.specs.Model.{CoreModel}
 use Rattle.slate_db.specs.Parts.{IsTableError}
-use Rattle.slate_read.specs.Folds.{IsRise, RefusesBrought}
 use Rattle.slate_db.specs.Scans.{IsOpeningError, IsRefusedByScan, IsRefusedInScan, IsScanError, IsScanned, ShowsAmong}
 use Rattle.slate_db.specs.Shown.{IsUnreadable}
 use Rattle.slate_db.proofs.Damaged.{block_damage, block_unreadable, bound, in_block, index_unreadable, number_damage, passes}

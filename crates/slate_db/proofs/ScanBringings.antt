@@ -14,26 +14,26 @@ use Rattle.slate_types.proofs.KeyOrder.{bytes_eq_same}
 use Rattle.slate_mem.specs.Batch.{Ops}
 use Rattle.slate_mem.specs.Lookup.{newest_first}
 use Rattle.slate_mem.specs.Table.{ranged}
-use Rattle.slate_read.specs.declared.merge_iterator.MergeState.{MergeState}
-use Rattle.slate_read.specs.declared.merge_iterator.MergeState.TheVariants as merge
+use Rattle.slate_merge.specs.declared.merge_iterator.MergeState.{MergeState}
+use Rattle.slate_merge.specs.declared.merge_iterator.MergeState.TheVariants as merge
+use Rattle.slate_merge.specs.NoMoreRows.{HandsOut, NoMoreRows}
+use Rattle.slate_merge.specs.CallLaws.{brings_within}
+use Rattle.slate_merge.specs.Calls.{BringsByCalls, CallsOnce}
+use Rattle.slate_merge.specs.Filtering.{upto_seq}
+use Rattle.slate_merge.specs.MergeBringing.{brings_merge, merge_brings as state_brings}
+use Rattle.slate_merge.specs.MergeStateLaws.{any_weaker}
+use Rattle.slate_merge.specs.MergeStates.{WaitingAre}
+use Rattle.slate_merge.proofs.Calling.{calls_to}
+use Rattle.slate_merge.proofs.MergeBringings.{merge_grows}
+use Rattle.slate_merge.proofs.Tellings.{kept_tells, none_of}
 use Rattle.slate_read.specs.declared.read_source.ReadSource.{ReadSource}
 use Rattle.slate_read.specs.declared.read_source.ReadSource.TheVariants.{Empty, Internal, Table, Run, Segments, Batch, Memory}
 use Rattle.slate_read.specs.declared.sorted_run.SortedRun.{SortedRun}
-use Rattle.slate_read.specs.Bringing.{HandsOut, NoMoreRows}
-use Rattle.slate_read.specs.CallLaws.{brings_within}
-use Rattle.slate_read.specs.Calls.{BringsByCalls, CallsOnce}
-use Rattle.slate_read.specs.Filtering.{upto_seq}
-use Rattle.slate_read.specs.MergeBringing.{brings_merge, merge_brings as state_brings}
-use Rattle.slate_read.specs.MergeStateLaws.{any_weaker}
-use Rattle.slate_read.specs.MergeStates.{WaitingAre}
 use Rattle.slate_read.specs.SourceBringing as bringing
 use Rattle.slate_read.proofs.Bringings.{unread_grows}
-use Rattle.slate_read.proofs.Calling.{calls_to}
-use Rattle.slate_read.proofs.MergeBringings.{merge_grows}
 use Rattle.slate_read.proofs.RunBringings.{unopened_runs_bring}
 use Rattle.slate_read.proofs.Shows.{among_reached}
 use Rattle.slate_read.proofs.SourceBringings.{source_grows}
-use Rattle.slate_read.proofs.Tellings.{kept_tells, none_of}
 use Rattle.slate_table.specs.declared.info.SsTableHandle.{SsTableHandle}
 use Rattle.slate_db.specs.Installs.{handles_of}
 use Rattle.slate_db.specs.Model.{CoreModel, Rows, memory}

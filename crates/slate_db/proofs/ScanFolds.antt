@@ -8,12 +8,12 @@ use Rattle.slate_types.specs.Equality.{same_stamp}
 use Rattle.slate_types.specs.Fold.{Combine}
 use Rattle.slate_types.specs.RowTurns.{AreInTurn, NoneEarlier, row_before}
 use Rattle.slate_types.specs.Rows.{is_operand, of_key}
-use Rattle.slate_read.specs.FoldedLaws.{IsOfKey, beyond, cut_first, cut_of_key, following, group_folds}
-use Rattle.slate_read.specs.Folding.{NoneRises, cut, fold_group, folded, links, put_front}
-use Rattle.slate_read.specs.Merge.{decided_after, decides, is_hidden, merged}
-use Rattle.slate_read.specs.MergeLaws.{merged_in_order, merged_in_turn}
-use Rattle.slate_read.proofs.FoldedKeys.{cut_whole}
-use Rattle.slate_read.proofs.FoldedTurns.{none_rises_in_turn}
+use Rattle.slate_merge.specs.FoldedLaws.{IsOfKey, beyond, cut_first, cut_of_key, following, group_folds}
+use Rattle.slate_merge.specs.Folding.{NoneRises, cut, fold_group, folded, links, put_front}
+use Rattle.slate_merge.specs.Merge.{decided_after, decides, is_hidden, merged}
+use Rattle.slate_merge.specs.MergeLaws.{merged_in_order, merged_in_turn}
+use Rattle.slate_merge.proofs.FoldedKeys.{cut_whole}
+use Rattle.slate_merge.proofs.FoldedTurns.{none_rises_in_turn}
 use Rattle.slate_db.specs.Model.{Rows}
 use Rattle.slate_db.proofs.ScanRows.{AreTogether, Leads, order_together}
 use Rattle.slate_types.proofs.Lists.{AllByRecursion_behind}

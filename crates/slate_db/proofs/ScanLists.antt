@@ -21,8 +21,8 @@ use Rattle.slate_table.specs.InfoReading.{seen_info}
 use Rattle.slate_table.specs.Parts.{Encode}
 use Rattle.slate_table.specs.TableEnd.{HasInfo}
 use Rattle.slate_table.proofs.TableFinds.{outside_none}
+use Rattle.slate_merge.specs.Merge.{all_rows}
 use Rattle.slate_read.specs.declared.sorted_run.SortedRun.{SortedRun}
-use Rattle.slate_read.specs.Merge.{all_rows}
 use Rattle.slate_db.specs.Installs.{AreApart, AreHandles, AreRuns, AreRunsOf, EndsBelow, Holds}
 use Rattle.slate_db.specs.Lookup.{AreStored}
 use Rattle.slate_db.specs.Meaning.{Meaning, IsLawfulMeaning}

@@ -22,22 +22,22 @@ use Rattle.slate_types.proofs.Reaching.{fault_earlier}
 use Rattle.slate_mem.specs.Batch.{Ops}
 use Rattle.slate_mem.specs.BatchModel.{holds_merge}
 use Rattle.slate_mem.specs.Lookup.{newest_first}
-use Rattle.slate_read.specs.declared.folding.Folding.{Folding}
-use Rattle.slate_read.specs.declared.merge_iterator.MergeState.{MergeState}
-use Rattle.slate_read.specs.declared.merge_iterator.MergeState.TheVariants.{Begun, New, Refused}
-use Rattle.slate_read.specs.Folding.{NoneRises, folded}
-use Rattle.slate_read.specs.Folds.{Blames, BlamesNext, IsRise, MeetsOpen, MeetsRise, RefusesBrought}
-use Rattle.slate_read.specs.MergeLaws.{merged_in_order}
-use Rattle.slate_read.specs.Merging.{AnyByRecursion, blames, waiting_sources}
-use Rattle.slate_read.specs.MergeStateLaws.{any_weaker, merges}
-use Rattle.slate_read.specs.MergeStates.{IsFrontIn, IsMergeOf, WaitingAre, refuses_in}
-use Rattle.slate_read.specs.OperatorLaws.{brought_weaker}
-use Rattle.slate_read.specs.OperatorIterators.{IsFolding, IsGoing, IsOperable, Keeps, RefusesBy, Stays, StaysIn, rest_folding}
-use Rattle.slate_read.specs.Peeking.{TakesAhead, with_ahead}
+use Rattle.slate_merge.specs.declared.folding.Folding.{Folding}
+use Rattle.slate_merge.specs.declared.merge_iterator.MergeState.{MergeState}
+use Rattle.slate_merge.specs.declared.merge_iterator.MergeState.TheVariants.{Begun, New, Refused}
+use Rattle.slate_merge.specs.Folding.{NoneRises, folded}
+use Rattle.slate_merge.specs.Folds.{Blames, BlamesNext, IsRise, MeetsOpen, MeetsRise, RefusesBrought}
+use Rattle.slate_merge.specs.MergeLaws.{merged_in_order}
+use Rattle.slate_merge.specs.Merging.{AnyByRecursion, blames, waiting_sources}
+use Rattle.slate_merge.specs.MergeStateLaws.{any_weaker, merges}
+use Rattle.slate_merge.specs.MergeStates.{IsFrontIn, IsMergeOf, WaitingAre, refuses_in}
+use Rattle.slate_merge.specs.OperatorLaws.{brought_weaker}
+use Rattle.slate_merge.specs.OperatorIterators.{IsFolding, IsGoing, IsOperable, Keeps, RefusesBy, Stays, StaysIn, rest_folding}
+use Rattle.slate_merge.specs.Peeking.{TakesAhead, with_ahead}
+use Rattle.slate_merge.proofs.Tellings.{none_of}
 use Rattle.slate_read.specs.declared.sorted_run.SortedRun.{SortedRun}
 use Rattle.slate_read.specs.ReadSources as read
 use Rattle.slate_read.specs.Showing.{ShowsByReads}
-use Rattle.slate_read.proofs.Tellings.{none_of}
 use Rattle.slate_table.specs.declared.info.SsTableHandle.{SsTableHandle}
 use Rattle.slate_table.specs.Parts.{Encode}
 use Rattle.slate_txn.specs.Reads.{rows_seen}

@@ -19,14 +19,14 @@ use Rattle.slate_mem.specs.Batch.{Ops, kept, replaces}
 use Rattle.slate_mem.specs.BatchModel.{holds_merge}
 use Rattle.slate_mem.specs.RowOf.{own_row}
 use Rattle.slate_mem.specs.Table.{ranged}
+use Rattle.slate_merge.specs.Filtering.{upto_seq}
+use Rattle.slate_merge.specs.Folding.{folded}
+use Rattle.slate_merge.specs.Merge.{all_rows, merged}
+use Rattle.slate_merge.proofs.Turns.{turn_filtered}
 use Rattle.slate_read.specs.declared.read_source.ReadSource.{ReadSource}
 use Rattle.slate_read.specs.declared.read_source.ReadSource.TheVariants.{Empty, Internal, Table, Run, Segments, Batch, Memory}
 use Rattle.slate_read.specs.declared.sorted_run.SortedRun.{SortedRun}
-use Rattle.slate_read.specs.Filtering.{upto_seq}
-use Rattle.slate_read.specs.Folding.{folded}
-use Rattle.slate_read.specs.Merge.{all_rows, merged}
 use Rattle.slate_read.specs.ReadSources as read
-use Rattle.slate_read.proofs.Turns.{turn_filtered}
 use Rattle.slate_table.specs.Paths.{path_of}
 use Rattle.slate_txn.specs.Reads.{rows_seen}
 use Rattle.slate_db.specs.Installs.{AreRuns, Holds, root, runs_of, tables_of}

@@ -13,12 +13,12 @@ use Rattle.slate_types.specs.Refusing.{IsDamage}
 use Rattle.slate_types.specs.World.{AnswersWorld, Made, Sees, World}
 use Rattle.slate_types.proofs.Calls.{seen}
 use Rattle.slate_mem.specs.Batch.{Ops}
+use Rattle.slate_merge.specs.declared.filter_iterator.FilterIterator.{FilterIterator}
+use Rattle.slate_merge.specs.Merging.{AnyByRecursion, CanMerge, either_refusal}
+use Rattle.slate_merge.specs.NewestFirst.{RefusesSeek}
 use Rattle.slate_read.specs.declared.read_source.ReadSource.{ReadSource}
 use Rattle.slate_read.specs.declared.read_source.ReadSource.TheVariants.{Empty, Internal, Table, Run, Segments, Batch, Memory}
-use Rattle.slate_read.specs.declared.filter_iterator.FilterIterator.{FilterIterator}
 use Rattle.slate_read.specs.declared.sorted_run.SortedRun.{SortedRun}
-use Rattle.slate_read.specs.Merging.{AnyByRecursion, CanMerge, either_refusal}
-use Rattle.slate_read.specs.NewestFirst.{RefusesSeek}
 use Rattle.slate_read.specs.ReadSources as read
 use Rattle.slate_read.proofs.Shows.{runs_show}
 use Rattle.slate_table.specs.declared.info.SsTableHandle.{SsTableHandle}

@@ -17,9 +17,9 @@ use Rattle.slate_types.specs.Rows.{is_base, of_key}
 use Rattle.slate_types.proofs.KeyOrder.{not_lt, equal_keys}
 use Rattle.slate_types.proofs.IterationLaws.{in_order_filtered}
 use Rattle.slate_mem.specs.Table.{ranged}
-use Rattle.slate_read.specs.Groups.{in_turn, newest_first, put_behind}
-use Rattle.slate_read.specs.Merge.{all_rows, decided_after, decides, is_hidden, merged}
-use Rattle.slate_read.specs.Merge as merge
+use Rattle.slate_merge.specs.Groups.{in_turn, newest_first, put_behind}
+use Rattle.slate_merge.specs.Merge.{all_rows, decided_after, decides, is_hidden, merged}
+use Rattle.slate_merge.specs.Merge as merge
 use Rattle.slate_db.specs.Model.{Rows}
 use Rattle.slate_types.proofs.Lists.{AllByRecursion_append, AllByRecursion_filter}
 use Rattle.slate_txn.proofs.PartLaws.{filter_reverse}

@@ -19,14 +19,14 @@ use Rattle.slate_types.specs.World.{World, Made}
 use Rattle.slate_types.proofs.Calls.{call_none}
 use Rattle.slate_types.proofs.IterationLaws.{drop_before_none}
 use Rattle.slate_types.proofs.KeyOrder.{le_lt_trans, lt_irreflexive, lt_le_trans, lt_trans, not_le, not_lt}
-use Rattle.slate_read.specs.declared.folding.Folding.{Folding}
-use Rattle.slate_read.specs.declared.operator_iterator.MergeOperatorIterator.{MergeOperatorIterator}
-use Rattle.slate_read.specs.Folding.{NoneRises}
-use Rattle.slate_read.specs.Folds.{RefusesBrought}
-use Rattle.slate_read.specs.Kept.{Copies}
-use Rattle.slate_read.specs.OperatorIterators.{IsGoing, IsOperable, refuses_folding, rest_folding, sound_folding}
-use Rattle.slate_read.specs.Peeking.{with_ahead}
-use Rattle.slate_read.proofs.MergeStateSteps.{kept_again}
+use Rattle.slate_merge.specs.declared.folding.Folding.{Folding}
+use Rattle.slate_merge.specs.declared.operator_iterator.MergeOperatorIterator.{MergeOperatorIterator}
+use Rattle.slate_merge.specs.Folding.{NoneRises}
+use Rattle.slate_merge.specs.Folds.{RefusesBrought}
+use Rattle.slate_merge.specs.Kept.{Copies}
+use Rattle.slate_merge.specs.OperatorIterators.{IsGoing, IsOperable, refuses_folding, rest_folding, sound_folding}
+use Rattle.slate_merge.specs.Peeking.{with_ahead}
+use Rattle.slate_merge.proofs.MergeStateSteps.{kept_again}
 use Rattle.slate_txn.specs.Alone.{first_left}
 use Rattle.slate_db.specs.declared.scan.DbIterator.{DbIterator}
 use Rattle.slate_db.specs.declared.scan.ScanState.{ScanState}

@@ -23,9 +23,9 @@ use Rattle.slate_table.specs.InfoReading.{seen_info}
 use Rattle.slate_table.specs.Parts.{sum_fits}
 use Rattle.slate_table.proofs.HeldParts.{blocks_held, index_found, index_held}
 use Rattle.slate_table.proofs.OpenLaws.{same_end}
+use Rattle.slate_merge.specs.Groups.{in_turn}
+use Rattle.slate_merge.specs.Merge as merge
 use Rattle.slate_read.specs.declared.sorted_run.SortedRun.{SortedRun}
-use Rattle.slate_read.specs.Groups.{in_turn}
-use Rattle.slate_read.specs.Merge as merge
 use Rattle.slate_read.specs.Readable.{TablesAreReadable}
 use Rattle.slate_read.specs.RunIterators.{AreBelow, AreEachReadable, AreReadable, AreRisingTables, all_rows, rows_in_run, run_rows}
 use Rattle.slate_read.specs.TableWalk.{is_in}

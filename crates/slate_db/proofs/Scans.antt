@@ -23,13 +23,13 @@ use Rattle.slate_mem.specs.Batch.{Ops, kept, batch_keys}
 use Rattle.slate_mem.specs.RowOf.{own_row, row_of}
 use Rattle.slate_mem.proofs.BatchLaws.{has_one_row, none_left, some_kept}
 use Rattle.slate_mem.proofs.RowOfLaws.{row_has}
-use Rattle.slate_read.specs.DecidedKeys.{decided_key, upto_base}
-use Rattle.slate_read.specs.Filtering.{upto_seq}
-use Rattle.slate_read.specs.FoldedLaws.{folded_in_order}
-use Rattle.slate_read.specs.Folding.{fold_group, folded}
-use Rattle.slate_read.specs.Merge.{merged, decided, in_turn, all_rows}
-use Rattle.slate_read.specs.MergeLaws.{merged_in_order, merged_kept}
-use Rattle.slate_read.specs.Turns.{in_turn_already}
+use Rattle.slate_merge.specs.DecidedKeys.{decided_key, upto_base}
+use Rattle.slate_merge.specs.Filtering.{upto_seq}
+use Rattle.slate_merge.specs.FoldedLaws.{folded_in_order}
+use Rattle.slate_merge.specs.Folding.{fold_group, folded}
+use Rattle.slate_merge.specs.Merge.{merged, decided, in_turn, all_rows}
+use Rattle.slate_merge.specs.MergeLaws.{merged_in_order, merged_kept}
+use Rattle.slate_merge.specs.Turns.{in_turn_already}
 use Rattle.slate_txn.specs.Reads.{up_to, key_rows, seen, keys_seen, rows_seen}
 use Rattle.slate_txn.specs.State.{Rules, Commit, combine_at}
 use Rattle.slate_db.specs.Model.{Rows}

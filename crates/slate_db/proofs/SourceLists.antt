@@ -5,11 +5,11 @@ use Rattle.slate_types.specs.declared.bytes_range.BytesRange.{BytesRange}
 use Rattle.slate_types.specs.declared.iter.IterationOrder.{IterationOrder}
 use Rattle.slate_types.specs.Iteration.{RowList}
 use Rattle.slate_mem.specs.Batch.{Ops}
+use Rattle.slate_merge.specs.Groups.{in_turn}
 use Rattle.slate_read.specs.declared.read_source.ReadSource.{ReadSource}
 use Rattle.slate_read.specs.declared.read_source.ReadSource.TheVariants.{Batch, Memory, Run}
 use Rattle.slate_read.specs.declared.sorted_run.SortedRun.{SortedRun}
 use Rattle.slate_read.specs.declared.sorted_run_iterator.SortedRunIterator.{SortedRunIterator}
-use Rattle.slate_read.specs.Groups.{in_turn}
 use Rattle.slate_read.specs.RunIterators.{AreReadable, BringsRun, IsRunIterator, reached, rows_in_run}
 use Rattle.slate_table.specs.declared.info.SsTableHandle.{SsTableHandle}
 use Rattle.slate_db.specs.Model.{Rows}

@@ -25,13 +25,13 @@ use Rattle.slate_types.specs.RowTurns.{AreInTurn, row_before}
 use Rattle.slate_types.specs.World.{World}
 use Rattle.slate_filter.specs.Policy.{Policy}
 use Rattle.slate_mem.specs.Batch.{Ops}
+use Rattle.slate_merge.specs.Folding.{folded}
+use Rattle.slate_merge.specs.Folds.{RefusesBrought}
+use Rattle.slate_merge.specs.Merge.{merged}
+use Rattle.slate_merge.specs.Merging.{AnyByRecursion, CanMerge, blames, waiting_sources}
 use Rattle.slate_read.specs.declared.read_source.ReadSource.{ReadSource}
 use Rattle.slate_read.specs.declared.read_source.ReadSource.TheVariants.{Run, Batch, Memory}
 use Rattle.slate_read.specs.declared.sorted_run.SortedRun.{SortedRun}
-use Rattle.slate_read.specs.Folding.{folded}
-use Rattle.slate_read.specs.Folds.{RefusesBrought}
-use Rattle.slate_read.specs.Merge.{merged}
-use Rattle.slate_read.specs.Merging.{AnyByRecursion, CanMerge, blames, waiting_sources}
 use Rattle.slate_read.specs.RunIterators.{IsRunIterator}
 use Rattle.slate_read.specs.SourceBringing as bringing
 use Rattle.slate_db.specs.Model.{Rows}

@@ -19,10 +19,10 @@ use Rattle.slate_types.specs.Rows.{of_key, is_tombstone}
 use Rattle.slate_mem.specs.Batch.{Ops, kept}
 use Rattle.slate_mem.specs.RowOf.{own_row}
 use Rattle.slate_mem.specs.Table.{ranged}
+use Rattle.slate_merge.specs.Filtering.{upto_seq}
+use Rattle.slate_merge.specs.Folding.{folded}
+use Rattle.slate_merge.specs.Merge.{all_rows, merged}
 use Rattle.slate_read.specs.declared.sorted_run.SortedRun.{SortedRun}
-use Rattle.slate_read.specs.Filtering.{upto_seq}
-use Rattle.slate_read.specs.Folding.{folded}
-use Rattle.slate_read.specs.Merge.{all_rows, merged}
 use Rattle.slate_txn.specs.Reads.{up_to, key_rows}
 use Rattle.slate_txn.specs.State.{Rules, Commit, combine_at}
 use Rattle.slate_db.specs.Layers.{AreRising}

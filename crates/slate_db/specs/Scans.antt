@@ -46,20 +46,20 @@ use Rattle.slate_types.specs.Rows.{is_base}
 use Rattle.slate_types.specs.World.{Kept, World, Made}
 use Rattle.slate_filter.specs.Policy.{Policy}
 use Rattle.slate_mem.specs.Lookup.{newest_first}
-use Rattle.slate_read.specs.declared.filter_iterator.FilterIterator.{FilterIterator}
-use Rattle.slate_read.specs.declared.filter_iterator.MaxSeq.{MaxSeq}
+use Rattle.slate_merge.specs.declared.filter_iterator.FilterIterator.{FilterIterator}
+use Rattle.slate_merge.specs.declared.filter_iterator.MaxSeq.{MaxSeq}
+use Rattle.slate_merge.specs.declared.merge_iterator.MergeIterator.{MergeIterator}
+use Rattle.slate_merge.specs.declared.operator_iterator.MergeOperatorIterator.{MergeOperatorIterator}
+use Rattle.slate_merge.specs.Calls.{BringsByCalls}
+use Rattle.slate_merge.specs.Filtering.{TakesKept, upto_seq}
+use Rattle.slate_merge.specs.Folding.{NoneRises}
+use Rattle.slate_merge.specs.Folds.{IsRise, RefusesBrought, brings_taken}
+use Rattle.slate_merge.specs.MergeBringing.{MergeBegins, MergeSeeks, MergeTakes}
+use Rattle.slate_merge.specs.MergeStates.{IsSoundMerge, refuses_in, rest_of_merge}
+use Rattle.slate_merge.specs.OperatorIterators.{IsGoing, RefusesBy, rest_folding, sound_folding}
+use Rattle.slate_merge.specs.Peeking.{with_ahead}
 use Rattle.slate_read.specs.declared.read_source.ReadSource.{ReadSource}
-use Rattle.slate_read.specs.declared.merge_iterator.MergeIterator.{MergeIterator}
-use Rattle.slate_read.specs.declared.operator_iterator.MergeOperatorIterator.{MergeOperatorIterator}
 use Rattle.slate_read.specs.Bringing.{BringsUnread}
-use Rattle.slate_read.specs.Calls.{BringsByCalls}
-use Rattle.slate_read.specs.Filtering.{TakesKept, upto_seq}
-use Rattle.slate_read.specs.Folding.{NoneRises}
-use Rattle.slate_read.specs.Folds.{IsRise, RefusesBrought, brings_taken}
-use Rattle.slate_read.specs.MergeBringing.{MergeBegins, MergeSeeks, MergeTakes}
-use Rattle.slate_read.specs.MergeStates.{IsSoundMerge, refuses_in, rest_of_merge}
-use Rattle.slate_read.specs.OperatorIterators.{IsGoing, RefusesBy, rest_folding, sound_folding}
-use Rattle.slate_read.specs.Peeking.{with_ahead}
 use Rattle.slate_read.specs.ReadSources as read
 use Rattle.slate_read.specs.SourceBringing as bringing
 use Rattle.slate_read.specs.Showing.{ShowsByReads}

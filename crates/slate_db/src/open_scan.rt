@@ -9,7 +9,7 @@ ghost use Rattle.slate_types.specs.Outside.{Act, IsFault, OnlyReads};
 ghost use Rattle.slate_types.specs.RowTurns.{AreInTurn, row_before};
 ghost use Rattle.slate_types.specs.World.{World, Checks, Made, Sees};
 ghost use Rattle.slate_mem.specs.Batch.{Ops};
-ghost use Rattle.slate_read.specs.OperatorIterators.{IsGoing, refuses_folding, rest_folding, sound_folding};
+ghost use Rattle.slate_merge.specs.OperatorIterators.{IsGoing, refuses_folding, rest_folding, sound_folding};
 ghost use Rattle.slate_read.specs.SstOptions.{CanFetch};
 ghost use Rattle.slate_db.specs.Installs.{handles_of};
 ghost use Rattle.slate_db.specs.OpenScans.{AreEach, AreScanSources, CanOpen, FoldsRefuse, HasRows, IsBlamedFor, IsMemorySource, IsRunSource, LeftSources, folded_rows, merged_rows};
@@ -24,10 +24,8 @@ use crate::scan_filters::{runs_left, scan_query};
 use bytes::Bytes;
 use slate_filter::FilterPolicy;
 use slate_mem::{ImmutableMemtable, MemTable, MemTableIterator, WriteBatchIterator};
-use slate_read::{
-    FilterIterator, MaxSeq, MergeIterator, MergeOperatorIterator, ReadSource, SortedRun,
-    SortedRunIterator, SstIteratorOptions,
-};
+use slate_merge::{FilterIterator, MaxSeq, MergeIterator, MergeOperatorIterator};
+use slate_read::{ReadSource, SortedRun, SortedRunIterator, SstIteratorOptions};
 use slate_store::{Env, EnvOf, Store};
 use slate_table::SsTableHandle;
 use slate_types::{

@@ -14,8 +14,9 @@ ghost use Rattle.slate_db.specs.Scans.{AnswersAgain, AreForIn, IsOperableIn, IsR
 ghost use Rattle.slate_db.specs.Values.{HasValues};
 
 use crate::values::{next_value, seek_values};
-use slate_read::kept::copy_of;
-use slate_read::{FilterIterator, MaxSeq, MergeIterator, MergeOperatorIterator, ReadSource};
+use slate_merge::kept::copy_of;
+use slate_merge::{FilterIterator, MaxSeq, MergeIterator, MergeOperatorIterator};
+use slate_read::ReadSource;
 use slate_store::{Env, EnvOf, Store};
 use slate_types::{
     BlockTransformer, BytesRange, IterationOrder, KeyValue, MergeOperator, Outside, SlateDBError,

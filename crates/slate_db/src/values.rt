@@ -8,12 +8,12 @@ ghost use Rattle.slate_types.specs.Outside.{IsFault, OnlyReads};
 ghost use Rattle.slate_types.specs.Refusing.{IsDamage, NoMore};
 ghost use Rattle.slate_types.specs.Rows.{key_value};
 ghost use Rattle.slate_types.specs.World.{World, Checks, Made, Sees};
-ghost use Rattle.slate_read.specs.Calls.{BringsByCalls};
-ghost use Rattle.slate_read.specs.OperatorIterators.{IsGoing, IsOperable, refuses_folding, rest_folding, sound_folding};
+ghost use Rattle.slate_merge.specs.Calls.{BringsByCalls};
+ghost use Rattle.slate_merge.specs.OperatorIterators.{IsGoing, IsOperable, refuses_folding, rest_folding, sound_folding};
 ghost use Rattle.slate_txn.specs.Alone.{first_left};
 ghost use Rattle.slate_db.specs.Values.{HasValues, has_value};
 
-use slate_read::{MergeOperatorIterator, Operates};
+use slate_merge::{MergeOperatorIterator, Operates};
 use slate_types::{KeyValue, RowEntry, RowEntryIterator, SlateDBError, ValueDeletable};
 use std::alloc::Global;
 

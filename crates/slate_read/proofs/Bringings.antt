@@ -1,16 +1,15 @@
 -- What calls of a walk over a table do to the rows that it may hand out.
-use Rattle.std.proofs.Common.{◌≡◌, ◌⊎◌, inl, inr, ◌≤◌, ◌+◌, ◌-◌, ℕ, suc, Bool, List, [], ◌∷◌, ◌++◌, length, Option, Some, None, refl, sym, ap, subst, ◌∙◌, arith, append_assoc}
-use Rattle.std.specs.Prelude.{Contains, IfSome, Ok, slice_get}
+use Rattle.std.proofs.Common.{◌≡◌, ◌⊎◌, inl, inr, ◌≤◌, ◌+◌, ◌-◌, ℕ, suc, Bool, List, [], ◌∷◌, ◌++◌, length, Option, Some, None, refl, sym, ap, subst, ◌∙◌, arith}
+use Rattle.std.specs.Prelude.{Contains, Ok, slice_get}
 use Rattle.std.proofs.lemmas.List.Elements.{Contains-append_left, Contains-append_right}
 use Rattle.slate_types.specs.declared.bytes_range.BytesRange.{BytesRange}
-use Rattle.slate_types.specs.declared.error.SlateDBError.{SlateDBError}
 use Rattle.slate_types.specs.declared.types.RowEntry.{RowEntry}
 use Rattle.slate_types.specs.declared.iter.IterationOrder.{IterationOrder}
 use Rattle.slate_types.specs.Iteration.{in_order}
 use Rattle.slate_types.specs.Outside.{Act, Meaning, Reach}
 use Rattle.slate_types.specs.Refusing.{NoMore}
 use Rattle.slate_types.specs.World.{IsCall, Made}
-use Rattle.slate_types.proofs.Calls.{call_none, call_both, no_more_both}
+use Rattle.slate_types.proofs.Calls.{call_none}
 use Rattle.slate_block.specs.declared.block.Block.{Block}
 use Rattle.slate_block.specs.declared.data_block_iterator.DataBlockIterator.{DataBlockIterator}
 use Rattle.slate_block.specs.EitherVersion.{left_of}
@@ -19,66 +18,19 @@ use Rattle.slate_block.specs.Walks.{RowRead}
 use Rattle.slate_table.specs.declared.info.SsTableHandle.{SsTableHandle}
 use Rattle.slate_table.specs.IndexValue.{entries_of}
 use Rattle.slate_table.specs.Reading.{IsBlockRead}
+use Rattle.slate_merge.proofs.NoMoreRows.{added_hands, both_added, none_added, none_handed}
+use Rattle.slate_merge.specs.NoMoreRows.{AddsNone, AddsNoneByCall, HandsAwayByCall, HandsOut, NoMoreRows}
 use Rattle.slate_read.specs.declared.table_state.Cursor.{Cursor}
 use Rattle.slate_read.specs.declared.table_state.TableState.{TableState}
 use Rattle.slate_read.specs.declared.table_state.TableState.TheVariants.{New, Walking, Refused}
 use Rattle.slate_read.specs.TableWalk.{AreOpened, Begins, BeginsAt, Fetches, IsIndexed, Jumps, Opens, RefusesLeft, SkipsOpen, TakesOpen, answer_at, passed_over, path_in, read_of, reads_in, refuses_behind}
-use Rattle.slate_read.specs.Bringing.{AddsNone, AddsNoneByCall, BringsLeft, BringsReady, BringsSome, BringsUnread, HandsAway, HandsAwayByCall, HandsOut, HasRead, IsRowIn, NoMoreRows, brings_behind, brings_in}
+use Rattle.slate_read.specs.Bringing.{BringsLeft, BringsReady, BringsSome, BringsUnread, HasRead, IsRowIn, brings_behind, brings_in}
 use Rattle.slate_read.proofs.Cursors.{fewer_after, opens_fewer, same_refused, took_no_more, took_none}
 use Rattle.slate_read.proofs.Jumps.{passed_refused}
 use Rattle.slate_read.proofs.ReadAhead.{Stands, block_read, fetches_fewer, get_both, next_within, stands}
 use Rattle.slate_read.proofs.Seeks.{skipped_no_more}
 use Rattle.slate_read.proofs.Walks.{begins_fewer, refuses_at}
 use Rattle.slate_types.proofs.Lists.{slice_get_drop}
-
--- ---- of any iterator
-
-pub no_rows_both : (before middle after : List Act → RowEntry → Type 0) (reads more : List Act) → NoMoreRows before reads middle → NoMoreRows middle more after → NoMoreRows before (reads ++ more) after
-no_rows_both before middle after reads more f g later r k = subst (λ (acts : List Act). before acts r) (sym (append_assoc reads more later)) (f (more ++ later) r (g later r k))
-
-pub some_weaker : (P Q : RowEntry → Type 0) (o : Option RowEntry) → ((r : RowEntry) → P r → Q r) → IfSome o P → IfSome o Q
-some_weaker P Q None f h = h
-some_weaker P Q (Some r) f h = f r h
-
-module _ {A : Type 0} (brings : A → Meaning → List Act → RowEntry → Type 0) (refuses : A → Meaning → List Act → Option (List ℕ) → SlateDBError → Type 0) where
-  abbrev pub AddsBy : Reach → Reach → A → A → Type 0
-  AddsBy a b x y = AddsNoneByCall brings refuses a b x y
-
-  abbrev pub HandsBy : Reach → Reach → A → Option RowEntry → A → Type 0
-  HandsBy a b x answer y = HandsAwayByCall brings refuses a b x answer y
-
-  pub none_added : (t : Reach) (x : A) → AddsBy t t x x
-  none_added t x = ([], call_none t, (λ later at e k. k, λ later r k. k))
-
-  pub none_handed : (t : Reach) (x : A) → HandsBy t t x None x
-  none_handed t x = ([], call_none t, ((tt, λ later r k. k), λ later at e k. k))
-
-  pub both_added : (a b c : Reach) (x y z : A) → AddsBy a b x y → AddsBy b c y z → AddsBy a c x z
-  both_added a b c x y z m n = (m.0 ++ n.0, call_both a b c m.0 n.0 m.1 n.1, (no_more_both (refuses x a.meaning) (refuses y a.meaning) (refuses z a.meaning) m.0 n.0 m.2.0 last.0, no_rows_both (brings x a.meaning) (brings y a.meaning) (brings z a.meaning) m.0 n.0 m.2.1 last.1))
-    where
-      last : AddsNone brings refuses a.meaning y n.0 z
-      last = subst (λ (p : Meaning). AddsNone brings refuses p y n.0 z) m.1.meaning n.2
-
-  -- and then a row is handed out, or none is left
-  pub added_hands : (a b c : Reach) (x y z : A) (answer : Option RowEntry) → AddsBy a b x y → HandsBy b c y answer z → HandsBy a c x answer z
-  added_hands a b c x y z answer m n = (
-    m.0 ++ n.0,
-    call_both a b c m.0 n.0 m.1 n.1,
-    (
-      (
-        some_weaker (λ r. brings y a.meaning n.0 r) (λ r. brings x a.meaning (m.0 ++ n.0) r) answer (λ r k. m.2.1 n.0 r k) last.0.0,
-        no_rows_both (brings x a.meaning) (brings y a.meaning) (brings z a.meaning) m.0 n.0 m.2.1 last.0.1,
-      ),
-      no_more_both (refuses x a.meaning) (refuses y a.meaning) (refuses z a.meaning) m.0 n.0 m.2.0 last.1,
-    ),
-  )
-    where
-      last : HandsAway brings refuses a.meaning y n.0 answer z
-      last = subst (λ (p : Meaning). HandsAway brings refuses p y n.0 answer z) m.1.meaning n.2
-
-  -- none was left
-  pub ended_adds : (a b : Reach) (x y : A) → HandsBy a b x None y → AddsBy a b x y
-  ended_adds a b x y (reads, call, (hands, fewer)) = (reads, call, (fewer, hands.1))
 
 -- ---- the block that is open
 

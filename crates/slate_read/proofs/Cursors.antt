@@ -26,11 +26,12 @@ use Rattle.slate_table.specs.declared.info.SsTableHandle.{SsTableHandle}
 use Rattle.slate_table.specs.IndexValue.{entries_of}
 use Rattle.slate_table.specs.Parts.{summed}
 use Rattle.slate_table.specs.Reading.{whole_answer}
+use Rattle.slate_merge.specs.Answering.{no_words}
 use Rattle.slate_read.specs.declared.table_state.Cursor.{Cursor}
 use Rattle.slate_types.specs.World.{Kept, World, AnswersWorld, IsCall, IsSlip, Made, Checks}
 use Rattle.slate_types.specs.Outside.{Meaning, Reach}
 use Rattle.slate_types.specs.Refusing.{IsDamage, NoMore}
-use Rattle.slate_read.specs.TableWalk.{AreOpened, AreReadAhead, IsSoundCursor, IsWhole, Opens, RefusesLeft, RefusesReady, RefusesRows, RefusesSome, TakesOpen, left_in, max_reads, next_first, next_stop, no_words, nth_block, reads_in, refuses_behind, rest_after, rest_behind, rows_between}
+use Rattle.slate_read.specs.TableWalk.{AreOpened, AreReadAhead, IsSoundCursor, IsWhole, Opens, RefusesLeft, RefusesReady, RefusesRows, RefusesSome, TakesOpen, left_in, max_reads, next_first, next_stop, nth_block, reads_in, refuses_behind, rest_after, rest_behind, rows_between}
 use Rattle.slate_types.proofs.Calls.{call_none, checks_none, met}
 use Rattle.slate_types.proofs.Moves.{Moves}
 use Rattle.slate_types.specs.Steps.{Step}

@@ -23,13 +23,13 @@ use Rattle.slate_block.specs.declared.data_block_iterator.DataBlockIterator.{Dat
 use Rattle.slate_table.specs.declared.info.SsTableHandle.{SsTableHandle}
 use Rattle.slate_table.specs.IndexReading.{index_keys}
 use Rattle.slate_table.specs.IndexValue.{entries_of}
+use Rattle.slate_merge.proofs.Grouping.{all_back}
+use Rattle.slate_merge.proofs.Turns.{dropped_front}
 use Rattle.slate_read.specs.declared.table_state.Cursor.{Cursor}
 use Rattle.slate_read.specs.TableWalk.{AreReadAhead, IsSoundCursor, IsSoundRising, IsWhole, Jumps, RefusesLeft, RefusesReady, Sought, left_in, nth_block, passed_over, reads_in, refuses_behind, rest_after, rest_behind, rows_between}
 use Rattle.slate_read.proofs.Cursors.{fewer_after, sound_after, spent_left}
-use Rattle.slate_read.proofs.Grouping.{all_back}
 use Rattle.slate_read.proofs.Ranges.{in_back}
 use Rattle.slate_read.proofs.Seeks.{rest_sought}
-use Rattle.slate_read.proofs.Turns.{dropped_front}
 
 -- ---- neighbouring blocks
 

@@ -10,9 +10,9 @@ use Rattle.slate_types.specs.declared.iter.IterationOrder.{IterationOrder}
 use Rattle.slate_types.specs.declared.iter.IterationOrder.TheVariants.{Ascending, Descending}
 use Rattle.slate_types.specs.Iteration.{IsInOrder, NoneBefore, comes_before, in_order}
 use Rattle.slate_types.specs.Keys.{in_range, is_refused}
+use Rattle.slate_merge.specs.declared.filter_iterator.FilterIterator.{FilterIterator}
 use Rattle.slate_read.specs.RangeRows.{IsRangeOf}
 use Rattle.slate_read.specs.declared.fetch_limits.FetchLimits.{FetchLimits}
-use Rattle.slate_read.specs.declared.filter_iterator.FilterIterator.{FilterIterator}
 use Rattle.slate_read.specs.declared.range_rows.InRange.{InRange}
 use Rattle.slate_read.specs.declared.table_state.TableWalk.{TableWalk}
 use Rattle.slate_types.specs.Partitions.{CanHold, covering_end, covering_start}

@@ -11,8 +11,14 @@ use Rattle.slate_types.specs.Refusing.{NoMore}
 use Rattle.slate_types.specs.World.{IsCall, Made}
 use Rattle.slate_types.proofs.Calls.{call_none}
 use Rattle.slate_table.specs.declared.info.SsTableHandle.{SsTableHandle}
-use Rattle.slate_read.specs.declared.filter_iterator.FilterIterator.{FilterIterator}
-use Rattle.slate_read.specs.declared.progress.Progress.{Progress}
+use Rattle.slate_merge.specs.declared.filter_iterator.FilterIterator.{FilterIterator}
+use Rattle.slate_merge.specs.declared.progress.Progress.{Progress}
+use Rattle.slate_merge.specs.NoMoreRows.{HandsOut, NoMoreRows}
+use Rattle.slate_merge.specs.Filtering.{TakesKept}
+use Rattle.slate_merge.specs.Handing.{HandsHeld, SeeksHeld, brings_held, held_in}
+use Rattle.slate_merge.specs.NewestFirst.{Begins}
+use Rattle.slate_merge.proofs.NoMoreRows.{AddsBy, HandsBy, ended_adds, some_weaker}
+use Rattle.slate_merge.proofs.Tellings.{begun_tells, held_grows, held_new, held_tells, kept_tells, none_of, one_of, sought_tells}
 use Rattle.slate_read.specs.declared.range_rows.InRange.{InRange}
 use Rattle.slate_read.specs.declared.run_state.OpenTable.{OpenTable}
 use Rattle.slate_read.specs.declared.run_state.RunCursor.{RunCursor}
@@ -20,19 +26,15 @@ use Rattle.slate_read.specs.declared.run_state.RunState.{RunState}
 use Rattle.slate_read.specs.declared.run_state.RunState.TheVariants.{New, Going, Refused}
 use Rattle.slate_read.specs.declared.run_state.RunWalk.{RunWalk}
 use Rattle.slate_read.specs.declared.table_state.TableState.TheVariants as table
-use Rattle.slate_read.specs.Bringing.{BringsUnread, HandsOut, NoMoreRows, brings_behind, brings_in}
-use Rattle.slate_read.specs.Filtering.{TakesKept}
-use Rattle.slate_read.specs.Handing.{HandsHeld, SeeksHeld, brings_held, held_in}
-use Rattle.slate_read.specs.NewestFirst.{Begins}
+use Rattle.slate_read.specs.Bringing.{BringsUnread, brings_behind, brings_in}
 use Rattle.slate_read.specs.RunBringing.{BringsOpen, BringsWaiting, RunRows, UnopenedRunsBring, brings_run, brings_run_in, brings_run_iterator, brings_run_source, brings_walk, run_walk_begins, run_walk_seeks, run_walk_takes}
 use Rattle.slate_read.specs.RunIterators.{reached}
 use Rattle.slate_read.specs.RunWalk.{OpensNext, OpensTable, PassesOver, RefusesOpen, refuses_open, refuses_run, rows_ahead, waiting}
 use Rattle.slate_read.specs.TableWalk.{is_in, refuses_behind}
-use Rattle.slate_read.proofs.Bringings.{AddsBy, HandsBy, Within, begins_adds, behind_grows, ended_adds, some_weaker, unread_grows}
+use Rattle.slate_read.proofs.Bringings.{Within, begins_adds, behind_grows, unread_grows}
 use Rattle.slate_read.proofs.RunCalls.{At, refuses_pair}
 use Rattle.slate_read.proofs.Runs.{end_run, ended_moves, fewer_of, opened_no_more}
 use Rattle.slate_read.proofs.RunSeeks.{passed_no_more}
-use Rattle.slate_read.proofs.Tellings.{begun_tells, held_grows, held_new, held_tells, kept_tells, none_of, one_of, sought_tells}
 use Rattle.slate_read.proofs.Walks.{refuses_at}
 
 -- ---- what some reads bring, more do

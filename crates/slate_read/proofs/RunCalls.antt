@@ -11,14 +11,15 @@ use Rattle.slate_types.specs.Steps.{Step}
 use Rattle.slate_types.specs.World.{World, Made, Sees}
 use Rattle.slate_types.proofs.Calls.{call_none, seen}
 use Rattle.slate_types.proofs.Moves.{Moves}
+use Rattle.slate_merge.specs.Kept.{Copies}
+use Rattle.slate_merge.specs.Answering.{no_words}
 use Rattle.slate_read.specs.declared.run_state.OpenTable.{OpenTable}
 use Rattle.slate_read.specs.declared.run_state.RunCursor.{RunCursor}
 use Rattle.slate_read.specs.declared.run_state.RunState.{RunState}
 use Rattle.slate_read.specs.declared.run_state.RunState.TheVariants.{New, Going, Refused}
-use Rattle.slate_read.specs.Kept.{Copies}
 use Rattle.slate_read.specs.RunLaws.{run_whole}
 use Rattle.slate_read.specs.RunWalk.{bound_run, bound_run_in, IsSoundRun, IsUnrefusedRun, KeepsRun, RefusesOpen, StaysRunIn, refuses_run, refuses_run_in, rest_run, rest_run_in, sound_run_in}
-use Rattle.slate_read.specs.TableWalk.{Sought, no_words}
+use Rattle.slate_read.specs.TableWalk.{Sought}
 use Rattle.slate_read.proofs.Walks.{outer_undamaged}
 
 -- a walk is its state and its cursor

@@ -12,9 +12,10 @@ use Rattle.slate_types.proofs.Calls.{call_both, call_none, checks_both, checks_n
 use Rattle.slate_types.proofs.IterationLaws.{taken_in_order}
 use Rattle.slate_types.proofs.Reaching.{fault_earlier}
 use Rattle.slate_table.specs.declared.info.SsTableHandle.{SsTableHandle}
+use Rattle.slate_merge.specs.Answering.{no_words}
 use Rattle.slate_read.specs.declared.run_state.OpenTable.{OpenTable}
 use Rattle.slate_read.specs.RunWalk.{FindsRow, IsOpenRising, IsSoundOpen, RefusesOpen, refuses_open, rest_open}
-use Rattle.slate_read.specs.TableWalk.{IsSoundCursor, IsSoundRising, Sought, no_words, refuses_behind, rest_after}
+use Rattle.slate_read.specs.TableWalk.{IsSoundCursor, IsSoundRising, Sought, refuses_behind, rest_after}
 
 -- ---- a step
 

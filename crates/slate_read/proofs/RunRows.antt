@@ -24,24 +24,24 @@ use Rattle.slate_table.specs.declared.info.SsTableHandle.{SsTableHandle}
 use Rattle.slate_table.specs.declared.info.SsTableInfo.{SsTableInfo}
 use Rattle.slate_table.specs.Finding.{encloses, is_from, is_upto}
 use Rattle.slate_table.specs.InfoReading.{seen_info}
-use Rattle.slate_read.specs.declared.filter_iterator.FilterIterator.{FilterIterator}
-use Rattle.slate_read.specs.declared.newest_first.NewestFirst.{NewestFirst}
-use Rattle.slate_read.specs.declared.progress.Progress.{Progress}
-use Rattle.slate_read.specs.declared.progress.Progress.TheVariants.{New as ProgressNew}
+use Rattle.slate_merge.specs.declared.filter_iterator.FilterIterator.{FilterIterator}
+use Rattle.slate_merge.specs.declared.newest_first.NewestFirst.{NewestFirst}
+use Rattle.slate_merge.specs.declared.progress.Progress.{Progress}
+use Rattle.slate_merge.specs.declared.progress.Progress.TheVariants.{New as ProgressNew}
+use Rattle.slate_merge.specs.Groups.{in_turn}
+use Rattle.slate_merge.specs.NewestFirst.{rest_newest, sound_newest}
+use Rattle.slate_merge.proofs.Turns.{either_turn, turn_filtered}
 use Rattle.slate_read.specs.declared.range_rows.InRange.{InRange}
 use Rattle.slate_read.specs.declared.run_state.RunCursor.{RunCursor}
 use Rattle.slate_read.specs.declared.run_state.RunState.TheVariants.{New}
 use Rattle.slate_read.specs.declared.run_state.RunWalk.{RunWalk}
 use Rattle.slate_read.specs.declared.sorted_run.SortedRun.{SortedRun}
-use Rattle.slate_read.specs.Groups.{in_turn}
-use Rattle.slate_read.specs.NewestFirst.{rest_newest, sound_newest}
 use Rattle.slate_read.specs.RunIterators.{AreBelow, AreEachReadable, AreReadable, AreRisingTables, BringsRun, IsRunIterator, IsRunOf, all_rows, reached, rows_in_run, run_rows, run_source_order, run_source_rest, run_source_sound}
 use Rattle.slate_read.specs.RunWalk.{AreHeld, IsNewRun, IsSoundOpen, IsSoundRunWalk, can_reach, reaches_end, reaches_start, rest_of_run, rest_run, rest_waiting, waiting}
 use Rattle.slate_read.specs.TableWalk.{IsReadable, is_in, path_in, rest_covered}
 use Rattle.slate_read.proofs.Ranges.{either_order, filter_order, range_rows, unbegun}
 use Rattle.slate_read.proofs.Runs.{rest_parts}
 use Rattle.slate_read.proofs.RunSeeks.{all_part, waiting_both}
-use Rattle.slate_read.proofs.Turns.{either_turn, turn_filtered}
 use Rattle.slate_types.proofs.Plain.{both_true, and_both}
 
 -- ---- tables that can't hold a key of the range

@@ -22,15 +22,15 @@ use Rattle.slate_table.specs.declared.info.SsTableHandle.{SsTableHandle}
 use Rattle.slate_table.specs.declared.info.SsTableInfo.{SsTableInfo}
 use Rattle.slate_table.specs.Finding.{encloses, is_from, is_upto}
 use Rattle.slate_table.specs.InfoReading.{seen_info}
+use Rattle.slate_merge.specs.Peeking.{is_kept}
+use Rattle.slate_merge.proofs.Turns.{dropped_front}
 use Rattle.slate_read.specs.declared.run_state.OpenTable.{OpenTable}
 use Rattle.slate_read.specs.declared.run_state.RunCursor.{RunCursor}
-use Rattle.slate_read.specs.Peeking.{is_kept}
 use Rattle.slate_read.specs.RunWalk.{AreHeld, FindsRow, IsSoundOpen, IsSoundRun, OpensNext, PassesOver, RefusesOpen, RefusesWaiting, is_end_passed, is_passed, refuses_open, refuses_run, rest_open, rest_run, rest_waiting, rows_ahead, bound_open, bound_run, is_next_passed}
 use Rattle.slate_read.specs.TableWalk.{IsReadable, Sought, path_in, rest_covered, rows_between}
 use Rattle.slate_read.proofs.Ranges.{blocks_split, in_back}
 use Rattle.slate_read.proofs.Runs.{end_run, fewer_of, open_rising, rest_parts, sound_of}
 use Rattle.slate_read.proofs.Seeks.{drop_done, drop_twice}
-use Rattle.slate_read.proofs.Turns.{dropped_front}
 use Rattle.slate_types.proofs.Plain.{both_true}
 
 -- behind a seek that goes on

@@ -15,12 +15,13 @@ use Rattle.slate_types.specs.World.{World, Checks, IsCall, Made, Sees}
 use Rattle.slate_types.proofs.Calls.{call_none, checks_none, met}
 use Rattle.slate_types.proofs.Moves.{Moves}
 use Rattle.slate_table.specs.declared.info.SsTableHandle.{SsTableHandle}
+use Rattle.slate_merge.specs.Answering.{no_words}
 use Rattle.slate_read.specs.declared.run_state.OpenTable.{OpenTable}
 use Rattle.slate_read.specs.declared.run_state.RunCursor.{RunCursor}
 use Rattle.slate_read.specs.declared.table_state.TableState.TheVariants.{New, Walking}
 use Rattle.slate_read.specs.RunLaws.{open_more, waiting_more}
 use Rattle.slate_read.specs.RunWalk.{AreHeld, IsOpenRising, IsSoundOpen, IsSoundRun, OpensNext, OpensTable, RefusesOpen, RefusesWaiting, refuses_open, refuses_run, rest_open, rest_run, rest_waiting, rows_ahead}
-use Rattle.slate_read.specs.TableWalk.{IsSoundAt, RefusesUnread, no_words, rest_at}
+use Rattle.slate_read.specs.TableWalk.{IsSoundAt, RefusesUnread, rest_at}
 use Rattle.slate_read.proofs.Ranges.{in_back, in_front}
 use Rattle.slate_read.proofs.Walks.{begins_moves, refuses_at}
 

@@ -14,15 +14,15 @@ use Rattle.slate_types.specs.RowTurns.{AreInTurn, row_before}
 use Rattle.slate_types.specs.World.{Kept, World}
 use Rattle.slate_types.proofs.KeyOrder.{lt_le, not_lt, not_le, lt_le_trans, lt_irreflexive}
 use Rattle.slate_mem.proofs.NestLaws.{begins_le, begins_between, le_trans}
+use Rattle.slate_merge.specs.Groups.{in_turn}
+use Rattle.slate_merge.specs.Merge as merge
+use Rattle.slate_merge.specs.Merge.{all_rows, shown_rows}
+use Rattle.slate_merge.specs.MergeStateLaws.{merges}
+use Rattle.slate_merge.specs.MergeStates.{IsMergeOf}
+use Rattle.slate_merge.specs.Merging.{CanMerge}
 use Rattle.slate_read.specs.declared.segment_merge_iterator.SegmentMergeIterator.{SegmentMergeIterator}
 use Rattle.slate_read.specs.declared.sorted_run.SortedRun.{SortedRun}
 use Rattle.slate_read.specs.declared.sorted_run_iterator.SortedRunIterator.{SortedRunIterator}
-use Rattle.slate_read.specs.Groups.{in_turn}
-use Rattle.slate_read.specs.Merge as merge
-use Rattle.slate_read.specs.Merge.{all_rows, shown_rows}
-use Rattle.slate_read.specs.MergeStateLaws.{merges}
-use Rattle.slate_read.specs.MergeStates.{IsMergeOf}
-use Rattle.slate_read.specs.Merging.{CanMerge}
 use Rattle.slate_read.specs.RunIterators.{IsRunIterator, rows_in_run, run_rows}
 use Rattle.slate_read.specs.SegmentIterators.{AreRuns, AreSegmentsReadable, BeginWith, IsSegmentMerge, can_begin, meets, met_runs, source_order, source_rest, source_sound}
 use Rattle.slate_read.specs.TableWalk.{is_in}

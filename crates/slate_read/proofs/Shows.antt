@@ -14,16 +14,16 @@ use Rattle.slate_types.specs.Refusing.{IsDamage}
 use Rattle.slate_types.proofs.Lists.{AllByRecursion_reverse}
 use Rattle.slate_table.specs.declared.info.SsTableHandle.{SsTableHandle}
 use Rattle.slate_table.specs.Reading.{SectionRead}
+use Rattle.slate_merge.specs.declared.progress.Progress.{Progress}
+use Rattle.slate_merge.specs.declared.progress.Progress.TheVariants.{New as ProgressNew}
+use Rattle.slate_merge.specs.NewestFirst.{RefusesSeek, refuses_newest}
 use Rattle.slate_read.specs.Showing.{RefusesBlockOf, ShowsBlock, ShowsByReads, SomeShows, UnopenedRunsShow, UnopenedWalksShow}
-use Rattle.slate_read.specs.declared.progress.Progress.{Progress}
-use Rattle.slate_read.specs.declared.progress.Progress.TheVariants.{New as ProgressNew}
 use Rattle.slate_read.specs.declared.run_state.OpenTable.{OpenTable}
 use Rattle.slate_read.specs.declared.run_state.RunCursor.{RunCursor}
 use Rattle.slate_read.specs.declared.run_state.RunState.{RunState}
 use Rattle.slate_read.specs.declared.run_state.RunState.TheVariants.{New as RunNew}
 use Rattle.slate_read.specs.declared.table_state.TableState.{TableState}
 use Rattle.slate_read.specs.declared.table_state.TableState.TheVariants.{New as TableNew}
-use Rattle.slate_read.specs.NewestFirst.{RefusesSeek, refuses_newest}
 use Rattle.slate_read.specs.RunIterators.{reached, run_source_refuses}
 use Rattle.slate_read.specs.RunWalk.{RefusesOpen, can_reach, refuses_run_in, waiting}
 use Rattle.slate_read.specs.SstIterators.{source_refuses}

@@ -6,17 +6,17 @@ use Rattle.slate_types.specs.declared.iter.IterationOrder.{IterationOrder}
 use Rattle.slate_types.specs.declared.types.RowEntry.{RowEntry}
 use Rattle.slate_types.specs.Iteration.{RowList, TakesRow, comes_before, drop_before}
 use Rattle.slate_types.specs.Outside.{Act, Meaning}
+use Rattle.slate_merge.specs.NoMoreRows.{HandsOut, NoMoreRows}
+use Rattle.slate_merge.specs.CallLaws.{brings_within}
+use Rattle.slate_merge.specs.Calls.{BringsByCalls}
+use Rattle.slate_merge.proofs.MergeBringings.{merge_grows}
+use Rattle.slate_merge.proofs.Tellings.{none_of}
 use Rattle.slate_read.specs.declared.read_source.ReadSource.{ReadSource}
 use Rattle.slate_read.specs.declared.read_source.ReadSource.TheVariants.{Empty, Internal, Table, Run, Segments, Batch, Memory}
-use Rattle.slate_read.specs.Bringing.{HandsOut, NoMoreRows}
-use Rattle.slate_read.specs.CallLaws.{brings_within}
-use Rattle.slate_read.specs.Calls.{BringsByCalls}
 use Rattle.slate_read.specs.SourceBringing.{brings_source, segment_run_begins, segment_run_seeks, segment_run_takes}
 use Rattle.slate_read.proofs.Bringings.{Within}
-use Rattle.slate_read.proofs.MergeBringings.{merge_grows}
 use Rattle.slate_read.proofs.RunBringings.{run_grows}
 use Rattle.slate_read.proofs.SstBringings.{sst_grows}
-use Rattle.slate_read.proofs.Tellings.{none_of}
 
 -- ---- rows in memory
 
@@ -62,7 +62,7 @@ nothing_handed reads answer none = subst (λ (o : Option RowEntry). HandsOut bri
 
 pub source_grows : (it : ReadSource) (m : Meaning) (reads all : List Act) (r : RowEntry) → brings_source it m reads r → Within reads all → brings_source it m all r
 source_grows (Empty it) m reads all r k within = k
-source_grows (Internal it) m reads all r k within = sst_grows it m reads r k all within
+source_grows (Internal it) m reads all r k within = sst_grows it.rows m reads r k all within
 source_grows (Table it) m reads all r k within = sst_grows it.rows m reads r k all within
 source_grows (Run it) m reads all r k within = run_grows it.rows m reads r k all within
 source_grows (Segments it) m reads all r k within =

@@ -4,20 +4,21 @@ use Rattle.std.proofs.lemmas.List.Elements.{Contains-append_left}
 use Rattle.slate_types.specs.declared.types.RowEntry.{RowEntry}
 use Rattle.slate_types.specs.Outside.{Act, Meaning}
 use Rattle.slate_table.specs.declared.info.SsTableHandle.{SsTableHandle}
-use Rattle.slate_read.specs.declared.filter_iterator.FilterIterator.{FilterIterator}
-use Rattle.slate_read.specs.declared.newest_first.NewestFirst.{NewestFirst}
-use Rattle.slate_read.specs.declared.progress.Progress.{Progress}
+use Rattle.slate_merge.specs.declared.filter_iterator.FilterIterator.{FilterIterator}
+use Rattle.slate_merge.specs.declared.newest_first.NewestFirst.{NewestFirst}
+use Rattle.slate_merge.specs.declared.progress.Progress.{Progress}
+use Rattle.slate_merge.specs.NoMoreRows.{HandsOut, NoMoreRows}
+use Rattle.slate_merge.specs.Filtering.{TakesKept}
+use Rattle.slate_merge.specs.Handing.{HandsHeld, SeeksHeld, brings_held, held_in}
+use Rattle.slate_merge.specs.NewestFirst.{Begins}
+use Rattle.slate_merge.proofs.Tellings.{begun_tells, held_grows, held_new, held_tells, kept_tells, sought_tells}
 use Rattle.slate_read.specs.declared.range_rows.InRange.{InRange}
 use Rattle.slate_read.specs.declared.table_state.TableState.{TableState}
 use Rattle.slate_read.specs.declared.table_state.TableWalk.{TableWalk}
-use Rattle.slate_read.specs.Bringing.{HandsOut, NoMoreRows, brings_in}
-use Rattle.slate_read.specs.Filtering.{TakesKept}
-use Rattle.slate_read.specs.Handing.{HandsHeld, SeeksHeld, brings_held, held_in}
-use Rattle.slate_read.specs.NewestFirst.{Begins}
+use Rattle.slate_read.specs.Bringing.{brings_in}
 use Rattle.slate_read.specs.SstBringing.{UnopenedWalksBring, brings_walked, brings_sst, walk_begins, walk_seeks, walk_takes}
 use Rattle.slate_read.specs.TableWalk.{is_in}
 use Rattle.slate_read.proofs.Bringings.{Within, walk_grows}
-use Rattle.slate_read.proofs.Tellings.{begun_tells, held_grows, held_new, held_tells, kept_tells, sought_tells}
 
 -- ---- the rows in a range
 

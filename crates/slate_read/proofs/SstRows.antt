@@ -6,17 +6,17 @@ use Rattle.slate_types.specs.declared.iter.IterationOrder.TheVariants.{Ascending
 use Rattle.slate_types.specs.RowTurns.{AreInTurn, row_before}
 use Rattle.slate_types.specs.World.{Kept, World}
 use Rattle.slate_table.specs.declared.info.SsTableHandle.{SsTableHandle}
-use Rattle.slate_read.specs.declared.filter_iterator.FilterIterator.{FilterIterator}
-use Rattle.slate_read.specs.declared.newest_first.NewestFirst.{NewestFirst}
-use Rattle.slate_read.specs.declared.progress.Progress.TheVariants.{New}
+use Rattle.slate_merge.specs.declared.filter_iterator.FilterIterator.{FilterIterator}
+use Rattle.slate_merge.specs.declared.newest_first.NewestFirst.{NewestFirst}
+use Rattle.slate_merge.specs.declared.progress.Progress.TheVariants.{New}
+use Rattle.slate_merge.specs.Groups.{in_turn}
+use Rattle.slate_merge.specs.NewestFirst.{rest_newest, sound_newest}
+use Rattle.slate_merge.proofs.Turns.{either_turn, turn_filtered}
 use Rattle.slate_read.specs.declared.range_rows.InRange.{InRange}
 use Rattle.slate_read.specs.declared.table_state.TableWalk.{TableWalk}
-use Rattle.slate_read.specs.Groups.{in_turn}
 use Rattle.slate_read.specs.RangeRows.{IsRangeOf}
 use Rattle.slate_read.specs.SstIterators.{BringsRows, IsTableIterator, source_order, source_rest, source_sound}
-use Rattle.slate_read.specs.NewestFirst.{rest_newest, sound_newest}
 use Rattle.slate_read.specs.TableWalk.{IsReadable, IsUnopened, is_in, rows_in}
-use Rattle.slate_read.proofs.Turns.{either_turn, turn_filtered}
 
 pub table_turn : (w : World) (table : SsTableHandle) (kept : Kept) (range : BytesRange) (order : IterationOrder) → IsReadable w table kept → AreInTurn (row_before order) (in_turn order (rows_in range order kept))
 table_turn w table kept range order readable = either_turn order (filter (is_in range) (flat_map (λ b. b) kept.blocks)) (turn_filtered (row_before Ascending) (is_in range) (flat_map (λ b. b) kept.blocks) readable.turn)

@@ -18,6 +18,7 @@ use Rattle.slate_block.specs.Walks.{before}
 use Rattle.slate_table.specs.declared.info.SsTableHandle.{SsTableHandle}
 use Rattle.slate_table.specs.IndexValue.{entries_of}
 use Rattle.slate_table.specs.Reading.{SectionRead, of_index, whole_answer, IsIndexRead}
+use Rattle.slate_merge.specs.Answering.{no_words}
 use Rattle.slate_read.specs.declared.table_state.Cursor.{Cursor}
 use Rattle.slate_read.specs.declared.table_state.TableState.{TableState}
 use Rattle.slate_read.specs.declared.table_state.TableState.TheVariants.{New, Walking, Refused}
@@ -25,7 +26,7 @@ use Rattle.slate_types.specs.World.{IsSlip, Kept, World, AnswersWorld, Made, See
 use Rattle.slate_types.specs.Outside.{Meaning, Reach}
 use Rattle.slate_types.specs.Refusing.{IsDamage, NoMoreBut}
 use Rattle.slate_types.specs.Steps.{Step}
-use Rattle.slate_read.specs.TableWalk.{AreReadAhead, BeginsIn, IsSoundRising, IsWalking, StaysIn, Sought, Begins, BeginsAt, IsIndexed, RefusesIndexed, left_in, rest_behind, rest_covered, rows_between, IsReadable, IsSoundAt, IsSoundCursor, IsWhole, Keeps, RefusesLeft, RefusesReady, RefusesSome, RefusesUnread, index_lies, index_part, no_words, path_in, refuses_behind, refuses_in, rest_after, rest_at}
+use Rattle.slate_read.specs.TableWalk.{AreReadAhead, BeginsIn, IsSoundRising, IsWalking, StaysIn, Sought, Begins, BeginsAt, IsIndexed, RefusesIndexed, left_in, rest_behind, rest_covered, rows_between, IsReadable, IsSoundAt, IsSoundCursor, IsWhole, Keeps, RefusesLeft, RefusesReady, RefusesSome, RefusesUnread, index_lies, index_part, path_in, refuses_behind, refuses_in, rest_after, rest_at}
 use Rattle.slate_types.proofs.Calls.{call_none, seen}
 use Rattle.slate_read.specs.WalkLaws.{known_answer, refuses_whole, some_more, whole_part}
 use Rattle.slate_read.proofs.Cursors.{AllOrSlip, call_checked, section_checked}

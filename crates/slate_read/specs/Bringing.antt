@@ -7,20 +7,11 @@
 --     brings_behind h order cursor m reads r      one of these
 --     BringsUnread m h order reads r      the index was read, and a read of neighbouring blocks shows one that has it
 --     brings_in s h order m reads r      of a table that wasn't opened, or is walked; one that was refused brings none
---     NoMoreRows before reads after      behind these reads no row is brought that wasn't before
---     HandsOut before reads answer after      the answer is such a row, or none, and then no other rows are brought
---     AddsNone brings refuses m x reads y      behind these reads it neither refuses nor brings more
---     HandsAway brings refuses m x reads answer y      the answer is a row that it brings, or none, and then it neither refuses nor brings more
---     AddsNoneByCall brings refuses before after x y      behind the reads of a call it neither refuses nor brings more
---     HandsAwayByCall brings refuses before after x answer y      by the reads of a call the answer is such a row, or none, and so on
 --     brings_of it m reads r      what a walk over a table brings
-use Rattle.std.specs.Prelude.{◌≡◌, ◌⊎◌, ℕ, ◌<◌, ◌≤◌, List, ◌++◌, length, slice_get, Contains, Option, Some, None, Ok, IfSome}
-use Rattle.slate_types.specs.declared.error.SlateDBError.{SlateDBError}
+use Rattle.std.specs.Prelude.{◌≡◌, ◌⊎◌, ℕ, ◌<◌, ◌≤◌, List, length, slice_get, Contains, Option, Some, None, Ok}
 use Rattle.slate_types.specs.declared.types.RowEntry.{RowEntry}
 use Rattle.slate_types.specs.declared.iter.IterationOrder.{IterationOrder}
-use Rattle.slate_types.specs.Outside.{Act, Meaning, Reach}
-use Rattle.slate_types.specs.Refusing.{NoMore}
-use Rattle.slate_types.specs.World.{Made}
+use Rattle.slate_types.specs.Outside.{Act, Meaning}
 use Rattle.slate_block.specs.declared.block.Block.{Block}
 use Rattle.slate_block.specs.declared.data_block_iterator.DataBlockIterator.{DataBlockIterator}
 use Rattle.slate_block.specs.BlockWalks.{ReadsLeft}
@@ -81,23 +72,3 @@ brings_in (Refused e) h order m reads r = ⊥
 
 abbrev pub brings_of : TableWalk → Meaning → List Act → RowEntry → Type 0
 brings_of it m reads r = brings_in it.state it.table it.order m reads r
-
--- ---- what becomes of it
-
-abbrev pub NoMoreRows : (List Act → RowEntry → Type 0) → List Act → (List Act → RowEntry → Type 0) → Type 0
-NoMoreRows before reads after = (later : List Act) (r : RowEntry) → after later r → before (reads ++ later) r
-
-abbrev pub HandsOut : (List Act → RowEntry → Type 0) → List Act → Option RowEntry → (List Act → RowEntry → Type 0) → Type 0
-HandsOut before reads answer after = IfSome answer (λ r. before reads r) × NoMoreRows before reads after
-
-abbrev pub AddsNone : {A : Type 0} → (A → Meaning → List Act → RowEntry → Type 0) → (A → Meaning → List Act → Option (List ℕ) → SlateDBError → Type 0) → Meaning → A → List Act → A → Type 0
-AddsNone {A} brings refuses m x reads y = NoMore (refuses x m) reads (refuses y m) × NoMoreRows (brings x m) reads (brings y m)
-
-abbrev pub HandsAway : {A : Type 0} → (A → Meaning → List Act → RowEntry → Type 0) → (A → Meaning → List Act → Option (List ℕ) → SlateDBError → Type 0) → Meaning → A → List Act → Option RowEntry → A → Type 0
-HandsAway {A} brings refuses m x reads answer y = HandsOut (brings x m) reads answer (brings y m) × NoMore (refuses x m) reads (refuses y m)
-
-abbrev pub AddsNoneByCall : {A : Type 0} → (A → Meaning → List Act → RowEntry → Type 0) → (A → Meaning → List Act → Option (List ℕ) → SlateDBError → Type 0) → Reach → Reach → A → A → Type 0
-AddsNoneByCall {A} brings refuses before after x y = Made before after (λ reads. AddsNone brings refuses before.meaning x reads y)
-
-abbrev pub HandsAwayByCall : {A : Type 0} → (A → Meaning → List Act → RowEntry → Type 0) → (A → Meaning → List Act → Option (List ℕ) → SlateDBError → Type 0) → Reach → Reach → A → Option RowEntry → A → Type 0
-HandsAwayByCall {A} brings refuses before after x answer y = Made before after (λ reads. HandsAway brings refuses before.meaning x reads answer y)

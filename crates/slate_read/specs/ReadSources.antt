@@ -22,7 +22,7 @@ use Rattle.slate_read.specs.SstLaws.{sst_more, sst_rising, sst_whole}
 
 abbrev pub rest_of : ReadSource → World → List RowEntry
 rest_of (Empty it) w = []
-rest_of (Internal it) w = sst_rest it w
+rest_of (Internal it) w = sst_rest it.rows w
 rest_of (Table it) w = sst_rest it.rows w
 rest_of (Run it) w = run_rest it.rows w
 rest_of (Segments it) w = segment_rest it w
@@ -31,7 +31,7 @@ rest_of (Memory it) w = it.rows
 
 abbrev pub IsSoundSource : ReadSource → World → Type 0
 IsSoundSource (Empty it) w = Unit {0}
-IsSoundSource (Internal it) w = sst_sound it w
+IsSoundSource (Internal it) w = sst_sound it.rows w
 IsSoundSource (Table it) w = sst_sound it.rows w
 IsSoundSource (Run it) w = run_sound it.rows w
 IsSoundSource (Segments it) w = segment_sound it w
@@ -40,7 +40,7 @@ IsSoundSource (Memory it) w = IsInOrder it.order it.rows
 
 abbrev pub order_of : ReadSource → IterationOrder
 order_of (Empty it) = Ascending
-order_of (Internal it) = it.iterator.iterator.order
+order_of (Internal it) = it.rows.iterator.iterator.order
 order_of (Table it) = it.rows.iterator.iterator.order
 order_of (Run it) = it.rows.iterator.iterator.order
 order_of (Segments it) = segment_order it
@@ -49,7 +49,7 @@ order_of (Memory it) = it.order
 
 abbrev pub source_bound : ReadSource → ℕ
 source_bound (Empty it) = 0
-source_bound (Internal it) = sst_bound it
+source_bound (Internal it) = sst_bound it.rows
 source_bound (Table it) = sst_bound it.rows
 source_bound (Run it) = run_iterator_bound it.rows
 source_bound (Segments it) = segment_bound it
@@ -58,7 +58,7 @@ source_bound (Memory it) = length it.rows
 
 abbrev pub source_refuses : ReadSource → Meaning → List Act → Option (List ℕ) → SlateDBError → Type 0
 source_refuses (Empty it) m reads at e = ⊥
-source_refuses (Internal it) m reads at e = sst_refuses it m reads at e
+source_refuses (Internal it) m reads at e = sst_refuses it.rows m reads at e
 source_refuses (Table it) m reads at e = sst_refuses it.rows m reads at e
 source_refuses (Run it) m reads at e = run_refuses it.rows m reads at e
 source_refuses (Segments it) m reads at e = segment_refuses it m reads at e
@@ -69,7 +69,7 @@ source_refuses (Memory it) m reads at e = ⊥
 
 pub source_rising : (it : ReadSource) (w : World) → IsSoundSource it w → IsInOrder (order_of it) (rest_of it w)
 source_rising (Empty it) w h = tt
-source_rising (Internal it) w h = sst_rising it w h
+source_rising (Internal it) w h = sst_rising it.rows w h
 source_rising (Table it) w h = sst_rising it.rows w h
 source_rising (Run it) w h = run_iterator_rising it.rows w h
 source_rising (Segments it) w h = segment_rising it w h
@@ -78,7 +78,7 @@ source_rising (Memory it) w h = h
 
 pub source_more : (it : ReadSource) (m : Meaning) (done reads : List Act) (at : Option (List ℕ)) (e : SlateDBError) → source_refuses it m reads at e → source_refuses it m (done ++ reads) at e
 source_more (Empty it) m done reads at e h = h
-source_more (Internal it) m done reads at e h = sst_more it m done reads at e h
+source_more (Internal it) m done reads at e h = sst_more it.rows m done reads at e h
 source_more (Table it) m done reads at e h = sst_more it.rows m done reads at e h
 source_more (Run it) m done reads at e h = run_iterator_more it.rows m done reads at e h
 source_more (Segments it) m done reads at e h = segment_more it m done reads at e h
@@ -87,7 +87,7 @@ source_more (Memory it) m done reads at e h = h
 
 pub source_whole : (it : ReadSource) (w : World) (reads : List Act) (at : Option (List ℕ)) (e : SlateDBError) → IsSoundSource it w → AllByRecursion (AnswersWorld w) reads → source_refuses it w.meaning reads at e → ¬ IsDamage e
 source_whole (Empty it) w reads at e h k r = absurd r
-source_whole (Internal it) w reads at e h k r = sst_whole it w reads at e h k r
+source_whole (Internal it) w reads at e h k r = sst_whole it.rows w reads at e h k r
 source_whole (Table it) w reads at e h k r = sst_whole it.rows w reads at e h k r
 source_whole (Run it) w reads at e h k r = run_iterator_whole it.rows w reads at e h k r
 source_whole (Segments it) w reads at e h k r = segment_whole it w reads at e h k r

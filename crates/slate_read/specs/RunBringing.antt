@@ -16,8 +16,11 @@ use Rattle.slate_types.specs.declared.iter.IterationOrder.{IterationOrder}
 use Rattle.slate_types.specs.declared.types.RowEntry.{RowEntry}
 use Rattle.slate_types.specs.Outside.{Act, Meaning}
 use Rattle.slate_table.specs.declared.info.SsTableHandle.{SsTableHandle}
-use Rattle.slate_read.specs.declared.filter_iterator.FilterIterator.{FilterIterator}
-use Rattle.slate_read.specs.declared.newest_first.NewestFirst.{NewestFirst}
+use Rattle.slate_merge.specs.declared.filter_iterator.FilterIterator.{FilterIterator}
+use Rattle.slate_merge.specs.declared.newest_first.NewestFirst.{NewestFirst}
+use Rattle.slate_merge.specs.NoMoreRows.{HandsOut, NoMoreRows}
+use Rattle.slate_merge.specs.Handing.{brings_held, held_in}
+use Rattle.slate_merge.specs.NewestFirst.{Begins, IsGoing, IsUnrefused, is_below}
 use Rattle.slate_read.specs.declared.range_rows.InRange.{InRange}
 use Rattle.slate_read.specs.declared.run_state.OpenTable.{OpenTable}
 use Rattle.slate_read.specs.declared.run_state.RunCursor.{RunCursor}
@@ -25,9 +28,7 @@ use Rattle.slate_read.specs.declared.run_state.RunState.{RunState}
 use Rattle.slate_read.specs.declared.run_state.RunState.TheVariants.{New, Going, Refused}
 use Rattle.slate_read.specs.declared.run_state.RunWalk.{RunWalk}
 use Rattle.slate_read.specs.declared.sorted_run.SortedRun.{SortedRun}
-use Rattle.slate_read.specs.Bringing.{BringsUnread, HandsOut, NoMoreRows, brings_behind}
-use Rattle.slate_read.specs.Handing.{brings_held, held_in}
-use Rattle.slate_read.specs.NewestFirst.{Begins, IsGoing, IsUnrefused, is_below}
+use Rattle.slate_read.specs.Bringing.{BringsUnread, brings_behind}
 use Rattle.slate_read.specs.RunIterators.{IsRunIterator, reached}
 use Rattle.slate_read.specs.RunWalk.{IsGoingRun, IsSameRun, IsUnrefusedRun, rows_ahead, waiting}
 

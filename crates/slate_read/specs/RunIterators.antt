@@ -21,13 +21,13 @@ use Rattle.slate_types.specs.Outside.{Act, Meaning}
 use Rattle.slate_types.specs.RowTurns.{AreInTurn, row_before}
 use Rattle.slate_types.specs.World.{Kept, World}
 use Rattle.slate_table.specs.declared.info.SsTableHandle.{SsTableHandle}
-use Rattle.slate_read.specs.declared.filter_iterator.FilterIterator.{FilterIterator}
-use Rattle.slate_read.specs.declared.newest_first.NewestFirst.{NewestFirst}
+use Rattle.slate_merge.specs.declared.filter_iterator.FilterIterator.{FilterIterator}
+use Rattle.slate_merge.specs.declared.newest_first.NewestFirst.{NewestFirst}
+use Rattle.slate_merge.specs.Groups.{in_turn}
+use Rattle.slate_merge.specs.NewestFirst.{IsNew, bound_newest, refuses_newest, rest_newest, sound_newest}
 use Rattle.slate_read.specs.declared.range_rows.InRange.{InRange}
 use Rattle.slate_read.specs.declared.run_state.RunWalk.{RunWalk}
 use Rattle.slate_read.specs.declared.sorted_run.SortedRun.{SortedRun}
-use Rattle.slate_read.specs.Groups.{in_turn}
-use Rattle.slate_read.specs.NewestFirst.{IsNew, bound_newest, refuses_newest, rest_newest, sound_newest}
 use Rattle.slate_read.specs.RunWalk.{IsNewRun, IsSoundRunWalk, bound_run_in, can_reach, refuses_of_run, rest_of_run, waiting}
 use Rattle.slate_read.specs.TableWalk.{IsReadable, is_in}
 

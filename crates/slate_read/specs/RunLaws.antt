@@ -16,15 +16,15 @@ use Rattle.slate_types.specs.Refusing.{IsDamage}
 use Rattle.slate_types.specs.World.{Kept, World, AnswersWorld}
 use Rattle.slate_table.specs.declared.info.SsTableHandle.{SsTableHandle}
 use Rattle.slate_table.specs.IndexValue.{entries_of}
-use Rattle.slate_read.specs.declared.filter_iterator.FilterIterator.{FilterIterator}
-use Rattle.slate_read.specs.declared.newest_first.NewestFirst.{NewestFirst}
+use Rattle.slate_merge.specs.declared.filter_iterator.FilterIterator.{FilterIterator}
+use Rattle.slate_merge.specs.declared.newest_first.NewestFirst.{NewestFirst}
+use Rattle.slate_merge.specs.NewestLaws.{newest_more, newest_order, newest_whole}
 use Rattle.slate_read.specs.declared.range_rows.InRange.{InRange}
 use Rattle.slate_read.specs.declared.run_state.OpenTable.{OpenTable}
 use Rattle.slate_read.specs.declared.run_state.RunCursor.{RunCursor}
 use Rattle.slate_read.specs.declared.run_state.RunState.{RunState}
 use Rattle.slate_read.specs.declared.run_state.RunState.TheVariants.{New, Going, Refused}
 use Rattle.slate_read.specs.declared.run_state.RunWalk.{RunWalk}
-use Rattle.slate_read.specs.NewestLaws.{newest_more, newest_order, newest_whole}
 use Rattle.slate_read.specs.RunIterators.{run_refuses, run_rest, run_sound, run_source_order, run_source_refuses, run_source_rest, run_source_sound}
 use Rattle.slate_read.specs.RunWalk.{AreHeld, IsSoundOpen, IsSoundRun, RefusesOpen, RefusesWaiting, refuses_run, refuses_run_in, rest_run_in, sound_run_in, waiting}
 use Rattle.slate_read.specs.TableWalk.{IsReadable, RefusesSome}

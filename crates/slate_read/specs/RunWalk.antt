@@ -39,12 +39,12 @@ use Rattle.slate_types.specs.Refusing.{IsDamage, NoMore}
 use Rattle.slate_types.specs.World.{Kept, World, Checks, Made, Sees}
 use Rattle.slate_table.specs.declared.info.SsTableHandle.{SsTableHandle}
 use Rattle.slate_table.specs.declared.info.SsTableInfo.{SsTableInfo}
+use Rattle.slate_merge.specs.Kept.{Copies}
 use Rattle.slate_read.specs.declared.run_state.OpenTable.{OpenTable}
 use Rattle.slate_read.specs.declared.run_state.RunCursor.{RunCursor}
 use Rattle.slate_read.specs.declared.run_state.RunState.{RunState}
 use Rattle.slate_read.specs.declared.run_state.RunState.TheVariants.{New, Going, Refused}
 use Rattle.slate_read.specs.declared.run_state.RunWalk.{RunWalk}
-use Rattle.slate_read.specs.Kept.{Copies}
 use Rattle.slate_read.specs.TableWalk.{BeginsAt, IsIndexed, IsReadable, IsSoundCursor, RefusesUnread, bound_behind, max_blocks, max_reads, path_in, refuses_behind, rest_after, rest_covered}
 
 -- ---- what a table's first and last key tell

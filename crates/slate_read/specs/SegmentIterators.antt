@@ -21,12 +21,12 @@ use Rattle.slate_types.specs.declared.types.RowEntry.{RowEntry}
 use Rattle.slate_types.specs.Keys.{key_le, is_before_end}
 use Rattle.slate_types.specs.Outside.{Act, Meaning}
 use Rattle.slate_types.specs.World.{Kept, World}
+use Rattle.slate_merge.specs.Groups.{in_turn}
+use Rattle.slate_merge.specs.Merge.{merged}
+use Rattle.slate_merge.specs.MergeStates.{IsSoundIn, WaitingAre, bound_in, refuses_in, rest_in}
 use Rattle.slate_read.specs.declared.segment_merge_iterator.SegmentMergeIterator.{SegmentMergeIterator}
 use Rattle.slate_read.specs.declared.sorted_run.SortedRun.{SortedRun}
 use Rattle.slate_read.specs.declared.sorted_run_iterator.SortedRunIterator.{SortedRunIterator}
-use Rattle.slate_read.specs.Groups.{in_turn}
-use Rattle.slate_read.specs.Merge.{merged}
-use Rattle.slate_read.specs.MergeStates.{IsSoundIn, WaitingAre, bound_in, refuses_in, rest_in}
 use Rattle.slate_read.specs.RunIterators.{AreReadable, IsRunIterator, rows_in_run, run_iterator_bound, run_refuses, run_rest, run_rows, run_sound}
 
 abbrev pub can_begin : Bound (List ℕ) → List ℕ → Bool

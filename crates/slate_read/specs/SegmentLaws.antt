@@ -8,8 +8,8 @@ use Rattle.slate_types.specs.Iteration.{IsInOrder}
 use Rattle.slate_types.specs.Outside.{Act, Meaning}
 use Rattle.slate_types.specs.Refusing.{IsDamage}
 use Rattle.slate_types.specs.World.{World, AnswersWorld}
+use Rattle.slate_merge.specs.MergeStateLaws.{refuses_more, refuses_whole, rest_rises}
 use Rattle.slate_read.specs.declared.segment_merge_iterator.SegmentMergeIterator.{SegmentMergeIterator}
-use Rattle.slate_read.specs.MergeStateLaws.{refuses_more, refuses_whole, rest_rises}
 use Rattle.slate_read.specs.RunLaws.{run_iterator_more, run_iterator_whole}
 use Rattle.slate_read.specs.SegmentIterators.{segment_order, segment_refuses, segment_rest, segment_sound, source_order, source_refuses, source_rest, source_sound}
 

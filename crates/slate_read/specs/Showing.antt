@@ -16,13 +16,13 @@ use Rattle.slate_block.specs.declared.block.Block.{Block}
 use Rattle.slate_table.specs.declared.info.SsTableHandle.{SsTableHandle}
 use Rattle.slate_table.specs.Parts.{Encode}
 use Rattle.slate_table.specs.Reading.{SectionRead, of_blocks, of_index, whole_answer, IsIndexRead, RefusesIndex, IsBlockRead, RefusesBlock, block_start, blocks_size}
-use Rattle.slate_read.specs.declared.filter_iterator.FilterIterator.{FilterIterator}
-use Rattle.slate_read.specs.declared.newest_first.NewestFirst.{NewestFirst}
+use Rattle.slate_merge.specs.declared.filter_iterator.FilterIterator.{FilterIterator}
+use Rattle.slate_merge.specs.declared.newest_first.NewestFirst.{NewestFirst}
+use Rattle.slate_merge.specs.NewestFirst.{RefusesSeek}
 use Rattle.slate_read.specs.declared.range_rows.InRange.{InRange}
 use Rattle.slate_read.specs.declared.run_state.RunWalk.{RunWalk}
 use Rattle.slate_read.specs.declared.sorted_run.SortedRun.{SortedRun}
 use Rattle.slate_read.specs.declared.table_state.TableWalk.{TableWalk}
-use Rattle.slate_read.specs.NewestFirst.{RefusesSeek}
 use Rattle.slate_read.specs.RunIterators.{IsRunIterator, run_refuses}
 use Rattle.slate_read.specs.SstIterators.{IsTableIterator, sst_refuses}
 use Rattle.slate_read.specs.TableWalk.{RefusesRows, path_in}

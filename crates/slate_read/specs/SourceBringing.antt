@@ -6,12 +6,12 @@
 use Rattle.std.specs.Prelude.{ℕ, List, Contains, Option}
 use Rattle.slate_types.specs.declared.types.RowEntry.{RowEntry}
 use Rattle.slate_types.specs.Outside.{Act, Meaning}
+use Rattle.slate_merge.specs.NoMoreRows.{HandsOut, NoMoreRows}
+use Rattle.slate_merge.specs.MergeBringing.{MergeBegins, MergeSeeks, MergeTakes, brings_merge}
 use Rattle.slate_read.specs.declared.read_source.ReadSource.{ReadSource}
 use Rattle.slate_read.specs.declared.read_source.ReadSource.TheVariants.{Empty, Internal, Table, Run, Segments, Batch, Memory}
 use Rattle.slate_read.specs.declared.segment_merge_iterator.SegmentMergeIterator.{SegmentMergeIterator}
 use Rattle.slate_read.specs.declared.sorted_run_iterator.SortedRunIterator.{SortedRunIterator}
-use Rattle.slate_read.specs.Bringing.{HandsOut, NoMoreRows}
-use Rattle.slate_read.specs.MergeBringing.{MergeBegins, MergeSeeks, MergeTakes, brings_merge}
 use Rattle.slate_read.specs.RunBringing.{brings_run_iterator, run_begins, run_seeks, run_takes}
 use Rattle.slate_read.specs.SstBringing.{brings_sst}
 
@@ -43,7 +43,7 @@ segments_seek before m reads key after = MergeSeeks segment_run_begins segment_r
 -- rows in memory are brought without a read
 abbrev pub brings_source : ReadSource → Meaning → List Act → RowEntry → Type 0
 brings_source (Empty it) m reads r = ⊥
-brings_source (Internal it) m reads r = brings_sst it m reads r
+brings_source (Internal it) m reads r = brings_sst it.rows m reads r
 brings_source (Table it) m reads r = brings_sst it.rows m reads r
 brings_source (Run it) m reads r = brings_run_iterator it.rows m reads r
 brings_source (Segments it) m reads r = brings_segments it m reads r

@@ -10,13 +10,14 @@ use Rattle.slate_types.specs.declared.iter.IterationOrder.{IterationOrder}
 use Rattle.slate_types.specs.declared.types.RowEntry.{RowEntry}
 use Rattle.slate_types.specs.Outside.{Act, Meaning}
 use Rattle.slate_table.specs.declared.info.SsTableHandle.{SsTableHandle}
-use Rattle.slate_read.specs.declared.filter_iterator.FilterIterator.{FilterIterator}
-use Rattle.slate_read.specs.declared.newest_first.NewestFirst.{NewestFirst}
+use Rattle.slate_merge.specs.declared.filter_iterator.FilterIterator.{FilterIterator}
+use Rattle.slate_merge.specs.declared.newest_first.NewestFirst.{NewestFirst}
+use Rattle.slate_merge.specs.NoMoreRows.{HandsOut, NoMoreRows}
+use Rattle.slate_merge.specs.Handing.{brings_held, held_in}
+use Rattle.slate_merge.specs.NewestFirst.{Begins, IsGoing, IsUnrefused, is_below}
 use Rattle.slate_read.specs.declared.range_rows.InRange.{InRange}
 use Rattle.slate_read.specs.declared.table_state.TableWalk.{TableWalk}
-use Rattle.slate_read.specs.Bringing.{BringsUnread, HandsOut, NoMoreRows, brings_of}
-use Rattle.slate_read.specs.Handing.{brings_held, held_in}
-use Rattle.slate_read.specs.NewestFirst.{Begins, IsGoing, IsUnrefused, is_below}
+use Rattle.slate_read.specs.Bringing.{BringsUnread, brings_of}
 use Rattle.slate_read.specs.SstIterators.{IsTableIterator}
 use Rattle.slate_read.specs.TableWalk.{BeginsIn, IsSameWalk, IsWalking}
 

@@ -12,12 +12,12 @@ use Rattle.slate_types.specs.declared.types.RowEntry.{RowEntry}
 use Rattle.slate_types.specs.RowTurns.{AreInTurn, row_before}
 use Rattle.slate_types.specs.World.{Kept, World}
 use Rattle.slate_table.specs.declared.info.SsTableHandle.{SsTableHandle}
-use Rattle.slate_read.specs.declared.filter_iterator.FilterIterator.{FilterIterator}
-use Rattle.slate_read.specs.declared.newest_first.NewestFirst.{NewestFirst}
+use Rattle.slate_merge.specs.declared.filter_iterator.FilterIterator.{FilterIterator}
+use Rattle.slate_merge.specs.declared.newest_first.NewestFirst.{NewestFirst}
+use Rattle.slate_merge.specs.Groups.{in_turn}
+use Rattle.slate_merge.specs.NewestFirst.{IsNew, bound_newest, refuses_newest, rest_newest, sound_newest}
 use Rattle.slate_read.specs.declared.range_rows.InRange.{InRange}
 use Rattle.slate_read.specs.declared.table_state.TableWalk.{TableWalk}
-use Rattle.slate_read.specs.Groups.{in_turn}
-use Rattle.slate_read.specs.NewestFirst.{IsNew, bound_newest, refuses_newest, rest_newest, sound_newest}
 use Rattle.slate_read.specs.TableWalk.{IsReadable, IsSoundWalk, IsUnopened, bound_in, is_in, refuses_in, rest_of, rows_in}
 
 abbrev pub source_rest : FilterIterator TableWalk InRange → World → List RowEntry

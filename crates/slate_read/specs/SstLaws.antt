@@ -8,11 +8,11 @@ use Rattle.slate_types.specs.Iteration.{IsInOrder}
 use Rattle.slate_types.specs.Outside.{Act, Meaning}
 use Rattle.slate_types.specs.Refusing.{IsDamage}
 use Rattle.slate_types.specs.World.{World, AnswersWorld}
-use Rattle.slate_read.specs.declared.filter_iterator.FilterIterator.{FilterIterator}
-use Rattle.slate_read.specs.declared.newest_first.NewestFirst.{NewestFirst}
+use Rattle.slate_merge.specs.declared.filter_iterator.FilterIterator.{FilterIterator}
+use Rattle.slate_merge.specs.declared.newest_first.NewestFirst.{NewestFirst}
+use Rattle.slate_merge.specs.NewestLaws.{newest_more, newest_order, newest_whole}
 use Rattle.slate_read.specs.declared.range_rows.InRange.{InRange}
 use Rattle.slate_read.specs.declared.table_state.TableWalk.{TableWalk}
-use Rattle.slate_read.specs.NewestLaws.{newest_more, newest_order, newest_whole}
 use Rattle.slate_read.specs.SstIterators.{source_order, source_refuses, source_rest, source_sound, sst_refuses, sst_rest, sst_sound}
 use Rattle.slate_read.specs.WalkLaws.{refuses_more, refuses_whole}
 

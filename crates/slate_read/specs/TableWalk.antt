@@ -44,7 +44,6 @@
 --                                                                         opened
 --     TakesOpen before answer after      a row of the block that is open is taken, or that is spent
 --     SkipsOpen key before some after      its rows are taken off before a key; some: whether one is left
---     no_words      nothing is said of what a call reads and leaves
 --     StepsBehind h order before after x answer y      the next row behind a cursor was taken
 --     Sought rest sound refuses order key before after x y, SoughtBehind h order key before after x y      a seek is done, and one of a cursor
 --     StaysAtEnd order before after, passed_over order before after      the end that the order comes to stays; how many blocks were passed over
@@ -86,11 +85,12 @@ use Rattle.slate_table.specs.IndexValue.{entries_of}
 use Rattle.slate_table.specs.Parts.{Encode, block_kind, cover_of, index_kind, summed}
 use Rattle.slate_table.specs.Paths.{path_of}
 use Rattle.slate_table.specs.Reading.{SectionRead, of_block, of_blocks, of_index, whole_answer, IsIndexRead, RefusesIndex, AreBlocksRead, IsBlockRead, RefusesBlock, block_start, blocks_size}
+use Rattle.slate_merge.specs.Answering.{no_words}
+use Rattle.slate_merge.specs.Kept.{Copies}
 use Rattle.slate_read.specs.declared.table_state.TableWalk.{TableWalk}
 use Rattle.slate_read.specs.declared.table_state.TableState.{TableState}
 use Rattle.slate_read.specs.declared.table_state.TableState.TheVariants.{New, Walking, Refused}
 use Rattle.slate_read.specs.declared.table_state.Cursor.{Cursor}
-use Rattle.slate_read.specs.Kept.{Copies}
 use Rattle.slate_types.specs.World.{Checks, Kept, Made, Section, Sees, World}
 use Rattle.slate_types.specs.Outside.{Meaning, Reach}
 use Rattle.slate_types.specs.Refusing.{IsDamage, NoMore}
@@ -381,10 +381,6 @@ rest_after h order cursor w = rest_behind cursor order (w.holds (path_in h))
 
 abbrev pub bound_behind : Cursor → ℕ
 bound_behind cursor = reads_in cursor.rows + (cursor.stop - cursor.first) * max_reads
-
--- of what a call reads and leaves nothing is said
-abbrev pub no_words : {A : Type 0} → A → Meaning → List Act → Option RowEntry → A → Type 0
-no_words x p reads answer y = Unit {0}
 
 -- the index was read, by one read of its section, or refused
 unfoldable pub IsIndexed : Meaning → SsTableHandle → List Act → List (ℕ × List ℕ) → Type 0

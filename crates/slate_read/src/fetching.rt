@@ -6,8 +6,9 @@ ghost use Rattle.slate_types.specs.Outside.{OnlyReads};
 ghost use Rattle.slate_types.specs.World.{Made};
 ghost use Rattle.slate_types.proofs.Moves.{Moves};
 ghost use Rattle.slate_table.specs.IndexValue.{entries_of};
-ghost use Rattle.slate_read.specs.Answering.{IsFaultOr};
-ghost use Rattle.slate_read.specs.Bringing.{AddsNoneByCall, brings_behind};
+ghost use Rattle.slate_merge.specs.Answering.{IsFaultOr};
+ghost use Rattle.slate_merge.specs.NoMoreRows.{AddsNoneByCall};
+ghost use Rattle.slate_read.specs.Bringing.{brings_behind};
 ghost use Rattle.slate_read.specs.TableWalk.{Fetches, IsEnough, IsNextFetch, IsSoundCursor, nth_block, refuses_behind, refuses_blocks, rest_after, size_of, start_of, unread_first, unread_size, unread_stop};
 
 use crate::fetch_limits::FetchLimits;

@@ -2,12 +2,12 @@
 ghost use Rattle.slate_read.specs.SourceBringing.{source_begins, source_seeks, source_takes};
 ghost use Rattle.slate_read.specs.ReadSources.{IsSoundSource, order_of, rest_of, source_bound, source_more, source_refuses, source_rising, source_whole};
 
-use crate::empty_iterator::EmptyIterator;
 use crate::internal_sst_iterator::InternalSstIterator;
 use crate::segment_merge_iterator::SegmentMergeIterator;
 use crate::sorted_run_iterator::SortedRunIterator;
 use crate::sst_iterator::SstIterator;
 use slate_mem::{MemTableIterator, WriteBatchIterator};
+use slate_merge::EmptyIterator;
 use slate_store::{Env, Store};
 use slate_types::{
     BlockTransformer, IterationOrder, MergeOperator, RowEntry, RowEntryIterator, SlateDBError,

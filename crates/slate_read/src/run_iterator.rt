@@ -3,8 +3,8 @@ ghost use Rattle.slate_read.specs.RunBringing.{run_walk_begins, run_walk_seeks, 
 ghost use Rattle.slate_read.specs.RunWalk.{IsSoundRunWalk, StaysRun, bound_run_in, refuses_of_run, rest_of_run};
 ghost use Rattle.slate_read.specs.RunLaws.{run_more, run_rising, run_whole};
 
-use crate::kept::copy_of;
 use crate::run_state::{RunState, RunWalk};
+use slate_merge::kept::copy_of;
 use slate_store::{Env, Store};
 use slate_types::{
     BlockTransformer, IterationOrder, MergeOperator, RowEntry, RowEntryIterator, SlateDBError,

@@ -6,12 +6,11 @@ ghost use Rattle.slate_read.specs.RunIterators.{IsRunIterator, IsRunOf, reached}
 ghost use Rattle.slate_read.specs.RunWalk.{can_reach};
 
 use crate::fetch_limits::FetchLimits;
-use crate::filter_iterator::FilterIterator;
-use crate::newest_first::NewestFirst;
 use crate::range_rows::InRange;
 use crate::run_state::{RunCursor, RunState, RunWalk};
 use crate::run_walk::can_reach;
 use crate::sorted_run::SortedRun;
+use slate_merge::{FilterIterator, NewestFirst};
 use slate_table::SsTableHandle;
 use slate_types::{BytesRange, IterationOrder, SlateDBError};
 use std::alloc::Global;

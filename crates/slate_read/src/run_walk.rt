@@ -7,20 +7,22 @@ ghost use Rattle.slate_types.specs.Steps.{Step};
 ghost use Rattle.slate_types.specs.World.{Made};
 ghost use Rattle.slate_types.proofs.Moves.{Moves};
 ghost use Rattle.slate_table.specs.IndexValue.{entries_of};
-ghost use Rattle.slate_read.specs.TableWalk.{BeginsAt, Sought, SoughtBehind, StepsBehind, bound_behind, max_blocks, max_reads, no_words, refuses_behind, refuses_index};
-ghost use Rattle.slate_read.specs.Answering.{IsFaultOr};
-ghost use Rattle.slate_read.specs.Bringing.{AddsNoneByCall, HandsAwayByCall, brings_behind};
+ghost use Rattle.slate_merge.specs.Answering.{no_words};
+ghost use Rattle.slate_merge.specs.Answering.{IsFaultOr};
+ghost use Rattle.slate_merge.specs.NoMoreRows.{AddsNoneByCall, HandsAwayByCall};
+ghost use Rattle.slate_read.specs.TableWalk.{BeginsAt, Sought, SoughtBehind, StepsBehind, bound_behind, max_blocks, max_reads, refuses_behind, refuses_index};
+ghost use Rattle.slate_read.specs.Bringing.{brings_behind};
 ghost use Rattle.slate_read.specs.RunBringing.{BringsOpen, brings_run};
 ghost use Rattle.slate_read.specs.RunWalk.{FindsRow, IsSoundOpen, IsOpenRising, IsSoundRun, IsTableOpened, KeepsRun, OpensNext, PassesOver, bound_open, bound_run, can_reach, end_key, is_next_passed, is_passed, reaches_end, reaches_start, refuses_open, refuses_run, rest_open, rest_run};
 
 use crate::fetch_limits::FetchLimits;
-use crate::kept::copy_of;
-use crate::newest_first::is_below;
-use crate::peeking_iterator::is_ahead_kept;
 use crate::run_state::{OpenTable, RunCursor, RunState, RunWalk};
 use crate::table_state::Cursor;
 use crate::table_walk::open_index;
 use bytes::Bytes;
+use slate_merge::kept::copy_of;
+use slate_merge::newest_first::is_below;
+use slate_merge::peeking_iterator::is_ahead_kept;
 use slate_store::{Env, EnvOf, Store};
 use slate_table::{SsTableHandle, SsTableInfo, SstIndex};
 use slate_types::{

@@ -3,19 +3,19 @@ ghost use Rattle.std.specs.Prelude.{◌≡◌, ◌||◌, IfOk, IfErr, false, nat
 ghost use Rattle.std.specs.List.{starts_with};
 ghost use Rattle.slate_types.specs.declared.error.SlateDBError.{SlateDBError};
 ghost use Rattle.slate_types.specs.Keys.{is_before_end, is_refused, key_le};
+ghost use Rattle.slate_merge.specs.MergeStates.{Stays};
 ghost use Rattle.slate_read.specs.RunIterators.{IsRunIterator};
-ghost use Rattle.slate_read.specs.MergeStates.{Stays};
 ghost use Rattle.slate_read.specs.SegmentIterators.{AreRuns, IsSegmentMerge, can_begin, meets, met_runs, segment_bound, segment_order, segment_refuses, segment_rest, segment_sound};
 ghost use Rattle.slate_read.specs.SegmentLaws.{segment_more, segment_rising, segment_whole};
 ghost use Rattle.slate_read.specs.SourceBringing.{segments_begin, segments_seek, segments_take};
 ghost use Rattle.slate_read.specs.SstOptions.{CanFetch};
 
-use crate::merge_iterator::MergeIterator;
 use crate::sorted_run::SortedRun;
 use crate::sorted_run_iterator::SortedRunIterator;
 use crate::sst_iterator_options::SstIteratorOptions;
 use bytes::Bytes;
 use slate_filter::FilterPolicy;
+use slate_merge::MergeIterator;
 use slate_store::{Env, Store};
 use slate_types::{
     BlockTransformer, ByteRangeBounds, BytesRange, FilterContext, IterationOrder, MergeOperator,

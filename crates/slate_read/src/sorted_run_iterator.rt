@@ -2,21 +2,20 @@
 ghost use Rattle.std.specs.Prelude.{◌≡◌, IfOk, IfErr, false};
 ghost use Rattle.slate_types.specs.declared.error.SlateDBError.{SlateDBError};
 ghost use Rattle.slate_types.specs.Keys.{is_refused};
+ghost use Rattle.slate_merge.specs.NewestFirst.{Stays};
 ghost use Rattle.slate_read.specs.RunBringing.{run_begins, run_seeks, run_takes};
 ghost use Rattle.slate_read.specs.RunIterators.{IsRunIterator, run_iterator_bound, run_refuses, run_rest, run_sound};
 ghost use Rattle.slate_read.specs.RunLaws.{run_iterator_more, run_iterator_rising, run_iterator_whole};
-ghost use Rattle.slate_read.specs.NewestFirst.{Stays};
 ghost use Rattle.slate_read.specs.SstOptions.{CanFetch};
 
 use crate::fetch_limits::FetchLimits;
-use crate::filter_iterator::FilterIterator;
-use crate::newest_first::NewestFirst;
 use crate::range_rows::InRange;
 use crate::run_rows::newest_run_rows;
 use crate::run_state::RunWalk;
 use crate::sorted_run::SortedRun;
 use crate::sst_iterator_options::SstIteratorOptions;
 use slate_filter::FilterPolicy;
+use slate_merge::{FilterIterator, NewestFirst};
 use slate_store::{Env, Store};
 use slate_types::{
     BlockTransformer, BytesRange, IterationOrder, MergeOperator, RowEntry, RowEntryIterator,

@@ -2,15 +2,17 @@
 ghost use Rattle.std.specs.Prelude.{◌≡◌, IfOk, IfErr, false};
 ghost use Rattle.slate_types.specs.declared.error.SlateDBError.{SlateDBError};
 ghost use Rattle.slate_types.specs.Keys.{is_refused};
+ghost use Rattle.slate_merge.specs.NewestFirst.{Stays};
 ghost use Rattle.slate_read.specs.SstBringing.{sst_begins, sst_seeks, sst_takes};
 ghost use Rattle.slate_read.specs.SstIterators.{IsTableIterator, sst_bound, sst_refuses, sst_rest, sst_sound};
 ghost use Rattle.slate_read.specs.SstLaws.{sst_more, sst_rising, sst_whole};
-ghost use Rattle.slate_read.specs.NewestFirst.{Stays};
 ghost use Rattle.slate_read.specs.SstOptions.{CanFetch};
 
-use crate::internal_sst_iterator::InternalSstIterator;
+use crate::range_rows::{InRange, newest_range_rows};
 use crate::sst_iterator_options::SstIteratorOptions;
+use crate::table_state::TableWalk;
 use slate_filter::FilterPolicy;
+use slate_merge::{FilterIterator, NewestFirst};
 use slate_store::{Env, Store};
 use slate_table::SsTableHandle;
 use slate_types::{
@@ -24,7 +26,7 @@ use std::marker::PhantomData;
 /// asks them first, and opens no table that they deny.
 #[derive(Drop)]
 pub struct SstIterator<'a> {
-    pub(crate) rows: InternalSstIterator,
+    pub(crate) rows: NewestFirst<FilterIterator<TableWalk, InRange>>,
     /// The policies of filters are borrowed for as long as it is used. None is asked here.
     policies: PhantomData<&'a ()>,
 }
@@ -44,7 +46,7 @@ impl<'a> SstIterator<'a> {
         ensures cause { IfErr result (λ e. e ≡ SlateDBError.OutOfMemory) }
     {
         let _policies = policies;
-        let rows = InternalSstIterator::new(alloc, range, table, options)?;
+        let rows = newest_range_rows(alloc, range, table, options)?;
         Ok(SstIterator {
             rows,
             policies: PhantomData,
@@ -79,7 +81,9 @@ impl<S: Store, M: MergeOperator, T: BlockTransformer> RowEntryIterator<Env<'_, S
     ghost whole = { λ it w reads at e h k r. sst_whole it.rows w reads at e h k r };
 
     fn iteration_order(&self) -> IterationOrder {
-        <InternalSstIterator as RowEntryIterator<Env<'_, S, M, T>>>::iteration_order(&self.rows)
+        <NewestFirst<FilterIterator<TableWalk, InRange>> as RowEntryIterator<
+            Env<'_, S, M, T>,
+        >>::iteration_order(&self.rows)
     }
 
     fn init(&mut self, alloc: Global, env: &mut Env<'_, S, M, T>) -> Result<(), SlateDBError> {

@@ -3,9 +3,9 @@ ghost use Rattle.slate_read.specs.SstBringing.{walk_begins, walk_seeks, walk_tak
 ghost use Rattle.slate_read.specs.TableWalk.{bound_in, IsSoundWalk, refuses_in, rest_of, Stays};
 ghost use Rattle.slate_read.specs.WalkLaws.{refuses_more, refuses_whole};
 
-use crate::kept::copy_of;
 use crate::table_state::{TableState, TableWalk};
 use crate::table_walk::open_index;
+use slate_merge::kept::copy_of;
 use slate_store::{Env, Store};
 use slate_types::{
     BlockTransformer, IterationOrder, MergeOperator, RowEntry, RowEntryIterator, SlateDBError,

@@ -12,14 +12,15 @@ ghost use Rattle.slate_types.specs.Outside.{OnlyReads};
 ghost use Rattle.slate_types.specs.Refusing.{IsDamage};
 ghost use Rattle.slate_types.specs.World.{Made};
 ghost use Rattle.slate_types.proofs.Moves.{Moves};
-ghost use Rattle.slate_read.specs.Answering.{IsFaultOr};
-ghost use Rattle.slate_read.specs.Bringing.{AddsNoneByCall, HandsAwayByCall, brings_behind};
+ghost use Rattle.slate_merge.specs.Answering.{IsFaultOr};
+ghost use Rattle.slate_merge.specs.NoMoreRows.{AddsNoneByCall, HandsAwayByCall};
+ghost use Rattle.slate_read.specs.Bringing.{brings_behind};
 ghost use Rattle.slate_read.specs.TableWalk.{SkipsOpen, SoughtBehind, StepsBehind, Begins, IsIndexed, Keeps, bound_behind, max_blocks, IsSoundCursor, Jumps, Opens, refuses_behind, refuses_index, rest_after, next_first, next_stop, reads_in, RefusesLeft, RefusesReady, TakesOpen, RefusesRows, Walks, max_reads, path_in};
 
 use crate::fetch_limits::FetchLimits;
-use crate::kept::copy_of;
 use crate::table_state::{Cursor, TableState, TableWalk};
 use slate_block::{Block, DataBlockIterator};
+use slate_merge::kept::copy_of;
 use slate_store::{Env, EnvOf, Store};
 use slate_table::{SsTableHandle, SstIndex, TableStore};
 use slate_types::{

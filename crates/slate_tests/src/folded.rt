@@ -1,8 +1,8 @@
 // Iterators that fold operands.
 use crate::listing::{Row, are_rows, row};
 use crate::parts::Concat;
-use slate_read::merge_iterator::MergeIterator;
-use slate_read::operator_iterator::MergeOperatorIterator;
+use slate_merge::merge_iterator::MergeIterator;
+use slate_merge::operator_iterator::MergeOperatorIterator;
 use slate_store::{Env, MemoryStore};
 use slate_types::{
     IterationOrder, NoTransformer, RowEntry, RowEntryIterator, RowsIterator, SlateDBError,

@@ -1,8 +1,8 @@
 // Iterators over others: filters, rows looked at, and merges.
 use crate::listing::{Row, are_rows, row, walked};
-use slate_read::filter_iterator::{FilterIterator, MaxSeq};
-use slate_read::merge_iterator::MergeIterator;
-use slate_read::peeking_iterator::PeekingIterator;
+use slate_merge::filter_iterator::{FilterIterator, MaxSeq};
+use slate_merge::merge_iterator::MergeIterator;
+use slate_merge::peeking_iterator::PeekingIterator;
 use slate_types::{
     IterationOrder, RowEntry, RowEntryIterator, RowsIterator, SlateDBError, TrackedRowEntryIterator,
 };

@@ -1,7 +1,7 @@
 use Rattle.std.proofs.Common.{rules, ◌≡◌, Option, ap, subst, ℕ}
 use Rattle.slate_types.specs.declared.iter.IterationOrder.{IterationOrder}
 use Rattle.slate_types.proofs.Exits.{if_ok_both}
-use Rattle.slate_read.specs.declared.filter_iterator.MaxSeq.{MaxSeq}
+use Rattle.slate_merge.specs.declared.filter_iterator.MaxSeq.{MaxSeq}
 use Rattle.slate_read.specs.RunIterators.{IsRunIterator}
 use Rattle.slate_db.specs.OpenScans.{IsRunSource}
 use Rattle.slate_db.proofs.SourceLists.{run_is}

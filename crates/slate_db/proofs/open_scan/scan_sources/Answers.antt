@@ -1,5 +1,5 @@
 use Rattle.std.proofs.Common.{◌≡◌, [], ◌∷◌, List, ap, map, reverse, subst, sym}
-use Rattle.slate_read.specs.declared.filter_iterator.MaxSeq.{MaxSeq}
+use Rattle.slate_merge.specs.declared.filter_iterator.MaxSeq.{MaxSeq}
 use Rattle.slate_db.specs.Model.{Rows}
 use Rattle.slate_db.specs.OpenScans.{AreEach, IsMemorySource}
 use Rattle.slate_db.proofs.SourceLists.{all_sources, own_is}

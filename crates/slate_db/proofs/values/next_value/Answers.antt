@@ -4,8 +4,8 @@ use Rattle.slate_types.specs.declared.types.KeyValue.{KeyValue}
 use Rattle.slate_types.specs.Rows.{key_value}
 use Rattle.slate_types.specs.Steps.{Step}
 use Rattle.slate_types.proofs.Reaching.{reads_none, reads_then}
-use Rattle.slate_read.specs.Calls.{BringsByCalls}
-use Rattle.slate_read.specs.OperatorIterators.{IsOperable, Takes, refuses_folding, rest_folding, sound_folding}
+use Rattle.slate_merge.specs.Calls.{BringsByCalls}
+use Rattle.slate_merge.specs.OperatorIterators.{IsOperable, Takes, refuses_folding, rest_folding, sound_folding}
 use Rattle.slate_db.specs.Values.{has_value}
 use Rattle.slate_db.proofs.Foldings.{whole_going}
 use Rattle.slate_db.proofs.Passing.{first, last, no_value, passed_fails, passed_none, passed_on, passed_undamaged, some_value, step_checked, step_keeps, step_later, step_none, step_some, step_still}

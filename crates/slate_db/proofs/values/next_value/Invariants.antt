@@ -1,7 +1,7 @@
 use Rattle.std.proofs.Common.{◌≡◌}
 use Rattle.slate_types.specs.Outside.{OnlyReads}
-use Rattle.slate_read.specs.Calls.{BringsByCalls}
-use Rattle.slate_read.specs.OperatorIterators.{IsGoing, IsOperable, bound_folding, refuses_folding, rest_folding, sound_folding}
+use Rattle.slate_merge.specs.Calls.{BringsByCalls}
+use Rattle.slate_merge.specs.OperatorIterators.{IsGoing, IsOperable, bound_folding, refuses_folding, rest_folding, sound_folding}
 use Rattle.slate_db.proofs.Passing.{Passed}
 use Rattle.slate_db.proofs.values.next_value.Given as goal
 

@@ -1,8 +1,8 @@
 use Rattle.std.proofs.Common.{Some}
 use Rattle.std.proofs.lemmas.Result.{IfErr-weaker, on_ok_weaker}
-use Rattle.slate_read.specs.Calls.{BringsByCalls}
-use Rattle.slate_read.specs.OperatorIterators.{rest_folding}
-use Rattle.slate_read.specs.OperatorLaws.{folding_rises}
+use Rattle.slate_merge.specs.Calls.{BringsByCalls}
+use Rattle.slate_merge.specs.OperatorIterators.{rest_folding}
+use Rattle.slate_merge.specs.OperatorLaws.{folding_rises}
 use Rattle.slate_db.proofs.Foldings.{seek_undamaged}
 use Rattle.slate_db.proofs.Passing.{has_sought}
 use Rattle.slate_db.proofs.values.seek_values.Goals as goal

@@ -1,9 +1,9 @@
 use Rattle.std.proofs.Common.{arith}
 use Rattle.std.proofs.lemmas.Result.{IfErr-weaker, IfOk-weaker, on_ok_weaker}
 use Rattle.slate_types.proofs.Reaching.{reads_then}
+use Rattle.slate_merge.proofs.NoMoreRows.{added_hands}
 use Rattle.slate_read.specs.RunBringing.{BringsOpen}
 use Rattle.slate_read.specs.RunWalk.{refuses_open}
-use Rattle.slate_read.proofs.Bringings.{added_hands}
 use Rattle.slate_read.proofs.RunOpen.{find_fails, finds}
 use Rattle.slate_read.proofs.run_walk.find_row.Goals as goal
 

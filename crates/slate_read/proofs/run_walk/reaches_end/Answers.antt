@@ -1,7 +1,7 @@
 use Rattle.std.proofs.Common.{◌≡◌, ◌∙◌, Bool, true, false, refl, sym, ap, not}
 use Rattle.slate_types.specs.Keys.{is_before_end, key_le}
+use Rattle.slate_merge.proofs.Newests.{below_included}
 use Rattle.slate_read.specs.RunWalk.{reaches_end}
-use Rattle.slate_read.proofs.Newests.{below_included}
 use Rattle.slate_read.proofs.run_walk.reaches_end.Goals as goal
 
 twice : (t : Bool) → not (not t) ≡ t

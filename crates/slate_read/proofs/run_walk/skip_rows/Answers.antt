@@ -1,8 +1,8 @@
 use Rattle.std.proofs.Common.{refl}
 use Rattle.std.proofs.lemmas.Result.{on_ok_weaker}
+use Rattle.slate_merge.proofs.NoMoreRows.{none_added}
 use Rattle.slate_read.specs.RunBringing.{BringsOpen}
 use Rattle.slate_read.specs.RunWalk.{refuses_open}
-use Rattle.slate_read.proofs.Bringings.{none_added}
 use Rattle.slate_read.proofs.RunBringings.{open_adds}
 use Rattle.slate_read.proofs.RunOpen.{open_sought}
 use Rattle.slate_read.proofs.run_walk.skip_rows.Goals as goal

@@ -1,7 +1,7 @@
 use Rattle.std.proofs.Common.{Some, refl}
+use Rattle.slate_merge.proofs.NoMoreRows.{none_handed}
 use Rattle.slate_read.specs.RunBringing.{BringsOpen}
 use Rattle.slate_read.specs.RunWalk.{refuses_open}
-use Rattle.slate_read.proofs.Bringings.{none_handed}
 use Rattle.slate_read.proofs.RunBringings.{open_hands, spent_hands}
 use Rattle.slate_read.proofs.RunOpen.{open_spent, open_step}
 use Rattle.slate_read.proofs.run_walk.take_row.Goals as goal

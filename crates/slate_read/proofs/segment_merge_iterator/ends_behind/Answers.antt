@@ -1,6 +1,6 @@
 use Rattle.std.proofs.Common.{◌∙◌, ap, not}
 use Rattle.slate_types.specs.Keys.{is_before_end, key_le}
-use Rattle.slate_read.proofs.Newests.{below_included}
+use Rattle.slate_merge.proofs.Newests.{below_included}
 use Rattle.slate_read.proofs.SegmentRuns.{not_twice}
 use Rattle.slate_read.proofs.segment_merge_iterator.ends_behind.Goals as goal
 

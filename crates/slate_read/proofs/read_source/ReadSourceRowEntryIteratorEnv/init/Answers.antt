@@ -1,6 +1,5 @@
 use Rattle.std.proofs.lemmas.Result.{IfErr-weaker, on_ok_weaker}
 use Rattle.slate_read.proofs.SourceBringings.{list_begun}
-use Rattle.slate_read.proofs.SstBringings.{sst_begun}
 use Rattle.slate_read.proofs.read_source.ReadSourceRowEntryIteratorEnv.init.Goals as goal
 
 pub returns-in-Internal : goal.returns-in-Internal
@@ -9,7 +8,7 @@ returns-in-Internal g c = record {
   still = rw c.in-Internal.is c.init-in-Internal.ensures.still;
   checked = rw c.in-Internal.is c.init-in-Internal.ensures.checked;
   ready = c.init-in-Internal.ensures.ready;
-  begun = rw c.in-Internal.is (on_ok_weaker c.init-in-Internal.result (λ k. (k.0, k.1, (sst_begun _ c.in-Internal.rows.iterator c.init-in-Internal.new.self.iterator c.in-Internal.rows.progress c.init-in-Internal.new.self.progress k.0 k.2.0.1 k.2.0.3, k.2.1))) c.init-in-Internal.ensures.begun);
+  begun = rw c.in-Internal.is (on_ok_weaker c.init-in-Internal.result (λ k. (k.0, k.1, (k.2.0.3, k.2.1))) c.init-in-Internal.ensures.begun);
   cause = rw c.in-Internal.is (IfErr-weaker c.init-in-Internal.result _ _ (λ e k. (k.0, k.1, (k.2.0, tt, k.2.2))) c.init-in-Internal.ensures.cause);
   no_larger = rw c.in-Internal.is c.init-in-Internal.ensures.no_larger;
   order = rw c.in-Internal.is c.init-in-Internal.ensures.order;

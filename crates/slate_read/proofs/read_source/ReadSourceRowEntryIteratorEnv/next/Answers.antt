@@ -1,6 +1,5 @@
 use Rattle.std.proofs.lemmas.Result.{IfErr-weaker, IfOk-weaker}
 use Rattle.slate_read.proofs.SourceBringings.{list_handed, nothing_handed}
-use Rattle.slate_read.proofs.SstBringings.{sst_tells}
 use Rattle.slate_read.proofs.read_source.ReadSourceRowEntryIteratorEnv.next.Goals as goal
 
 pub returns-in-Internal : goal.returns-in-Internal
@@ -8,7 +7,7 @@ returns-in-Internal g c = record {
   rows = rw c.in-Internal.is c.next-in-Internal.ensures.rows;
   still = rw c.in-Internal.is c.next-in-Internal.ensures.still;
   checked = rw c.in-Internal.is c.next-in-Internal.ensures.checked;
-  taken = rw c.in-Internal.is (IfOk-weaker c.next-in-Internal.result _ _ (λ answer k. (k.0, k.1, (sst_tells _ c.in-Internal.rows.iterator c.next-in-Internal.new.self.iterator c.in-Internal.rows.progress c.next-in-Internal.new.self.progress k.0 answer k.2.0.3, k.2.1))) c.next-in-Internal.ensures.taken);
+  taken = rw c.in-Internal.is (IfOk-weaker c.next-in-Internal.result _ _ (λ answer k. (k.0, k.1, (k.2.0.3, k.2.1))) c.next-in-Internal.ensures.taken);
   cause = rw c.in-Internal.is (IfErr-weaker c.next-in-Internal.result _ _ (λ e k. (k.0, k.1, (k.2.0, tt, k.2.2))) c.next-in-Internal.ensures.cause);
   smaller = rw c.in-Internal.is c.next-in-Internal.ensures.smaller;
   no_larger = rw c.in-Internal.is c.next-in-Internal.ensures.no_larger;

@@ -1,6 +1,5 @@
 use Rattle.std.proofs.lemmas.Result.{IfErr-weaker, on_ok_weaker}
 use Rattle.slate_read.proofs.SourceBringings.{list_sought}
-use Rattle.slate_read.proofs.SstBringings.{sst_sought}
 use Rattle.slate_read.proofs.read_source.ReadSourceRowEntryIteratorEnv.seek.Goals as goal
 
 pub returns-in-Internal : goal.returns-in-Internal
@@ -8,7 +7,7 @@ returns-in-Internal g c = record {
   rows = rw c.in-Internal.is c.seek-in-Internal.ensures.rows;
   still = rw c.in-Internal.is c.seek-in-Internal.ensures.still;
   checked = rw c.in-Internal.is c.seek-in-Internal.ensures.checked;
-  sought = rw c.in-Internal.is (on_ok_weaker c.seek-in-Internal.result (λ k. (k.0, k.1, (sst_sought _ c.in-Internal.rows.iterator c.seek-in-Internal.new.self.iterator c.in-Internal.rows.progress c.seek-in-Internal.new.self.progress k.0 c.args.key.now k.2.0.4, k.2.1))) c.seek-in-Internal.ensures.sought);
+  sought = rw c.in-Internal.is (on_ok_weaker c.seek-in-Internal.result (λ k. (k.0, k.1, (k.2.0.4, k.2.1))) c.seek-in-Internal.ensures.sought);
   cause = rw c.in-Internal.is (IfErr-weaker c.seek-in-Internal.result _ _ (λ e k. (k.0, k.1, (k.2.0, tt, k.2.2))) c.seek-in-Internal.ensures.cause);
   no_larger = rw c.in-Internal.is c.seek-in-Internal.ensures.no_larger;
   order = rw c.in-Internal.is c.seek-in-Internal.ensures.order;

@@ -2,10 +2,10 @@ use Rattle.std.proofs.Common.{◌∙◌, None, Some, refl, sym, arith}
 use Rattle.std.proofs.lemmas.Result.{err_from_is_err_and, IfOk-from_err}
 use Rattle.slate_types.proofs.Moves.{moves_both, moves_fails, moves_none, moves_step}
 use Rattle.slate_types.proofs.Reaching.{reads_none, reads_then}
+use Rattle.slate_merge.proofs.NoMoreRows.{added_hands, both_added, none_added}
+use Rattle.slate_merge.proofs.Peeks.{none_of}
 use Rattle.slate_read.specs.RunBringing.{brings_run}
 use Rattle.slate_read.specs.RunWalk.{refuses_run}
-use Rattle.slate_read.proofs.Bringings.{added_hands, both_added, none_added}
-use Rattle.slate_read.proofs.Peeks.{none_of}
 use Rattle.slate_read.proofs.RunBringings.{ahead_taken, end_hands, next_adds, run_hands, run_spent_adds}
 use Rattle.slate_read.proofs.Runs.{ended_run, opened_ahead, opened_fewer, opened_run, run_spent, run_step}
 use Rattle.slate_read.proofs.RunSeeks.{run_fails}

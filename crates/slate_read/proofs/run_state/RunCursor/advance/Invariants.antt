@@ -2,9 +2,9 @@ use Rattle.std.proofs.Common.{◌≡◌, ◌≤◌, length, None}
 use Rattle.slate_types.specs.Outside.{OnlyReads}
 use Rattle.slate_types.proofs.Moves.{Moves}
 use Rattle.slate_store.specs.Reach.{reach_of}
+use Rattle.slate_merge.proofs.NoMoreRows.{AddsBy}
 use Rattle.slate_read.specs.RunWalk.{IsSoundRun, bound_run, refuses_run, rest_run}
 use Rattle.slate_read.specs.RunBringing.{brings_run}
-use Rattle.slate_read.proofs.Bringings.{AddsBy}
 use Rattle.slate_read.proofs.run_state.RunCursor.advance.Given as goal
 
 abbrev pub invariant-loop-row : goal.invariant-loop-row

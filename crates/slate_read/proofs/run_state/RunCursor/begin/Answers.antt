@@ -1,9 +1,9 @@
 use Rattle.std.proofs.Common.{◌∙◌, sym, arith}
 use Rattle.slate_types.proofs.Moves.{moves_none}
 use Rattle.slate_types.proofs.Reaching.{reads_none}
+use Rattle.slate_merge.proofs.NoMoreRows.{none_added}
 use Rattle.slate_read.specs.RunBringing.{brings_run}
 use Rattle.slate_read.specs.RunWalk.{refuses_run}
-use Rattle.slate_read.proofs.Bringings.{none_added}
 use Rattle.slate_read.proofs.RunBringings.{next_adds}
 use Rattle.slate_read.proofs.Runs.{begun_run, not_open}
 use Rattle.slate_read.proofs.run_state.RunCursor.begin.Goals as goal

@@ -2,9 +2,9 @@ use Rattle.std.proofs.Common.{◌∙◌, None, length, refl, sym, ap, arith}
 use Rattle.std.proofs.lemmas.Result.{IfErr-weaker, on_ok_weaker}
 use Rattle.slate_types.proofs.Moves.{moves_fails}
 use Rattle.slate_types.proofs.Reaching.{later_none, reads_none}
+use Rattle.slate_merge.proofs.NoMoreRows.{both_added, none_added}
 use Rattle.slate_read.specs.RunBringing.{brings_run}
 use Rattle.slate_read.specs.RunWalk.{refuses_run, rows_ahead}
-use Rattle.slate_read.proofs.Bringings.{both_added, none_added}
 use Rattle.slate_read.proofs.RunBringings.{let_go_adds}
 use Rattle.slate_read.proofs.RunSeeks.{ahead_kept, ahead_passed, run_sought}
 use Rattle.slate_read.proofs.run_state.RunCursor.seek.Goals as goal

@@ -1,10 +1,10 @@
 use Rattle.std.proofs.Common.{◌∙◌, None, length, refl, ap, arith}
+use Rattle.slate_merge.proofs.NoMoreRows.{both_added, none_added}
 use Rattle.slate_read.specs.RunBringing.{brings_run}
 use Rattle.slate_read.specs.RunWalk.{refuses_run, rows_ahead}
 use Rattle.std.proofs.lemmas.Result.{err_from_is_err_and}
 use Rattle.slate_types.proofs.Moves.{moves_both, moves_fails, moves_none}
 use Rattle.slate_types.proofs.Reaching.{reads_none, reads_then}
-use Rattle.slate_read.proofs.Bringings.{both_added, none_added}
 use Rattle.slate_read.proofs.RunBringings.{found_adds, next_adds, passes_adds, run_spent_adds}
 use Rattle.slate_read.proofs.Runs.{opened_ahead, opened_fewer, opened_run}
 use Rattle.slate_read.proofs.RunSeeks.{ended_sought, found_none, found_some, passes_moves, run_fails, run_lifted, run_sought, passed_fewer, passed_bound}

@@ -1,0 +1,12 @@
+use Rattle.std.proofs.Common.{inl, inr, refl}
+use Rattle.slate_merge.proofs.heads.put_back.Goals as goal
+
+pub returns-in_ok-push-in-Ok-Some-clause-joins : goal.returns-in_ok-push-in-Ok-Some-clause-joins
+returns-in_ok-push-in-Ok-Some-clause-joins g c =
+    let n = rw c.in-Ok-Some.field-0-is at c.in-Ok-Some.ensures in
+    inr (c.in-Ok-Some.row, c.next.new.self, record { step = record { rows = n.rows; still = n.still; checked = n.checked; taken = n.taken }; order = n.order; smaller = n.smaller }, c.in_ok-push-in-Ok-Some.ensures.permutation)
+
+pub returns-in-Ok-None-clause-joins : goal.returns-in-Ok-None-clause-joins
+returns-in-Ok-None-clause-joins g c =
+    let n = rw c.in-Ok-None.field-0-is at c.in-Ok-None.ensures in
+    inl (c.next.new.self, record { step = record { rows = n.rows; still = n.still; checked = n.checked; taken = n.taken }; order = n.order; smaller = n.smaller }, refl)

@@ -1,0 +1,43 @@
+use Rattle.std.proofs.Common.{◌≡◌, ◌∙◌, sym, arith, None, Some, []}
+use Rattle.std.specs.BinaryHeap.{heap_items}
+use Rattle.slate_merge.proofs.SeekLaws.{top_before, popped_before}
+use Rattle.slate_merge.proofs.Goings.{then_fails, head_fails, next_fails, seek_made, seek_moves, first_smaller}
+use Rattle.slate_merge.proofs.heads.seek_first.Goals as goal
+
+pub returns-then-not-top_is_before-clause-done : goal.returns-then-not-top_is_before-clause-done
+returns-then-not-top_is_before-clause-done g c = λ order w m _.
+    let top = c.top_is_before.ensures in
+    sym (top_before (λ s. g.I.RowEntryIterator.rest s w) (λ s. g.I.RowEntryIterator.sound s w × (g.I.RowEntryIterator.order s ≡ order)) order c.args.key.now (heap_items c.args.heads.now) top.0 m top.1) ∙ sym top.2 ∙ c.if-not-top_is_before.true
+
+pub returns-in-Ok-put_back-clause-moved : goal.returns-in-Ok-put_back-clause-moved
+returns-in-Ok-put_back-clause-moved g c =
+    let n = c.in-Ok.ensures in
+    let j = c.in-Ok-put_back.ensures in
+    let top = c.top_is_before.ensures in
+    seek_moves g.I.RowEntryIterator.rest g.I.RowEntryIterator.sound g.I.RowEntryIterator.refuses g.I.RowEntryIterator.begins g.I.RowEntryIterator.takes g.I.RowEntryIterator.seeks g.I.RowEntryIterator.bound g.I.RowEntryIterator.order g.met.I.RowEntryIterator.more c.args.key.now (g.E.Outside.reach c.args.env.now) (g.E.Outside.reach c.seek.new.env) (g.E.Outside.reach c.put_back.new.env) (heap_items c.args.heads.now) (heap_items c.pop.new.self) (heap_items c.put_back.new.heads) c.in-Some.head c.seek.new.self c.in-Some.ensures.permutation (λ h. (c.in-Some.ensures.heap_order h).0) j.heap
+    n.rows n.still n.checked n.order n.sought j.joins
+    (λ o w m. popped_before (λ s. g.I.RowEntryIterator.rest s w) (λ s. g.I.RowEntryIterator.sound s w × (g.I.RowEntryIterator.order s ≡ o)) o c.args.key.now (heap_items c.args.heads.now) c.in-Some.head top.0 m top.1 (sym top.2 ∙ c.if-not-top_is_before.false) c.in-Some.ensures.top)
+
+pub returns-in-Ok-put_back-clause-brought : goal.returns-in-Ok-put_back-clause-brought
+returns-in-Ok-put_back-clause-brought g c =
+    seek_made g.I.RowEntryIterator.rest g.I.RowEntryIterator.sound g.I.RowEntryIterator.refuses g.I.RowEntryIterator.begins g.I.RowEntryIterator.takes g.I.RowEntryIterator.seeks g.I.RowEntryIterator.bound g.I.RowEntryIterator.order g.met.I.RowEntryIterator.more c.args.key.now (g.E.Outside.reach c.args.env.now) (g.E.Outside.reach c.seek.new.env) (g.E.Outside.reach c.put_back.new.env) (heap_items c.args.heads.now) (heap_items c.pop.new.self) (heap_items c.put_back.new.heads) c.in-Some.head c.seek.new.self c.in-Some.ensures.permutation c.in-Ok.ensures.sought c.in-Ok-put_back.ensures.joins
+
+pub returns-in-Ok-put_back-clause-smaller : goal.returns-in-Ok-put_back-clause-smaller
+returns-in-Ok-put_back-clause-smaller g c = λ _.
+    first_smaller g.I.RowEntryIterator.rest g.I.RowEntryIterator.sound g.I.RowEntryIterator.refuses g.I.RowEntryIterator.begins g.I.RowEntryIterator.takes g.I.RowEntryIterator.seeks g.I.RowEntryIterator.bound g.I.RowEntryIterator.order g.met.I.RowEntryIterator.more (g.E.Outside.reach c.seek.new.env) (g.E.Outside.reach c.put_back.new.env) (heap_items c.args.heads.now) (heap_items c.pop.new.self) (heap_items c.put_back.new.heads) c.in-Some.head c.seek.new.self c.in-Some.ensures.permutation c.in-Ok.ensures.no_larger c.in-Ok-put_back.ensures.joins
+
+pub returns-in-Ok-put_back-clause-no_larger : goal.returns-in-Ok-put_back-clause-no_larger
+returns-in-Ok-put_back-clause-no_larger g c =
+    let less = first_smaller g.I.RowEntryIterator.rest g.I.RowEntryIterator.sound g.I.RowEntryIterator.refuses g.I.RowEntryIterator.begins g.I.RowEntryIterator.takes g.I.RowEntryIterator.seeks g.I.RowEntryIterator.bound g.I.RowEntryIterator.order g.met.I.RowEntryIterator.more (g.E.Outside.reach c.seek.new.env) (g.E.Outside.reach c.put_back.new.env) (heap_items c.args.heads.now) (heap_items c.pop.new.self) (heap_items c.put_back.new.heads) c.in-Some.head c.seek.new.self c.in-Some.ensures.permutation c.in-Ok.ensures.no_larger c.in-Ok-put_back.ensures.joins in
+    omega (arith, less)
+
+pub returns-in-Err-put_back-clause-cause : goal.returns-in-Err-put_back-clause-cause
+returns-in-Err-put_back-clause-cause g c =
+    let n = c.in-Ok.ensures in
+    next_fails g.I.RowEntryIterator.rest g.I.RowEntryIterator.sound g.I.RowEntryIterator.refuses g.I.RowEntryIterator.begins g.I.RowEntryIterator.takes g.I.RowEntryIterator.seeks g.I.RowEntryIterator.bound g.I.RowEntryIterator.order (g.E.Outside.reach c.args.env.now) (g.E.Outside.reach c.put_back.new.env) (Some c.args.key.now) c.in-Err-put_back.error [] (heap_items c.args.heads.now) (heap_items c.pop.new.self) c.in-Some.head c.in-Some.ensures.permutation
+    (then_fails (g.I.RowEntryIterator.refuses c.in-Some.head.source) (g.I.RowEntryIterator.refuses c.seek.new.self) (g.E.Outside.reach c.args.env.now) (g.E.Outside.reach c.seek.new.env) (g.E.Outside.reach c.put_back.new.env) None c.in-Err-put_back.error n.reads.later (n.sought.0, n.sought.1, n.sought.2.1) c.in-Err-put_back.ensures.cause)
+
+pub returns-in-Err-clause-cause : goal.returns-in-Err-clause-cause
+returns-in-Err-clause-cause g c =
+    let n = c.in-Err.ensures in
+    head_fails g.I.RowEntryIterator.rest g.I.RowEntryIterator.sound g.I.RowEntryIterator.refuses g.I.RowEntryIterator.begins g.I.RowEntryIterator.takes g.I.RowEntryIterator.seeks g.I.RowEntryIterator.bound g.I.RowEntryIterator.order (g.E.Outside.reach c.args.env.now) (g.E.Outside.reach c.seek.new.env) (Some c.args.key.now) c.in-Err.error [] (heap_items c.args.heads.now) (heap_items c.pop.new.self) c.in-Some.head c.in-Some.ensures.permutation (n.cause.0, n.cause.1, n.cause.2.0)

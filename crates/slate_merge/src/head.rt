@@ -1,0 +1,112 @@
+//! A source of a merge with the row that it gives next.
+ghost use Rattle.std.specs.Prelude.{◌≡◌};
+ghost use Rattle.slate_types.specs.declared.iter.IterationOrder.{IterationOrder};
+ghost use Rattle.slate_merge.specs.Orders.{order_rank, rising_key, falling_key};
+
+use slate_types::{IterationOrder, RowEntry};
+use std::cmp::Ordering;
+
+/// A source that has begun, with its first row, which was taken off.
+#[derive(Drop)]
+pub struct Head<I> {
+    /// The row, which comes next of this source.
+    pub row: RowEntry,
+
+    /// How many sources stand behind this one in the list of sources.
+    pub behind: usize,
+
+    /// The order in which the source's rows come.
+    pub order: IterationOrder,
+
+    /// The source behind its first row.
+    pub source: I,
+}
+
+fn rank(order: IterationOrder) -> u8
+    ensures { result ≡ order_rank order }
+{
+    match order {
+        IterationOrder::Ascending => 0,
+        IterationOrder::Descending => 1,
+    }
+}
+
+/// The key where keys rise, and nothing where they fall.
+fn rising_key(row: &RowEntry, order: IterationOrder) -> &[u8]
+    ensures { result.now ≡ rising_key order row.now.key }
+{
+    match order {
+        IterationOrder::Ascending => row.key.as_slice(),
+        IterationOrder::Descending => &[],
+    }
+}
+
+/// The key where keys fall, and nothing where they rise.
+fn falling_key(row: &RowEntry, order: IterationOrder) -> &[u8]
+    ensures { result.now ≡ falling_key order row.now.key }
+{
+    match order {
+        IterationOrder::Ascending => &[],
+        IterationOrder::Descending => row.key.as_slice(),
+    }
+}
+
+/// The greatest head is that whose row comes first: a heap gives the greatest.
+impl<I> Ord for Head<I> {
+    ghost use Rattle.std.proofs.Common.{rules};
+    ghost use Rattle.std.specs.Cmp.Rules.{comparing};
+    ghost use Rattle.slate_merge.specs.Heads.{head_cmp, head_total};
+
+    ghost cmp = { head_cmp };
+
+    ghost total = { head_total };
+
+    ghost matches_partial_cmp = { Prim.search (comparing, rules) };
+
+    ghost matches_eq = { Prim.search (comparing, rules) };
+
+    fn cmp(&self, other: &Head<I>) -> Ordering {
+        rank(other.order)
+            .cmp(&rank(self.order))
+            .then(rising_key(&other.row, other.order).cmp(rising_key(&self.row, self.order)))
+            .then(falling_key(&self.row, self.order).cmp(falling_key(&other.row, other.order)))
+            .then(self.row.seq.cmp(&other.row.seq))
+            .then(self.behind.cmp(&other.behind))
+    }
+}
+
+impl<I> PartialOrd for Head<I> {
+    ghost use Rattle.std.proofs.Common.{refl};
+    ghost use Rattle.std.specs.Cmp.{partial_order_from_agreeing_total};
+    ghost use Rattle.std.specs.Ordering.{as_partial_cmp};
+    ghost use Rattle.slate_merge.specs.Heads.{head_cmp, head_total};
+
+    ghost partial_cmp = { as_partial_cmp head_cmp };
+
+    ghost laws = { partial_order_from_agreeing_total head_cmp head_total (λ _ _. refl) (λ _ _. refl) };
+
+    fn partial_cmp(&self, other: &Head<I>) -> Option<Ordering> {
+        Some(self.cmp(other))
+    }
+}
+
+impl<I> PartialEq for Head<I> {
+    ghost use Rattle.std.specs.Cmp.{partial_equiv_from_equiv, eq_by_cmp_equiv};
+    ghost use Rattle.std.specs.Ordering.{eq_by_cmp};
+    ghost use Rattle.slate_merge.specs.Heads.{head_cmp, head_total};
+
+    ghost eq = { eq_by_cmp head_cmp };
+
+    ghost laws = { partial_equiv_from_equiv (eq_by_cmp_equiv head_total) };
+
+    fn eq(&self, other: &Head<I>) -> bool {
+        self.cmp(other).is_eq()
+    }
+}
+
+impl<I> Eq for Head<I> {
+    ghost use Rattle.std.specs.Cmp.{eq_by_cmp_equiv};
+    ghost use Rattle.slate_merge.specs.Heads.{head_total};
+
+    ghost laws = { eq_by_cmp_equiv head_total };
+}

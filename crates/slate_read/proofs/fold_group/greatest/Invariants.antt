@@ -1,6 +1,0 @@
-use Rattle.std.proofs.Common.{◌≡◌, drop}
-use Rattle.slate_types.specs.Fold.{greatest_seq}
-use Rattle.slate_read.proofs.fold_group.greatest.Given as goal
-
-abbrev pub invariant-loop-row : goal.invariant-loop-row
-invariant-loop-row l = greatest_seq l.seq (drop l.row-index l.rows) ≡ greatest_seq l.first l.rows
