@@ -1,4 +1,1 @@
-pub mod SortedRowsLaws
-pub mod CommitListLaws
 pub mod OpenIds
-pub mod PolicyNames

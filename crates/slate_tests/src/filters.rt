@@ -4,8 +4,9 @@ ghost use Rattle.std.specs.Prelude.{◌≡◌, ◌<◌, ◌^◌, true, length, m
 ghost use Rattle.slate_filter.specs.Laws.{AreValidNames};
 
 use crate::generated::words_of;
-use crate::listing::{no_policies, one};
+use crate::listing::no_policies;
 use slate_filter::{BloomFilterPolicy, FilterPolicy, FixedExtractor};
+use slate_lower_tests::listing::one;
 use slate_script::run_main;
 use slate_store::{MemorySink, MemorySource, MemoryStore};
 use slate_types::SlateDBError;

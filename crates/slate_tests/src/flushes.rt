@@ -3,11 +3,12 @@ ghost use Rattle.std.specs.Prelude.{map};
 ghost use Rattle.slate_types.specs.Config.{IsValid};
 ghost use Rattle.slate_filter.specs.Laws.{AreValidNames};
 
-use crate::listing::{default_laws, one};
+use crate::listing::default_laws;
 use slate_db::engine::Core;
 use slate_db::laws::Laws;
 use slate_filter::FilterPolicy;
 use slate_language::Xor;
+use slate_lower_tests::listing::one;
 use slate_mem::WriteBatch;
 use slate_store::{Env, MemoryStore, Store};
 use slate_types::{IsolationLevel, NoExtractor, NoOperator, ReadOptions, SlateDBError};

@@ -1,9 +1,10 @@
 // What a store answers and tells that lies at one read, a run over one that doesn't lie, and runs over some that do.
 use crate::filters::prefixes;
 use crate::generated::words_of;
-use crate::listing::{no_policies, one};
+use crate::listing::no_policies;
 use crate::runs::{TWICE, TWO_ROWS};
 use bytes::Bytes;
+use slate_lower_tests::listing::one;
 use slate_script::run_main;
 use slate_store::{LyingStore, MemorySink, MemorySource, Sink, Store, StoreRead};
 use slate_types::SlateDBError;

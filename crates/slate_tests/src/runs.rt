@@ -1,6 +1,7 @@
 // Runs over parts in memory: some of which one call fails, and some of transactions that write. Other runs without faults are tried by
 // ./test, through the program.
-use crate::listing::{no_policies, one};
+use crate::listing::no_policies;
+use slate_lower_tests::listing::one;
 use slate_script::run_main;
 use slate_store::{MemorySink, MemorySource, MemoryStore, Sink};
 use std::alloc::Global;

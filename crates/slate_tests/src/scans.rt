@@ -1,7 +1,8 @@
 // How many calls of the store a scan makes, by how far blocks are read ahead.
-use crate::listing::{no_policies, one};
+use crate::listing::no_policies;
 use slate_db::laws::Laws;
 use slate_language::Xor;
+use slate_lower_tests::listing::one;
 use slate_script::run_script;
 use slate_store::{Env, MemorySink, MemorySource, MemoryStore};
 use slate_types::{BlockFormat, NoExtractor, NoOperator, Options, SlateDBError};

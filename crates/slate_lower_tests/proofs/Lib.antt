@@ -1,0 +1,2 @@
+pub mod SortedRowsLaws
+pub mod CommitListLaws

@@ -1,0 +1,34 @@
+//! Tests of the crates below the database: vectors, first calls, and plain lists that have a call's contract.
+#![tactic(auto)]
+
+#[cfg(test)]
+mod block_iterators;
+#[cfg(test)]
+mod blocks;
+#[cfg(test)]
+mod commit_lists;
+#[cfg(test)]
+mod folded;
+pub mod listing;
+#[cfg(test)]
+mod lists;
+#[cfg(test)]
+mod memory;
+#[cfg(test)]
+mod memory_lists;
+#[cfg(test)]
+mod merged;
+#[cfg(test)]
+mod merges;
+#[cfg(test)]
+mod parts;
+#[cfg(test)]
+mod ranges;
+#[cfg(test)]
+mod read_tables;
+#[cfg(test)]
+mod stores;
+#[cfg(test)]
+mod streams;
+#[cfg(test)]
+mod tables;
