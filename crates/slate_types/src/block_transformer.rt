@@ -1,5 +1,5 @@
 //! What changes the bytes of a table's parts on their way to the store and back.
-ghost use Rattle.std.specs.Prelude.{◌≡◌, ◌≤◌, ℕ, List, IfOk, OnOk};
+ghost use Rattle.std.specs.Prelude.{◌≡◌, ◌≤◌, ◌⊎◌, ℕ, List, IfOk};
 ghost use Rattle.slate_types.specs.Faults.{Rose};
 
 use crate::error::SlateDBError;
@@ -68,7 +68,7 @@ pub trait BlockTransformer: Drop {
     /// What is read from stored bytes.
     ghost decoded: { Self → List ℕ → List ℕ };
 
-    /// The count of faults: it rises only with a call that fails. It stands still at its type's end.
+    /// The count of faults: it rises only with a call that answers `Failed`. It stands still at its type's end.
     ghost faults: { Self → ℕ };
 
     /// The bytes to store. Answers `Failed` only where the count of faults rose.
@@ -77,7 +77,7 @@ pub trait BlockTransformer: Drop {
         ensures same_encoded { encoded self.new ≡ encoded self.old }
         ensures same_decoded { decoded self.new ≡ decoded self.old }
         ensures later { faults self.old ≤ faults self.new }
-        ensures still { OnOk result (faults self.new ≡ faults self.old) }
+        ensures still { (result ≡ Err TransformError.Failed) ⊎ (faults self.new ≡ faults self.old) }
         ensures cause { result ≡ Err TransformError.Failed → Rose (faults self.old) (faults self.new) };
 
     /// The bytes of stored ones. Answers `Failed` only where the count of faults rose.
@@ -86,7 +86,7 @@ pub trait BlockTransformer: Drop {
         ensures same_encoded { encoded self.new ≡ encoded self.old }
         ensures same_decoded { decoded self.new ≡ decoded self.old }
         ensures later { faults self.old ≤ faults self.new }
-        ensures still { OnOk result (faults self.new ≡ faults self.old) }
+        ensures still { (result ≡ Err TransformError.Failed) ⊎ (faults self.new ≡ faults self.old) }
         ensures cause { result ≡ Err TransformError.Failed → Rose (faults self.old) (faults self.new) };
 }
 

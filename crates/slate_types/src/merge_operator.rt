@@ -1,5 +1,5 @@
 //! What makes one value of a value and the operands above it.
-ghost use Rattle.std.specs.Prelude.{◌≡◌, ◌≤◌, ◌↔◌, ℕ, List, [], Option, None, option_copied, IfOk, OnOk};
+ghost use Rattle.std.specs.Prelude.{◌≡◌, ◌≤◌, ◌↔◌, ◌⊎◌, ℕ, List, [], Option, None, option_copied, IfOk};
 ghost use Rattle.slate_types.specs.Faults.{Rose};
 ghost use Rattle.slate_types.specs.Fold.{Combine, KeepsShort, merge_all};
 
@@ -70,7 +70,7 @@ pub trait MergeOperator: Drop {
     /// What it makes of a key, an existing value, where there is one, and an operand.
     ghost combine: { Self → List ℕ → Combine };
 
-    /// The count of faults: it rises only with a call that fails. It stands still at its type's end.
+    /// The count of faults: it rises only with a call that answers `Callback`. It stands still at its type's end.
     ghost faults: { Self → ℕ };
 
     /// Combines the value onto the existing one. Answers `Callback` only where the count of faults rose,
@@ -86,7 +86,7 @@ pub trait MergeOperator: Drop {
         ensures some { ¬ (result ≡ Err MergeOperatorError.EmptyBatch) }
         ensures same { combine self.new ≡ combine self.old }
         ensures later { faults self.old ≤ faults self.new }
-        ensures still { OnOk result (faults self.new ≡ faults self.old) }
+        ensures still { ((message : List ℕ) × (result ≡ Err (MergeOperatorError.Callback message))) ⊎ (faults self.new ≡ faults self.old) }
         ensures cause { (message : List ℕ) → result ≡ Err (MergeOperatorError.Callback message) → Rose (faults self.old) (faults self.new) };
 
     /// Combines the operands onto the existing value one after the other, the oldest first. Answers
@@ -103,7 +103,7 @@ pub trait MergeOperator: Drop {
         ensures empty { (result ≡ Err MergeOperatorError.EmptyBatch) ↔ ((option_copied existing_value.entry ≡ None) × (operands.now ≡ [])) }
         ensures same { combine self.new ≡ combine self.old }
         ensures later { faults self.old ≤ faults self.new }
-        ensures still { OnOk result (faults self.new ≡ faults self.old) }
+        ensures still { ((message : List ℕ) × (result ≡ Err (MergeOperatorError.Callback message))) ⊎ (faults self.new ≡ faults self.old) }
         ensures cause { (message : List ℕ) → result ≡ Err (MergeOperatorError.Callback message) → Rose (faults self.old) (faults self.new) }
     {
         let mut merged = existing_value.cloned()?;

@@ -1,5 +1,5 @@
-use Rattle.std.proofs.Common.{◌≡◌, refl, ◌∙◌, sym, ap, subst, ℕ, ◌+◌, ◌<◌, ◌≤◌, Option, None, Some, option_copied, IsSomeAnd, MatchOption, ok_or, Result, Ok, Err, IfOk, List, length, get_or, drop, Bor, arith}
-use Rattle.std.specs.Result.{OnOk, result_ok}
+use Rattle.std.proofs.Common.{◌≡◌, ◌⊎◌, inl, inr, refl, ◌∙◌, sym, ap, subst, ℕ, ◌+◌, ◌<◌, ◌≤◌, Option, None, Some, option_copied, IsSomeAnd, MatchOption, ok_or, Result, Ok, Err, IfOk, List, length, get_or, drop, Bor, arith}
+use Rattle.std.specs.Result.{result_ok}
 use Rattle.std.proofs.lemmas.List.{at_drop_more, at_drop_all}
 use Rattle.std.proofs.lemmas.Result.{err_from_is_err_and, IfOk-from_err}
 use Rattle.slate_types.specs.declared.merge_operator.MergeOperatorError.{MergeOperatorError}
@@ -36,7 +36,7 @@ pub returns-in_err-merged-clause-later : goal.returns-in_err-merged-clause-later
 returns-in_err-merged-clause-later g c = omega arith
 
 pub returns-in_err-merged-clause-still : goal.returns-in_err-merged-clause-still
-returns-in_err-merged-clause-still g c = IfOk-from_err c.from_residual.result _ c.from_residual.ensures.0
+returns-in_err-merged-clause-still g c = inr refl
 
 pub returns-in_err-merged-clause-cause : goal.returns-in_err-merged-clause-cause
 returns-in_err-merged-clause-cause g c =
@@ -57,8 +57,14 @@ returns-in_err-made-clause-same g c = c.merge-made.ensures.same ∙ c.loop-opera
 pub returns-in_err-made-clause-later : goal.returns-in_err-made-clause-later
 returns-in_err-made-clause-later g c = omega (arith, c.loop-operand.invariant.still, c.merge-made.ensures.later)
 
+still_behind : {T : Type 0} (r s : Result T MergeOperatorError) (old between new : ℕ) → r ≡ s → between ≡ old → ((message : List ℕ) × (s ≡ Err (Callback message))) ⊎ (new ≡ between) → ((message : List ℕ) × (r ≡ Err (Callback message))) ⊎ (new ≡ old)
+still_behind r s old between new is same (inl failed) = inl (failed.0, is ∙ failed.1)
+still_behind r s old between new is same (inr stands) = inr (stands ∙ same)
+
 pub returns-in_err-made-clause-still : goal.returns-in_err-made-clause-still
-returns-in_err-made-clause-still g c = IfOk-from_err c.from_residual-in_err-made.result _ c.from_residual-in_err-made.ensures.0
+returns-in_err-made-clause-still g c =
+    let p = err_from_is_err_and c.from_residual-in_err-made.result c.from_residual-in_err-made.ensures.1 in
+    still_behind c.from_residual-in_err-made.result _ _ _ _ (p.1 ∙ ap Err p.2) c.loop-operand.invariant.still c.in_err-made.ensures.still
 
 pub returns-in_err-made-clause-cause : goal.returns-in_err-made-clause-cause
 returns-in_err-made-clause-cause g c =
@@ -86,10 +92,14 @@ one_more c value vs i v made within is e = ap (λ m. merge_all c (Some m) (drop 
 made_is : {S : Type 0} (combine : S → List ℕ → Combine) (now first : S) (key : List ℕ) (asked value : Option (List ℕ)) (v made : List ℕ) → made ≡ combine now key asked v → combine now ≡ combine first → asked ≡ value → made ≡ combine first key value v
 made_is combine now first key asked value v made e same is = e ∙ ap (λ f. f key asked v) same ∙ ap (λ o. combine first key o v) is
 
+stands : {T : Type 0} {made : T} {before after : ℕ} → ((message : List ℕ) × (Ok made ≡ Err (Callback message))) ⊎ (after ≡ before) → after ≡ before
+stands (inl failed) = cc
+stands (inr same) = same
+
 pub loop-operand-preserved : goal.loop-operand-preserved
 loop-operand-preserved g c = record {
   same = c.merge-made.ensures.same ∙ c.loop-operand.invariant.same;
-  still = c.in_ok-made.ensures.still ∙ c.loop-operand.invariant.still;
+  still = stands c.in_ok-made.ensures.still ∙ c.loop-operand.invariant.still;
   value = one_more (g.Self.MergeOperator.combine c.args.self.now c.args.key.now) c.loop-operand.merged c.args.operands.now c.loop-operand.operand-index c.operand-item.result c.in_ok-made.field-0 c.loop-operand-test.true c.operand-item.is
       (made_is g.Self.MergeOperator.combine c.loop-operand.self c.args.self.now c.args.key.now (option_copied c.as_ref.result) c.loop-operand.merged c.operand-item.result c.in_ok-made.field-0 c.in_ok-made.ensures.value c.loop-operand.invariant.same c.as_ref.ensures.value)
       ∙ c.loop-operand.invariant.value;
@@ -126,12 +136,8 @@ returns-clause-same g c = c.loop-operand.invariant.same
 pub returns-clause-later : goal.returns-clause-later
 returns-clause-later g c = omega (arith, c.loop-operand.invariant.still)
 
-always : {T E : Type 0} (r : Result T E) (P : Type 0) → P → OnOk r P
-always (Ok x) P h = h
-always (Err e) P h = tt
-
 pub returns-clause-still : goal.returns-clause-still
-returns-clause-still g c = always c.ok_or.result _ c.loop-operand.invariant.still
+returns-clause-still g c = inr c.loop-operand.invariant.still
 
 no_call : (o : Option (List ℕ)) (message : List ℕ) → ok_or o EmptyBatch ≡ Err (Callback message) → ⊥
 no_call None message e = cc
