@@ -99,6 +99,7 @@ mod Readers
 mod ScanMerges
 pub mod RowDamage
 mod Serial
+mod ScansLeft
 mod Places
 mod Behind
 mod KeyBlocks

@@ -39,3 +39,4 @@ pub mod Values
 pub mod Scans
 pub mod ScanFilters
 pub mod OpenScans
+pub mod LeftLaws

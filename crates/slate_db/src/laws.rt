@@ -1,6 +1,7 @@
 //! What all calls on one core are given alike, beside what is outside; and the laws of the definitions, each of which is
 //! proved of all values by a call that does nothing.
 ghost use Rattle.slate_db.specs.FlushLaws.{RunsAreOfSegments, TablesAreOfOneSegment};
+ghost use Rattle.slate_db.specs.LeftLaws.{CallsBesideKeepWhatIsLeft, StepsEndNothing, WhatIsLeftIsOpen};
 ghost use Rattle.slate_db.specs.ScanLaws.{ListsHaveAllRows, ScansOfCoreShowWhatIsSeen, ScansShowWhatIsSeen};
 ghost use Rattle.slate_db.specs.SegmentLaws.{SegmentsStandApart};
 ghost use Rattle.slate_db.specs.SerialLaws.{CallsKeepCoresVouched, CommitsKeepItVouched, CommitsStandAtTheirPlaces, NewCoreIsVouched, OtherEventsKeepItVouched, WritesKeepCoresVouched};
@@ -49,6 +50,14 @@ pub fn transactions()
     ensures calls { CallsKeepCoresVouched }
     ensures writes { WritesKeepCoresVouched }
     ensures at_their_places { CommitsStandAtTheirPlaces }
+{}
+
+/// Of open scans. What a scan has left stays so at each call that isn't on it and doesn't end its transaction, by what the call's clauses
+/// say; what its own calls leave, `Core::next` and `Core::seek` say. So a caller may go on with several scans by turns.
+pub fn open_scans()
+    ensures beside { CallsBesideKeepWhatIsLeft }
+    ensures steps { StepsEndNothing }
+    ensures is_open { WhatIsLeftIsOpen }
 {}
 
 /// Of segments. In a core that is segmented, recorded prefixes never nest, and each key has at most one.

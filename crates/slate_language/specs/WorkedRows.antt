@@ -420,6 +420,26 @@ PrefixOfARange = Answers plain (
     ("commit t" ▹ "refused TransactionConflict 2") ∷
     [])
 
+-- a scan of two rows that is read in part, a write into its range behind it, and a commit
+abbrev pub partly_read : String → String → String → String → List (String × String)
+partly_read scan rows write ends =
+    ("write put 'a '1 put 'm '1" ▹ "written 1") ∷
+    ("begin t ssi" ▹ "begun t 1") ∷
+    (scan ▹ rows) ∷
+    (write ▹ "written 2") ∷
+    ("commit t" ▹ ends) ∷
+    []
+
+-- A scan tracks no more than what it has read: up to the farthest row or sought key, in its order, and all of its range once it reported its end.
+abbrev pub PartlyReadScans : Type 0
+PartlyReadScans = Answers plain (partly_read "scan t asc * * n1" "rows 1 'a '1 1 0 -" "write put 'z '1" "committed -")
+    × Answers plain (partly_read "scan t asc * * n2" "rows 2 'a '1 1 0 - 'm '1 1 0 -" "write put 'z '1" "committed -")
+    × Answers plain (partly_read "scan t asc * * n3" "rows 2 'a '1 1 0 - 'm '1 1 0 -" "write put 'z '1" "refused TransactionConflict 2")
+    × Answers plain (partly_read "scan t desc * * n1" "rows 1 'm '1 1 0 -" "write put 'z '1" "refused TransactionConflict 2")
+    × Answers plain (partly_read "scan t asc * * s'k" "rows 0" "write put 'b '1" "refused TransactionConflict 2")
+    × Answers plain (partly_read "scan t asc * * s'k" "rows 0" "write put 'l '1" "committed -")
+    × Answers plain (partly_read "scan t asc * * n0" "rows 0" "write put 'a '1" "committed -")
+
 -- A line that is none ends a script.
 abbrev pub NoLines : Type 0
 NoLines = (replies plain (text ("begin t si" ∷ "prefix t asc 'a *" ∷ "begin u si" ∷ [])) ≡ text ("begun t 0" ∷ []))

@@ -31,6 +31,7 @@ ghost use Rattle.slate_language.specs.WorkedRows.{
   OwnOperations,
   MergedExpiries,
   PrefixOfARange,
+  PartlyReadScans,
   NoLines,
 };
 
@@ -98,6 +99,8 @@ pub fn worked_rows()
     ensures merged_expiries { MergedExpiries }
     // The keys behind a prefix, by a sub-range of what stands behind it.
     ensures prefix_of_a_range { PrefixOfARange }
+    // A scan tracks no more than what it has read.
+    ensures partly_read_scans { PartlyReadScans }
     // A line that is none ends a script.
     ensures no_lines { NoLines }
 {}

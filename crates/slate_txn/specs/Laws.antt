@@ -2,6 +2,7 @@
 --     ConflictsNeedACommit, FewerKeysFewerConflicts      of conflicts
 --     StaysAsItWas, ScansStay, SeesTheState      of reads
 --     StaysAlone, AloneGoesOn, EachIsVouched      of transcripts
+--     ScansGoOn, ScansLeftStay      of what a transcript's scans have left
 --     StorageIsSilent, GoesOn, WritesWhatIsKept      of replies
 --     SequencesCount, CommitsAreMade, EachNameOnce, FindsEach      of states that lines and legal journals make
 --     EventsReplay, EventsAreLegal, EventsAreVouched      of the events of lines
@@ -31,7 +32,7 @@ use Rattle.slate_txn.specs.Reply.{Reply}
 use Rattle.slate_txn.specs.Step.{step, answers, after, write}
 use Rattle.slate_txn.specs.Replay.{apply_all, replay, IsLegal, NewIds, AreKept, AreKeysOf}
 use Rattle.slate_txn.specs.Events.{as_replayed, line_events, all_events}
-use Rattle.slate_txn.specs.Alone.{IsAlone, IsVouched, AloneFrom, own_of, scans_left}
+use Rattle.slate_txn.specs.Alone.{IsAlone, IsVouched, AloneFrom, own_of, scans_after, scans_left}
 use Rattle.slate_txn.specs.Vouched.{VouchedAt, AreVouched, TracksReads, AreAlone}
 
 -- Where nothing was committed since it began, a transaction has no conflict.
@@ -62,6 +63,16 @@ AloneGoesOn = (r : Rules) (cs : List Commit) (n : ℕ) (ts more : List Transcrip
     (IsAlone r cs n ts → AloneFrom r cs n (own_of ts) (scans_left r cs n ts) more → IsAlone r cs n (ts ++ more))
     × (IsAlone r cs n (ts ++ more) → IsAlone r cs n ts)
     × (IsAlone r cs n (ts ++ more) → AloneFrom r cs n (own_of ts) (scans_left r cs n ts) more)
+
+-- What scans have left behind more steps is had from the own operations, and from what the scans had left, before these steps.
+abbrev pub ScansGoOn : Type 0
+ScansGoOn = (r : Rules) (cs : List Commit) (n : ℕ) (ts more : List TranscriptStep) →
+    scans_left r cs n (ts ++ more) ≡ scans_after r cs n (own_of ts) (scans_left r cs n ts) more
+
+-- Later commits leave it alone.
+abbrev pub ScansLeftStay : Type 0
+ScansLeftStay = (r : Rules) (cs later : List Commit) (n : ℕ) (ts : List TranscriptStep) → AllByRecursion (λ c. n < c.seq) later →
+    scans_left r (cs ++ later) n ts ≡ scans_left r cs n ts
 
 -- After any lines the transcript of each open transaction is vouched.
 abbrev pub EachIsVouched : Type 0

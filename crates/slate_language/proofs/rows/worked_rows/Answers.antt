@@ -126,6 +126,10 @@ pub returns-clause-prefix_of_a_range : goal.returns-clause-prefix_of_a_range
 unfolding digits
 returns-clause-prefix_of_a_range c = refl
 
+pub returns-clause-partly_read_scans : goal.returns-clause-partly_read_scans
+unfolding digits
+returns-clause-partly_read_scans c = (refl, refl, refl, refl, refl, refl, refl)
+
 pub returns-clause-no_lines : goal.returns-clause-no_lines
 unfolding digits
 returns-clause-no_lines c = (refl, refl, refl, refl, refl, refl)

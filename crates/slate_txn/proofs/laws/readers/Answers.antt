@@ -3,6 +3,7 @@ use Rattle.slate_types.specs.Fold.{shown}
 use Rattle.slate_txn.specs.State.{combine_at, opening}
 use Rattle.slate_txn.specs.Reads.{key_rows, up_to}
 use Rattle.slate_txn.proofs.ReadLaws.{same_commits, seen_same, rows_same, alone_same, alone_more, alone_front, alone_rest}
+use Rattle.slate_txn.proofs.ScanLaws.{left_more, left_stays}
 use Rattle.slate_txn.proofs.VouchedLaws.{lines_vouched}
 use Rattle.slate_txn.proofs.laws.readers.Goals as goal
 
@@ -20,6 +21,12 @@ returns-clause-stays_alone c r cs later n ts h a = alone_same r cs (cs ++ later)
 
 pub returns-clause-alone_goes_on : goal.returns-clause-alone_goes_on
 returns-clause-alone_goes_on c r cs n ts more = (alone_more r cs n [] [] ts more, alone_front r cs n [] [] ts more, alone_rest r cs n [] [] ts more)
+
+pub returns-clause-scans_go_on : goal.returns-clause-scans_go_on
+returns-clause-scans_go_on c r cs n ts more = left_more r cs n [] [] ts more
+
+pub returns-clause-scans_left_stay : goal.returns-clause-scans_left_stay
+returns-clause-scans_left_stay c r cs later n ts h = left_stays r cs later n ts h
 
 pub returns-clause-each_is_vouched : goal.returns-clause-each_is_vouched
 returns-clause-each_is_vouched c r ls = lines_vouched r ls opening refl
