@@ -1,6 +1,6 @@
 # shellcheck shell=bash disable=SC2154
-# Functions of ./slate, bench/run and ./test: which program is the proved one, how it is proved and built, and how one is run
-# unproved. Source this file with `top` set to the repository's folder, and name the program by `choose_program`.
+# Functions of ./slate, bench/run and ./test: which program is the proved one, and how it is proved and built. Source this file with
+# `top` set to the repository's folder, and name the program by `choose_program`.
 #
 # crates/NAME/out/proved-source has one line: a sum over the source that the program was proved and built from,
 # and a sum over the program. Where both fit, the program is used as it is and nothing is proved again.
@@ -133,35 +133,4 @@ read_source() {
 prepare() {
     read_source
     is_proved "$sum" || build "$sum"
-}
-
-# rt gives a program that it runs unproved less standard input than this.
-most_input=$((64 * 1024 * 1024))
-
-# run_unproved WORDS..: runs the program with these words by `rt try`, which proves nothing, builds the program anew for each call and
-# keeps nothing of it. Ends with the program's status, or with 1 where rt gives no answer of it. The program begins where standard
-# input has ended, and what it writes comes when it has ended.
-run_unproved() {
-    local words=("$@") status
-    try_folder=$(mktemp -d) || give_up "no folder for a run"
-    trap 'rm -rf "$try_folder"' EXIT
-    : >"$try_folder/input"
-    case $#:${1-} in
-    0: | 1:--help | 1:--version) ;;
-    *)
-        cat >"$try_folder/input" || exit 5
-        # rt runs the program in a folder of its own, and the folder of a word is the caller's.
-        [[ -z $1 || $1 == - || $1 == /* ]] || words[0]=$PWD/$1
-        ;;
-    esac
-    (($(wc -c <"$try_folder/input") < most_input)) || give_up "a script of 64 MiB or more needs the proved program"
-    (cd "$top/crates/$program_name" && exec rt try -- "${words[@]}") \
-        <"$try_folder/input" >"$try_folder/output" 2>"$try_folder/said"
-    status=$?
-    if [[ $(tail -n 1 "$try_folder/said") != "run=ended status=$status "* ]]; then
-        tail -n 12 "$try_folder/said" >&2
-        give_up "the unproved run gave no answer"
-    fi
-    cat "$try_folder/output" || exit 6
-    exit "$status"
 }
