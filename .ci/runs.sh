@@ -49,20 +49,21 @@ find_bad() {
 # run_watched WORDS..: runs the proved program, and tells a person what its status means. What comes by a pipe is kept besides, so that the
 # line at 3 is known.
 run_watched() {
-    local kept='' status
+    local status
+    kept=''
     if [[ -p /dev/stdin && ${2-} != gen ]] && kept=$(mktemp); then
         trap 'rm -f "$kept"' EXIT
-        "$program" "$@" < <(exec 5>&1 >"$kept" && exec tee /dev/fd/5)
+        exec 6< <(exec 5>&1 >"$kept" && exec tee /dev/fd/5)
+        "$program" "$@" <&6
         status=$?
         kill "$!" 2>/dev/null
-        ((status != 3)) || find_bad <"$kept"
     else
         # A file is read anew, where the script was all of it.
         [[ ! -f /dev/stdin ]] || ! grep -qx 'pos:[[:space:]]*0' /proc/self/fdinfo/0 || kept=/dev/stdin
         "$program" "$@"
         status=$?
-        ((status != 3)) || [[ -z $kept ]] || find_bad <"$kept"
     fi
+    ((status != 3)) || [[ -z $kept ]] || find_bad <"$kept"
     end_with "$status" "$@"
 }
 
