@@ -21,7 +21,7 @@ meaning_of() {
     6) echo "standard output couldn't be written" ;;
     7) echo "the folder couldn't be read or written" ;;
     12 | 14 | 15 | 16 | 18 | 19) echo "a table in the folder is damaged" ;;
-    20) echo "memory is wanting" ;;
+    20) echo "there is no more memory" ;;
     *) return 1 ;;
     esac
 }

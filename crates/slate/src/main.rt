@@ -77,7 +77,7 @@ The status is
   3   at the first line that is not in the language
   4   where the script has 4294967295 bytes or more
   5   where standard input failed     6   where standard output failed
-  7   where the folder failed        20   where memory is wanting
+  7   where the folder failed        20   where there is no more memory
   12, 14, 15, 16, 18, 19   where a table is damaged
 
 docs/SCRIPT.md has the language, README.md what is promised, and examples/ has
