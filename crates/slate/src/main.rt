@@ -136,7 +136,9 @@ fn run_over_folder(rt: &HostRuntime, folder: &str, words: &[String]) -> u8 {
 
 /// Whether an earlier run left tables in the folder, over which this one would put its own. Of one that can't be read it isn't known; the
 /// first flush into it fails.
-fn has_tables(rt: &HostRuntime, folder: &str) -> Result<bool, SlateDBError> {
+fn has_tables(rt: &HostRuntime, folder: &str) -> Result<bool, SlateDBError>
+    ensures cause { IsOkUnless result SlateDBError.OutOfMemory }
+{
     if folder.is_empty() {
         return Ok(false);
     }
