@@ -1,6 +1,6 @@
 # shellcheck shell=bash disable=SC2154
-# Functions of ./slate, bench/run and ./test: which program is the proved one, how it is proved and built, and how one is run
-# unproved. Source this file with `top` set to the repository's folder, and name the program by `choose_program`.
+# Functions of ./slate, bench/run and ./test: which program is the proved one, and how it is proved and built. Source this file with
+# `top` set to the repository's folder, and name the program by `choose_program`.
 #
 # crates/NAME/out/proved-source has one line: a sum over the source that the program was proved and built from,
 # and a sum over the program. Where both fit, the program is used as it is and nothing is proved again.
@@ -12,16 +12,25 @@ choose_program() {
     stamp_file="$out/proved-source"
 }
 
-# The crates that the program stands on, and its own, as crates.txt says.
-crates_of_program() {
-    local -A needs=() seen=()
-    local line crate word left=("$program_name")
+# Sets `crates`, those of crates.txt in its order, the lowest first, and `needs`, what each stands on.
+read_crates() {
+    local line crate
+    declare -gA needs=()
+    crates=()
     while IFS= read -r line || [[ -n $line ]]; do
         line=${line%%#*}
         [[ $line == *:* ]] || continue
         read -r crate _ <<<"${line%%:*}"
+        crates+=("$crate")
         needs[$crate]=${line#*:}
     done <"$top/crates.txt"
+}
+
+# The crates that the program stands on, and its own, the lowest first.
+crates_of_program() {
+    local -A seen=()
+    local crate word left=("$program_name")
+    read_crates
     while ((${#left[@]})); do
         crate=${left[0]}
         left=("${left[@]:1}")
@@ -31,7 +40,9 @@ crates_of_program() {
             [[ ! -v needs[$word] ]] || left+=("$word")
         done
     done
-    printf '%s\n' "${!seen[@]}" | LC_ALL=C sort
+    for crate in "${crates[@]}"; do
+        [[ -z ${seen[$crate]-} ]] || printf '%s\n' "$crate"
+    done
 }
 
 # A sum over the toolchain's name, crates.txt, HANDLES and the source of these crates. Fails where a part is missing.
@@ -82,17 +93,12 @@ give_up() {
 
 # Proves the crates of the program, lowest first, each on as many processors as rt chooses, with a line for each.
 prove_crates() {
-    local line crate crates=() done_so_far=0 wanted
-    wanted=$(crates_of_program)
-    while IFS= read -r line || [[ -n $line ]]; do
-        line=${line%%#*}
-        read -r crate _ <<<"${line%%:*}"
-        [[ $line != *:* ]] || ! grep -qx "$crate" <<<"$wanted" || crates+=("$crate")
-    done <"$top/crates.txt"
-    for crate in "${crates[@]}"; do
+    local crate found done_so_far=0
+    mapfile -t found < <(crates_of_program)
+    for crate in "${found[@]}"; do
         (cd "$top/crates/$crate" && rt check) </dev/null >&4 2>&1
         done_so_far=$((done_so_far + 1))
-        say "checked $crate ($done_so_far of ${#crates[@]}, ${SECONDS} s)"
+        say "checked $crate ($done_so_far of ${#found[@]}, ${SECONDS} s)"
     done
 }
 
@@ -110,7 +116,7 @@ build() {
     local log="$out/build.log"
     mkdir -p "$out" || give_up "cannot make crates/$program_name/out"
     exec 4>"$log" || give_up "cannot write crates/$program_name/out/build.log"
-    say "the proved program isn't built for this source yet; proving and building it takes some tens of minutes on four processors, once"
+    say "the proved program isn't built for this source yet; proving and building it takes over an hour of processor time, once"
     prove_crates
     # The last word is here: rt builds the program only over proved crates, and --version alone ends with status 0.
     if ! (cd "$top/crates/$program_name" && rt run -- --version) </dev/null >&4 2>&1; then
@@ -133,35 +139,4 @@ read_source() {
 prepare() {
     read_source
     is_proved "$sum" || build "$sum"
-}
-
-# rt gives a program that it runs unproved less standard input than this.
-most_input=$((64 * 1024 * 1024))
-
-# run_unproved WORDS..: runs the program with these words by `rt try`, which proves nothing, builds the program anew for each call and
-# keeps nothing of it. Ends with the program's status, or with 1 where rt gives no answer of it. The program begins where standard
-# input has ended, and what it writes comes when it has ended.
-run_unproved() {
-    local words=("$@") status
-    try_folder=$(mktemp -d) || give_up "no folder for a run"
-    trap 'rm -rf "$try_folder"' EXIT
-    : >"$try_folder/input"
-    case $#:${1-} in
-    0: | 1:--help | 1:--version) ;;
-    *)
-        cat >"$try_folder/input" || exit 5
-        # rt runs the program in a folder of its own, and the folder of a word is the caller's.
-        [[ -z $1 || $1 == - || $1 == /* ]] || words[0]=$PWD/$1
-        ;;
-    esac
-    (($(wc -c <"$try_folder/input") < most_input)) || give_up "a script of 64 MiB or more needs the proved program"
-    (cd "$top/crates/$program_name" && exec rt try -- "${words[@]}") \
-        <"$try_folder/input" >"$try_folder/output" 2>"$try_folder/said"
-    status=$?
-    if [[ $(tail -n 1 "$try_folder/said") != "run=ended status=$status "* ]]; then
-        tail -n 12 "$try_folder/said" >&2
-        give_up "the unproved run gave no answer"
-    fi
-    cat "$try_folder/output" || exit 6
-    exit "$status"
 }

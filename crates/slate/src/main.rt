@@ -12,7 +12,7 @@ mod filters;
 
 use slate_filter::FilterPolicy;
 use slate_script::run_main;
-use slate_store::{FileStore, MemoryStore, ReaderSource, Store, WriterSink};
+use slate_store::{FileStore, MemoryStore, ReaderSource, Store, StoreError, WriterSink};
 use slate_types::SlateDBError;
 use std::env;
 use std::io::ErrorKind;
@@ -25,14 +25,63 @@ Usage: slate - [WORDS] < SCRIPT
        slate - gen N S [WORDS]
        slate FOLDER gen N S [WORDS]
 
-Each line of the script is answered by a line on standard output; an empty line and a comment, which begins
-with #, are not. A word is block=, table=, format=, min=, filter=, op=, seg=, ttl=, seq= or xor= and its value. Tables have the
-filters of _bf, or of each filter= that names one of _bf, _bf:p=colon, _bf:p=colon:wh=0 and _bf:p=fixed4:wh=0, and with
-filter=none they have none. With gen the script is made: N rounds of a read and a write, at most 100000, of keys drawn
-from the number S; the replies are counted, and one line is written. The status is 0 where every line was answered, 2 for
-words that are not known, 3 at the first line that is not in the language, 4 for a script of 4294967295 bytes or more, 5
-and 6 where standard input or output failed, 7 where the folder failed, 12, 14, 15, 16, 18 and 19 where a table is
-damaged, and 20 for want of memory.";
+A store begins empty, so the folder must have no tables yet. With gen the script
+is made: N rounds of a read and a write, at most 100000, of keys drawn from the
+number S. Its replies are counted, and one line is written.
+
+Lines, each answered by a line on standard output. An empty line and a comment,
+which begins with #, are not.
+
+  begin T si             opens a transaction at snapshot isolation
+  begin T ssi            the same, and what T reads counts for conflicts
+  snapshot T             opens a snapshot, to read and no more
+  get T K                shows the row of a key
+  scan T O B B           shows the rows of a range; steps may follow
+  prefix T O K B B       shows those of the keys that begin with K
+  put T K V              sets a key; a time to live may follow
+  merge T K V            merges V onto a key; a time to live may follow
+  delete T K             takes a key away
+  mark T K..             counts keys as read
+  unmark T K..           leaves keys out of those that count as written
+  commit T               commits what T put, merged and deleted
+  rollback T             ends T without a commit
+  write OPERATIONS       commits put K V, merge K V and delete K together
+  now M                  sets the moment of later commits, in milliseconds
+  freeze                 moves rows to a table in memory
+  flush                  stores all rows as tables
+  journal                shows all commits
+
+  T  a name, of letters and digits      O  the order, asc or desc
+  K, V  a key and a value, as 'text or 0x74657874
+  B  a bound: i and a key, which is included, e and a key, which is not, or *
+  steps  n and a number of rows, or s and a key to go on from
+  time to live  t and milliseconds, or t- for none
+
+Words, and in brackets what stands where one is missing:
+
+  block=N     the bytes that a block is held to, 1 to 65535 (4096)
+  table=N     the bytes at which a flush begins another table (67108864)
+  format=F    v1, v2, v3 or latest, the version of tables (latest, which is v2)
+  ttl=N       the time to live in milliseconds (none)
+  seq=N       the sequence before the first (0)
+  op=F        none, concat or max, which merges (none)
+  seg=F       none, fixed<n>, colon or lastcolon, the segments of keys (none)
+  xor=N       0 to 255, by which each stored byte is changed (no change)
+  min=N       the rows from which on a table has filters (0)
+  filter=F    none, or one or more of these words: _bf, _bf:p=colon,
+              _bf:p=colon:wh=0, _bf:p=fixed4:wh=0 (_bf)
+
+The status is
+  0   where every line was answered
+  2   where the words are not known, or the folder has tables
+  3   at the first line that is not in the language
+  4   where the script has 4294967295 bytes or more
+  5   where standard input failed     6   where standard output failed
+  7   where the folder failed        20   where there is no more memory
+  12, 14, 15, 16, 18, 19   where a table is damaged
+
+docs/SCRIPT.md has the language, README.md what is promised, and examples/ has
+scripts with their replies.";
 
 const VERSION: &str = "slate 0.1.0, a port of slatedb 0.16.0's transaction path";
 
@@ -58,22 +107,47 @@ fn run(rt: &HostRuntime, words: &[String]) -> u8
     ensures none { words.now ≡ [] → result ≡ 2 }
 {
     match words {
-        [word] if word.as_str() == "--help" => print(rt, HELP),
+        [word] if word.as_str() == "--help" || word.as_str() == "-h" => print(rt, HELP),
         [word] if word.as_str() == "--version" => print(rt, VERSION),
         [first, rest @ ..] => run_over(rt, first.as_str(), rest),
         [] => 2,
     }
 }
 
-/// Runs over a store in memory, which `-` names, or over a folder.
+/// Runs over a store in memory, which `-` names, or over a folder, where that has no tables.
 fn run_over(rt: &HostRuntime, store: &str, words: &[String]) -> u8 {
     if store == "-" {
         let mut memory = MemoryStore::new(rt.alloc(), Vec::new(rt.alloc()));
         return run_with(rt, words, &mut memory);
     }
-    match FileStore::new(rt.alloc(), rt, store) {
-        Ok(mut folder) => run_with(rt, words, &mut folder),
+    match has_tables(rt, store) {
+        Ok(true) => 2,
+        Ok(false) => run_over_folder(rt, store, words),
         Err(_) => 20,
+    }
+}
+
+fn run_over_folder(rt: &HostRuntime, folder: &str, words: &[String]) -> u8 {
+    match FileStore::new(rt.alloc(), rt, folder) {
+        Ok(mut store) => run_with(rt, words, &mut store),
+        Err(_) => 20,
+    }
+}
+
+/// Whether an earlier run left tables in the folder, over which this one would put its own. Of one that can't be read it isn't known; the
+/// first flush into it fails.
+fn has_tables(rt: &HostRuntime, folder: &str) -> Result<bool, SlateDBError>
+    ensures cause { IsOkUnless result SlateDBError.OutOfMemory }
+{
+    if folder.is_empty() {
+        return Ok(false);
+    }
+    let place = format!(in rt.alloc(); "{folder}/db/compacted")?;
+    let mut tables = FileStore::new(rt.alloc(), rt, &place)?;
+    match tables.list(rt.alloc()) {
+        Ok(names) => Ok(names.iter().any(|name| name.as_str().ends_with(".sst"))),
+        Err(StoreError::Failed) => Ok(false),
+        Err(StoreError::OutOfMemory) => Err(SlateDBError::OutOfMemory),
     }
 }
 

@@ -9,6 +9,8 @@
 
 pub mod first_steps;
 
+pub use bytes::Bytes;
+pub use counters::{Add, add_is_lawful, counter_value};
 pub use slate_db::engine::Core;
 pub use slate_db::laws::Laws;
 pub use slate_db::scan::{DbIterator, TxnIterator};
@@ -21,3 +23,4 @@ pub use slate_types::{
     NoTransformer, Options, PrefixExtractor, PutOptions, ReadOptions, ScanOptions, SlateDBError,
     TransformError, Ttl,
 };
+pub use uuid::Uuid;
