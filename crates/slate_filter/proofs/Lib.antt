@@ -7,3 +7,4 @@ pub mod ProbeLaws
 pub mod ColonLaws
 pub mod ByteLaws
 pub mod BuildLaws
+pub mod NameLaws

@@ -6,6 +6,7 @@ pub mod Laws
 pub mod Vectors
 pub mod Asking
 pub mod Named
+pub mod Names
 pub mod ExtractorsWithin
 pub mod Building
 pub mod BloomFilters

@@ -20,6 +20,7 @@ pub(crate) mod hashing;
 pub(crate) mod holding;
 pub mod laws;
 pub mod named_filter;
+pub mod names;
 pub mod probes;
 pub mod vectors;
 
@@ -32,6 +33,7 @@ pub use filter_policy::FilterPolicy;
 pub use filters::build_filters;
 pub use hash::filter_hash;
 pub use named_filter::NamedFilter;
+pub use names::have_valid_names;
 pub use probes::{check_bit, optimal_num_probes, probes_for_key, set_bit};
 
 fn crosses<T: Send + Sync>() {}
