@@ -17,7 +17,7 @@ use Rattle.slate_types.proofs.Plain.{none_by_test}
 -- ---- tests of names
 
 -- the test is the same either way
-other_way : (j k : List ℕ) → bytes_eq j k ≡ false → bytes_eq k j ≡ false
+pub other_way : (j k : List ℕ) → bytes_eq j k ≡ false → bytes_eq k j ≡ false
 other_way j k e = by (bytes_eq k j) refl
   where
     by : (b : Bool) → bytes_eq k j ≡ b → b ≡ false
@@ -25,21 +25,21 @@ other_way j k e = by (bytes_eq k j) refl
     by false d = refl
 
 -- none under the name, in a list that begins with a pair
-none_head : {X : Type 0} (k : List ℕ) (p : List ℕ × X) (ps : List (List ℕ × X)) → find_named k (p ∷ ps) ≡ None → bytes_eq p.0 k ≡ false
+pub none_head : {X : Type 0} (k : List ℕ) (p : List ℕ × X) (ps : List (List ℕ × X)) → find_named k (p ∷ ps) ≡ None → bytes_eq p.0 k ≡ false
 none_head k p ps h = by (bytes_eq p.0 k) h
   where
     by : (b : Bool) → cond b (Some p.1) (find_named k ps) ≡ None → b ≡ false
     by true e = cc
     by false e = refl
 
-none_tail : {X : Type 0} (k : List ℕ) (p : List ℕ × X) (ps : List (List ℕ × X)) → find_named k (p ∷ ps) ≡ None → find_named k ps ≡ None
+pub none_tail : {X : Type 0} (k : List ℕ) (p : List ℕ × X) (ps : List (List ℕ × X)) → find_named k (p ∷ ps) ≡ None → find_named k ps ≡ None
 none_tail k p ps h = by (bytes_eq p.0 k) h
   where
     by : (b : Bool) → cond b (Some p.1) (find_named k ps) ≡ None → find_named k ps ≡ None
     by true e = cc
     by false e = e
 
-none_cons : {X : Type 0} (k : List ℕ) (p : List ℕ × X) (ps : List (List ℕ × X)) → bytes_eq p.0 k ≡ false → find_named k ps ≡ None → find_named k (p ∷ ps) ≡ None
+pub none_cons : {X : Type 0} (k : List ℕ) (p : List ℕ × X) (ps : List (List ℕ × X)) → bytes_eq p.0 k ≡ false → find_named k ps ≡ None → find_named k (p ∷ ps) ≡ None
 none_cons k p ps e h = ap (λ b. cond b (Some p.1) (find_named k ps)) e ∙ h
 
 -- ---- what each change leaves of the names
@@ -68,7 +68,7 @@ once_set : {X : Type 0} (j : List ℕ) (x : X) (ps : List (List ℕ × X)) → f
 once_set j x [] e h = (refl, tt)
 once_set j x (p ∷ ps) e h = (none_set p.0 j x ps (other_way p.0 j (none_head j p ps e)) h.0, once_set j x ps (none_tail j p ps e) h.1)
 
-once_without : {X : Type 0} (j : List ℕ) (ps : List (List ℕ × X)) → StandOnce ps → StandOnce (without j ps)
+pub once_without : {X : Type 0} (j : List ℕ) (ps : List (List ℕ × X)) → StandOnce ps → StandOnce (without j ps)
 once_without j [] h = tt
 once_without j (p ∷ ps) h = by (bytes_eq p.0 j) (once_without j ps h.1)
   where
@@ -177,7 +177,7 @@ pub record AreUsed (s : State) (used : List (List ℕ)) : Type 0 where
   pub txns : (k : List ℕ) → among k used ≡ false → find_named k s.txns ≡ None
   pub snapshots : (k : List ℕ) → among k used ≡ false → find_named k s.snapshots ≡ None
 
-used_apply : (n0 : ℕ) (s : State) (used : List (List ℕ)) (e : Event) → AreUsed s used → Allowed n0 s used e → AreUsed (apply s e) (ids_of e ++ used)
+pub used_apply : (n0 : ℕ) (s : State) (used : List (List ℕ)) (e : Event) → AreUsed s used → Allowed n0 s used e → AreUsed (apply s e) (ids_of e ++ used)
 used_apply n0 s used (events.Begin id level start) h a =
     let new : among id used ≡ false = a.0 in
     record {

@@ -1,5 +1,5 @@
 -- Values under names: what a map keyed by names finds, and what is kept of a list where one goes or is changed.
-use Rattle.std.proofs.Common.{◌≡◌, ℕ, suc, ◌+◌, Bool, true, false, cond, List, [], ◌∷◌, ◌++◌, length, Option, Some, None, unwrap_or, refl, sym, ap, arith, bytes_eq, map, subst, ◌∙◌, Greater}
+use Rattle.std.proofs.Common.{◌≡◌, ℕ, suc, ◌+◌, Bool, true, false, cond, List, [], ◌∷◌, ◌++◌, length, Option, Some, None, unwrap_or, option_map, refl, sym, ap, arith, bytes_eq, map, subst, ◌∙◌, Greater}
 use Rattle.std.specs.Prelude.{IsSome, Result, Ok, Err, OnOk, OnErr}
 use Rattle.std.specs.Map.{lookup, remove_entry, set_value}
 use Rattle.std.specs.Ordering.{match_ordering}
@@ -109,6 +109,15 @@ update_all P k f (p ∷ ps) h a = by (bytes_eq p.0 k) (update_all P k f ps h a.1
     by : (b : Bool) → AllByRecursion P (update_named k f ps) → AllByRecursion P (cond b ((p.0, f p.1) ∷ ps) (p ∷ update_named k f ps))
     by true rest = (h p a.0, a.1)
     by false rest = (a.0, rest)
+
+-- what is found under a name after its value was changed
+pub find_updated : {X : Type 0} (k : List ℕ) (f : X → X) (ps : List (List ℕ × X)) → find_named k (update_named k f ps) ≡ option_map f (find_named k ps)
+find_updated k f [] = refl
+find_updated {X} k f (p ∷ ps) = by (bytes_eq p.0 k) refl (find_updated k f ps)
+  where
+    by : (b : Bool) → bytes_eq p.0 k ≡ b → find_named k (update_named k f ps) ≡ option_map f (find_named k ps) → find_named k (cond b ((p.0, f p.1) ∷ ps) (p ∷ update_named k f ps)) ≡ option_map f (cond b (Some p.1) (find_named k ps))
+    by true e rest = ap (λ t. cond t (Some (f p.1)) (find_named k ps)) e
+    by false e rest = ap (λ t. cond t (Some p.1) (find_named k (update_named k f ps))) e ∙ rest
 
 pub update_length : {X : Type 0} (k : List ℕ) (f : X → X) (ps : List (List ℕ × X)) → length (update_named k f ps) ≡ length ps
 update_length k f [] = refl

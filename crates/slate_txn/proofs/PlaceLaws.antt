@@ -85,7 +85,7 @@ folded_key : (c : Combine) (k : List ℕ) (xs : List RowEntry) (y : RowEntry) �
 folded_key c k [] y h e = cc
 folded_key c k (x ∷ xs) y h e = sym (hidden_key _ _ y e) ∙ h.0
 
-own_seen : (r : Rules) (cs : List Commit) (n : ℕ) (ops : Ops) → IsOfKeys (seen r cs n ops)
+pub own_seen : (r : Rules) (cs : List Commit) (n : ℕ) (ops : Ops) → IsOfKeys (seen r cs n ops)
 own_seen r cs n ops k x e = folded_key (combine_at r k) k (taken rows) x (of_last k rows (of_both k _ _ (of_commits r k (up_to n cs)) (of_own k (kept ops k)))) e
   where
     rows : List RowEntry
@@ -221,7 +221,7 @@ read_still b keys rs (c ∷ cs) none tracks k e = by (ltb b c.seq) (meets keys r
 le_next : (a b c : ℕ) → a ≡ b + 1 → a ≤ c → b ≤ c
 le_next a b c e h = omega (arith, e, h)
 
-counts_last : (n : ℕ) (cs : List Commit) → Counts n cs → (n ≤ last_of n cs) × AreUpTo (last_of n cs) cs
+pub counts_last : (n : ℕ) (cs : List Commit) → Counts n cs → (n ≤ last_of n cs) × AreUpTo (last_of n cs) cs
 counts_last n [] h = (le_refl n, tt)
 counts_last n (c ∷ cs) h = let later = counts_last c.seq cs h.1 in (le_next c.seq n (last_of c.seq cs) h.0 later.0, (later.0, later.1))
 

@@ -9,7 +9,7 @@ use Rattle.slate_txn.specs.Replay.{apply, apply_all, Allowed, LegalFrom, ids_of}
 use Rattle.slate_txn.specs.Laws.{Counts}
 use Rattle.slate_txn.proofs.StepLaws.{Keeps, after_keeps}
 
-counts_more : (n : ℕ) (cs : List Commit) (c : Commit) → Counts n cs → c.seq ≡ last_of n cs + 1 → Counts n (cs ++ (c ∷ []))
+pub counts_more : (n : ℕ) (cs : List Commit) (c : Commit) → Counts n cs → c.seq ≡ last_of n cs + 1 → Counts n (cs ++ (c ∷ []))
 counts_more n [] c h e = (e, tt)
 counts_more n (x ∷ xs) c h e = (h.0, counts_more x.seq xs c h.1 e)
 

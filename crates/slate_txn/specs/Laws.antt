@@ -7,23 +7,29 @@
 --     SequencesCount, CommitsAreMade, EachNameOnce, FindsEach      of states that lines and legal journals make
 --     EventsReplay, EventsAreLegal, EventsAreVouched      of the events of lines
 --     StandsAtItsPlace, EachStandsAtItsPlace      of the commits of legal journals
+--     StatesAtEachSequence, CommitShows, RowsAreSeen      of what a commit adds to the states, and of the rows of a scan
+--     shown_after r cs c k ops      the row of a key after one commit more, by what that commit keeps of the key
 --     NoOperatorIsLawful      of what stands where no operator is set
-use Rattle.std.specs.Prelude.{◌≡◌, ℕ, ◌+◌, ◌≤◌, ◌<◌, Bool, true, false, not, if◌then◌else◌, filter, map, length, List, [], ◌∷◌, ◌++◌, Option, Some, None, ℤ}
+use Rattle.std.specs.Prelude.{◌≡◌, ℕ, ◌+◌, ◌≤◌, ◌<◌, Bool, true, false, not, if◌then◌else◌, nat_le, filter, map, length, List, [], ◌∷◌, ◌++◌, Option, Some, None, ℤ}
 use Rattle.std.specs.List.{AllByRecursion, list_any}
 use Rattle.slate_types.specs.declared.bytes_range.BytesRange.{BytesRange}
 use Rattle.slate_types.specs.declared.config.IsolationLevel.TheVariants.{SerializableSnapshot}
 use Rattle.slate_types.specs.declared.iter.IterationOrder.{IterationOrder}
 use Rattle.slate_types.specs.declared.types.Ulid.{Ulid}
-use Rattle.slate_types.specs.Fold.{IsShort, operator_at}
-use Rattle.slate_mem.specs.Batch.{Ops, kept_ops}
+use Rattle.slate_types.specs.declared.types.RowEntry.{RowEntry}
+use Rattle.slate_types.specs.Fold.{IsShort, operator_at, shown}
+use Rattle.slate_mem.specs.declared.WriteOp.{WriteOp}
+use Rattle.slate_mem.specs.declared.WriteOp.TheVariants.{Put, Delete}
+use Rattle.slate_mem.specs.Batch.{Ops, kept, kept_ops}
+use Rattle.slate_mem.specs.RowOf.{op_row}
 use Rattle.slate_txn.specs.declared.line.Line.{Line}
 use Rattle.slate_txn.specs.declared.line.Line.TheVariants as lines
 use Rattle.slate_txn.specs.declared.event.Event.{Event}
 use Rattle.slate_txn.specs.declared.event.Event.TheVariants as events
 use Rattle.slate_txn.specs.declared.event.TranscriptStep.{TranscriptStep}
 use Rattle.slate_txn.specs.Named.{find_named}
-use Rattle.slate_txn.specs.State.{Rules, Commit, Tx, State, opening, last, NamesStandOnce}
-use Rattle.slate_txn.specs.Reads.{state_at, seen, rows_seen}
+use Rattle.slate_txn.specs.State.{Rules, Commit, Tx, State, combine_at, opening, last, last_of, NamesStandOnce}
+use Rattle.slate_txn.specs.Reads.{key_rows, state_at, seen, rows_seen, up_to}
 use Rattle.slate_txn.specs.Conflict.{conflict, conflict_of}
 use Rattle.slate_txn.specs.Tracking.{Reading, reads_of}
 use Rattle.slate_mem.specs.Refusals.{first_refusal, op_refusal}
@@ -168,3 +174,25 @@ StandsAtItsPlace = (r : Rules) (before later : List Event) (id : List ℕ) (n : 
 -- So it is with each commit of a legal journal whose transcripts are all answered as they are at their begins.
 abbrev pub EachStandsAtItsPlace : Type 0
 EachStandsAtItsPlace = (r : Rules) (es : List Event) → IsLegal r.start_seq es → AreVouched r es → AreAlone r es
+
+-- At a sequence from the last one on all commits stand in the state, and one commit more stands there from its own sequence on.
+abbrev pub StatesAtEachSequence : Type 0
+StatesAtEachSequence = (n0 n : ℕ) (cs : List Commit) (c : Commit) → Counts n0 cs →
+    (last_of n0 cs ≤ n → up_to n cs ≡ cs) × (up_to n (cs ++ (c ∷ [])) ≡ up_to n cs ++ (if nat_le c.seq n then c ∷ [] else []))
+
+-- a put and a delete hide all that stood there, and merges are combined with it
+abbrev pub shown_after : Rules → List Commit → Commit → List ℕ → List WriteOp → Option RowEntry
+shown_after r cs c k [] = state_at r cs (last_of r.start_seq cs) k
+shown_after r cs c k (Put v o ∷ []) = Some (op_row k c.seq r.default_millis c.now (Put v o))
+shown_after r cs c k (Delete ∷ []) = None
+shown_after r cs c k ops = shown (combine_at r k) (key_rows r k (cs ++ (c ∷ [])))
+
+-- After one commit more a key has the row of what that commit keeps of it, and the row that it had where nothing is kept.
+abbrev pub CommitShows : Type 0
+CommitShows = (r : Rules) (cs : List Commit) (c : Commit) (n : ℕ) (k : List ℕ) → Counts r.start_seq cs → c.seq ≡ last_of r.start_seq cs + 1 → c.seq ≤ n →
+    state_at r (cs ++ (c ∷ [])) n k ≡ shown_after r cs c k (kept c.ops k)
+
+-- Each row of a scan is what its reader sees at the row's key.
+abbrev pub RowsAreSeen : Type 0
+RowsAreSeen = (r : Rules) (cs : List Commit) (n : ℕ) (ops : Ops) (order : IterationOrder) (range : BytesRange) →
+    AllByRecursion (λ row. seen r cs n ops row.key ≡ Some row) (rows_seen r cs n ops order range)
