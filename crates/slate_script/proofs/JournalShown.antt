@@ -1,10 +1,7 @@
 -- What a journal's line shows is the commits that its events make.
-use Rattle.std.proofs.Common.{◌≡◌, ℕ, ◌+◌, ◌<◌, List, [], ◌∷◌, ◌++◌, map, length, drop, get_or, Some, None, refl, sym, ap, ◌∙◌, append_assoc, add-one}
+use Rattle.std.proofs.Common.{◌≡◌, List, [], ◌∷◌, ◌++◌, Some, None, refl, sym, ap, ◌∙◌, append_assoc}
 use Rattle.std.specs.List.{flat_map}
 use Rattle.std.proofs.lemmas.List.{append-nil}
-use Rattle.std.proofs.Math.Seq.{drop-cons}
-use Rattle.slate_mem.specs.Batch.{Ops}
-use Rattle.slate_mem.specs.declared.WriteOp.{WriteOp}
 use Rattle.slate_txn.specs.declared.event.Event.{Event}
 use Rattle.slate_txn.specs.declared.event.Event.TheVariants as events
 use Rattle.slate_txn.specs.Replay.{apply, apply_all, replay}
@@ -38,9 +35,3 @@ shown_after s (e ∷ es) =
 
 pub shown_replay : (es : List Event) → shown_all es ≡ shown_commits (replay es).commits
 shown_replay es = sym (shown_after opening es)
-
--- the keys of operations, the first of them and the others
-pub keys_first : (os : Ops) (i : ℕ) (o : List ℕ × WriteOp) → i < length os → o ≡ get_or os i o → map (λ p. p.0) (drop i os) ≡ o.0 ∷ map (λ p. p.0) (drop (i + 1) os)
-keys_first os i o within is =
-    ap (map (λ p. p.0)) (drop-cons os i o within ∙ ap (λ n. get_or os i o ∷ drop n os) (sym (add-one i)))
-    ∙ ap (λ (p : List ℕ × WriteOp). p.0 ∷ map (λ q. q.0) (drop (i + 1) os)) (sym is)

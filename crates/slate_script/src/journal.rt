@@ -1,17 +1,14 @@
 //! The commits of a journal, as its line shows them.
 ghost use Rattle.std.specs.Prelude.{◌≡◌, ◌++◌, [], map, IfOk, OnOk};
-ghost use Rattle.slate_mem.specs.Batch.{batch_keys};
 ghost use Rattle.slate_txn.specs.Replay.{commit_made, replay};
 ghost use Rattle.slate_language.specs.Answers.{entry_commit, shown_commits};
 ghost use Rattle.slate_script.specs.Shown.{shown_in};
 
 use bytes::Bytes;
 use slate_language::JournalEntry;
-use slate_mem::WriteOp;
 use slate_txn::event::Event;
 use slate_txn::list::KeyList;
 use std::alloc::{AllocError, Global};
-use std::collections::BTreeSet;
 
 /// Of each commit among the events its sequence, its moment and its tracked keys. The keys are shared.
 pub(crate) fn entries(alloc: Global, events: &[Event]) -> Result<Vec<JournalEntry>, AllocError>
@@ -40,7 +37,7 @@ fn push_entry(
             ..
         } => push_commit(alloc, entries, *seq, *now, tracked.as_slice()),
         Event::Write { seq, now, ops } => {
-            let tracked = keys_of(alloc, ops.as_slice())?;
+            let tracked = ops.keys(alloc)?;
             entries.push(JournalEntry {
                 seq: *seq,
                 now: *now,
@@ -79,22 +76,4 @@ fn shared(alloc: Global, keys: &[Bytes]) -> Result<KeyList, AllocError>
         same.push(key.clone()?)?;
     }
     Ok(KeyList::from_vec(same))
-}
-
-/// The keys of the operations, rising, each once.
-fn keys_of(alloc: Global, ops: &[(Bytes, WriteOp)]) -> Result<KeyList, AllocError>
-    ensures keys { IfOk result (λ keys. keys ≡ batch_keys ops.now) }
-{
-    let mut keys = BTreeSet::new(alloc);
-    for (key, _) in ops {
-        keys.insert(key.clone()?)?;
-    }
-    Ok(KeyList::from_vec(listed(alloc, keys)?))
-}
-
-/// The keys of the set, rising.
-fn listed(alloc: Global, keys: BTreeSet<Bytes>) -> Result<Vec<Bytes>, AllocError>
-    ensures keys { IfOk result (λ v. v.items ≡ keys.keys) }
-{
-    keys.into_iter().collect(alloc)
 }

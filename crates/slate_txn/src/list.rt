@@ -1,9 +1,12 @@
 //! Lists that stand in events and lines. Contracts see each as the list of its items.
-ghost use Rattle.std.specs.Prelude.{◌≡◌};
+ghost use Rattle.std.specs.Prelude.{◌≡◌, IfOk};
+ghost use Rattle.slate_mem.specs.Batch.{batch_keys};
 
 use bytes::Bytes;
 use slate_mem::WriteOp;
 use slate_types::Ulid;
+use std::alloc::{AllocError, Global};
+use std::collections::BTreeSet;
 use std::marker::Model;
 
 /// Keys, as a mark, an unmark and a commit hold them.
@@ -71,6 +74,35 @@ impl OpList {
     {
         self.items
     }
+
+    /// The keys of the operations, rising, each once. They are shared.
+    ///
+    /// # Errors
+    ///
+    /// `AllocError` where memory is wanting.
+    pub fn keys(&self, alloc: Global) -> Result<KeyList, AllocError>
+        ensures keys { IfOk result (λ keys. keys ≡ batch_keys self.now) }
+    {
+        keys_of(alloc, self.as_slice())
+    }
+}
+
+/// The keys of the operations, rising, each once.
+fn keys_of(alloc: Global, ops: &[(Bytes, WriteOp)]) -> Result<KeyList, AllocError>
+    ensures keys { IfOk result (λ keys. keys ≡ batch_keys ops.now) }
+{
+    let mut keys = BTreeSet::new(alloc);
+    for (key, _) in ops {
+        keys.insert(key.clone()?)?;
+    }
+    Ok(KeyList::from_vec(listed(alloc, keys)?))
+}
+
+/// The keys of the set, rising.
+fn listed(alloc: Global, keys: BTreeSet<Bytes>) -> Result<Vec<Bytes>, AllocError>
+    ensures keys { IfOk result (λ v. v.items ≡ keys.keys) }
+{
+    keys.into_iter().collect(alloc)
 }
 
 /// Tables, each with its id and its bytes as they were put.

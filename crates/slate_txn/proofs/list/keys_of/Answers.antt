@@ -3,8 +3,8 @@ use Rattle.std.proofs.lemmas.List.{drop_all}
 use Rattle.slate_types.specs.Keys.{keys_set}
 use Rattle.slate_mem.specs.Batch.{Ops}
 use Rattle.slate_mem.proofs.TableLaws.{set_moved, set_of_set}
-use Rattle.slate_script.proofs.JournalShown.{keys_first}
-use Rattle.slate_script.proofs.journal.keys_of.Goals as goal
+use Rattle.slate_txn.proofs.OpKeys.{keys_first}
+use Rattle.slate_txn.proofs.list.keys_of.Goals as goal
 
 pub loop-key-preserved : goal.loop-key-preserved
 loop-key-preserved c =

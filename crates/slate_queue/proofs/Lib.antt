@@ -1,0 +1,4 @@
+pub mod History
+pub mod Changes
+pub mod Stands
+pub mod Journals
