@@ -66,13 +66,13 @@ inv_added : (ds : List Deed) (j : Jobs) (id : ℕ) → Inv ds j → id ≡ j.cou
 inv_added ds j id h e = record {
   added = λ x t. split (adds x) ds (Deed.added id) t (λ u. past x (h.added x u)) (λ u. here x u);
   stands = λ x n s. lease_cases j id x (Some 0)
-    (λ u v. (same_le x u, last_more x 0 ds (Deed.added id) ∙ h.fresh x (above x u) ∙ some_is 0 n (sym v ∙ s)))
-    (λ u v. (past x (h.stands x n (sym v ∙ s)).0, last_more x 0 ds (Deed.added id) ∙ (h.stands x n (sym v ∙ s)).1));
+      (λ u v. (same_le x u, last_more x 0 ds (Deed.added id) ∙ h.fresh x (above x u) ∙ some_is 0 n (sym v ∙ s)))
+      (λ u v. (past x (h.stands x n (sym v ∙ s)).0, last_more x 0 ds (Deed.added id) ∙ (h.stands x n (sym v ∙ s)).1));
   claimed = λ x l t. subst (λ z. l ≤ z) (sym (last_more x 0 ds (Deed.added id))) (split (claims x l) ds (Deed.added id) t (λ u. h.claimed x l u) (λ u. no u));
   fresh = λ x t. last_more x 0 ds (Deed.added id) ∙ h.fresh x (less x t);
   finished = λ x t. split (finishes x) ds (Deed.added id) t
-    (λ u. (ap (λ b. cond b (Some 0) (j.lease x)) (apart id x (λ w. not_past x (h.finished x u).1 w)) ∙ (h.finished x u).0, past x (h.finished x u).1)) (λ u. no u);
-  }
+      (λ u. (ap (λ b. cond b (Some 0) (j.lease x)) (apart id x (λ w. not_past x (h.finished x u).1 w)) ∙ (h.finished x u).0, past x (h.finished x u).1)) (λ u. no u);
+}
   where
     past : (x : ℕ) → x ≤ j.counter → x ≤ id
     past x a = omega arith
@@ -99,13 +99,13 @@ inv_claimed : (ds : List Deed) (j : Jobs) (id l old : ℕ) → Inv ds j → j.le
 inv_claimed ds j id l old h s e = record {
   added = λ x t. split (adds x) ds (Deed.claimed id l) t (h.added x) (λ u. no u);
   stands = λ x n t. lease_cases j id x (Some l)
-    (λ u v. (subst (λ z. z ≤ j.counter) (is_same id x u) (h.stands id old s).0, last_more x 0 ds (Deed.claimed id l) ∙ ap (λ b. cond b l (last_lease x 0 ds)) u ∙ some_is l n (sym v ∙ t)))
-    (λ u v. ((h.stands x n (sym v ∙ t)).0, last_more x 0 ds (Deed.claimed id l) ∙ ap (λ b. cond b l (last_lease x 0 ds)) u ∙ (h.stands x n (sym v ∙ t)).1));
+      (λ u v. (subst (λ z. z ≤ j.counter) (is_same id x u) (h.stands id old s).0, last_more x 0 ds (Deed.claimed id l) ∙ ap (λ b. cond b l (last_lease x 0 ds)) u ∙ some_is l n (sym v ∙ t)))
+      (λ u v. ((h.stands x n (sym v ∙ t)).0, last_more x 0 ds (Deed.claimed id l) ∙ ap (λ b. cond b l (last_lease x 0 ds)) u ∙ (h.stands x n (sym v ∙ t)).1));
   claimed = λ x k t. subst (λ z. k ≤ z) (sym (last_more x 0 ds (Deed.claimed id l))) (split (claims x k) ds (Deed.claimed id l) t (λ u. rises x k (nat_eq id x) refl (h.claimed x k u)) (λ u. new x k (and_both (nat_eq id x) (nat_eq l k) u)));
   fresh = λ x t. last_more x 0 ds (Deed.claimed id l) ∙ ap (λ b. cond b l (last_lease x 0 ds)) (apart id x (λ w. not_above x t w)) ∙ h.fresh x t;
   finished = λ x t. split (finishes x) ds (Deed.claimed id l) t
-    (λ u. (ap (λ b. cond b (Some l) (j.lease x)) (apart id x (λ w. open_no x w (h.finished x u).0)) ∙ (h.finished x u).0, (h.finished x u).1)) (λ u. no u);
-  }
+      (λ u. (ap (λ b. cond b (Some l) (j.lease x)) (apart id x (λ w. open_no x w (h.finished x u).0)) ∙ (h.finished x u).0, (h.finished x u).1)) (λ u. no u);
+}
   where
     no : {A : Type 0} → false ≡ true → A
     no u = cc
@@ -137,9 +137,9 @@ inv_finished ds j id l h s = record {
   claimed = λ x k t. subst (λ z. k ≤ z) (sym (last_more x 0 ds (Deed.finished id l))) (split (claims x k) ds (Deed.finished id l) t (λ u. h.claimed x k u) (λ u. no u));
   fresh = λ x t. last_more x 0 ds (Deed.finished id l) ∙ h.fresh x t;
   finished = λ x t. lease_cases j id x None
-    (λ u v. (v, subst (λ z. z ≤ j.counter) (is_same id x u) (h.stands id l s).0))
-    (λ u v. split (finishes x) ds (Deed.finished id l) t (λ w. (v ∙ (h.finished x w).0, (h.finished x w).1)) (λ w. no (sym u ∙ w)));
-  }
+      (λ u v. (v, subst (λ z. z ≤ j.counter) (is_same id x u) (h.stands id l s).0))
+      (λ u v. split (finishes x) ds (Deed.finished id l) t (λ w. (v ∙ (h.finished x w).0, (h.finished x w).1)) (λ w. no (sym u ∙ w)));
+}
   where
     no : {A : Type 0} → false ≡ true → A
     no u = cc

@@ -95,9 +95,11 @@ did_from r (events.End id ∷ es) s used j legal kind alone f =
 did_from r (events.Commit id None now ops tracked ts ∷ es) s used j legal kind alone f =
     did_from r es (apply s (events.Commit id None now ops tracked ts)) used j legal.1 kind.1 alone.1 (same_follows r s used (events.Commit id None now ops tracked ts) j f legal.0 (append-nil s.commits))
 did_from r (events.Commit id (Some n) now ops tracked ts ∷ es) s used j legal kind alone f =
-    subst (λ o. Did j (cons_option o (deeds_of es))) (sym made.one.shown)
-        (made.one.does, did_from r es (apply s e) used (done_by j made.one.deed) legal.1 kind.1 alone.1
-            (record { counts = apply_counts r.start_seq s used e f.counts legal.0; tracked = more_tracked s.commits c f.tracked made.keys; stands = made.one.stands }))
+    subst (λ o. Did j (cons_option o (deeds_of es))) (sym made.one.shown) (
+      made.one.does,
+      did_from r es (apply s e) used (done_by j made.one.deed) legal.1 kind.1 alone.1
+          (record { counts = apply_counts r.start_seq s used e f.counts legal.0; tracked = more_tracked s.commits c f.tracked made.keys; stands = made.one.stands }),
+    )
   where
     e : Event
     e = events.Commit id (Some n) now ops tracked ts

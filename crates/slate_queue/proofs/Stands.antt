@@ -124,8 +124,8 @@ leases_one : (r : Rules) (cs : List Commit) (c : Commit) (j : Jobs) (id : ℕ) (
 leases_one r cs c j id op l counts next is plain fits new s other below =
     ap lease_in (one_left r cs c (job_key id) op (job_key other) counts next is plain)
     ∙ by_id id other
-        (λ t same. ap (λ b. lease_in (cond b (left_of op) (value_at r cs (job_key other)))) (ap (λ x. bytes_eq (job_key id) (job_key x)) (sym same) ∙ same_bytes (job_key id)) ∙ new ∙ ap (λ b. cond b l (j.lease other)) (sym t))
-        (λ t other_id. ap (λ b. lease_in (cond b (left_of op) (value_at r cs (job_key other)))) (keys_apart id other fits below other_id) ∙ s.leases other below ∙ ap (λ b. cond b l (j.lease other)) (sym t))
+    (λ t same. ap (λ b. lease_in (cond b (left_of op) (value_at r cs (job_key other)))) (ap (λ x. bytes_eq (job_key id) (job_key x)) (sym same) ∙ same_bytes (job_key id)) ∙ new ∙ ap (λ b. cond b l (j.lease other)) (sym t))
+    (λ t other_id. ap (λ b. lease_in (cond b (left_of op) (value_at r cs (job_key other)))) (keys_apart id other fits below other_id) ∙ s.leases other below ∙ ap (λ b. cond b l (j.lease other)) (sym t))
 
 counter_one : (r : Rules) (cs : List Commit) (c : Commit) (j : Jobs) (id : ℕ) (op : WriteOp) → Counts r.start_seq cs → c.seq ≡ last_of r.start_seq cs + 1 → c.ops ≡ kept_ops ((job_key id, op) ∷ []) → IsPutOrDelete op → Stands r cs j →
     counter_in (value_at r (cs ++ (c ∷ [])) counter_key) ≡ Some j.counter
@@ -187,8 +187,8 @@ adds_one r cs c ts j counts next alone s h = record {
         ap lease_in (leaves r cs c (added id h.payload) (job_key other) counts next h.by.kept (plain (bytes_eq (job_key id) (job_key other))))
         ∙ left other (bytes_eq (job_key id) (job_key other))
         ∙ by_id id other
-            (λ t same. ap (λ b. cond b (Some 0) (lease_in (value_at r cs (job_key other)))) (ap (λ x. bytes_eq (job_key id) (job_key x)) (sym same) ∙ same_bytes (job_key id)) ∙ ap (λ b. cond b (Some 0) (j.lease other)) (sym t))
-            (λ t other_id. ap (λ b. cond b (Some 0) (lease_in (value_at r cs (job_key other)))) (keys_apart id other fits below other_id) ∙ s.leases other below ∙ ap (λ b. cond b (Some 0) (j.lease other)) (sym t))
+        (λ t same. ap (λ b. cond b (Some 0) (lease_in (value_at r cs (job_key other)))) (ap (λ x. bytes_eq (job_key id) (job_key x)) (sym same) ∙ same_bytes (job_key id)) ∙ ap (λ b. cond b (Some 0) (j.lease other)) (sym t))
+        (λ t other_id. ap (λ b. cond b (Some 0) (lease_in (value_at r cs (job_key other)))) (keys_apart id other fits below other_id) ∙ s.leases other below ∙ ap (λ b. cond b (Some 0) (j.lease other)) (sym t))
 
 pub claims_one : (r : Rules) (cs : List Commit) (c : Commit) (ts : List TranscriptStep) (j : Jobs) → Counts r.start_seq cs → c.seq ≡ last_of r.start_seq cs + 1 → IsAlone r cs (last_of r.start_seq cs) ts → Stands r cs j → IsClaim c.now c.ops c.tracked ts → DoesOne r cs c ts j
 claims_one r cs c ts j counts next alone s h = record {
@@ -220,7 +220,7 @@ claims_one r cs c ts j counts next alone s h = record {
     row : IsOfRow (seen r cs (last_of r.start_seq cs) []) h.row
     row = last_of_rows (IsOfRow (seen r cs (last_of r.start_seq cs) [])) h.passed h.row
         (answers_are_seen r cs (last_of r.start_seq cs) (seen r cs (last_of r.start_seq cs) []) Ascending (rows_seen r cs (last_of r.start_seq cs) [] Ascending (prefix_range jobs_prefix)) (h.passed ++ (h.row ∷ []))
-            (map (λ (o : List ℕ × WriteOp). steps.Own o.0 o.1) ((h.row.key, op) ∷ [])) (rows_are_seen r cs (last_of r.start_seq cs) [] Ascending (prefix_range jobs_prefix)) scan)
+        (map (λ (o : List ℕ × WriteOp). steps.Own o.0 o.1) ((h.row.key, op) ∷ [])) (rows_are_seen r cs (last_of r.start_seq cs) [] Ascending (prefix_range jobs_prefix)) scan)
 
     old : j.lease h.id ≡ Some h.job.lease
     old = sym (s.leases h.id h.of_id) ∙ ap (λ k. lease_in (value_at r cs k)) (sym h.is_job) ∙ ap lease_in (row_read r cs h.row row) ∙ ap Some (lease_of_job h.row.value h.job h.stands)
