@@ -5,11 +5,9 @@
 --     TakesPut      what a put that is taken leaves, as the store then tells it
 --     RefusesPut      a put that is refused changed nothing and told nothing (LeftAlone), or was taken and told (TookPut)
 --     IsHonest objects, IsEmpty objects      premises on a store's objects, as it tells them
---     HoldsAll os tables      the objects hold each of the tables
---     KeepsReads acts      the store tells its acts
 --     AddsAct before act after      what a store tells of its acts, after one more
 --     of_store e      a store's error as the one error type has it
-use Rattle.std.specs.Prelude.{◌≡◌, ℕ, List, [], ◌∷◌, ◌++◌, length, map, Contains, Option, Some, None, ◌⊎◌}
+use Rattle.std.specs.Prelude.{◌≡◌, ℕ, List, [], ◌∷◌, ◌++◌, length, map, Option, Some, None, ◌⊎◌}
 use Rattle.std.specs.BTreeMap.{insert_entry}
 use Rattle.std.specs.List.Sorted.{IsStrictlySortedBy}
 use Rattle.slate_types.specs.declared.error.SlateDBError.{SlateDBError}
@@ -53,17 +51,9 @@ IsHonest objects = (os : Objects) × (objects ≡ Some os)
 abbrev pub IsEmpty : Option Objects → Type 0
 IsEmpty objects = objects ≡ Some []
 
--- the objects hold each of the tables, by path and bytes
-abbrev pub HoldsAll : Objects → Objects → Type 0
-HoldsAll os tables = (t : List ℕ × List ℕ) → Contains tables t → object_at os t.0 ≡ Some t.1
+-- ---- a store that tells its acts, oldest first
 
--- ---- a store that keeps its reads
-
--- acts: what the store tells, oldest first, and none where it doesn't
-abbrev pub KeepsReads : Option (List Act) → Type 0
-KeepsReads acts = (known : List Act) × (acts ≡ Some known)
-
--- nothing is asked of a store that doesn't tell its acts
+-- nothing is asked of a store that doesn't tell them
 abbrev pub AddsAct : Option (List Act) → Act → Option (List Act) → Type 0
 AddsAct before act after = (known : List Act) → before ≡ Some known → after ≡ Some (known ++ (act ∷ []))
 

@@ -1,6 +1,7 @@
 //! Counts of faults.
-ghost use Rattle.std.specs.Prelude.{◌≡◌, ◌≤◌, OnOk, OnErr};
+ghost use Rattle.std.specs.Prelude.{◌≡◌, ◌≤◌, ◌↔◌, IsErr, IsTrue, OnOk, OnErr};
 ghost use Rattle.slate_types.specs.Faults.{Rose};
+ghost use Rattle.slate_store.specs.Plan.{is_planned, next_call};
 
 use crate::Failed;
 
@@ -37,7 +38,9 @@ pub(crate) struct FaultPlan {
 
 impl FaultPlan {
     pub(crate) fn new(failing: Vec<u64>) -> FaultPlan
-        ensures { result.faults.count ≡ 0 }
+        ensures failing { result.failing.items ≡ failing.items }
+        ensures calls { result.calls ≡ 0 }
+        ensures faults { result.faults.count ≡ 0 }
     {
         FaultPlan {
             failing,
@@ -51,6 +54,9 @@ impl FaultPlan {
         ensures later { self.old.faults.count ≤ self.new.faults.count }
         ensures still { OnOk result (self.new.faults.count ≡ self.old.faults.count) }
         ensures cause { OnErr result (Rose self.old.faults.count self.new.faults.count) }
+        ensures failing { self.new.failing.items ≡ self.old.failing.items }
+        ensures counted { self.new.calls ≡ next_call self.old.calls }
+        ensures planned { IsErr result ↔ IsTrue (is_planned self.old.failing.items (next_call self.old.calls)) }
     {
         self.calls = self.calls.saturating_add(1);
         if self.failing.contains(&self.calls) {
@@ -63,6 +69,8 @@ impl FaultPlan {
     pub(crate) fn raise(&mut self) -> Failed
         ensures later { self.old.faults.count ≤ self.new.faults.count }
         ensures rose { Rose self.old.faults.count self.new.faults.count }
+        ensures failing { self.new.failing.items ≡ self.old.failing.items }
+        ensures calls { self.new.calls ≡ self.old.calls }
     {
         self.faults.raise()
     }

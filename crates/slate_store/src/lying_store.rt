@@ -51,7 +51,7 @@ impl Model for LyingStore {
 
 impl LyingStore {
     /// A store with no object. It answers the reads with these numbers, counted from 1 over those that it returns, as
-    /// given, and all others by what was put.
+    /// given, and all other reads, and lengths, by what was put.
     pub fn new(alloc: Global, answers: Vec<(u64, Option<Bytes>)>) -> LyingStore
         ensures answers { result.answers ≡ answers.items }
         ensures told { ⟦<LyingStore as Store>⟧.acts result ≡ Some [] }

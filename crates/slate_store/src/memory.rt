@@ -21,7 +21,7 @@ impl Model for MemorySource {
 
     ghost Value = { MemorySourceModel };
 
-    ghost view = { λ s. record { left = drop s.at s.bytes.items; faults = s.plan.faults.count } };
+    ghost view = { λ s. record { left = drop s.at s.bytes.items; plan = record { failing = s.plan.failing.items; calls = s.plan.calls }; faults = s.plan.faults.count } };
 
     ghost invariant = { λ s. s.at ≤ vec_len s.bytes };
 }
@@ -31,6 +31,8 @@ impl MemorySource {
     pub fn new(bytes: Vec<u8>, failing: Vec<u64>) -> MemorySource
         ensures left { result.left ≡ bytes.items }
         ensures told { ⟦<MemorySource as Source>⟧.left result ≡ Some bytes.items }
+        ensures plan { result.plan ≡ record { failing = failing.items; calls = 0 } }
+        ensures planned { ⟦<MemorySource as Source>⟧.plan result ≡ Some result.plan }
         ensures faults { result.faults ≡ 0 }
         ensures counted { ⟦<MemorySource as Source>⟧.faults result ≡ 0 }
     {
@@ -46,6 +48,8 @@ impl Source for MemorySource {
     ghost left = { λ s. Some s.left };
 
     ghost faults = { λ s. s.faults };
+
+    ghost plan = { λ s. Some s.plan };
 
     fn read(&mut self, buf: &mut [u8]) -> Result<usize, Failed> {
         self.plan.step()?;
@@ -69,7 +73,7 @@ impl Model for MemorySink {
 
     ghost Value = { MemorySinkModel };
 
-    ghost view = { λ s. record { content = s.content.items; faults = s.plan.faults.count } };
+    ghost view = { λ s. record { content = s.content.items; plan = record { failing = s.plan.failing.items; calls = s.plan.calls }; faults = s.plan.faults.count } };
 }
 
 impl MemorySink {
@@ -77,6 +81,8 @@ impl MemorySink {
     pub fn new(alloc: Global, failing: Vec<u64>) -> MemorySink
         ensures content { result.content ≡ [] }
         ensures told { ⟦<MemorySink as Sink>⟧.content result ≡ Some [] }
+        ensures plan { result.plan ≡ record { failing = failing.items; calls = 0 } }
+        ensures planned { ⟦<MemorySink as Sink>⟧.plan result ≡ Some result.plan }
         ensures faults { result.faults ≡ 0 }
         ensures counted { ⟦<MemorySink as Sink>⟧.faults result ≡ 0 }
     {
@@ -100,7 +106,9 @@ impl Sink for MemorySink {
 
     ghost faults = { λ s. s.faults };
 
-    /// Takes the whole piece. Want of memory is a fault too.
+    ghost plan = { λ s. Some s.plan };
+
+    /// Want of memory is a fault too.
     fn write(&mut self, piece: &[u8]) -> Result<usize, Failed> {
         self.plan.step()?;
         match self.content.extend_from_slice(piece) {

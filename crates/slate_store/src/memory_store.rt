@@ -23,7 +23,7 @@ impl Model for MemoryStore {
 
     ghost Value = { MemoryStoreModel };
 
-    ghost view = { λ s. record { objects = s.objects.entries; faults = s.plan.faults.count } };
+    ghost view = { λ s. record { objects = s.objects.entries; plan = record { failing = s.plan.failing.items; calls = s.plan.calls }; faults = s.plan.faults.count } };
 }
 
 impl MemoryStore {
@@ -31,6 +31,8 @@ impl MemoryStore {
     pub fn new(alloc: Global, failing: Vec<u64>) -> MemoryStore
         ensures objects { result.objects ≡ [] }
         ensures told { ⟦<MemoryStore as Store>⟧.objects result ≡ Some [] }
+        ensures plan { result.plan ≡ record { failing = failing.items; calls = 0 } }
+        ensures planned { ⟦<MemoryStore as Store>⟧.plan result ≡ Some result.plan }
         ensures faults { result.faults ≡ 0 }
         ensures counted { ⟦<MemoryStore as Store>⟧.faults result ≡ 0 }
     {
@@ -47,6 +49,8 @@ impl Store for MemoryStore {
     ghost acts = { λ _. None };
 
     ghost faults = { λ s. s.faults };
+
+    ghost plan = { λ s. Some s.plan };
 
     fn put(&mut self, alloc: Global, path: &str, bytes: &[u8]) -> Result<(), StoreError> {
         self.plan.step()?;

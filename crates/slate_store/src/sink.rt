@@ -1,6 +1,7 @@
 //! Where bytes go.
-ghost use Rattle.std.specs.Prelude.{◌≡◌, ◌≤◌, ◌<◌, ◌++◌, take, length, ℕ, List, Option, Some, IfOk, IfErr, OnOk, OnErr};
+ghost use Rattle.std.specs.Prelude.{◌≡◌, ◌≤◌, ◌<◌, ◌++◌, take, length, ℕ, List, Option, Some, IfOk, IfErr, OnOk, OnErr, IsErr, None};
 ghost use Rattle.slate_types.specs.Faults.{Rose};
+ghost use Rattle.slate_store.specs.Plan.{CountsCall, FailsWherePlanned, Plan};
 
 use crate::Failed;
 use slate_types::SlateDBError;
@@ -14,6 +15,9 @@ pub trait Sink: Drop {
     /// type's end.
     ghost faults: { Self → ℕ };
 
+    /// Which calls are to fail, where the sink tells it: then these fail, and others only for want of memory.
+    ghost plan: { Self → Option Plan } = { λ _. None };
+
     /// Appends that many leading bytes of the piece: at least one of a piece that isn't empty. A failed
     /// call appends nothing.
     fn write(&mut self, piece: &[u8]) -> Result<usize, Failed>
@@ -23,7 +27,9 @@ pub trait Sink: Drop {
         ensures failed { OnErr result (content self.new ≡ content self.old) }
         ensures later { faults self.old ≤ faults self.new }
         ensures still { OnOk result (faults self.new ≡ faults self.old) }
-        ensures cause { OnErr result (Rose (faults self.old) (faults self.new)) };
+        ensures cause { OnErr result (Rose (faults self.old) (faults self.new)) }
+        ensures counted { CountsCall (plan self.old) (plan self.new) }
+        ensures planned { FailsWherePlanned (plan self.old) (IsErr result) };
 }
 
 /// Appends the whole piece. After a `WriteFault`, which comes only where the sink's count of faults rose,

@@ -1,6 +1,7 @@
 //! Where bytes come from.
-ghost use Rattle.std.specs.Prelude.{◌≡◌, ◌≤◌, ◌<◌, [], take, drop, length, ℕ, List, Option, Some, IfOk, OnOk, OnErr};
+ghost use Rattle.std.specs.Prelude.{◌≡◌, ◌≤◌, ◌<◌, [], take, drop, length, ℕ, List, Option, Some, IfOk, OnOk, OnErr, IsErr, None};
 ghost use Rattle.slate_types.specs.Faults.{Rose};
+ghost use Rattle.slate_store.specs.Plan.{CountsCall, FailsAsPlanned, Plan};
 
 use crate::Failed;
 
@@ -13,6 +14,9 @@ pub trait Source: Drop {
     /// type's end.
     ghost faults: { Self → ℕ };
 
+    /// Which calls are to fail, where the source tells it: then these fail, and no others.
+    ghost plan: { Self → Option Plan } = { λ _. None };
+
     /// Takes that many leading bytes of what is left into the front of the buffer. For a buffer that
     /// isn't empty, 0 means the end. A failed call takes nothing.
     fn read(&mut self, buf: &mut [u8]) -> Result<usize, Failed>
@@ -23,5 +27,7 @@ pub trait Source: Drop {
         ensures failed { OnErr result (left self.new ≡ left self.old) }
         ensures later { faults self.old ≤ faults self.new }
         ensures still { OnOk result (faults self.new ≡ faults self.old) }
-        ensures cause { OnErr result (Rose (faults self.old) (faults self.new)) };
+        ensures cause { OnErr result (Rose (faults self.old) (faults self.new)) }
+        ensures counted { CountsCall (plan self.old) (plan self.new) }
+        ensures planned { FailsAsPlanned (plan self.old) (IsErr result) };
 }

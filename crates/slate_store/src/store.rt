@@ -1,7 +1,8 @@
 //! Where objects stand.
-ghost use Rattle.std.specs.Prelude.{◌≡◌, ◌≤◌, ◌⊎◌, ℕ, List, Option, Some, IfOk, OnOk, OnErr};
+ghost use Rattle.std.specs.Prelude.{◌≡◌, ◌≤◌, ◌⊎◌, ℕ, List, Option, Some, None, IfOk, OnOk, OnErr};
 ghost use Rattle.slate_types.specs.Faults.{Rose};
 ghost use Rattle.slate_types.specs.Outside.{Objects};
+ghost use Rattle.slate_store.specs.Plan.{CountsCall, FailsAsPlanned, Plan};
 ghost use Rattle.slate_store.specs.Store.{Act, AddsAct, AnswersLen, AnswersList, AnswersRead, IsRising, RefusesPut, TakesPut};
 
 use crate::{Failed, PathText};
@@ -26,6 +27,9 @@ pub trait Store: Drop {
     /// type's end.
     ghost faults: { Self → ℕ };
 
+    /// Which calls are to fail, where the store tells it: then these fail, and no others.
+    ghost plan: { Self → Option Plan } = { λ _. None };
+
     /// Puts the bytes at the path, in place of an object that was there, and changes nothing else. A put that
     /// is refused did that and told it, or did nothing and told nothing.
     fn put(&mut self, alloc: Global, path: &str, bytes: &[u8]) -> Result<(), StoreError>
@@ -34,7 +38,9 @@ pub trait Store: Drop {
         ensures act { OnOk result (AddsAct (acts self.old) (Act.put path.now bytes.now) (acts self.new)) }
         ensures later { faults self.old ≤ faults self.new }
         ensures still { (result ≡ Err StoreError.Failed) ⊎ (faults self.new ≡ faults self.old) }
-        ensures cause { result ≡ Err StoreError.Failed → Rose (faults self.old) (faults self.new) };
+        ensures cause { result ≡ Err StoreError.Failed → Rose (faults self.old) (faults self.new) }
+        ensures counted { CountsCall (plan self.old) (plan self.new) }
+        ensures planned { FailsAsPlanned (plan self.old) (result ≡ Err StoreError.Failed) };
 
     /// So many bytes of the object from `start` on: none for a missing object, or for a range past its end.
     fn read_range(
@@ -50,7 +56,9 @@ pub trait Store: Drop {
         ensures refused_act { OnErr result (acts self.new ≡ acts self.old) }
         ensures later { faults self.old ≤ faults self.new }
         ensures still { (result ≡ Err StoreError.Failed) ⊎ (faults self.new ≡ faults self.old) }
-        ensures cause { result ≡ Err StoreError.Failed → Rose (faults self.old) (faults self.new) };
+        ensures cause { result ≡ Err StoreError.Failed → Rose (faults self.old) (faults self.new) }
+        ensures counted { CountsCall (plan self.old) (plan self.new) }
+        ensures planned { FailsAsPlanned (plan self.old) (result ≡ Err StoreError.Failed) };
 
     /// How many bytes the object has: none for a missing object.
     fn len(&mut self, alloc: Global, path: &str) -> Result<Option<u64>, StoreError>
@@ -60,7 +68,9 @@ pub trait Store: Drop {
         ensures refused_act { OnErr result (acts self.new ≡ acts self.old) }
         ensures later { faults self.old ≤ faults self.new }
         ensures still { (result ≡ Err StoreError.Failed) ⊎ (faults self.new ≡ faults self.old) }
-        ensures cause { result ≡ Err StoreError.Failed → Rose (faults self.old) (faults self.new) };
+        ensures cause { result ≡ Err StoreError.Failed → Rose (faults self.old) (faults self.new) }
+        ensures counted { CountsCall (plan self.old) (plan self.new) }
+        ensures planned { FailsAsPlanned (plan self.old) (result ≡ Err StoreError.Failed) };
 
     /// The paths of all objects, in byte order.
     fn list(&mut self, alloc: Global) -> Result<Vec<PathText>, StoreError>
@@ -70,7 +80,9 @@ pub trait Store: Drop {
         ensures acts { acts self.new ≡ acts self.old }
         ensures later { faults self.old ≤ faults self.new }
         ensures still { (result ≡ Err StoreError.Failed) ⊎ (faults self.new ≡ faults self.old) }
-        ensures cause { result ≡ Err StoreError.Failed → Rose (faults self.old) (faults self.new) };
+        ensures cause { result ≡ Err StoreError.Failed → Rose (faults self.old) (faults self.new) }
+        ensures counted { CountsCall (plan self.old) (plan self.new) }
+        ensures planned { FailsAsPlanned (plan self.old) (result ≡ Err StoreError.Failed) };
 }
 
 /// Why a store refused a call.

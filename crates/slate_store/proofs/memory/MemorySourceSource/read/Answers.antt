@@ -1,6 +1,7 @@
-use Rattle.std.proofs.Common.{◌≤◌, ap, subst, Some}
+use Rattle.std.proofs.Common.{◌≤◌, ap, subst, refl, Some}
 use Rattle.std.proofs.lemmas.Result.{IfOk-from_err}
 use Rattle.slate_types.specs.Faults.{Rose}
+use Rattle.slate_store.proofs.Plans.{counts, fails, succeeds, ok_is_no_error}
 use Rattle.slate_store.proofs.Steps.{on_err}
 use Rattle.slate_store.proofs.memory.MemorySourceSource.read.Goals as goal
 
@@ -24,3 +25,15 @@ returns-in_err-step-clause-still c = IfOk-from_err c.from_residual.result _ c.fr
 
 pub returns-in_err-step-clause-cause : goal.returns-in_err-step-clause-cause
 returns-in_err-step-clause-cause c = on_err c.from_residual.result (subst (λ s. Rose s.faults c.step.new.self.faults.count) c.self.view_is c.in_err-step.ensures.cause)
+
+pub returns-in_err-step-clause-counted : goal.returns-in_err-step-clause-counted
+returns-in_err-step-clause-counted c = counts _ (ap (λ s. Some s.plan) c.self.view_is) c.in_err-step.ensures.failing c.in_err-step.ensures.counted
+
+pub returns-in_err-step-clause-planned : goal.returns-in_err-step-clause-planned
+returns-in_err-step-clause-planned c = fails _ (ap (λ s. Some s.plan) c.self.view_is) (c.in_err-step.ensures.planned.0 refl) c.from_residual.ensures.0
+
+pub returns-clause-counted : goal.returns-clause-counted
+returns-clause-counted c = counts _ (ap (λ s. Some s.plan) c.self.view_is) c.in_ok-step.ensures.failing c.in_ok-step.ensures.counted
+
+pub returns-clause-planned : goal.returns-clause-planned
+returns-clause-planned c = succeeds _ (ap (λ s. Some s.plan) c.self.view_is) (λ t. ok_is_no_error (c.in_ok-step.ensures.planned.1 t)) ok_is_no_error

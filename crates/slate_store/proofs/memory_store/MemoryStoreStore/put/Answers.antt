@@ -1,6 +1,7 @@
 use Rattle.std.proofs.Common.{◌∙◌, ◌≤◌, ap, subst, refl, Some, Err, inl}
 use Rattle.std.proofs.lemmas.Result.{err_from_is_err_and, IfOk-from_err}
 use Rattle.slate_types.specs.Faults.{Rose}
+use Rattle.slate_store.proofs.Plans.{counts, fails, succeeds, ok_is_no_error, wants_memory}
 use Rattle.slate_store.proofs.Steps.{on_err}
 use Rattle.slate_store.proofs.memory_store.MemoryStoreStore.put.Goals as goal
 
@@ -14,4 +15,12 @@ returns-in_err-step c =
       later = subst (λ s. s.faults ≤ c.step.new.self.faults.count) c.self.view_is c.in_err-step.ensures.later;
       still = inl (p.1 ∙ ap Err p.2);
       cause = λ e. subst (λ s. Rose s.faults c.step.new.self.faults.count) c.self.view_is c.in_err-step.ensures.cause;
+      counted = counts _ (ap (λ s. Some s.plan) c.self.view_is) c.in_err-step.ensures.failing c.in_err-step.ensures.counted;
+      planned = fails _ (ap (λ s. Some s.plan) c.self.view_is) (c.in_err-step.ensures.planned.0 refl) (p.1 ∙ ap Err p.2);
     }
+
+pub returns-clause-counted : goal.returns-clause-counted
+returns-clause-counted c = counts _ (ap (λ s. Some s.plan) c.self.view_is) c.in_ok-step.ensures.failing c.in_ok-step.ensures.counted
+
+pub returns-clause-planned : goal.returns-clause-planned
+returns-clause-planned c = succeeds _ (ap (λ s. Some s.plan) c.self.view_is) (λ t. ok_is_no_error (c.in_ok-step.ensures.planned.1 t)) (wants_memory c.put_object.result c.put_object.ensures.memory)
