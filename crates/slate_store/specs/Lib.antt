@@ -8,3 +8,4 @@ pub mod Plan
 pub mod Store
 pub mod Env
 pub mod Reach
+pub mod Run
