@@ -15,7 +15,7 @@ use Rattle.slate_txn.specs.Replay.{apply, apply_all, replay, Allowed, LegalFrom,
 use Rattle.slate_txn.specs.Alone.{IsAlone}
 use Rattle.slate_txn.specs.Vouched.{AreVouched, TracksReads, AloneWhere, AloneBy, AloneAt, AreAloneFrom}
 use Rattle.slate_txn.specs.Laws.{Counts}
-use Rattle.slate_txn.specs.Audited.{Kind, IsOfKindBy, IsOfKindAt, AreOfKindFrom, AreOfKind, TracksAll, StandsOn, GoesOn}
+use Rattle.slate_txn.specs.Audited.{Kind, IsOfKindBy, IsOfKindAt, AreOfKindFrom, AreOfKind, TracksAll, StandsOn, PassesOn}
 use Rattle.slate_txn.proofs.SequenceLaws.{apply_counts}
 use Rattle.slate_txn.proofs.PlaceLaws.{each_at_its_place}
 
@@ -52,10 +52,10 @@ stands_on r kind P tracks s (Some t) c ts counts next holds is a = record {
   alone = serial r s t.level t.begin ts (tracks.serializable t.level c.now c.ops c.tracked ts is) holds.tracked a;
 }
 
-holds_more : (r : Rules) (kind : Kind) (P : List Commit → Type 0) (tracks : TracksAll kind) (goes : GoesOn r kind P) (cs : List Commit) (c : Commit) (ts : List TranscriptStep) → TrackAll cs → StandsOn r kind P cs c ts → Holds P (cs ++ (c ∷ []))
+holds_more : (r : Rules) (kind : Kind) (P : List Commit → Type 0) (tracks : TracksAll kind) (goes : PassesOn r kind P) (cs : List Commit) (c : Commit) (ts : List TranscriptStep) → TrackAll cs → StandsOn r kind P cs c ts → Holds P (cs ++ (c ∷ []))
 holds_more r kind P tracks goes cs c ts all on = record { whole = goes.more cs c ts on; tracked = more_tracked cs c all (tracks.tracks on.level c.now c.ops c.tracked ts on.of_kind) }
 
-holds_event : (r : Rules) (kind : Kind) (P : List Commit → Type 0) (tracks : TracksAll kind) (goes : GoesOn r kind P) (s : State) (used : List (List ℕ)) (e : Event) → Counts r.start_seq s.commits → Allowed r.start_seq s used e →
+holds_event : (r : Rules) (kind : Kind) (P : List Commit → Type 0) (tracks : TracksAll kind) (goes : PassesOn r kind P) (s : State) (used : List (List ℕ)) (e : Event) → Counts r.start_seq s.commits → Allowed r.start_seq s used e →
     IsOfKindAt kind s e → AloneAt r s e → Holds P s.commits → Holds P (apply s e).commits
 holds_event r kind P tracks goes s used (events.Begin id level start) counts a is alone h = h
 holds_event r kind P tracks goes s used (events.End id) counts a is alone h = h
@@ -69,7 +69,7 @@ holds_event r kind P tracks goes s used (events.Install through tables) counts a
 holds_event r kind P tracks goes s used (events.Snapshot id n) counts a is alone h = h
 holds_event r kind P tracks goes s used (events.Release id) counts a is alone h = h
 
-holds_from : (r : Rules) (kind : Kind) (P : List Commit → Type 0) (tracks : TracksAll kind) (goes : GoesOn r kind P) (es : List Event) (s : State) (used : List (List ℕ)) → Counts r.start_seq s.commits → LegalFrom r.start_seq s used es →
+holds_from : (r : Rules) (kind : Kind) (P : List Commit → Type 0) (tracks : TracksAll kind) (goes : PassesOn r kind P) (es : List Event) (s : State) (used : List (List ℕ)) → Counts r.start_seq s.commits → LegalFrom r.start_seq s used es →
     AreOfKindFrom kind s es → AreAloneFrom r s es → Holds P s.commits → Holds P (apply_all s es).commits
 holds_from r kind P tracks goes [] s used counts legal is alone h = h
 holds_from r kind P tracks goes (e ∷ es) s used counts legal is alone h =
@@ -77,11 +77,11 @@ holds_from r kind P tracks goes (e ∷ es) s used counts legal is alone h =
     (holds_event r kind P tracks goes s used e counts legal.0 is.0 alone.0 h)
 
 -- of the commits of a journal of the kind
-pub holds_of_all : (r : Rules) (kind : Kind) (P : List Commit → Type 0) → TracksAll kind → GoesOn r kind P → (es : List Event) → IsLegal r.start_seq es → AreVouched r es → AreOfKind kind es → P (replay es).commits
+pub holds_of_all : (r : Rules) (kind : Kind) (P : List Commit → Type 0) → TracksAll kind → PassesOn r kind P → (es : List Event) → IsLegal r.start_seq es → AreVouched r es → AreOfKind kind es → P (replay es).commits
 holds_of_all r kind P tracks goes es legal vouched is =
     (holds_from r kind P tracks goes es opening [] tt legal is (each_at_its_place r es legal vouched) (record { whole = goes.first; tracked = tt })).whole
 
-stands_from : (r : Rules) (kind : Kind) (P : List Commit → Type 0) (tracks : TracksAll kind) (goes : GoesOn r kind P) (before : List Event) (id : List ℕ) (c : Commit) (ts : List TranscriptStep) (later : List Event) (s : State) (used : List (List ℕ)) →
+stands_from : (r : Rules) (kind : Kind) (P : List Commit → Type 0) (tracks : TracksAll kind) (goes : PassesOn r kind P) (before : List Event) (id : List ℕ) (c : Commit) (ts : List TranscriptStep) (later : List Event) (s : State) (used : List (List ℕ)) →
     Counts r.start_seq s.commits → LegalFrom r.start_seq s used (before ++ (events.Commit id (Some c.seq) c.now c.ops c.tracked ts ∷ later)) → AreOfKindFrom kind s (before ++ (events.Commit id (Some c.seq) c.now c.ops c.tracked ts ∷ later)) →
     AreAloneFrom r s (before ++ (events.Commit id (Some c.seq) c.now c.ops c.tracked ts ∷ later)) → Holds P s.commits → StandsOn r kind P (apply_all s before).commits c ts
 stands_from r kind P tracks goes [] id c ts later s used counts legal is alone h = stands_on r kind P tracks s (find_named id s.txns) c ts counts legal.0.1.0 h is.0 alone.0
@@ -90,7 +90,7 @@ stands_from r kind P tracks goes (e ∷ before) id c ts later s used counts lega
     (holds_event r kind P tracks goes s used e counts legal.0 is.0 alone.0 h)
 
 -- before each commit of such a journal
-pub stands_before : (r : Rules) (kind : Kind) (P : List Commit → Type 0) → TracksAll kind → GoesOn r kind P → (before later : List Event) (id : List ℕ) (c : Commit) (ts : List TranscriptStep) →
+pub stands_before : (r : Rules) (kind : Kind) (P : List Commit → Type 0) → TracksAll kind → PassesOn r kind P → (before later : List Event) (id : List ℕ) (c : Commit) (ts : List TranscriptStep) →
     IsLegal r.start_seq (before ++ (events.Commit id (Some c.seq) c.now c.ops c.tracked ts ∷ later)) → AreVouched r (before ++ (events.Commit id (Some c.seq) c.now c.ops c.tracked ts ∷ later)) →
     AreOfKind kind (before ++ (events.Commit id (Some c.seq) c.now c.ops c.tracked ts ∷ later)) → StandsOn r kind P (replay before).commits c ts
 stands_before r kind P tracks goes before later id c ts legal vouched is =

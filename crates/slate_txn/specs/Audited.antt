@@ -8,7 +8,7 @@
 --     Levels, KnowsLevels s levels      the levels of the open transactions, under their ids
 --     OpensNew s e      an event begins no transaction under an id that is open
 --     TracksAll kind      each commit of the kind is serializable, and tracks all its keys
---     GoesOn r kind P      P holds of no commits, and of one more of the kind whose transcript is answered as just before it
+--     PassesOn r kind P      P holds of no commits, and of one more of the kind whose transcript is answered as just before it
 --     StandsOn r kind P cs c ts      what is known of such a commit before it is made
 use Rattle.std.specs.Prelude.{◌≡◌, ℕ, ◌+◌, List, [], ◌∷◌, ◌++◌, Option, Some, None, option_map, ⊤, ℤ}
 use Rattle.slate_types.specs.declared.config.IsolationLevel.{IsolationLevel}
@@ -86,6 +86,6 @@ pub record StandsOn (r : Rules) (kind : Kind) (P : List Commit → Type 0) (cs :
   pub of_kind : kind level c.now c.ops c.tracked ts
   pub alone : IsAlone r cs (last_of r.start_seq cs) ts
 
-pub record GoesOn (r : Rules) (kind : Kind) (P : List Commit → Type 0) : Type 0 where
+pub record PassesOn (r : Rules) (kind : Kind) (P : List Commit → Type 0) : Type 0 where
   pub first : P []
   pub more : (cs : List Commit) (c : Commit) (ts : List TranscriptStep) → StandsOn r kind P cs c ts → P (cs ++ (c ∷ []))
