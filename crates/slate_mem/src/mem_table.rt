@@ -1,5 +1,6 @@
 //! Rows in memory, until a flush.
 ghost use Rattle.std.specs.Prelude.{◌≡◌, ◌<◌, ◌^◌, ◌++◌, ◌↔◌, ◌&&◌, ◌⊎◌, filter, List, [], length, None, Some, option_copied, option_map, IsTrue, OnOk, OnErr, IfOk, IfErr, IsOkUnless, Ok, ℕ, ◌-◌, ◌==◌, min, not};
+ghost use Rattle.std.specs.Arc.{arc_value};
 ghost use Rattle.std.specs.BTreeMap.{IsUnchanged};
 ghost use Rattle.std.specs.BTreeMap.Range.{IsLeBy, IsLtBy, entries_between};
 ghost use Rattle.std.specs.Range.Bound.{IsForward};
@@ -14,6 +15,7 @@ ghost use Rattle.slate_types.specs.Keys.{key_cmp, keys_set, among};
 ghost use Rattle.slate_types.specs.Fold.{greatest_seq};
 ghost use Rattle.slate_types.specs.Iteration.{IsInOrder};
 ghost use Rattle.slate_types.specs.RowTurns.{AreInTurn, row_before};
+ghost use Rattle.slate_mem.specs.Frozen.{table_in};
 ghost use Rattle.slate_mem.specs.KeyTests.{nest_refusal, point_lengths};
 ghost use Rattle.slate_mem.specs.Refusals.{first_refusal};
 ghost use Rattle.slate_mem.specs.Segments.{row_prefixes, row_refusals};
@@ -36,6 +38,7 @@ use std::collections::{BTreeMap, BTreeSet};
 use std::marker::Model;
 use std::mem;
 use std::ops::Bound;
+use std::sync::Arc;
 
 /// Rows by key, the newest first within a key, with the segment prefixes that were recorded beside them. After a
 /// refusal it is as it was.
@@ -139,6 +142,27 @@ impl MemTable {
         rows_between(alloc, &self.rows, Bound::Unbounded, Bound::Unbounded, false)
     }
 
+    /// As `ImmutableMemtable::filter_after_seq`.
+    fn filter_after_seq<X: PrefixExtractor>(
+        &self,
+        seq: u64,
+        extractor: Option<&X>,
+    ) -> Result<ImmutableMemtable, SlateDBError>
+        ensures rows { IfOk result (λ t. t.rows ≡ after_seq seq self.now.rows) }
+        ensures segments { IfOk result (λ t. t.segments ≡ row_prefixes (point_lengths (option_map X.lengths (option_copied extractor.entry))) (after_seq seq self.now.rows)) }
+        ensures fine { OnOk result (first_refusal (row_refusals (point_lengths (option_map X.lengths (option_copied extractor.entry))) (after_seq seq self.now.rows)) ≡ None) }
+        ensures cause { IfErr result (λ e. (e ≡ SlateDBError.OutOfMemory) ⊎ (first_refusal (row_refusals (point_lengths (option_map X.lengths (option_copied extractor.entry))) (after_seq seq self.now.rows)) ≡ Some e)) }
+    {
+        let alloc = self.alloc;
+        let rows = rows_after(alloc, &self.rows, seq)?;
+        let segments = prefixes_of(alloc, &rows, extractor)?;
+        let mut table = MemTable::new(alloc);
+        table.put_all(rows, segments)?;
+        Ok(ImmutableMemtable {
+            table: Frozen::Owned(table),
+        })
+    }
+
     /// Moves the rows and the recorded prefixes into a table that stays as it is, and leaves none. It takes no memory.
     pub fn freeze(&mut self) -> Result<ImmutableMemtable, SlateDBError>
         ensures frozen { result ≡ Ok self.old }
@@ -146,7 +170,7 @@ impl MemTable {
     {
         let empty = MemTable::new(self.alloc);
         Ok(ImmutableMemtable {
-            table: mem::replace(self, empty),
+            table: Frozen::Owned(mem::replace(self, empty)),
         })
     }
 
@@ -196,18 +220,46 @@ impl MemTable {
 /// A table that is not written any more, and waits for its flush.
 #[derive(Drop)]
 pub struct ImmutableMemtable {
-    table: MemTable,
+    table: Frozen,
+}
+
+/// How a table is held that is not written any more. Its first share moves it behind an `Arc`, so that a freeze takes no memory.
+#[derive(Drop)]
+enum Frozen {
+    Owned(MemTable),
+    Shared(Arc<MemTable, Global>),
 }
 
 impl Model for ImmutableMemtable {
+    ghost use Rattle.slate_mem.specs.Frozen.{table_in};
     ghost use Rattle.slate_mem.specs.Table.{MemTableModel};
 
     ghost Value = { MemTableModel };
 
-    ghost view = { λ t. t.table };
+    ghost view = { λ t. table_in t.table };
 }
 
 impl ImmutableMemtable {
+    /// The same table once more: both share its rows. It takes memory the first time alone. The one error is `AllocError`.
+    pub fn share(&mut self) -> Result<ImmutableMemtable, AllocError>
+        ensures same { self.new ≡ self.old }
+        ensures shared { IfOk result (λ t. t ≡ self.old) }
+    {
+        let table = another(&mut self.table)?;
+        Ok(ImmutableMemtable {
+            table: Frozen::Shared(table),
+        })
+    }
+
+    fn table(&self) -> &MemTable
+        ensures { result.now ≡ self.now }
+    {
+        match &self.table {
+            Frozen::Owned(table) => table,
+            Frozen::Shared(table) => table,
+        }
+    }
+
     /// As `MemTable::rows_of_key`.
     pub fn rows_of_key(
         &self,
@@ -218,7 +270,7 @@ impl ImmutableMemtable {
         ensures rows { IfOk result (λ rows. rows.items ≡ newest key.now max_seq self.now.rows) }
         ensures cause { IsOkUnless result SlateDBError.OutOfMemory }
     {
-        self.table.rows_of_key(alloc, key, max_seq)
+        self.table().rows_of_key(alloc, key, max_seq)
     }
 
     /// As `MemTable::range`.
@@ -234,7 +286,7 @@ impl ImmutableMemtable {
         ensures order { IfOk result (λ it. it.order ≡ order) }
         ensures cause { IsOkUnless result SlateDBError.OutOfMemory }
     {
-        self.table.range(alloc, range, order)
+        self.table().range(alloc, range, order)
     }
 
     /// All rows, by key upwards and within a key by sequence downwards. They share keys and values. The one error is
@@ -243,14 +295,14 @@ impl ImmutableMemtable {
         ensures rows { IfOk result (λ rows. rows.items ≡ self.now.rows) }
         ensures cause { IsOkUnless result SlateDBError.OutOfMemory }
     {
-        self.table.rows(alloc)
+        self.table().rows(alloc)
     }
 
     /// The recorded prefixes.
     pub fn touched_segments(&self) -> &BTreeSet<Bytes>
         ensures { result.now.keys ≡ self.now.segments }
     {
-        self.table.touched_segments()
+        self.table().touched_segments()
     }
 
     /// A table of its rows with greater sequences, which records the prefixes of these rows alone, and none where there is no
@@ -266,12 +318,7 @@ impl ImmutableMemtable {
         ensures fine { OnOk result (first_refusal (row_refusals (point_lengths (option_map X.lengths (option_copied extractor.entry))) (after_seq seq self.now.rows)) ≡ None) }
         ensures cause { IfErr result (λ e. (e ≡ SlateDBError.OutOfMemory) ⊎ (first_refusal (row_refusals (point_lengths (option_map X.lengths (option_copied extractor.entry))) (after_seq seq self.now.rows)) ≡ Some e)) }
     {
-        let alloc = self.table.alloc;
-        let rows = rows_after(alloc, &self.table.rows, seq)?;
-        let segments = prefixes_of(alloc, &rows, extractor)?;
-        let mut table = MemTable::new(alloc);
-        table.put_all(rows, segments)?;
-        Ok(ImmutableMemtable { table })
+        self.table().filter_after_seq(seq, extractor)
     }
 
     /// As `MemTable::metadata`.
@@ -282,12 +329,38 @@ impl ImmutableMemtable {
         ensures last { result.last_seq ≡ greatest_seq 0 self.now.rows }
         ensures first { result.first_seq ≡ first_seq self.now.rows }
     {
-        self.table.metadata()
+        self.table().metadata()
     }
 }
 
 /// An iterator over rows of a table, which it owns.
 pub type MemTableIterator = RowsIterator;
+
+/// One owner more of the table, which is moved behind an `Arc` before where it stands behind none.
+fn another(frozen: &mut Frozen) -> Result<Arc<MemTable, Global>, AllocError>
+    ensures same { table_in frozen.new ≡ table_in frozen.old }
+    ensures shared { IfOk result (λ t. arc_value t ≡ table_in frozen.old) }
+{
+    if let Frozen::Owned(table) = frozen {
+        let alloc = table.alloc;
+        let table = mem::replace(table, MemTable::new(alloc));
+        *frozen = behind_arc(alloc, table);
+    }
+    match frozen {
+        Frozen::Owned(_) => Err(AllocError),
+        Frozen::Shared(table) => Arc::try_clone(table),
+    }
+}
+
+/// The table behind an `Arc`, or as it is where memory is wanting.
+fn behind_arc(alloc: Global, table: MemTable) -> Frozen
+    ensures { table_in result ≡ table }
+{
+    match Arc::new(alloc, table) {
+        Ok(table) => Frozen::Shared(table),
+        Err(refused) => Frozen::Owned(refused.value),
+    }
+}
 
 /// What one put did: what stood at its place before.
 #[derive(Drop)]

@@ -86,6 +86,13 @@ impl DbTransactionInner {
         }
     }
 
+    /// The level at which it began.
+    pub fn level(&self) -> IsolationLevel
+        ensures { result ≡ self.now.level }
+    {
+        self.level
+    }
+
     /// The sequence at which it began.
     pub fn begin(&self) -> u64
         ensures { result ≡ self.now.begin }
@@ -258,6 +265,15 @@ impl DbTransactionInner {
             &mut self.transcript,
             TranscriptStep::Seek { scan, key },
         )
+    }
+
+    /// Notes a view of a range, whose reads aren't noted one by one. At the serializable level all keys of the range count as
+    /// read from then on. Where memory is wanting nothing is noted.
+    pub fn note_view(&mut self, range: &BytesRange) -> Result<(), AllocError>
+        ensures noted { OnOk result (self.new ≡ record self.old { transcript = self.old.transcript ++ steps.View range.now ∷ [] }) }
+        ensures same { OnErr result (self.new ≡ self.old) }
+    {
+        note_view(self.level, &mut self.reading, &mut self.transcript, range)
     }
 
     /// The rows of its own operations of the key, newest first, to the first that is no merge. They stand above all sequences, and
@@ -510,6 +526,22 @@ fn note_scan(
     let number = *scans;
     *scans += 1;
     Ok(number)
+}
+
+/// Adds a view of a range. Where memory is wanting nothing is added.
+fn note_view(
+    level: IsolationLevel,
+    reading: &mut Reading,
+    transcript: &mut Vec<TranscriptStep>,
+    range: &BytesRange,
+) -> Result<(), AllocError>
+    ensures read { OnOk result (reading.new ≡ read_on level reading.old (steps.View range.now)) }
+    ensures noted { OnOk result (transcript.new.items ≡ transcript.old.items ++ steps.View range.now ∷ []) }
+    ensures same_reading { OnErr result (reading.new ≡ reading.old) }
+    ensures same_steps { OnErr result (transcript.new.items ≡ transcript.old.items) }
+{
+    let range = range.clone()?;
+    note(level, reading, transcript, TranscriptStep::View { range })
 }
 
 /// The same answer without the buffers that it came in, of which it may be a small part. Its key shares `key` where they are equal.

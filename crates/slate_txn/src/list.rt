@@ -10,7 +10,7 @@ use std::collections::BTreeSet;
 use std::marker::Model;
 
 /// Keys, as a mark, an unmark and a commit hold them.
-#[derive(Clone, Drop)]
+#[derive(Drop)]
 pub struct KeyList {
     items: Vec<Bytes>,
 }
@@ -21,6 +21,15 @@ impl Model for KeyList {
     ghost Value = { List (List ℕ) };
 
     ghost view = { λ l. l.items.items };
+}
+
+impl Clone for KeyList {
+    ghost is_clone = { λ list copy. copy ≡ list };
+
+    fn clone(&self) -> Result<KeyList, AllocError> {
+        let items = Vec::from_clones(*self.items.allocator(), self.items.as_slice())?;
+        Ok(KeyList { items })
+    }
 }
 
 impl KeyList {
@@ -51,6 +60,15 @@ impl Model for OpList {
     ghost Value = { Ops };
 
     ghost view = { λ l. l.items.items };
+}
+
+impl Clone for OpList {
+    ghost is_clone = { λ list copy. copy ≡ list };
+
+    fn clone(&self) -> Result<OpList, AllocError> {
+        let items = Vec::from_clones(*self.items.allocator(), self.items.as_slice())?;
+        Ok(OpList { items })
+    }
 }
 
 impl OpList {
@@ -106,7 +124,7 @@ fn listed(alloc: Global, keys: BTreeSet<Bytes>) -> Result<Vec<Bytes>, AllocError
 }
 
 /// Tables, each with its id and its bytes as they were put.
-#[derive(Clone, Drop)]
+#[derive(Drop)]
 pub struct TableList {
     items: Vec<(Ulid, Bytes)>,
 }
@@ -118,6 +136,15 @@ impl Model for TableList {
     ghost Value = { List (Ulid × List ℕ) };
 
     ghost view = { λ l. l.items.items };
+}
+
+impl Clone for TableList {
+    ghost is_clone = { λ list copy. copy ≡ list };
+
+    fn clone(&self) -> Result<TableList, AllocError> {
+        let items = Vec::from_clones(*self.items.allocator(), self.items.as_slice())?;
+        Ok(TableList { items })
+    }
 }
 
 impl TableList {

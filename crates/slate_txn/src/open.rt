@@ -29,6 +29,7 @@ use slate_types::{
 use std::alloc::{AllocError, Global};
 use std::collections::BTreeMap;
 use std::marker::Model;
+use std::mem;
 use uuid::Uuid;
 
 /// The open transactions, by their ids.
@@ -95,6 +96,14 @@ impl OpenTransactions {
         ensures left { self.new ≡ without id.now self.old }
     {
         taken(&mut self.by_id, id)
+    }
+
+    /// Puts what a transaction did and saw in the place of what stands under its id, where it began too. It takes no memory.
+    pub fn put_back(&mut self, id: &Uuid, own: DbTransactionInner)
+        requires { option_map (λ t. t.begin) (find_named id.now self.old) ≡ Some own.begin }
+        ensures { self.new ≡ update_named id.now (λ _. own) self.old }
+    {
+        put_over(&mut self.by_id, id, own);
     }
 
     /// The least begin, or the newest sequence.
@@ -333,6 +342,16 @@ fn taken(items: &mut BTreeMap<Uuid, DbTransactionInner>, id: &Uuid) -> Option<Db
     ensures left { items.new.entries ≡ without id.now items.old.entries }
 {
     items.remove(id)
+}
+
+/// Puts what a transaction did and saw in the place of what stands under this id.
+fn put_over(items: &mut BTreeMap<Uuid, DbTransactionInner>, id: &Uuid, own: DbTransactionInner)
+    ensures { items.new.entries ≡ update_named id.now (λ _. own) items.old.entries }
+{
+    match items.get_mut(id) {
+        Some(place) => drop(mem::replace(place, own)),
+        None => drop(own),
+    }
 }
 
 /// The least begin, or the newest sequence. Begins rise with ids, so it is that of the first.

@@ -6,16 +6,15 @@ use Rattle.slate_mem.specs.KeyTests.{point_lengths}
 use Rattle.slate_mem.specs.Segments.{row_prefixes}
 use Rattle.slate_mem.specs.Table.{MemTableModel, after_seq, put_rows}
 use Rattle.slate_mem.proofs.LaterRows.{prefixes_alone, put_rising, rises_filtered, table_rises}
-use Rattle.slate_mem.proofs.mem_table.ImmutableMemtable.filter_after_seq.Goals as goal
+use Rattle.slate_mem.proofs.mem_table.MemTable.filter_after_seq.Goals as goal
 
 pub returns-clause-rows : goal.returns-clause-rows
 returns-clause-rows g c =
     let seq = c.args.seq in
-    let es = c.self-inside.inside.0.0.rows.entries in
+    let es = c.self.inside.rows.entries in
     c.in_ok-put_all.ensures.rows
     ∙ (λ i. put_rows (c.new-table.ensures i).rows (c.in_ok-rows.ensures.rows i))
-    ∙ put_rising (after_seq seq (values_of es)) [] (rises_filtered (λ r. nat_lt seq r.seq) (values_of es) (table_rises es c.self-inside.invariant.rows))
-    ∙ (λ i. after_seq seq (c.self-inside.view_is i).table.rows)
+    ∙ put_rising (after_seq seq (values_of es)) [] (rises_filtered (λ r. nat_lt seq r.seq) (values_of es) (table_rises es c.self.invariant.rows))
     ∙ ap (λ (t : MemTableModel). after_seq seq t.rows) c.self.view_is
 
 pub returns-clause-segments : goal.returns-clause-segments
@@ -25,4 +24,4 @@ returns-clause-segments g c =
     c.in_ok-put_all.ensures.segments
     ∙ (λ i. keys_set ((c.new-table.ensures i).segments ++ c.in_ok-segments.ensures.prefixes i))
     ∙ prefixes_alone segments c.deref.result.now
-    ∙ ap (row_prefixes segments) (c.deref.ensures.value ∙ c.in_ok-rows.ensures.rows ∙ (λ i. after_seq seq (c.self-inside.view_is i).table.rows) ∙ ap (λ (t : MemTableModel). after_seq seq t.rows) c.self.view_is)
+    ∙ ap (row_prefixes segments) (c.deref.ensures.value ∙ c.in_ok-rows.ensures.rows ∙ ap (λ (t : MemTableModel). after_seq seq t.rows) c.self.view_is)
