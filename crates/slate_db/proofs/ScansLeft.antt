@@ -28,7 +28,7 @@ use Rattle.slate_txn.proofs.ScanLaws.{get_left, is_opened, left_more, left_stays
 use Rattle.slate_db.specs.declared.scan.TxnIterator.{TxnIterator}
 use Rattle.slate_db.specs.Committed.{IsCommitted}
 use Rattle.slate_db.specs.Installs.{Replays}
-use Rattle.slate_db.specs.LeftLaws.{CallsBesideKeepWhatIsLeft, Follows, IsLeft, PassesBy, Spares, StepsEndNothing, WhatIsLeftIsOpen, silent, stepped, recorded, taken, marked, unmarked, ended, committed, written}
+use Rattle.slate_db.specs.LeftLaws.{CallsBesideKeepWhatIsLeft, AreJournaled, IsLeft, PassesBy, Spares, StepsEndNothing, WhatIsLeftIsOpen, silent, stepped, recorded, taken, marked, unmarked, ended, committed, written}
 use Rattle.slate_db.specs.Meaning.{Meaning, rules_of}
 use Rattle.slate_db.specs.Model.{CoreModel}
 use Rattle.slate_db.specs.Operated.{operated}
@@ -239,7 +239,7 @@ module _ (m : Meaning) (old new : CoreModel) (it : TxnIterator) (rows : List Row
   taken_left id k op is h = changed_left id (with_op k op) is
       (λ t same g. spared (rules_of old.settings m) old.state.commits t.begin t.transcript (number_of it) (steps.Own k op) ((scan_of it).order, rows) tt g) h
 
-  committed_left : (id : List ℕ) (n : Option ℕ) (now : ℤ) (t : Tx) → id ≢ id_of it → Follows old new → IsCommitted old new id n now t → IsLeft m old it rows → IsLeft m new it rows
+  committed_left : (id : List ℕ) (n : Option ℕ) (now : ℤ) (t : Tx) → id ≢ id_of it → AreJournaled old new → IsCommitted old new id n now t → IsLeft m old it rows → IsLeft m new it rows
   committed_left id None now t other follows is h =
       same_left (ap (λ (c : CoreModel). c.settings) is.1) (ap (λ (c : CoreModel). c.state.commits) is.1 ∙ append-nil old.state.commits)
       (ap (λ (c : CoreModel). find_named (id_of it) c.state.txns) is.1 ∙ find_without (id_of it) id old.state.txns other) h
@@ -254,7 +254,7 @@ module _ (m : Meaning) (old new : CoreModel) (it : TxnIterator) (rows : List Row
       legal : IsLegal new.settings.start_seq (old.events ++ (event ∷ []))
       legal = subst (IsLegal new.settings.start_seq) (ap (λ (c : CoreModel). c.events) is) follows.legal
 
-  written_left : (n : Option ℕ) (now : ℤ) (ops : Ops) → Follows old new → IsWritten old new n now ops → IsLeft m old it rows → IsLeft m new it rows
+  written_left : (n : Option ℕ) (now : ℤ) (ops : Ops) → AreJournaled old new → IsWritten old new n now ops → IsLeft m old it rows → IsLeft m new it rows
   written_left None now ops follows is h = subst (λ (c : CoreModel). IsLeft m c it rows) (sym is.1) h
   written_left (Some n) now ops follows is h =
       kept_left (commit_made (Some n) now ops (batch_keys ops)) (ap (λ (c : CoreModel). c.settings) is) (ap (λ (c : CoreModel). c.state.commits) is) (ap (λ (c : CoreModel). find_named (id_of it) c.state.txns) is)

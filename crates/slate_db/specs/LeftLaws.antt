@@ -2,7 +2,7 @@
 --     IsLeft m c it rows      the scan's transaction is open, and of the list that its opening fixed these rows are left
 --     Spares n s      a step of the scan's transaction is no next and no seek of its n-th scan
 --     PassesBy id l      a line that opens a name, ends another one than this, or stores
---     Follows old new      the old journal replays to its state, and the new one is legal, as `journal` says of each core
+--     AreJournaled old new      the old journal replays to its state, and the new one is legal, as `journal` says of each core
 --     IsBeside it old new      a call that isn't on the scan and doesn't end its transaction, by what its clauses say
 use Rattle.std.specs.Prelude.{◌≡◌, ◌≢◌, ℕ, List, [], ◌∷◌, Option, IsSome, ⊤, ℤ}
 use Rattle.slate_types.specs.declared.types.RowEntry.{RowEntry}
@@ -43,7 +43,7 @@ PassesBy id lines.Freeze = ⊤
 PassesBy id lines.Flush = ⊤
 PassesBy id _ = ⊥
 
-pub record Follows (old new : CoreModel) : Type 0 where
+pub record AreJournaled (old new : CoreModel) : Type 0 where
   pub replays : Replays old.events old.state
   pub legal : IsLegal new.settings.start_seq new.events
 
@@ -57,8 +57,8 @@ pub data IsBeside (it : TxnIterator) (old new : CoreModel) : Type 0 where
   marked : (id : List ℕ) (ks : List (List ℕ)) → new ≡ operated old id (with_marks ks) → IsBeside it old new
   unmarked : (id : List ℕ) (ks : List (List ℕ)) → new ≡ operated old id (with_unmarks ks) → IsBeside it old new
   ended : (id : List ℕ) → id ≢ id_of it → IsEnded old new id → IsBeside it old new
-  committed : (id : List ℕ) (n : Option ℕ) (now : ℤ) (t : Tx) → id ≢ id_of it → Follows old new → IsCommitted old new id n now t → IsBeside it old new
-  written : (n : Option ℕ) (now : ℤ) (ops : Ops) → Follows old new → IsWritten old new n now ops → IsBeside it old new
+  committed : (id : List ℕ) (n : Option ℕ) (now : ℤ) (t : Tx) → id ≢ id_of it → AreJournaled old new → IsCommitted old new id n now t → IsBeside it old new
+  written : (n : Option ℕ) (now : ℤ) (ops : Ops) → AreJournaled old new → IsWritten old new n now ops → IsBeside it old new
 
 -- What a scan has left goes on at each such call.
 abbrev pub CallsBesideKeepWhatIsLeft : Type 0

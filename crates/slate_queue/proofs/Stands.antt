@@ -22,7 +22,7 @@ use Rattle.slate_txn.specs.Alone.{AloneFrom, IsAlone}
 use Rattle.slate_txn.specs.Laws.{Counts}
 use Rattle.slate_txn.proofs.SeenLaws.{IsOfRow, answers_are_seen, rows_are_seen}
 use Rattle.slate_queue.specs.Stored.{Job, counter_key, jobs_prefix, job_key, id_of, lease_of, number_bytes, number_of, job_bytes, job_of, counter_in}
-use Rattle.slate_queue.specs.Jobs.{new_job, leased, greatest}
+use Rattle.slate_queue.specs.Jobs.{new_job, leased, last_number}
 use Rattle.slate_queue.specs.Commits.{Writes, put_of, added, IsAdd, IsClaim, IsFinish, IsPassed}
 use Rattle.slate_queue.specs.Deeds.{Deed, Jobs, with_lease, Does, done_by, deed_by, lease_read}
 use Rattle.slate_queue.proofs.Changes.{number_again, eight, lease_again, id_again, apart_keys, same_bytes, one_kept, added_kept, value_at, left_by, IsPlain, leaves}
@@ -158,7 +158,7 @@ adds_one r cs c ts j counts next alone s h = record {
     id = h.counter + 1
 
     fits : id < 2 ^ 64
-    fits = let l : h.counter < greatest = h.left in omega arith
+    fits = let l : h.counter < last_number = h.left in omega arith
 
     read : AloneFrom r cs (last_of r.start_seq cs) [] [] (steps.Get counter_key h.answer ∷ map (λ (o : List ℕ × WriteOp). steps.Own o.0 o.1) (added id h.payload))
     read = subst (IsAlone r cs (last_of r.start_seq cs)) h.by.whole alone
@@ -209,7 +209,7 @@ claims_one r cs c ts j counts next alone s h = record {
     op = put_of (job_bytes new)
 
     fits : new.lease < 2 ^ 64
-    fits = let l : h.job.lease < greatest = h.left in omega arith
+    fits = let l : h.job.lease < last_number = h.left in omega arith
 
     kept_by_id : c.ops ≡ kept_ops ((job_key h.id, op) ∷ [])
     kept_by_id = h.by.kept ∙ ap (λ k. kept_ops ((k, op) ∷ [])) h.is_job

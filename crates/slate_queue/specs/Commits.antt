@@ -17,7 +17,7 @@ use Rattle.slate_mem.specs.Batch.{Ops, batch_keys, kept_ops}
 use Rattle.slate_txn.specs.declared.event.TranscriptStep.{TranscriptStep}
 use Rattle.slate_txn.specs.declared.event.TranscriptStep.TheVariants.{Get, Scan, Next, Own}
 use Rattle.slate_queue.specs.Stored.{Job, counter_key, jobs_prefix, job_key, is_job_key, number_bytes, job_bytes, job_of, counter_in}
-use Rattle.slate_queue.specs.Jobs.{is_free, leased, new_job, longest, greatest}
+use Rattle.slate_queue.specs.Jobs.{is_free, leased, new_job, longest, last_number}
 
 pub record Writes (reads : List TranscriptStep) (changes ops : Ops) (tracked : List (List ℕ)) (ts : List TranscriptStep) : Type 0 where
   pub whole : ts ≡ reads ++ map (λ (o : List ℕ × WriteOp). Own o.0 o.1) changes
@@ -36,7 +36,7 @@ pub record IsAdd (ops : Ops) (tracked : List (List ℕ)) (ts : List TranscriptSt
   pub counter : ℕ
   pub answer : Option KeyValue
   pub read : counter_in (option_map (λ kv. kv.value) answer) ≡ Some counter
-  pub left : counter < greatest
+  pub left : counter < last_number
   pub by : Writes (Get counter_key answer ∷ []) (added (counter + 1) payload) ops tracked ts
 
 -- a row that a claim passes over: no job, or one that isn't free
@@ -53,7 +53,7 @@ pub record IsClaim (now : ℤ) (ops : Ops) (tracked : List (List ℕ)) (ts : Lis
   pub job : Job
   pub stands : job_of row.value ≡ Some job
   pub free : is_free now job ≡ true
-  pub left : job.lease < greatest
+  pub left : job.lease < last_number
   pub ms : ℕ
   pub fits : ms < 2 ^ 64
   pub by : Writes (Scan Ascending (prefix_range jobs_prefix) ∷ map (λ kv. Next 0 (Some kv)) (passed ++ (row ∷ []))) ((row.key, put_of (job_bytes (leased now ms job))) ∷ []) ops tracked ts

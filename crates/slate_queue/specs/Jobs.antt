@@ -3,6 +3,7 @@
 --     is_free now j      a claim at the moment may take the job
 --     first_free now q      the free job with the least id
 --     leased now ms j      the job under its next lease
+--     longest, last_number      the longest payload, and the last number of an id or a lease
 --     Call, Answer      what is asked, and what is answered
 --     queue_step q call      the queue behind the call and its answer, or why it is refused
 use Rattle.std.specs.Prelude.{◌≡◌, ℕ, zero, suc, ◌+◌, ◌-◌, ◌^◌, ℤ, pos, ◌+ℤ◌, int_le, int_lt, Bool, ◌||◌, if◌then◌else◌, nat_eq, nat_le, nat_lt, List, length, Option, Some, None, Result, Ok, Err}
@@ -63,19 +64,19 @@ pub data Answer : Type 0 where
 abbrev pub longest : ℕ
 longest = 2 ^ 32 - 17
 
-abbrev pub greatest : ℕ
-greatest = 2 ^ 64 - 1
+abbrev pub last_number : ℕ
+last_number = 2 ^ 64 - 1
 
 abbrev pub add_step : Queue → List ℕ → Result (Queue × Answer) QueueError
 add_step q payload =
     if nat_lt longest (length payload) then Err (errors.PayloadTooLong (length payload))
-    else if nat_le greatest q.counter then Err errors.IdsSpent
+    else if nat_le last_number q.counter then Err errors.IdsSpent
     else Ok (with_job (record q { counter = q.counter + 1 }) (q.counter + 1) (Some (new_job payload)), Added (q.counter + 1))
 
 abbrev pub claim_step : Queue → ℤ → ℕ → Option (ℕ × Job) → Result (Queue × Answer) QueueError
 claim_step q now ms None = Ok (q, NoneFree)
 claim_step q now ms (Some f) =
-    if nat_le greatest f.1.lease then Err (errors.LeasesSpent f.0)
+    if nat_le last_number f.1.lease then Err (errors.LeasesSpent f.0)
     else Ok (with_job q f.0 (Some (leased now ms f.1)), Claimed f.0 (f.1.lease + 1) f.1.payload)
 
 abbrev pub finish_step : Queue → ℕ → ℕ → Option Job → Result (Queue × Answer) QueueError

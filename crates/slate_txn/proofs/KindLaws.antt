@@ -15,7 +15,7 @@ use Rattle.slate_txn.specs.Replay.{apply, apply_all, replay, Allowed, LegalFrom,
 use Rattle.slate_txn.specs.Alone.{IsAlone}
 use Rattle.slate_txn.specs.Vouched.{AreVouched, TracksReads, AloneWhere, AloneBy, AloneAt, AreAloneFrom}
 use Rattle.slate_txn.specs.Laws.{Counts}
-use Rattle.slate_txn.specs.Audited.{Kind, IsOfKindBy, IsOfKindAt, AreOfKindFrom, AreOfKind, TracksAll, StandsOn, PassesOn}
+use Rattle.slate_txn.specs.Audited.{Kind, IsOfKindBy, IsOfKindAt, AreOfKindFrom, AreOfKind, TracksAll, ComesNext, PassesOn}
 use Rattle.slate_txn.proofs.SequenceLaws.{apply_counts}
 use Rattle.slate_txn.proofs.PlaceLaws.{each_at_its_place}
 
@@ -41,7 +41,7 @@ serial r s Snapshot begin ts e all a = cc
 serial r s SerializableSnapshot begin ts e all a = a (tracks_reads s.commits begin (reads_of ts) all)
 
 stands_on : (r : Rules) (kind : Kind) (P : List Commit → Type 0) (tracks : TracksAll kind) (s : State) (o : Option Tx) (c : Commit) (ts : List TranscriptStep) → Counts r.start_seq s.commits → c.seq ≡ last_of r.start_seq s.commits + 1 → Holds P s.commits →
-    IsOfKindBy kind o (Some c.seq) c.now c.ops c.tracked ts → AloneBy r s o ts → StandsOn r kind P s.commits c ts
+    IsOfKindBy kind o (Some c.seq) c.now c.ops c.tracked ts → AloneBy r s o ts → ComesNext r kind P s.commits c ts
 stands_on r kind P tracks s None c ts counts next holds is a = absurd is
 stands_on r kind P tracks s (Some t) c ts counts next holds is a = record {
   counts = counts;
@@ -52,7 +52,7 @@ stands_on r kind P tracks s (Some t) c ts counts next holds is a = record {
   alone = serial r s t.level t.begin ts (tracks.serializable t.level c.now c.ops c.tracked ts is) holds.tracked a;
 }
 
-holds_more : (r : Rules) (kind : Kind) (P : List Commit → Type 0) (tracks : TracksAll kind) (goes : PassesOn r kind P) (cs : List Commit) (c : Commit) (ts : List TranscriptStep) → TrackAll cs → StandsOn r kind P cs c ts → Holds P (cs ++ (c ∷ []))
+holds_more : (r : Rules) (kind : Kind) (P : List Commit → Type 0) (tracks : TracksAll kind) (goes : PassesOn r kind P) (cs : List Commit) (c : Commit) (ts : List TranscriptStep) → TrackAll cs → ComesNext r kind P cs c ts → Holds P (cs ++ (c ∷ []))
 holds_more r kind P tracks goes cs c ts all on = record { whole = goes.more cs c ts on; tracked = more_tracked cs c all (tracks.tracks on.level c.now c.ops c.tracked ts on.of_kind) }
 
 holds_event : (r : Rules) (kind : Kind) (P : List Commit → Type 0) (tracks : TracksAll kind) (goes : PassesOn r kind P) (s : State) (used : List (List ℕ)) (e : Event) → Counts r.start_seq s.commits → Allowed r.start_seq s used e →
@@ -83,7 +83,7 @@ holds_of_all r kind P tracks goes es legal vouched is =
 
 stands_from : (r : Rules) (kind : Kind) (P : List Commit → Type 0) (tracks : TracksAll kind) (goes : PassesOn r kind P) (before : List Event) (id : List ℕ) (c : Commit) (ts : List TranscriptStep) (later : List Event) (s : State) (used : List (List ℕ)) →
     Counts r.start_seq s.commits → LegalFrom r.start_seq s used (before ++ (events.Commit id (Some c.seq) c.now c.ops c.tracked ts ∷ later)) → AreOfKindFrom kind s (before ++ (events.Commit id (Some c.seq) c.now c.ops c.tracked ts ∷ later)) →
-    AreAloneFrom r s (before ++ (events.Commit id (Some c.seq) c.now c.ops c.tracked ts ∷ later)) → Holds P s.commits → StandsOn r kind P (apply_all s before).commits c ts
+    AreAloneFrom r s (before ++ (events.Commit id (Some c.seq) c.now c.ops c.tracked ts ∷ later)) → Holds P s.commits → ComesNext r kind P (apply_all s before).commits c ts
 stands_from r kind P tracks goes [] id c ts later s used counts legal is alone h = stands_on r kind P tracks s (find_named id s.txns) c ts counts legal.0.1.0 h is.0 alone.0
 stands_from r kind P tracks goes (e ∷ before) id c ts later s used counts legal is alone h =
     stands_from r kind P tracks goes before id c ts later (apply s e) (ids_of e ++ used) (apply_counts r.start_seq s used e counts legal.0) legal.1 is.1 alone.1
@@ -92,6 +92,6 @@ stands_from r kind P tracks goes (e ∷ before) id c ts later s used counts lega
 -- before each commit of such a journal
 pub stands_before : (r : Rules) (kind : Kind) (P : List Commit → Type 0) → TracksAll kind → PassesOn r kind P → (before later : List Event) (id : List ℕ) (c : Commit) (ts : List TranscriptStep) →
     IsLegal r.start_seq (before ++ (events.Commit id (Some c.seq) c.now c.ops c.tracked ts ∷ later)) → AreVouched r (before ++ (events.Commit id (Some c.seq) c.now c.ops c.tracked ts ∷ later)) →
-    AreOfKind kind (before ++ (events.Commit id (Some c.seq) c.now c.ops c.tracked ts ∷ later)) → StandsOn r kind P (replay before).commits c ts
+    AreOfKind kind (before ++ (events.Commit id (Some c.seq) c.now c.ops c.tracked ts ∷ later)) → ComesNext r kind P (replay before).commits c ts
 stands_before r kind P tracks goes before later id c ts legal vouched is =
     stands_from r kind P tracks goes before id c ts later opening [] tt legal is (each_at_its_place r (before ++ (events.Commit id (Some c.seq) c.now c.ops c.tracked ts ∷ later)) legal vouched) (record { whole = goes.first; tracked = tt })

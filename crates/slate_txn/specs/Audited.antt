@@ -9,7 +9,7 @@
 --     OpensNew s e      an event begins no transaction under an id that is open
 --     TracksAll kind      each commit of the kind is serializable, and tracks all its keys
 --     PassesOn r kind P      P holds of no commits, and of one more of the kind whose transcript is answered as just before it
---     StandsOn r kind P cs c ts      what is known of such a commit before it is made
+--     ComesNext r kind P cs c ts      what is known of such a commit before it is made
 use Rattle.std.specs.Prelude.{◌≡◌, ℕ, ◌+◌, List, [], ◌∷◌, ◌++◌, Option, Some, None, option_map, ⊤, ℤ}
 use Rattle.slate_types.specs.declared.config.IsolationLevel.{IsolationLevel}
 use Rattle.slate_types.specs.declared.config.IsolationLevel.TheVariants.{SerializableSnapshot}
@@ -78,7 +78,7 @@ pub record TracksAll (kind : Kind) : Type 0 where
   pub tracks : (level : IsolationLevel) (now : ℤ) (ops : Ops) (tracked : List (List ℕ)) (ts : List TranscriptStep) → kind level now ops tracked ts → tracked ≡ batch_keys ops
 
 -- c: a commit of the kind; cs: the commits before it
-pub record StandsOn (r : Rules) (kind : Kind) (P : List Commit → Type 0) (cs : List Commit) (c : Commit) (ts : List TranscriptStep) : Type 0 where
+pub record ComesNext (r : Rules) (kind : Kind) (P : List Commit → Type 0) (cs : List Commit) (c : Commit) (ts : List TranscriptStep) : Type 0 where
   pub counts : Counts r.start_seq cs
   pub next : c.seq ≡ last_of r.start_seq cs + 1
   pub before : P cs
@@ -88,4 +88,4 @@ pub record StandsOn (r : Rules) (kind : Kind) (P : List Commit → Type 0) (cs :
 
 pub record PassesOn (r : Rules) (kind : Kind) (P : List Commit → Type 0) : Type 0 where
   pub first : P []
-  pub more : (cs : List Commit) (c : Commit) (ts : List TranscriptStep) → StandsOn r kind P cs c ts → P (cs ++ (c ∷ []))
+  pub more : (cs : List Commit) (c : Commit) (ts : List TranscriptStep) → ComesNext r kind P cs c ts → P (cs ++ (c ∷ []))
