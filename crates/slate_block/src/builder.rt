@@ -1,5 +1,5 @@
 //! Blocks, built row by row.
-ghost use Rattle.std.specs.Prelude.{◌≡◌, ◌≤◌, ◌<◌, ◌^◌, ◌↔◌, ◌⊎◌, ◌==◌, [], true, false, Ok, Err, length, map, IfOk, IfErr, OnOk, OnErr, IsOkUnless};
+ghost use Rattle.std.specs.Prelude.{◌≡◌, ◌≤◌, ◌<◌, ◌^◌, ◌↔◌, ◌⊎◌, ◌==◌, [], true, false, Ok, Err, length, map, IfOk, IfErr, OnOk, OnErr, IsOk};
 ghost use Rattle.slate_block.specs.BlockSpelling.{IsBlockOf, FitsBlock, block_spelling, block_bytes, as_read, longest};
 ghost use Rattle.slate_block.specs.Building.{number, front_key, Held, Held_prop, CanTake, Building, with_row};
 ghost use Rattle.slate_block.specs.Fitting.{fits_in};
@@ -35,23 +35,23 @@ impl Model for BlockBuilder {
 
 impl BlockBuilder {
     /// A builder of a block of version 1 that is held to this block size, 1 to 65535. The first row always fits, and the
-    /// block may pass the size by 2. The one error is `OutOfMemory`.
+    /// block may pass the size by 2. It takes no memory, and is never refused.
     pub fn new_v1(alloc: Global, block_size: u32) -> Result<BlockBuilder, SlateDBError>
         requires some { 1 ≤ block_size }
         requires few { block_size ≤ 65535 }
         ensures builder { IfOk result (λ b. b ≡ record { version = 1; size = block_size; rows = [] }) }
-        ensures cause { IsOkUnless result SlateDBError.OutOfMemory }
+        ensures fine { IsOk result }
     {
         Ok(BlockBuilder::of_version(alloc, Version::V1, block_size))
     }
 
-    /// A builder of a block of version 2 that is held to this block size, 1 to 65535. The first row always fits. The one
-    /// error is `OutOfMemory`.
+    /// A builder of a block of version 2 that is held to this block size, 1 to 65535. The first row always fits. It
+    /// takes no memory, and is never refused.
     pub fn new_v2(alloc: Global, block_size: u32) -> Result<BlockBuilder, SlateDBError>
         requires some { 1 ≤ block_size }
         requires few { block_size ≤ 65535 }
         ensures builder { IfOk result (λ b. b ≡ record { version = 2; size = block_size; rows = [] }) }
-        ensures cause { IsOkUnless result SlateDBError.OutOfMemory }
+        ensures fine { IsOk result }
     {
         Ok(BlockBuilder::of_version(alloc, Version::V2, block_size))
     }
@@ -61,7 +61,7 @@ impl BlockBuilder {
         requires some { 1 ≤ block_size }
         requires few { block_size ≤ 65535 }
         ensures builder { IfOk result (λ b. b ≡ record { version = 3; size = block_size; rows = [] }) }
-        ensures cause { IsOkUnless result SlateDBError.OutOfMemory }
+        ensures fine { IsOk result }
     {
         Ok(BlockBuilder::of_version(alloc, Version::V3, block_size))
     }
@@ -71,7 +71,7 @@ impl BlockBuilder {
         requires some { 1 ≤ block_size }
         requires few { block_size ≤ 65535 }
         ensures builder { IfOk result (λ b. b ≡ record { version = 2; size = block_size; rows = [] }) }
-        ensures cause { IsOkUnless result SlateDBError.OutOfMemory }
+        ensures fine { IsOk result }
     {
         BlockBuilder::new_v2(alloc, block_size)
     }

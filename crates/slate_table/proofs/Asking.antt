@@ -14,7 +14,7 @@ use Rattle.slate_table.proofs.Results.{store_still, store_err, store_longer}
 -- want of memory, where nothing was asked, and behind a call that is Ok
 memory_counts : {A : Type 0} (n m : ℕ) (r : Result A SlateDBError) → m ≡ n → IsOkUnless r OutOfMemory → Counts n m r
 memory_counts n m (Ok x) same is = same
-memory_counts n m (Err e) same is = (inl is, omega (arith, same))
+memory_counts n m (Err e) same is = inl (is, same)
 
 pub unasked : {X A : Type 0} {encoded decoded : X → List ℕ → List ℕ} {faults : X → ℕ} {t : Option X} {r : Result A SlateDBError} →
     IsOkUnless r OutOfMemory → Asks encoded decoded faults t t r
@@ -62,15 +62,16 @@ asks_again {X} {A} {B} {encoded} {decoded} {faults} {old} {between} {new} {x} {r
 }
 
 -- from the clauses of a call, and back
-told_counts : {A : Type 0} (n m : ℕ) (r : Result A SlateDBError) → n ≤ m → (r ≡ Err BlockTransformError) ⊎ (r ≡ Err OutOfMemory) ⊎ (m ≡ n) → IfErr r (IsTransformFault n m) → Counts n m r
+told_counts : {A : Type 0} (n m : ℕ) (r : Result A SlateDBError) → n ≤ m → (r ≡ Err BlockTransformError) ⊎ (m ≡ n) → IfErr r (IsTransformFault n m) → Counts n m r
 told_counts n m (Ok x) later (inl failed) cause = absurd cc
-told_counts n m (Ok x) later (inr (inl memory)) cause = absurd cc
-told_counts n m (Ok x) later (inr (inr same)) cause = same
-told_counts n m (Err e) later still cause = (cause, later)
+told_counts n m (Ok x) later (inr same) cause = same
+told_counts n m (Err e) later still (inr fault) = inr (fault.0, fault.1, later)
+told_counts n m (Err e) later (inl failed) (inl memory) = absurd cc
+told_counts n m (Err e) later (inr same) (inl memory) = inl (memory, same)
 
 pub asks_of : {X A : Type 0} {encoded decoded : X → List ℕ → List ℕ} {faults : X → ℕ} {old new : Option X} {r : Result A SlateDBError} →
     changed_by encoded new ≡ changed_by encoded old → changed_by decoded new ≡ changed_by decoded old → faults_of faults old ≤ faults_of faults new →
-    (r ≡ Err BlockTransformError) ⊎ (r ≡ Err OutOfMemory) ⊎ (faults_of faults new ≡ faults_of faults old) →
+    (r ≡ Err BlockTransformError) ⊎ (faults_of faults new ≡ faults_of faults old) →
     IfErr r (IsTransformFault (faults_of faults old) (faults_of faults new)) → Asks encoded decoded faults old new r
 asks_of {X} {A} {encoded} {decoded} {faults} {old} {new} {r} encodes decodes later still cause = record {
   same_encoded = encodes;
@@ -80,21 +81,23 @@ asks_of {X} {A} {encoded} {decoded} {faults} {old} {new} {r} encodes decodes lat
 
 pub cause_of : {A : Type 0} (n m : ℕ) (r : Result A SlateDBError) → Counts n m r → IfErr r (IsTransformFault n m)
 cause_of n m (Ok x) c = tt
-cause_of n m (Err e) c = c.0
+cause_of n m (Err e) (inl c) = inl c.0
+cause_of n m (Err e) (inr c) = inr (c.0, c.1)
 
 pub later_of : {A : Type 0} (n m : ℕ) (r : Result A SlateDBError) → Counts n m r → n ≤ m
 later_of n m (Ok x) c = omega (arith, c)
-later_of n m (Err e) c = c.1
+later_of n m (Err e) (inl c) = omega (arith, c.1)
+later_of n m (Err e) (inr c) = c.2
 
-pub still_of : {A : Type 0} (n m : ℕ) (r : Result A SlateDBError) → Counts n m r → (r ≡ Err BlockTransformError) ⊎ (r ≡ Err OutOfMemory) ⊎ (m ≡ n)
-still_of n m (Ok x) c = inr (inr c)
-still_of n m (Err e) (inl memory, later) = inr (inl (ap (λ (x : SlateDBError). Err x) memory))
-still_of n m (Err e) (inr fault, later) = inl (ap (λ (x : SlateDBError). Err x) fault.0)
+pub still_of : {A : Type 0} (n m : ℕ) (r : Result A SlateDBError) → Counts n m r → (r ≡ Err BlockTransformError) ⊎ (m ≡ n)
+still_of n m (Ok x) c = inr c
+still_of n m (Err e) (inl memory) = inr memory.1
+still_of n m (Err e) (inr fault) = inl (ap (λ (x : SlateDBError). Err x) fault.0)
 
 -- ---- calls that read
 
 pub unchanged : {X A : Type 0} {encoded decoded : X → List ℕ → List ℕ} {faults : X → ℕ} {t : Option X} {r : Result A SlateDBError} → Stays encoded decoded faults t t r
-unchanged = record { same_encoded = refl; same_decoded = refl; later = omega arith; still = inr (inr refl) }
+unchanged = record { same_encoded = refl; same_decoded = refl; later = omega arith; still = inr refl }
 
 pub stays_err : {X A B : Type 0} {encoded decoded : X → List ℕ → List ℕ} {faults : X → ℕ} {old new : Option X} {r : Result A SlateDBError} {e : SlateDBError} →
     Stays {A = B} encoded decoded faults old new (Err e) → IsErrAnd r (λ d. d ≡ e) → Stays encoded decoded faults old new r
@@ -104,7 +107,7 @@ stays_err {X} {A} {B} {encoded} {decoded} {faults} {old} {new} {r} {e} a is =
 
 pub stays_ok : {X A B : Type 0} {encoded decoded : X → List ℕ → List ℕ} {faults : X → ℕ} {old new : Option X} {r : Result A SlateDBError} {x : B} →
     Stays encoded decoded faults old new (Ok x) → Stays encoded decoded faults old new r
-stays_ok {x} a = record { same_encoded = a.same_encoded; same_decoded = a.same_decoded; later = a.later; still = inr (inr (still_ok x a.still)) }
+stays_ok {x} a = record { same_encoded = a.same_encoded; same_decoded = a.same_decoded; later = a.later; still = inr (still_ok x a.still) }
 
 -- behind a count that stayed
 pub stays_behind : {X A : Type 0} {encoded decoded : X → List ℕ → List ℕ} {faults : X → ℕ} {old between new : Option X} {r : Result A SlateDBError} →

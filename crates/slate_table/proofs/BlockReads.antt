@@ -32,7 +32,7 @@ one_more decode now sections section first at blocks block same there from count
 pub one_longer : (blocks : List Block) (block : Block) (first at : ℕ) → first ≤ at → length blocks ≡ at - first → length (blocks ++ block ∷ []) ≡ at + 1 - first
 one_longer blocks block first at from count = omega (arith, length-append blocks (block ∷ []), from, count)
 
-before : (decode : Encode) (sections : ℕ → SectionRead) (first at i : ℕ) (blocks : List Block) → length blocks ≡ at - first → AreBlocksRead decode sections first blocks →
+pub before : (decode : Encode) (sections : ℕ → SectionRead) (first at i : ℕ) (blocks : List Block) → length blocks ≡ at - first → AreBlocksRead decode sections first blocks →
     first ≤ i → i < at → (block : Block) × IsBlockRead decode (sections i) block
 before decode sections first at i blocks count each from below =
     elim (slice_get_cases blocks (i - first)).1 [

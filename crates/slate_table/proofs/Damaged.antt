@@ -13,6 +13,7 @@ use Rattle.slate_table.specs.IndexReading.{counted, entries_from, entry_field, i
 use Rattle.slate_table.specs.Parts.{Encode}
 use Rattle.slate_table.specs.Reading.{SectionRead, IsRefused, RefusesBlock, RefusesIndex, stored_of}
 use Rattle.slate_table.specs.SectionReading.{part_in, part_of_sum, stored_sum}
+use Rattle.slate_table.specs.StatsReading.{block_stats_field, block_stats_from, stats_in, three_numbers}
 
 -- ---- fields
 
@@ -71,6 +72,25 @@ unfolding index_of
 index_damage end bytes =
     bound (counted bytes) _ (counted_damage bytes) (λ count. bound (entries_from count.0 end None bytes count.1) _ (entries_damage count.0 end None bytes count.1) (λ entries. passes (entries.1 == length bytes) entries.0 (CorruptTable entries.1) tt))
 
+three_damage : (w : Width) (bytes : List ℕ) (at : ℕ) → IfErr (three_numbers w bytes at) IsDamage
+unfolding three_numbers
+three_damage w bytes at =
+    bound (number_field w bytes at) _ (number_damage w bytes at) (λ first. bound (number_field w bytes first.1) _ (number_damage w bytes first.1)
+    (λ second. bound (number_field w bytes second.1) _ (number_damage w bytes second.1) (λ third. tt)))
+
+blocks_damage : (count : ℕ) (bytes : List ℕ) (at : ℕ) → IfErr (block_stats_from count bytes at) IsDamage
+unfolding block_stats_from block_stats_field
+blocks_damage zero bytes at = tt
+blocks_damage (suc count) bytes at =
+    bound (block_stats_field bytes at) _ (bound (three_numbers w16 bytes at) _ (three_damage w16 bytes at) (λ n. tt)) (λ first. bound (block_stats_from count bytes first.1) _ (blocks_damage count bytes first.1) (λ rest. tt))
+
+pub stats_damage : (bytes : List ℕ) → IfErr (stats_in bytes) IsDamage
+unfolding stats_in
+stats_damage bytes =
+    bound (three_numbers w64 bytes 0) _ (three_damage w64 bytes 0) (λ all. bound (number_field w64 bytes all.1) _ (number_damage w64 bytes all.1)
+    (λ keys. bound (number_field w64 bytes keys.1) _ (number_damage w64 bytes keys.1) (λ values. bound (number_field w32 bytes values.1) _ (number_damage w32 bytes values.1)
+    (λ count. bound (block_stats_from count.0 bytes count.1) _ (blocks_damage count.0 bytes count.1) (λ blocks. fails (nat_lt blocks.1 (length bytes)) _ (CorruptTable blocks.1) tt)))))
+
 -- ---- sections
 
 pub part_damage : (cover bytes : List ℕ) → IfErr (part_in cover bytes) IsDamage
@@ -83,7 +103,7 @@ stored_damage : (cover : List ℕ) (answer : Option (List ℕ)) → IfErr (store
 stored_damage cover None = tt
 stored_damage cover (Some bytes) = part_damage cover bytes
 
-refused_damage : {A : Type 0} (r : Result A SlateDBError) (e : SlateDBError) → IfErr r IsDamage → refusal r ≡ Some e → IsDamage e
+pub refused_damage : {A : Type 0} (r : Result A SlateDBError) (e : SlateDBError) → IfErr r IsDamage → refusal r ≡ Some e → IsDamage e
 refused_damage (Ok x) e h is = absurd cc
 refused_damage (Err f) e h is = let same : f ≡ e = cc in subst IsDamage same h
 

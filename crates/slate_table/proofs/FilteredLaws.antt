@@ -23,14 +23,11 @@ use Rattle.slate_table.proofs.Covering.{none_beyond}
 use Rattle.slate_table.proofs.FilterLaws.{same_filter_part}
 use Rattle.slate_table.proofs.PolicyReads.{all_are_answered}
 use Rattle.slate_table.proofs.SectionReads.{cover_bytes, part_again}
+use Rattle.slate_table.proofs.HeldParts.{some_section}
 use Rattle.slate_table.proofs.TableFinds.{FiltersFound, filters_found, of_key_read, part_is, same_version}
 use Rattle.slate_table.proofs.TableLaws.{tables_one_way}
 
 -- a section of filters that isn't empty is that of their part
-some_section : (cover : List ℕ) (encode : Encode) (fs : List (List ℕ × List ℕ)) → 0 < length (filter_section cover encode fs) → filter_section cover encode fs ≡ section cover encode (filters_bytes fs)
-some_section cover encode [] some = absurd (omega (arith, some))
-some_section cover encode (f ∷ fs) some = refl
-
 contained : (xs ys : List RowEntry) → ((r : RowEntry) → Contains ys r → Contains xs r) → AllByRecursion (Contains xs) ys
 contained xs [] f = tt
 contained xs (y ∷ ys) f = (f y (0, omega arith, refl), contained xs ys (λ r h. f r (suc h.0, omega (arith, h.1), h.2)))

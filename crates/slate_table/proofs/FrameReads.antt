@@ -89,6 +89,10 @@ pub in_index : (bytes b f i s t : List ℕ) → bytes ≡ (((b ++ f) ++ i) ++ s)
 in_index bytes b f i s t is =
     part_at bytes (b ++ f) i (s ++ t) (length b + length f) (length i) (is ∙ append_assoc ((b ++ f) ++ i) s t ∙ append_assoc (b ++ f) i (s ++ t)) (omega (arith, length-append b f)) refl
 
+pub in_filters : (bytes b f i s t : List ℕ) → bytes ≡ (((b ++ f) ++ i) ++ s) ++ t → part_of (Some bytes) (length b) (length f) ≡ Some f
+in_filters bytes b f i s t is =
+    part_at bytes b f (i ++ (s ++ t)) (length b) (length f) (is ∙ append_assoc ((b ++ f) ++ i) s t ∙ append_assoc (b ++ f) i (s ++ t) ∙ append_assoc b f (i ++ (s ++ t))) refl refl
+
 -- the sections of blocks, and what stands behind them
 pub block_split : (bytes b f i s t front part rest : List ℕ) → bytes ≡ (((b ++ f) ++ i) ++ s) ++ t → b ≡ front ++ (part ++ rest) → bytes ≡ front ++ (part ++ (rest ++ (f ++ (i ++ (s ++ t)))))
 block_split bytes b f i s t front part rest is here =

@@ -29,12 +29,12 @@ use Rattle.slate_block.proofs.FieldLaws.{ok_is}
 use Rattle.slate_block.proofs.LongestFronts.{longest_fronts}
 use Rattle.slate_block.proofs.BlockLaws.{blocks_one_way}
 use Rattle.slate_table.specs.declared.info.SsTableHandle.{SsTableHandle}
-use Rattle.slate_table.specs.Parts.{Encode, cover_of, block_kind, index_kind, stats_kind, info_kind, section, summed, separators, index_bytes, index_entries, stats_bytes, counts}
-use Rattle.slate_table.specs.Table.{IsTableOf, block_sections, blocks_end, filters_section, index_section, stats_section, info_of}
-use Rattle.slate_table.specs.Decoded.{Info, IsIndex, FitsEntry, entry_bytes, Stats, IsStats, FitCounts, counts_bytes}
+use Rattle.slate_table.specs.Parts.{Encode, cover_of, block_kind, filters_kind, index_kind, stats_kind, info_kind, section, summed, separators, index_bytes, index_entries, stats_bytes, counts, filters_bytes}
+use Rattle.slate_table.specs.Table.{IsTableOf, block_sections, blocks_end, filter_section, filters_section, index_section, stats_section, info_of}
+use Rattle.slate_table.specs.Decoded.{Info, IsFilters, IsIndex, FitsEntry, entry_bytes, Stats, IsStats, FitCounts, counts_bytes}
 use Rattle.slate_table.specs.InfoReading.{seen_info}
 use Rattle.slate_table.specs.SectionReading.{footer_bytes}
-use Rattle.slate_table.specs.Reading.{SectionRead, section_read, IsRead, Reads, stored_of, IsRefused, IsIndexRead, RefusesIndex, IsStatsRead, RefusesStats, AreBlocksRead, block_start, blocks_size, block_answer}
+use Rattle.slate_table.specs.Reading.{SectionRead, section_read, IsRead, Reads, stored_of, IsRefused, IsIndexRead, RefusesIndex, IsStatsRead, RefusesStats, AreFiltersRead, RefusesFilters, AreBlocksRead, block_start, blocks_size, block_answer}
 use Rattle.slate_table.specs.IndexReading.{index_of}
 use Rattle.slate_table.specs.StatsReading.{stats_in}
 use Rattle.slate_table.specs.Finding.{block_read}
@@ -47,8 +47,9 @@ use Rattle.slate_table.proofs.IndexLaws.{places_count, places_below, separators_
 use Rattle.slate_table.proofs.IndexReads.{index_again}
 use Rattle.slate_table.proofs.IndexOrder.{index_is, paired_count}
 use Rattle.slate_table.proofs.StatsReads.{stats_again}
+use Rattle.slate_table.proofs.FilterLaws.{same_filter_part}
 use Rattle.slate_table.proofs.Sections.{sections_count, section_placed}
-use Rattle.slate_table.proofs.FrameReads.{part_at, part_within, starts_at, starts_rise, upto_end, answered, part_is, sections_split, in_stats, in_index, block_split, stands}
+use Rattle.slate_table.proofs.FrameReads.{part_at, part_within, starts_at, starts_rise, upto_end, answered, part_is, sections_split, in_filters, in_stats, in_index, block_split, stands}
 use Rattle.slate_types.proofs.Lists.{AllByRecursion_slice_get}
 
 -- ---- a table's bytes
@@ -228,6 +229,75 @@ index_found encode decode lawful objects before after path version id blocks fil
     let none = ap refusal (index_again (length b) text (table_entries encode version id blocks) is) in
     let at = length b + length f in
     section_refused encode decode lawful text (λ part. refusal (index_of (length b) part)) (section_read version id index_kind at read.0) e (cover_bytes version id index_kind at (omega arith)) bytes answer none read.2
+
+-- ---- the filters
+
+pub some_section : (cover : List ℕ) (encode : Encode) (fs : List (List ℕ × List ℕ)) → 0 < length (filter_section cover encode fs) → filter_section cover encode fs ≡ section cover encode (filters_bytes fs)
+some_section cover encode [] some = absurd (omega (arith, some))
+some_section cover encode (f ∷ fs) some = refl
+
+filters_answered : (encode : Encode) (objects : Option Objects) (before after : Option (List Act)) (path : List ℕ) (version id : ℕ) (blocks : List (List RowEntry)) (filters : List (List ℕ × List ℕ)) (answer : Option (List ℕ)) →
+    HoldsTable encode objects path version id blocks filters → let info = table_info encode version id blocks filters in 0 < info.filters.len → IsRead objects before after path info.filters.at info.filters.len answer →
+    answer ≡ Some (section (cover_of version id filters_kind info.filters.at) encode (filters_bytes filters))
+unfolding all_of
+filters_answered encode objects before after path version id blocks filters answer h some read =
+    let b = all_of encode version id blocks in
+    let f = filters_section encode version id blocks filters in
+    let i = index_section encode version id blocks filters in
+    let s = stats_section encode version id blocks filters in
+    let w = whole encode h.bytes version id blocks filters h.is in
+    answered objects h.told before after path h.bytes (length b) (length f) answer h.tells h.there read ∙ in_filters h.bytes b f i s (tail_of encode version id blocks filters) w.is
+    ∙ ap (λ (l : List ℕ). Some l) (some_section (cover_of version id filters_kind (length b)) encode filters some)
+
+filters_are : (encode : Encode) (bytes : List ℕ) (version id : ℕ) (blocks : List (List RowEntry)) (filters : List (List ℕ × List ℕ)) → IsTableOf encode bytes version id blocks filters → IsFilters (filters_bytes filters) filters
+filters_are encode bytes version id blocks filters t = record { few = t.few_filters; each = t.each_filter; is = refl }
+
+filters_bytes_are : (encode : Encode) (bytes : List ℕ) (version id : ℕ) (blocks : List (List RowEntry)) (filters : List (List ℕ × List ℕ)) → IsTableOf encode bytes version id blocks filters → IsBytes bytes →
+    let info = table_info encode version id blocks filters in 0 < info.filters.len → IsBytes (section (cover_of version id filters_kind info.filters.at) encode (filters_bytes filters))
+unfolding all_of
+filters_bytes_are encode bytes version id blocks filters is fits some =
+    let b = all_of encode version id blocks in
+    let f = filters_section encode version id blocks filters in
+    let i = index_section encode version id blocks filters in
+    let s = stats_section encode version id blocks filters in
+    let t = tail_of encode version id blocks filters in
+    let w = whole encode bytes version id blocks filters is in
+    let front : IsBytes (b ++ f) = front_bytes (b ++ f) i (front_bytes ((b ++ f) ++ i) s (front_bytes (((b ++ f) ++ i) ++ s) t (subst IsBytes w.is fits))) in
+    subst IsBytes (some_section (cover_of version id filters_kind (length b)) encode filters some) (bytes_behind b f front)
+
+pub filters_held : (encode decode : Encode) → IsLawfulTransform encode decode → (objects : Option Objects) (before after : Option (List Act)) (path : List ℕ) (version id : ℕ) (blocks : List (List RowEntry)) (filters found : List (List ℕ × List ℕ)) →
+    HoldsTable encode objects path version id blocks filters → let info = table_info encode version id blocks filters in 0 < info.filters.len →
+    Reads objects before after path info.filters.at info.filters.len (λ answer. AreFiltersRead decode (section_read version id filters_kind info.filters.at answer) found) → found ≡ filters
+filters_held encode decode lawful objects before after path version id blocks filters found h some (answer, read, (part, p, is)) =
+    let at = (table_info encode version id blocks filters).filters.at in
+    let answered = filters_answered encode objects before after path version id blocks filters answer h some read in
+    let same : part ≡ filters_bytes filters = part_is encode decode lawful (filters_bytes filters) part (section_read version id filters_kind at answer) answered p in
+    same_filter_part found filters is.few h.is.few_filters is.each h.is.each_filter (sym is.is ∙ same)
+
+pub filters_found : (encode decode : Encode) → IsLawfulTransform encode decode → (objects : Option Objects) (before after : Option (List Act)) (path : List ℕ) (version id : ℕ) (blocks : List (List RowEntry)) (filters : List (List ℕ × List ℕ)) (e : SlateDBError) →
+    (h : HoldsTable encode objects path version id blocks filters) → IsBytes h.bytes → let info = table_info encode version id blocks filters in 0 < info.filters.len →
+    Reads objects before after path info.filters.at info.filters.len (λ answer. RefusesFilters decode (section_read version id filters_kind info.filters.at answer) e) → ⊥
+filters_found encode decode lawful objects before after path version id blocks filters e h fits some (answer, read, refuses) = by refuses
+  where
+    at : ℕ
+    at = (table_info encode version id blocks filters).filters.at
+
+    s : SectionRead
+    s = section_read version id filters_kind at answer
+
+    text : List ℕ
+    text = filters_bytes filters
+
+    answered : answer ≡ Some (section (cover_of version id filters_kind at) encode text)
+    answered = filters_answered encode objects before after path version id blocks filters answer h some read
+
+    by : RefusesFilters decode s e → ⊥
+    by (inl none) =
+        let bytes = filters_bytes_are encode h.bytes version id blocks filters h.is fits some in
+        section_refused encode decode lawful text (λ _. None) s e (cover_bytes version id filters_kind at (omega arith)) bytes answered refl (inl none)
+    by (inr (part, p, none)) =
+        let same : part ≡ text = part_is encode decode lawful text part s answered p in
+        none.1 filters (subst (λ (l : List ℕ). IsFilters l filters) (sym same) (filters_are encode h.bytes version id blocks filters h.is))
 
 -- ---- a block
 

@@ -12,6 +12,7 @@ pub mod FrameLaws
 pub mod IndexLaws
 pub mod FilterLaws
 pub mod TableLaws
+pub mod Unasked
 pub mod StoredLaws
 pub mod CutLaws
 mod CrcLaws

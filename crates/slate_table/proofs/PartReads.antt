@@ -24,15 +24,13 @@ fails_decoding before after place bytes stored e is (inl memory) = inl memory
 fails_decoding before after place bytes stored e is (inr fault) = inr (inl (fault.0, fault.1, (stored, ap (λ (l : List ℕ). Some l) is)))
 
 -- a transformer's count where the call is Ok
-pub still_ok : {T P : Type 0} (value : T) → (Ok value ≡ Err BlockTransformError) ⊎ (Ok value ≡ Err OutOfMemory) ⊎ P → P
+pub still_ok : {T P : Type 0} (value : T) → (Ok value ≡ Err BlockTransformError) ⊎ P → P
 still_ok value (inl failed) = absurd cc
-still_ok value (inr (inl memory)) = absurd cc
-still_ok value (inr (inr same)) = same
+still_ok value (inr same) = same
 
-pub still_longer : {P Q : Type 0} (a b c : ℕ) → b ≡ a → P ⊎ Q ⊎ (c ≡ b) → P ⊎ Q ⊎ (c ≡ a)
+pub still_longer : {P : Type 0} (a b c : ℕ) → b ≡ a → P ⊎ (c ≡ b) → P ⊎ (c ≡ a)
 still_longer a b c same (inl p) = inl p
-still_longer a b c same (inr (inl q)) = inr (inl q)
-still_longer a b c same (inr (inr e)) = inr (inr (e ∙ same))
+still_longer a b c same (inr e) = inr (e ∙ same)
 
 pub refused_section : {A B : Type 0} (decode : Encode) (is : List ℕ → Option SlateDBError) (s : SectionRead) (e : SlateDBError) →
     A ⊎ B ⊎ (refusal (stored_in s) ≡ Some e) → A ⊎ B ⊎ IsRefused decode is s e
@@ -42,8 +40,6 @@ refused_section decode is s e (inr (inr r)) = inr (inr (inl r))
 
 -- the same error as another result
 pub still_err : {T U P : Type 0} (e : SlateDBError) →
-    (◌≡◌ {A = Result T SlateDBError} (Err e) (Err BlockTransformError)) ⊎ (◌≡◌ {A = Result T SlateDBError} (Err e) (Err OutOfMemory)) ⊎ P →
-    (◌≡◌ {A = Result U SlateDBError} (Err e) (Err BlockTransformError)) ⊎ (◌≡◌ {A = Result U SlateDBError} (Err e) (Err OutOfMemory)) ⊎ P
+    (◌≡◌ {A = Result T SlateDBError} (Err e) (Err BlockTransformError)) ⊎ P → (◌≡◌ {A = Result U SlateDBError} (Err e) (Err BlockTransformError)) ⊎ P
 still_err e (inl failed) = let is : e ≡ BlockTransformError = cc in inl (ap (λ (x : SlateDBError). Err x) is)
-still_err e (inr (inl memory)) = let is : e ≡ OutOfMemory = cc in inr (inl (ap (λ (x : SlateDBError). Err x) is))
-still_err e (inr (inr same)) = inr (inr same)
+still_err e (inr same) = inr same

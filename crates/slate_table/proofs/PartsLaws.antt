@@ -4,6 +4,7 @@ use Rattle.std.specs.Prelude.{slice_get, sum_by, IsSome}
 use Rattle.std.specs.List.{AllByRecursion}
 use Rattle.std.proofs.lemmas.List.{append-nil, length-append, map-append}
 use Rattle.std.proofs.lemmas.List.Sums.{sum_by-append}
+use Rattle.std.proofs.lemmas.Bool.{true≢false}
 use Rattle.std.proofs.lemmas.Bool.Decides.{nat_tests}
 use Rattle.std.proofs.lemmas.Grind.{flat_map-append}
 use Rattle.slate_types.specs.declared.types.RowEntry.{RowEntry}
@@ -414,6 +415,13 @@ ends_a_block encode min p r s past =
     let size = length (section (cover_behind p) encode (block_bytes p.block.builder.version p.block.builder.rows)) in
     let ended : ended_size encode p r ≡ Some size = ap (λ (t : Bool). cond t None (Some size)) past in
     subst (λ (o : Option ℕ). IsSome o) (sym ended ∙ old_size encode min p r s) refl
+
+pub ends_no_block : (encode : Encode) (min : ℕ) (p : TableParts) (r : RowEntry) → Stands p → section_size encode (seen min p) r ≡ None → fits_parts p r ≡ true
+ends_no_block encode min p r s none = by (fits_parts p r) refl
+  where
+    by : (fit : Bool) → fits_parts p r ≡ fit → fits_parts p r ≡ true
+    by true is = is
+    by false is = absurd (true≢false (sym (subst (λ (o : Option ℕ). IsSome o) none (ends_a_block encode min p r s is))))
 
 with_begun_count : (ended : List (List RowEntry)) (filling : List RowEntry) → Begun filling → length (with_last ended filling) ≡ length ended + 1
 with_begun_count ended [] h = absurd h

@@ -119,8 +119,9 @@ pub transform_fault : {T : Type 0} (e : TransformError) (before after : ℕ) →
 transform_fault TransformFailed before after rose = inr (refl, rose refl)
 transform_fault TransformerWantsMemory before after rose = inl refl
 
-pub transform_still : {T P : Type 0} (r : Result T TransformError) (m : Result T SlateDBError) → MatchResult r (λ x. m ≡ Ok x) (λ e. IsErrAnd m (λ d. d ≡ of_transformer e)) → OnOk r P → (m ≡ Err BlockTransformError) ⊎ (m ≡ Err OutOfMemory) ⊎ P
-transform_still (Ok x) m is p = inr (inr p)
+pub transform_still : {T P : Type 0} (r : Result T TransformError) (m : Result T SlateDBError) → MatchResult r (λ x. m ≡ Ok x) (λ e. IsErrAnd m (λ d. d ≡ of_transformer e)) → (r ≡ Err TransformFailed) ⊎ P → (m ≡ Err BlockTransformError) ⊎ P
+transform_still (Ok x) m is (inl failed) = absurd cc
+transform_still r m is (inr p) = inr p
 transform_still (Err e) (Ok x) is p = absurd is
-transform_still (Err TransformFailed) (Err d) is p = inl (ap (λ (x : SlateDBError). Err x) is)
-transform_still (Err TransformerWantsMemory) (Err d) is p = inr (inl (ap (λ (x : SlateDBError). Err x) is))
+transform_still (Err TransformFailed) (Err d) is (inl failed) = inl (ap (λ (x : SlateDBError). Err x) is)
+transform_still (Err TransformerWantsMemory) (Err d) is (inl failed) = absurd cc

@@ -10,9 +10,10 @@
 -- Where the transformer is undone:
 --     StatsAreTheTables      the statistics that are read are those of the rows
 --     IndexIsTheTables      the index that is read has the table's offsets and separators
+--     FiltersAreTheTables      the filters that are read, where the table has a section of them, are those that were built
 --     BlocksAreTheTables      the rows that are read of a block are those of the table's block, as they are read
 --     BlocksReadAreTheTables      blocks that are read by one read are the table's
---     TablesOpen, StatsAreFound, IndexIsFound, BlocksAreFound      nothing is refused in the opening, of the statistics, of the index and of a block that there is, where each number of the object is a byte
+--     TablesOpen, StatsAreFound, IndexIsFound, FiltersAreFound, BlocksAreFound      nothing is refused in the opening, of the statistics, of the index, of the filters and of a block that there is, where each number of the object is a byte
 use Rattle.std.specs.Prelude.{◌≡◌, ◌<◌, ◌≤◌, ℕ, ◌+◌, List, [], ◌∷◌, length, map, flat_map, sum_by, count_by, slice_get, Option, Some}
 use Rattle.slate_types.specs.declared.error.SlateDBError.{SlateDBError}
 use Rattle.slate_types.specs.declared.error.SlateDBError.TheVariants.{BlockOutOfRange}
@@ -26,12 +27,12 @@ use Rattle.slate_block.specs.BlockSpelling.{places, as_read, IsBlockOf}
 use Rattle.slate_block.specs.ReadingLaws.{EachIsAByte}
 use Rattle.slate_filter.specs.Policy.{Policy, filters_of}
 use Rattle.slate_table.specs.declared.info.SsTableHandle.{SsTableHandle}
-use Rattle.slate_table.specs.Parts.{Encode, index_kind, stats_kind, separators}
+use Rattle.slate_table.specs.Parts.{Encode, filters_kind, index_kind, stats_kind, separators}
 use Rattle.slate_table.specs.Table.{IsTableOf, IsBuilt, cut, some_first, some_last, block_sections, blocks_end, filters_section, index_section, stats_section}
 use Rattle.slate_table.specs.Decoded.{Info, Counts, Stats}
 use Rattle.slate_table.specs.TableEnd.{HasInfo}
 use Rattle.slate_table.specs.InfoReading.{section_place, seen_info}
-use Rattle.slate_table.specs.Reading.{Reads, section_read, IsIndexRead, RefusesIndex, IsStatsRead, RefusesStats, AreBlocksRead, block_start, blocks_size}
+use Rattle.slate_table.specs.Reading.{Reads, section_read, IsIndexRead, RefusesIndex, IsStatsRead, RefusesStats, AreFiltersRead, RefusesFilters, AreBlocksRead, block_start, blocks_size}
 use Rattle.slate_table.specs.Opening.{IsMeasured, IsOpened, RefusesOpen}
 use Rattle.slate_table.specs.Finding.{block_read}
 use Rattle.slate_table.specs.FileReading.{ReadsRows, RefusesReadRows}
@@ -123,6 +124,16 @@ abbrev pub IndexIsFound : Type 0
 IndexIsFound = (encode decode : Encode) → IsLawfulTransform encode decode → (objects : Option Objects) (before after : Option (List Act)) (path : List ℕ) (version id : ℕ) (blocks : List (List RowEntry)) (filters : List (List ℕ × List ℕ)) (e : SlateDBError) →
     (holds : HoldsTable encode objects path version id blocks filters) → EachIsAByte holds.bytes → let info = table_info encode version id blocks filters in
     Reads objects before after path info.index.at info.index.len (λ answer. RefusesIndex decode info.filters.at (section_read version id index_kind info.index.at answer) e) → ⊥
+
+abbrev pub FiltersAreTheTables : Type 0
+FiltersAreTheTables = (encode decode : Encode) → IsLawfulTransform encode decode → (objects : Option Objects) (before after : Option (List Act)) (path : List ℕ) (version id : ℕ) (blocks : List (List RowEntry)) (filters found : List (List ℕ × List ℕ)) →
+    HoldsTable encode objects path version id blocks filters → let info = table_info encode version id blocks filters in 0 < info.filters.len →
+    Reads objects before after path info.filters.at info.filters.len (λ answer. AreFiltersRead decode (section_read version id filters_kind info.filters.at answer) found) → found ≡ filters
+
+abbrev pub FiltersAreFound : Type 0
+FiltersAreFound = (encode decode : Encode) → IsLawfulTransform encode decode → (objects : Option Objects) (before after : Option (List Act)) (path : List ℕ) (version id : ℕ) (blocks : List (List RowEntry)) (filters : List (List ℕ × List ℕ)) (e : SlateDBError) →
+    (holds : HoldsTable encode objects path version id blocks filters) → EachIsAByte holds.bytes → let info = table_info encode version id blocks filters in 0 < info.filters.len →
+    Reads objects before after path info.filters.at info.filters.len (λ answer. RefusesFilters decode (section_read version id filters_kind info.filters.at answer) e) → ⊥
 
 abbrev pub BlocksAreTheTables : Type 0
 BlocksAreTheTables = (encode decode : Encode) → IsLawfulTransform encode decode → (objects : Option Objects) (before after : Option (List Act)) (path : List ℕ) (blocks : List (List RowEntry)) (filters : List (List ℕ × List ℕ)) (table : SsTableHandle) (block : ℕ) (rows : List RowEntry) →

@@ -6,6 +6,7 @@
 --     ReadsRows decode objects before after path table block rows      the index, and then the rows of one of its blocks, by one read each
 --     RefusesReadRows decode objects before after path table block e      the index is refused, or has no such block, or the block is refused
 --     FailsReadRows decode objects before after path table block a b e      the transformer failed at the index, or at the block
+--     ReadsFittingIndex objects before after path table block      the index was read, whose checksum fits, and then nothing, or the block
 --     MayReadRows decode objects before after path table block      none of the two reads was answered, or the first, or both
 use Rattle.std.specs.Prelude.{◌≡◌, ◌≤◌, ◌<◌, ◌⊎◌, ℕ, ◌+◌, if◌then◌else◌, List, length, Option, Result, Err}
 use Rattle.slate_types.specs.declared.error.SlateDBError.{SlateDBError}
@@ -19,7 +20,7 @@ use Rattle.slate_block.specs.ReadingLaws.{EachIsAByte}
 use Rattle.slate_block.specs.Walks.{block_rows}
 use Rattle.slate_table.specs.declared.info.SsTableHandle.{SsTableHandle}
 use Rattle.slate_table.specs.Parts.{Encode}
-use Rattle.slate_table.specs.Reading.{Reads, SectionRead, of_index, of_block, FailsDecoding, IsPart, IsIndexRead, RefusesIndex, IsBlockRead, RefusesBlock, block_start, blocks_size}
+use Rattle.slate_table.specs.Reading.{Fits, Reads, SectionRead, of_index, of_block, FailsDecoding, IsPart, IsIndexRead, RefusesIndex, IsBlockRead, RefusesBlock, block_start, blocks_size}
 
 abbrev pub rows_in : ℕ → Block → Result (List RowEntry) SlateDBError
 rows_in version block = if is_known version then block_rows version block.body block.offsets.items else Err (InvalidVersion version)
@@ -65,3 +66,8 @@ MayReadRows decode objects before after path table block =
     ⊎ Reads objects before after path table.info.index_offset table.info.index_len (λ _. Unit {0})
     ⊎ ((entries : List (ℕ × List ℕ)) × (between : Option (List Act)) × ReadsIndex decode objects before between path table entries × (block < length entries)
     × ReadsBlock objects between after path table entries block (λ _. Unit {0}))
+
+unfoldable pub ReadsFittingIndex : Option Objects → Option (List Act) → Option (List Act) → List ℕ → SsTableHandle → ℕ → Type 0
+ReadsFittingIndex objects before after path table block =
+    (between : Option (List Act)) × Reads objects before between path table.info.index_offset table.info.index_len (λ answer. Fits (of_index table answer))
+    × ((after ≡ between) ⊎ ((entries : List (ℕ × List ℕ)) × ReadsBlock objects between after path table entries block (λ _. Unit {0})))

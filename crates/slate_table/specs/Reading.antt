@@ -9,6 +9,7 @@
 --     read_at place answer      the same, of the section at a place
 --     of_index, of_filters, of_stats, of_block      the same, of the sections of a table that was put or opened
 --     stored_in section      what stands before the checksum of a section that was read, or the refusal
+--     Fits section      the section was read in full, and its checksum fits
 --     IsPart decode section part      a section was read whose stored bytes are decoded to the part
 --     FailsDecoding before after section e      the transformer failed at a section whose checksum fits
 --     IsRefused decode refused section e      the section is refused, or its part is
@@ -90,9 +91,12 @@ stored_in s = stored_of s.cover s.answer
 abbrev pub IsPart : Encode → SectionRead → List ℕ → Type 0
 IsPart decode s part = (stored : List ℕ) × (s.answer ≡ Some (summed s.cover stored)) × (part ≡ decode stored)
 
+abbrev pub Fits : SectionRead → Type 0
+Fits s = (stored : List ℕ) × (s.answer ≡ Some (summed s.cover stored))
+
 -- before, after: the transformer's count of faults
 abbrev pub FailsDecoding : ℕ → ℕ → SectionRead → SlateDBError → Type 0
-FailsDecoding before after s e = (e ≡ BlockTransformError) × Rose before after × ((stored : List ℕ) × (s.answer ≡ Some (summed s.cover stored)))
+FailsDecoding before after s e = (e ≡ BlockTransformError) × Rose before after × Fits s
 
 -- refused: why a part is no such part
 abbrev pub IsRefused : Encode → (List ℕ → Option SlateDBError) → SectionRead → SlateDBError → Type 0

@@ -96,7 +96,7 @@ impl EncodedSsTableBuilder {
     /// Adds a row behind the others, which it must follow, and answers the size of the section of a block that it ended. `EmptyKey`
     /// exactly for an empty key, and then `LimitReached` exactly where there would be more than 4294967295 blocks;
     /// `BlockTransformError`, which comes only where the row ends a block and the transformer's count of faults rose, or
-    /// `OutOfMemory`. Each of them leaves the builder as it was.
+    /// `OutOfMemory`. Each of them leaves the builder as it was. Where no block ends the transformer isn't asked.
     pub fn add<T: BlockTransformer>(
         &mut self,
         alloc: Global,
@@ -116,11 +116,12 @@ impl EncodedSsTableBuilder {
         ensures limit { (result ≡ Err (SlateDBError.LimitReached max_blocks)) ↔ (HasTooManyBlocks self.old entry × (0 < length entry.key)) }
         ensures empty { (result ≡ Err SlateDBError.EmptyKey) ↔ (length entry.key ≡ 0) }
         ensures cause { IfErr result (λ e. IsTransformFault (faults_of T.faults transformer.old) (faults_of T.faults transformer.new) e ⊎ (e ≡ SlateDBError.EmptyKey) ⊎ (e ≡ SlateDBError.LimitReached max_blocks)) }
+        ensures unasked { section_size (changed_by T.encoded transformer.old) self.old entry ≡ None → transformer.new ≡ transformer.old }
         ensures fault { result ≡ Err SlateDBError.BlockTransformError → IsSome (section_size (changed_by T.encoded transformer.old) self.old entry) }
         ensures same_encoded { changed_by T.encoded transformer.new ≡ changed_by T.encoded transformer.old }
         ensures same_decoded { changed_by T.decoded transformer.new ≡ changed_by T.decoded transformer.old }
         ensures later { faults_of T.faults transformer.old ≤ faults_of T.faults transformer.new }
-        ensures still { (result ≡ Err SlateDBError.BlockTransformError) ⊎ (result ≡ Err SlateDBError.OutOfMemory) ⊎ (faults_of T.faults transformer.new ≡ faults_of T.faults transformer.old) }
+        ensures still { (result ≡ Err SlateDBError.BlockTransformError) ⊎ (faults_of T.faults transformer.new ≡ faults_of T.faults transformer.old) }
     {
         match self.parts.test(&entry) {
             Ok(()) => self.parts.add(alloc, entry, transformer),
@@ -150,7 +151,7 @@ impl EncodedSsTableBuilder {
         ensures same_encoded { changed_by T.encoded transformer.new ≡ changed_by T.encoded transformer.old }
         ensures same_decoded { changed_by T.decoded transformer.new ≡ changed_by T.decoded transformer.old }
         ensures later { faults_of T.faults transformer.old ≤ faults_of T.faults transformer.new }
-        ensures still { (result ≡ Err SlateDBError.BlockTransformError) ⊎ (result ≡ Err SlateDBError.OutOfMemory) ⊎ (faults_of T.faults transformer.new ≡ faults_of T.faults transformer.old) }
+        ensures still { (result ≡ Err SlateDBError.BlockTransformError) ⊎ (faults_of T.faults transformer.new ≡ faults_of T.faults transformer.old) }
     {
         let EncodedSsTableBuilder {
             mut parts,

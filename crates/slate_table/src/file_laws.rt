@@ -1,5 +1,5 @@
 //! What files read of a table that the store holds, proved.
-ghost use Rattle.slate_table.specs.FileLaws.{BlocksAreFound, BlocksAreTheTables, BlocksReadAreTheTables, IndexIsFound, IndexIsTheTables, InfosAreTheTables, PutTablesAreHeld, StatsAreFound, StatsAreTheTables, TablesAreMeasured, TablesAreOpened, TablesOpen};
+ghost use Rattle.slate_table.specs.FileLaws.{BlocksAreFound, BlocksAreTheTables, BlocksReadAreTheTables, FiltersAreFound, FiltersAreTheTables, IndexIsFound, IndexIsTheTables, InfosAreTheTables, PutTablesAreHeld, StatsAreFound, StatsAreTheTables, TablesAreMeasured, TablesAreOpened, TablesOpen};
 
 /// Once a built table was put the store holds it, and each part that is read of it is the table's. Nothing is refused where
 /// each number of the object is a byte.
@@ -13,6 +13,8 @@ pub fn tables_are_read()
     ensures stats_found { StatsAreFound }
     ensures index { IndexIsTheTables }
     ensures index_found { IndexIsFound }
+    ensures filters { FiltersAreTheTables }
+    ensures filters_found { FiltersAreFound }
     ensures blocks { BlocksAreTheTables }
     ensures blocks_found { BlocksAreFound }
     ensures several { BlocksReadAreTheTables }

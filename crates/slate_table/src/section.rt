@@ -5,7 +5,7 @@ ghost use Rattle.slate_types.specs.Faults.{faults_of};
 ghost use Rattle.slate_block.specs.RowReading.{refusal};
 ghost use Rattle.slate_table.specs.Checksum.{crc32};
 ghost use Rattle.slate_table.specs.Parts.{section_sum, summed, section};
-ghost use Rattle.slate_table.specs.Reading.{FailsDecoding, read_at};
+ghost use Rattle.slate_table.specs.Reading.{FailsDecoding, Fits, read_at};
 ghost use Rattle.slate_table.specs.SectionReading.{
   part_of_sum,
   covered_by,
@@ -115,10 +115,11 @@ pub fn open_section<T: BlockTransformer>(
     ensures only { (stored : List ℕ) → bytes.now ≡ summed (covered_by place) stored → IfErr result (λ e. IsTransformFault (faults_of T.faults transformer.old) (faults_of T.faults transformer.new) e) }
     ensures cause { IfErr result (λ e. (e ≡ SlateDBError.OutOfMemory) ⊎ FailsDecoding (faults_of T.faults transformer.old) (faults_of T.faults transformer.new) (read_at place (Some bytes.now)) e ⊎ (refusal (part_in (covered_by place) bytes.now) ≡ Some e)) }
     ensures unasked { (e : SlateDBError) → refusal (part_in (covered_by place) bytes.now) ≡ Some e → transformer.new ≡ transformer.old }
+    ensures asked { (transformer.new ≡ transformer.old) ⊎ Fits (read_at place (Some bytes.now)) }
     ensures same_encoded { changed_by T.encoded transformer.new ≡ changed_by T.encoded transformer.old }
     ensures same_decoded { changed_by T.decoded transformer.new ≡ changed_by T.decoded transformer.old }
     ensures later { faults_of T.faults transformer.old ≤ faults_of T.faults transformer.new }
-    ensures still { (result ≡ Err SlateDBError.BlockTransformError) ⊎ (result ≡ Err SlateDBError.OutOfMemory) ⊎ (faults_of T.faults transformer.new ≡ faults_of T.faults transformer.old) }
+    ensures still { (result ≡ Err SlateDBError.BlockTransformError) ⊎ (faults_of T.faults transformer.new ≡ faults_of T.faults transformer.old) }
 {
     let stored = checked_part(bytes, place)?;
     decoded(alloc, stored, transformer)
@@ -139,7 +140,7 @@ pub fn seal_section<T: BlockTransformer>(
     ensures same_encoded { changed_by T.encoded transformer.new ≡ changed_by T.encoded transformer.old }
     ensures same_decoded { changed_by T.decoded transformer.new ≡ changed_by T.decoded transformer.old }
     ensures later { faults_of T.faults transformer.old ≤ faults_of T.faults transformer.new }
-    ensures still { (result ≡ Err SlateDBError.BlockTransformError) ⊎ (result ≡ Err SlateDBError.OutOfMemory) ⊎ (faults_of T.faults transformer.new ≡ faults_of T.faults transformer.old) }
+    ensures still { (result ≡ Err SlateDBError.BlockTransformError) ⊎ (faults_of T.faults transformer.new ≡ faults_of T.faults transformer.old) }
 {
     let stored = encoded(alloc, part, transformer)?;
     let sealed = append_summed(out, place, stored.as_slice());
@@ -182,7 +183,7 @@ pub(crate) fn encoded<T: BlockTransformer>(
     ensures same_encoded { changed_by T.encoded transformer.new ≡ changed_by T.encoded transformer.old }
     ensures same_decoded { changed_by T.decoded transformer.new ≡ changed_by T.decoded transformer.old }
     ensures later { faults_of T.faults transformer.old ≤ faults_of T.faults transformer.new }
-    ensures still { (result ≡ Err SlateDBError.BlockTransformError) ⊎ (result ≡ Err SlateDBError.OutOfMemory) ⊎ (faults_of T.faults transformer.new ≡ faults_of T.faults transformer.old) }
+    ensures still { (result ≡ Err SlateDBError.BlockTransformError) ⊎ (faults_of T.faults transformer.new ≡ faults_of T.faults transformer.old) }
 {
     match transformer {
         None => Ok(part),
@@ -200,7 +201,7 @@ fn decoded<T: BlockTransformer>(
     ensures same_encoded { changed_by T.encoded transformer.new ≡ changed_by T.encoded transformer.old }
     ensures same_decoded { changed_by T.decoded transformer.new ≡ changed_by T.decoded transformer.old }
     ensures later { faults_of T.faults transformer.old ≤ faults_of T.faults transformer.new }
-    ensures still { (result ≡ Err SlateDBError.BlockTransformError) ⊎ (result ≡ Err SlateDBError.OutOfMemory) ⊎ (faults_of T.faults transformer.new ≡ faults_of T.faults transformer.old) }
+    ensures still { (result ≡ Err SlateDBError.BlockTransformError) ⊎ (faults_of T.faults transformer.new ≡ faults_of T.faults transformer.old) }
 {
     match transformer {
         None => Ok(stored),

@@ -8,9 +8,9 @@ ghost use Rattle.slate_table.specs.Paths.{path_of};
 ghost use Rattle.slate_table.specs.SectionReading.{changed_by};
 ghost use Rattle.slate_table.specs.IndexValue.{entries_of};
 ghost use Rattle.slate_table.specs.StatsReading.{stats_of};
-ghost use Rattle.slate_table.specs.Reading.{ReadsIndex, ReadsStats, of_index, of_stats, IsStoreFault, FailsDecoding, IsIndexRead, RefusesIndex, IsStatsRead, RefusesStats};
+ghost use Rattle.slate_table.specs.Reading.{ReadsIndex, ReadsStats, of_index, of_stats, Fits, IsStoreFault, FailsDecoding, IsIndexRead, RefusesIndex, IsStatsRead, RefusesStats};
 ghost use Rattle.slate_table.specs.Opening.{IsMeasured};
-ghost use Rattle.slate_table.specs.FileReading.{rows_in, ReadsRows, RefusesReadRows, FailsReadRows, MayReadRows};
+ghost use Rattle.slate_table.specs.FileReading.{rows_in, ReadsRows, RefusesReadRows, FailsReadRows, MayReadRows, ReadsFittingIndex};
 
 use crate::info::{ObjectMetadata, SsTableHandle, SsTableInfo};
 use crate::opening::object_len;
@@ -91,6 +91,10 @@ impl SstFile {
         ensures once { let reads = ReadsStats (S.objects reader.old.store) (S.acts reader.old.store) (S.acts reader.new.store) (string_bytes reader.old.root_path) self.now.handle in
             OnErr result ((S.acts reader.new.store ≡ S.acts reader.old.store)
             ⊎ reads (λ _. Unit {0})) }
+        ensures unasked { let reads = ReadsStats (S.objects reader.old.store) (S.acts reader.old.store) (S.acts reader.new.store) (string_bytes reader.old.root_path) self.now.handle in
+            (reader.new.transformer ≡ reader.old.transformer)
+            ⊎ reads (λ answer. Fits (of_stats self.now.handle answer)) }
+        ensures unanswered { result ≡ Err SlateDBError.StoreFault → reader.new.transformer ≡ reader.old.transformer }
         ensures objects { S.objects reader.new.store ≡ S.objects reader.old.store }
         ensures root { reader.new.root_path ≡ reader.old.root_path }
         ensures same_encoded { changed_by T.encoded reader.new.transformer ≡ changed_by T.encoded reader.old.transformer }
@@ -98,7 +102,7 @@ impl SstFile {
         ensures later { S.faults reader.old.store ≤ S.faults reader.new.store }
         ensures still { (result ≡ Err SlateDBError.StoreFault) ⊎ (S.faults reader.new.store ≡ S.faults reader.old.store) }
         ensures later_transformer { faults_of T.faults reader.old.transformer ≤ faults_of T.faults reader.new.transformer }
-        ensures still_transformer { (result ≡ Err SlateDBError.BlockTransformError) ⊎ (result ≡ Err SlateDBError.OutOfMemory) ⊎ (faults_of T.faults reader.new.transformer ≡ faults_of T.faults reader.old.transformer) }
+        ensures still_transformer { (result ≡ Err SlateDBError.BlockTransformError) ⊎ (faults_of T.faults reader.new.transformer ≡ faults_of T.faults reader.old.transformer) }
     {
         let place = (self.handle.info.stats_offset, self.handle.info.stats_len);
         if place.1 == 0 {
@@ -134,6 +138,10 @@ impl SstFile {
         ensures once { let reads = ReadsIndex (S.objects reader.old.store) (S.acts reader.old.store) (S.acts reader.new.store) (string_bytes reader.old.root_path) self.now.handle in
             OnErr result ((S.acts reader.new.store ≡ S.acts reader.old.store)
             ⊎ reads (λ _. Unit {0})) }
+        ensures unasked { let reads = ReadsIndex (S.objects reader.old.store) (S.acts reader.old.store) (S.acts reader.new.store) (string_bytes reader.old.root_path) self.now.handle in
+            (reader.new.transformer ≡ reader.old.transformer)
+            ⊎ reads (λ answer. Fits (of_index self.now.handle answer)) }
+        ensures unanswered { result ≡ Err SlateDBError.StoreFault → reader.new.transformer ≡ reader.old.transformer }
         ensures objects { S.objects reader.new.store ≡ S.objects reader.old.store }
         ensures root { reader.new.root_path ≡ reader.old.root_path }
         ensures same_encoded { changed_by T.encoded reader.new.transformer ≡ changed_by T.encoded reader.old.transformer }
@@ -141,7 +149,7 @@ impl SstFile {
         ensures later { S.faults reader.old.store ≤ S.faults reader.new.store }
         ensures still { (result ≡ Err SlateDBError.StoreFault) ⊎ (S.faults reader.new.store ≡ S.faults reader.old.store) }
         ensures later_transformer { faults_of T.faults reader.old.transformer ≤ faults_of T.faults reader.new.transformer }
-        ensures still_transformer { (result ≡ Err SlateDBError.BlockTransformError) ⊎ (result ≡ Err SlateDBError.OutOfMemory) ⊎ (faults_of T.faults reader.new.transformer ≡ faults_of T.faults reader.old.transformer) }
+        ensures still_transformer { (result ≡ Err SlateDBError.BlockTransformError) ⊎ (faults_of T.faults reader.new.transformer ≡ faults_of T.faults reader.old.transformer) }
     {
         let root = reader.root_path.as_str();
         let transformer = &mut reader.transformer;
@@ -161,6 +169,7 @@ impl SstFile {
         ensures found { IfOk result (λ rows. ReadsRows (changed_by T.decoded reader.old.transformer) (S.objects reader.old.store) (S.acts reader.old.store) (S.acts reader.new.store) (path_of (string_bytes reader.old.root_path) self.now.handle.id.0) self.now.handle block rows.items) }
         ensures cause { IfErr result (λ e. IsStoreFault (S.faults reader.old.store) (S.faults reader.new.store) e ⊎ FailsReadRows (changed_by T.decoded reader.old.transformer) (S.objects reader.old.store) (S.acts reader.old.store) (S.acts reader.new.store) (path_of (string_bytes reader.old.root_path) self.now.handle.id.0) self.now.handle block (faults_of T.faults reader.old.transformer) (faults_of T.faults reader.new.transformer) e ⊎ RefusesReadRows (changed_by T.decoded reader.old.transformer) (S.objects reader.old.store) (S.acts reader.old.store) (S.acts reader.new.store) (path_of (string_bytes reader.old.root_path) self.now.handle.id.0) self.now.handle block e) }
         ensures twice { OnErr result (MayReadRows (changed_by T.decoded reader.old.transformer) (S.objects reader.old.store) (S.acts reader.old.store) (S.acts reader.new.store) (path_of (string_bytes reader.old.root_path) self.now.handle.id.0) self.now.handle block) }
+        ensures unasked { (reader.new.transformer ≡ reader.old.transformer) ⊎ ReadsFittingIndex (S.objects reader.old.store) (S.acts reader.old.store) (S.acts reader.new.store) (path_of (string_bytes reader.old.root_path) self.now.handle.id.0) self.now.handle block }
         ensures objects { S.objects reader.new.store ≡ S.objects reader.old.store }
         ensures root { reader.new.root_path ≡ reader.old.root_path }
         ensures same_encoded { changed_by T.encoded reader.new.transformer ≡ changed_by T.encoded reader.old.transformer }
@@ -168,7 +177,7 @@ impl SstFile {
         ensures later { S.faults reader.old.store ≤ S.faults reader.new.store }
         ensures still { (result ≡ Err SlateDBError.StoreFault) ⊎ (S.faults reader.new.store ≡ S.faults reader.old.store) }
         ensures later_transformer { faults_of T.faults reader.old.transformer ≤ faults_of T.faults reader.new.transformer }
-        ensures still_transformer { (result ≡ Err SlateDBError.BlockTransformError) ⊎ (result ≡ Err SlateDBError.OutOfMemory) ⊎ (faults_of T.faults reader.new.transformer ≡ faults_of T.faults reader.old.transformer) }
+        ensures still_transformer { (result ≡ Err SlateDBError.BlockTransformError) ⊎ (faults_of T.faults reader.new.transformer ≡ faults_of T.faults reader.old.transformer) }
     {
         let index = self.index(alloc, reader)?;
         test_block(&index, block)?;

@@ -126,6 +126,7 @@ impl TableParts {
         ensures same { OnErr result (IsSame self.old self.new) }
         ensures size { IfOk result (λ size. size ≡ ended_size (changed_by T.encoded transformer.old) self.old entry) }
         ensures asks { Asks T.encoded T.decoded T.faults transformer.old transformer.new result }
+        ensures unasked { fits_parts self.old entry ≡ true → transformer.new ≡ transformer.old }
         ensures fault { result ≡ Err SlateDBError.BlockTransformError → fits_parts self.old entry ≡ false }
     {
         match self.write(alloc, &entry, transformer) {
@@ -156,6 +157,7 @@ impl TableParts {
         ensures same { OnErr result (IsSame self.old self.new) }
         ensures size { IfOk result (λ size. size ≡ ended_size (changed_by T.encoded transformer.old) self.old entry.now) }
         ensures asks { Asks T.encoded T.decoded T.faults transformer.old transformer.new result }
+        ensures unasked { fits_parts self.old entry.now ≡ true → transformer.new ≡ transformer.old }
         ensures fault { result ≡ Err SlateDBError.BlockTransformError → fits_parts self.old entry.now ≡ false }
     {
         self.rows.reserve(1)?;

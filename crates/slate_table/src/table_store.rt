@@ -28,6 +28,7 @@ ghost use Rattle.slate_table.specs.Reading.{
   stored_in,
   IsPart,
   FailsDecoding,
+  Fits,
   IsIndexRead,
   RefusesIndex,
   AreFiltersRead,
@@ -99,7 +100,8 @@ impl TableStore {
     /// The index of a table, by one read of its section. `StoreFault`, only where the store's count of faults rose;
     /// `CorruptTable` at 0 where the section isn't there in full or is shorter than a checksum, then `ChecksumMismatch`, then
     /// `BlockTransformError`, only where the transformer's count rose, then `CorruptTable` where the part is no index of
-    /// blocks that end where the filters begin; or `OutOfMemory`.
+    /// blocks that end where the filters begin; or `OutOfMemory`. Where the section isn't there in full, or its checksum doesn't fit,
+    /// the transformer isn't asked.
     pub fn read_index<S: Store, T: BlockTransformer>(
         alloc: Global,
         store: &mut S,
@@ -116,13 +118,17 @@ impl TableStore {
         ensures once { let reads = ReadsIndex (S.objects store.old) (S.acts store.old) (S.acts store.new) root.now table.now in
             OnErr result ((S.acts store.new ≡ S.acts store.old)
             ⊎ reads (λ _. Unit {0})) }
+        ensures unasked { let reads = ReadsIndex (S.objects store.old) (S.acts store.old) (S.acts store.new) root.now table.now in
+            (transformer.new ≡ transformer.old)
+            ⊎ reads (λ answer. Fits (of_index table.now answer)) }
+        ensures unanswered { result ≡ Err SlateDBError.StoreFault → transformer.new ≡ transformer.old }
         ensures objects { S.objects store.new ≡ S.objects store.old }
         ensures same_encoded { changed_by T.encoded transformer.new ≡ changed_by T.encoded transformer.old }
         ensures same_decoded { changed_by T.decoded transformer.new ≡ changed_by T.decoded transformer.old }
         ensures later { S.faults store.old ≤ S.faults store.new }
         ensures still { (result ≡ Err SlateDBError.StoreFault) ⊎ (S.faults store.new ≡ S.faults store.old) }
         ensures later_transformer { faults_of T.faults transformer.old ≤ faults_of T.faults transformer.new }
-        ensures still_transformer { (result ≡ Err SlateDBError.BlockTransformError) ⊎ (result ≡ Err SlateDBError.OutOfMemory) ⊎ (faults_of T.faults transformer.new ≡ faults_of T.faults transformer.old) }
+        ensures still_transformer { (result ≡ Err SlateDBError.BlockTransformError) ⊎ (faults_of T.faults transformer.new ≡ faults_of T.faults transformer.old) }
     {
         let place = (table.info.index_offset, table.info.index_len);
         let part = read_part(alloc, store, root, table, INDEX_KIND, place, transformer)?;
@@ -150,13 +156,17 @@ impl TableStore {
         ensures once { let reads = ReadsFilters (S.objects store.old) (S.acts store.old) (S.acts store.new) root.now table.now in
             OnErr result ((S.acts store.new ≡ S.acts store.old)
             ⊎ reads (λ _. Unit {0})) }
+        ensures unasked { let reads = ReadsFilters (S.objects store.old) (S.acts store.old) (S.acts store.new) root.now table.now in
+            (transformer.new ≡ transformer.old)
+            ⊎ reads (λ answer. Fits (of_filters table.now answer)) }
+        ensures unanswered { result ≡ Err SlateDBError.StoreFault → transformer.new ≡ transformer.old }
         ensures objects { S.objects store.new ≡ S.objects store.old }
         ensures same_encoded { changed_by T.encoded transformer.new ≡ changed_by T.encoded transformer.old }
         ensures same_decoded { changed_by T.decoded transformer.new ≡ changed_by T.decoded transformer.old }
         ensures later { S.faults store.old ≤ S.faults store.new }
         ensures still { (result ≡ Err SlateDBError.StoreFault) ⊎ (S.faults store.new ≡ S.faults store.old) }
         ensures later_transformer { faults_of T.faults transformer.old ≤ faults_of T.faults transformer.new }
-        ensures still_transformer { (result ≡ Err SlateDBError.BlockTransformError) ⊎ (result ≡ Err SlateDBError.OutOfMemory) ⊎ (faults_of T.faults transformer.new ≡ faults_of T.faults transformer.old) }
+        ensures still_transformer { (result ≡ Err SlateDBError.BlockTransformError) ⊎ (faults_of T.faults transformer.new ≡ faults_of T.faults transformer.old) }
     {
         if table.info.filter_len == 0 {
             return Ok(Vec::new(alloc));
@@ -187,13 +197,17 @@ impl TableStore {
         ensures once { let reads = ReadsFilters (S.objects store.old) (S.acts store.old) (S.acts store.new) root.now table.now in
             OnErr result ((S.acts store.new ≡ S.acts store.old)
             ⊎ reads (λ _. Unit {0})) }
+        ensures unasked { let reads = ReadsFilters (S.objects store.old) (S.acts store.old) (S.acts store.new) root.now table.now in
+            (transformer.new ≡ transformer.old)
+            ⊎ reads (λ answer. Fits (of_filters table.now answer)) }
+        ensures unanswered { result ≡ Err SlateDBError.StoreFault → transformer.new ≡ transformer.old }
         ensures objects { S.objects store.new ≡ S.objects store.old }
         ensures same_encoded { changed_by T.encoded transformer.new ≡ changed_by T.encoded transformer.old }
         ensures same_decoded { changed_by T.decoded transformer.new ≡ changed_by T.decoded transformer.old }
         ensures later { S.faults store.old ≤ S.faults store.new }
         ensures still { (result ≡ Err SlateDBError.StoreFault) ⊎ (S.faults store.new ≡ S.faults store.old) }
         ensures later_transformer { faults_of T.faults transformer.old ≤ faults_of T.faults transformer.new }
-        ensures still_transformer { (result ≡ Err SlateDBError.BlockTransformError) ⊎ (result ≡ Err SlateDBError.OutOfMemory) ⊎ (faults_of T.faults transformer.new ≡ faults_of T.faults transformer.old) }
+        ensures still_transformer { (result ≡ Err SlateDBError.BlockTransformError) ⊎ (faults_of T.faults transformer.new ≡ faults_of T.faults transformer.old) }
     {
         if !asks_filters(policies, table.info.filter_len) {
             return Ok(true);
@@ -231,13 +245,17 @@ impl TableStore {
         ensures once { let reads = ReadsBlocks (S.objects store.old) (S.acts store.old) (S.acts store.new) root.now table.now (entries_of index.now) blocks.start blocks.end in
             OnErr result ((S.acts store.new ≡ S.acts store.old)
             ⊎ reads (λ _. Unit {0})) }
+        ensures unasked { let reads = ReadsBlocks (S.objects store.old) (S.acts store.old) (S.acts store.new) root.now table.now (entries_of index.now) blocks.start blocks.end in
+            (transformer.new ≡ transformer.old)
+            ⊎ reads (λ answer. Fits (of_blocks table.now (entries_of index.now) blocks.start answer blocks.start)) }
+        ensures unanswered { result ≡ Err SlateDBError.StoreFault → transformer.new ≡ transformer.old }
         ensures objects { S.objects store.new ≡ S.objects store.old }
         ensures same_encoded { changed_by T.encoded transformer.new ≡ changed_by T.encoded transformer.old }
         ensures same_decoded { changed_by T.decoded transformer.new ≡ changed_by T.decoded transformer.old }
         ensures later { S.faults store.old ≤ S.faults store.new }
         ensures still { (result ≡ Err SlateDBError.StoreFault) ⊎ (S.faults store.new ≡ S.faults store.old) }
         ensures later_transformer { faults_of T.faults transformer.old ≤ faults_of T.faults transformer.new }
-        ensures still_transformer { (result ≡ Err SlateDBError.BlockTransformError) ⊎ (result ≡ Err SlateDBError.OutOfMemory) ⊎ (faults_of T.faults transformer.new ≡ faults_of T.faults transformer.old) }
+        ensures still_transformer { (result ≡ Err SlateDBError.BlockTransformError) ⊎ (faults_of T.faults transformer.new ≡ faults_of T.faults transformer.old) }
     {
         if blocks.start >= blocks.end {
             return Ok(Vec::new(alloc));
@@ -297,6 +315,8 @@ pub(crate) fn opened<T: BlockTransformer>(
 ) -> Result<Bytes, SlateDBError>
     ensures found { IfOk result (λ part. IsPart (changed_by T.decoded transformer.old) (read_at place answer) part) }
     ensures cause { IfErr result (λ e. (e ≡ SlateDBError.OutOfMemory) ⊎ FailsDecoding (faults_of T.faults transformer.old) (faults_of T.faults transformer.new) (read_at place answer) e ⊎ (refusal (stored_in (read_at place answer)) ≡ Some e)) }
+    ensures unasked { (transformer.new ≡ transformer.old) ⊎ Fits (read_at place answer) }
+    ensures unanswered { result ≡ Err SlateDBError.StoreFault → transformer.new ≡ transformer.old }
     ensures stays { Stays T.encoded T.decoded T.faults transformer.old transformer.new result }
 {
     match answer {
@@ -328,6 +348,10 @@ pub(crate) fn read_part<S: Store, T: BlockTransformer>(
     ensures once { let reads = Reads (S.objects store.old) (S.acts store.old) (S.acts store.new) (path_of root.now table.now.id.0) place.0 place.1 in
         OnErr result ((S.acts store.new ≡ S.acts store.old)
         ⊎ reads (λ _. Unit {0})) }
+    ensures unasked { let reads = Reads (S.objects store.old) (S.acts store.old) (S.acts store.new) (path_of root.now table.now.id.0) place.0 place.1 in
+        (transformer.new ≡ transformer.old)
+        ⊎ reads (λ answer. Fits (section_read table.now.format_version table.now.id.0 kind place.0 answer)) }
+    ensures unanswered { result ≡ Err SlateDBError.StoreFault → transformer.new ≡ transformer.old }
     ensures reaches { Reaches S.objects S.faults store.old store.new result }
     ensures stays { Stays T.encoded T.decoded T.faults transformer.old transformer.new result }
 {
@@ -352,6 +376,10 @@ fn filters_of<S: Store, T: BlockTransformer>(
     ensures once { let reads = ReadsFilters (S.objects store.old) (S.acts store.old) (S.acts store.new) root.now table.now in
         OnErr result ((S.acts store.new ≡ S.acts store.old)
         ⊎ reads (λ _. Unit {0})) }
+    ensures unasked { let reads = ReadsFilters (S.objects store.old) (S.acts store.old) (S.acts store.new) root.now table.now in
+        (transformer.new ≡ transformer.old)
+        ⊎ reads (λ answer. Fits (of_filters table.now answer)) }
+    ensures unanswered { result ≡ Err SlateDBError.StoreFault → transformer.new ≡ transformer.old }
     ensures reaches { Reaches S.objects S.faults store.old store.new result }
     ensures stays { Stays T.encoded T.decoded T.faults transformer.old transformer.new result }
 {
@@ -479,6 +507,7 @@ fn block_in<T: BlockTransformer>(
 ) -> Result<Block, SlateDBError>
     ensures found { IfOk result (λ block. IsBlockRead (changed_by T.decoded transformer.old) (read_at place answer) block) }
     ensures cause { IfErr result (λ e. (e ≡ SlateDBError.OutOfMemory) ⊎ FailsDecoding (faults_of T.faults transformer.old) (faults_of T.faults transformer.new) (read_at place answer) e ⊎ RefusesBlock (changed_by T.decoded transformer.old) (read_at place answer) e) }
+    ensures unasked { (transformer.new ≡ transformer.old) ⊎ Fits (read_at place answer) }
     ensures stays { Stays T.encoded T.decoded T.faults transformer.old transformer.new result }
 {
     let part = opened(alloc, answer, place, transformer)?;
@@ -499,6 +528,7 @@ fn each_block<T: BlockTransformer>(
     ensures found { IfOk result (λ found. AreBlocksRead (changed_by T.decoded transformer.old) (of_blocks table.now (entries_of index.now) blocks.start answer.now) blocks.start found.items) }
     ensures count { IfOk result (λ found. length found.items ≡ blocks.end - blocks.start) }
     ensures cause { IfErr result (λ e. (e ≡ SlateDBError.OutOfMemory) ⊎ FailsBlocks (changed_by T.decoded transformer.old) (of_blocks table.now (entries_of index.now) blocks.start answer.now) blocks.start blocks.end (faults_of T.faults transformer.old) (faults_of T.faults transformer.new) e ⊎ RefusesBlocks (changed_by T.decoded transformer.old) (of_blocks table.now (entries_of index.now) blocks.start answer.now) blocks.start blocks.end e) }
+    ensures unasked { (transformer.new ≡ transformer.old) ⊎ Fits (of_blocks table.now (entries_of index.now) blocks.start answer.now blocks.start) }
     ensures stays { Stays T.encoded T.decoded T.faults transformer.old transformer.new result }
 {
     let first = blocks.start;

@@ -10,7 +10,7 @@ returns-in-None g c = record {
   same_encoded = refl;
   same_decoded = refl;
   later = omega arith;
-  still = inr (inr refl);
+  still = inr refl;
 }
 
 pub returns-in-Some : goal.returns-in-Some

@@ -1,4 +1,4 @@
-use Rattle.std.proofs.Common.{◌∙◌, ap}
+use Rattle.std.proofs.Common.{◌∙◌, ℕ, List, Some, ap, inr}
 use Rattle.std.proofs.lemmas.Result.{IfOk-weaker, IfErr-weaker}
 use Rattle.slate_types.specs.Faults.{faults_of}
 use Rattle.slate_table.specs.Parts.{summed}
@@ -18,6 +18,7 @@ returns g c =
           IfErr-weaker c.decoded.result _ _
           (λ e h. fails_decoding (faults c.args.transformer.now) (faults c.decoded.new.transformer) c.args.place c.args.bytes.now c.in_ok-stored.stored e c.in_ok-stored.ensures.found h) c.decoded.ensures.cause);
       unasked = λ e refused. absurd (cc (refused, c.in_ok-stored.ensures.fits));
+      asked = inr (c.in_ok-stored.stored, ap (λ (bytes : List ℕ). Some bytes) c.in_ok-stored.ensures.found);
       same_encoded = c.decoded.ensures.same_encoded;
       same_decoded = c.decoded.ensures.same_decoded;
       later = c.decoded.ensures.later;

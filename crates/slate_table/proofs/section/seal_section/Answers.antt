@@ -17,7 +17,7 @@ returns g c =
       same_encoded = c.encoded.ensures.same_encoded;
       same_decoded = c.encoded.ensures.same_decoded;
       later = c.encoded.ensures.later;
-      still = inr (inr (still_ok c.in_ok-stored.stored c.in_ok-stored.ensures.still));
+      still = inr (still_ok c.in_ok-stored.stored c.in_ok-stored.ensures.still);
     }
 
 pub returns-in_err-stored : goal.returns-in_err-stored

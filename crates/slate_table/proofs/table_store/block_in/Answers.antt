@@ -14,6 +14,7 @@ returns g c =
     record {
       found = IfOk-weaker c.decode.result _ _ (λ block apart. (c.in_ok-part.part, c.in_ok-part.ensures.found, apart)) c.decode.ensures.found;
       cause = IfErr-weaker c.decode.result _ _ (λ e h. either (λ r. inr (inr (c.in_ok-part.part, c.in_ok-part.ensures.found, r))) h) c.decode.ensures.cause;
+      unasked = (let part = c.in_ok-part.ensures.found in inr (part.0, part.1));
       stays = stays_ok c.in_ok-part.ensures.stays;
     }
 
@@ -23,5 +24,6 @@ returns-in_err-part g c =
     record {
       found = IfOk-from_err c.from_residual.result _ c.from_residual.ensures.0;
       cause = rw (p.1, p.2) (refused_section (changed_by g.T.BlockTransformer.decoded c.args.transformer.now) (λ part. refusal (offsets_of_block part)) (read_at c.args.place c.args.answer) c.in_err-part.field-0.0 c.in_err-part.ensures.cause);
+      unasked = c.opened.ensures.unasked;
       stays = stays_err c.in_err-part.ensures.stays c.from_residual.ensures.1;
     }

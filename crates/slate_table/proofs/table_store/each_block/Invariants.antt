@@ -1,8 +1,8 @@
-use Rattle.std.proofs.Common.{◌≡◌, ◌-◌, ◌≤◌, length}
+use Rattle.std.proofs.Common.{◌≡◌, ◌⊎◌, ◌-◌, ◌≤◌, length}
 use Rattle.slate_types.specs.Faults.{faults_of}
 use Rattle.slate_table.specs.IndexValue.{entries_of}
 use Rattle.slate_table.specs.SectionReading.{changed_by}
-use Rattle.slate_table.specs.Reading.{of_blocks, AreBlocksRead}
+use Rattle.slate_table.specs.Reading.{Fits, of_blocks, AreBlocksRead}
 use Rattle.slate_table.proofs.table_store.each_block.Given as goal
 
 abbrev pub invariant-loop-at : goal.invariant-loop-at
@@ -17,4 +17,5 @@ invariant-loop-at g l =
       same_encoded : changed_by encoded l.transformer ≡ changed_by encoded l.initial.transformer;
       same_decoded : changed_by decoded l.transformer ≡ changed_by decoded l.initial.transformer;
       still : faults_of faults l.transformer ≡ faults_of faults l.initial.transformer;
+      asked : (l.transformer ≡ l.initial.transformer) ⊎ Fits (of_blocks l.table (entries_of l.index) l.first l.answer l.first);
     }

@@ -5,7 +5,7 @@ use Rattle.slate_block.specs.RowReading.{refusal}
 use Rattle.slate_table.specs.Paths.{path_of}
 use Rattle.slate_table.specs.declared.section.SectionPlace.{SectionPlace}
 use Rattle.slate_table.specs.SectionReading.{changed_by}
-use Rattle.slate_table.specs.Reading.{SectionRead, read_at, section_read, stored_in, IsPart, FailsDecoding}
+use Rattle.slate_table.specs.Reading.{Fits, SectionRead, read_at, section_read, stored_in, IsPart, FailsDecoding}
 use Rattle.slate_table.proofs.BlockReads.{row_refused}
 use Rattle.std.proofs.lemmas.Result.{IfOk-weaker, IfErr-weaker, err_from_is_err_and, IfOk-from_err}
 use Rattle.slate_table.proofs.Results.{on_err}
@@ -30,6 +30,12 @@ returns g c =
           (subst (λ (s : SectionRead). (e ≡ OutOfMemory) ⊎ FailsDecoding (failed c.args.transformer.now) (failed c.opened.new.transformer) s e ⊎ (refusal (stored_in s) ≡ Some e)) placed h))
           c.opened.ensures.cause);
       once = on_err c.opened.result (inr (c.in_ok-answer.answer, c.in_ok-answer.ensures.read, tt));
+      unasked = (let placed = ap (λ (p : SectionPlace). read_at p c.in_ok-answer.answer) c.place_in.ensures in
+          elim c.opened.ensures.unasked [
+            | inl same ↦ inl same
+            | inr fits ↦ inr (c.in_ok-answer.answer, c.in_ok-answer.ensures.read, subst (λ (s : SectionRead). Fits s) placed fits)
+          ]);
+      unanswered = c.opened.ensures.unanswered;
       reaches = reaches_ok c.in_ok-answer.ensures.reaches;
       stays = c.opened.ensures.stays;
     }
@@ -41,6 +47,8 @@ returns-in_err-answer g c =
       found = IfOk-from_err c.from_residual.result _ c.from_residual.ensures.0;
       cause = rw (p.1, p.2) (inl c.in_err-answer.ensures.cause);
       once = rw p.1 (inl c.in_err-answer.ensures.none);
+      unasked = inl refl;
+      unanswered = λ _. refl;
       reaches = reaches_err c.in_err-answer.ensures.reaches c.from_residual.ensures.1;
       stays = unchanged;
     }

@@ -1,4 +1,4 @@
-use Rattle.std.proofs.Common.{◌≡◌, ◌∙◌, ◌++◌, ◌∷◌, ◌<◌, ◌⊎◌, [], ℕ, zero, suc, List, Ok, Err, length, ap, subst, sym, inl, inr, refl, arith}
+use Rattle.std.proofs.Common.{◌≡◌, ◌∙◌, ◌++◌, ◌∷◌, ◌<◌, ◌⊎◌, [], ℕ, zero, suc, List, None, Ok, Err, length, ap, subst, sym, inl, inr, refl, arith}
 use Rattle.std.specs.Prelude.{Result, IfErr, IsSome}
 use Rattle.std.proofs.lemmas.Result.{IfOk-weaker, IfErr-weaker, on_ok_weaker, on_err_weaker}
 use Rattle.slate_types.specs.declared.types.RowEntry.{RowEntry}
@@ -12,7 +12,7 @@ use Rattle.slate_table.specs.TableParts.{version_of, seen, Stands, IsAdded, IsFu
 use Rattle.slate_table.proofs.Asking.{cause_of, later_of, still_of}
 use Rattle.slate_table.proofs.Results.{either_way, err_is}
 use Rattle.slate_table.proofs.SumLaws.{has_sums}
-use Rattle.slate_table.proofs.PartsLaws.{added_stands, added_sections, added_rows, added_format, added_id, added_size, same_stands, same_seen, full_passes, room_passes_none, old_size, ends_a_block}
+use Rattle.slate_table.proofs.PartsLaws.{added_stands, added_sections, added_rows, added_format, added_id, added_size, same_stands, same_seen, full_passes, room_passes_none, old_size, ends_a_block, ends_no_block}
 use Rattle.slate_table.proofs.builder.EncodedSsTableBuilder.add.Goals as goal
 
 not_empty : {T : Type 0} (r : Result T SlateDBError) (before after : ℕ) → IfErr r (λ e. IsTransformFault before after e) → r ≡ Err EmptyKey → ⊥
@@ -70,6 +70,7 @@ returns-in-Err g c =
         | inl empty ↦ inr (inl empty)
         | inr past ↦ inr (inr past.0)
       ];
+      unasked = λ _. refl;
       fault = (λ failed. elim c.in-Err.ensures.past [
         | inl empty ↦ absurd (cc (empty, failed))
         | inr past ↦ absurd (cc (past.0, failed))
@@ -77,7 +78,7 @@ returns-in-Err g c =
       same_encoded = refl;
       same_decoded = refl;
       later = omega arith;
-      still = inr (inr refl);
+      still = inr refl;
     }
 
 pub add-requires : goal.add-requires
@@ -139,6 +140,9 @@ returns-in-Ok g c =
         λ none. absurd (omega (arith, none, c.in-Ok.ensures.some)),
       ));
       cause = IfErr-weaker result _ _ (λ e h. inl h) (cause_of _ _ result c.add.ensures.asks.counts);
+      unasked = (λ none.
+          let kept = subst (λ (b : TableBuilding). section_size encode b c.args.entry ≡ None) (sym c.self.view_is) none in
+          c.add.ensures.unasked (ends_no_block encode inside.min_filter_keys p c.args.entry stands kept));
       fault = (λ failed.
           let some = ends_a_block encode inside.min_filter_keys p c.args.entry stands (c.add.ensures.fault failed) in
           subst (λ (b : TableBuilding). IsSome (section_size encode b c.args.entry)) c.self.view_is some);

@@ -1,4 +1,4 @@
-use Rattle.std.proofs.Common.{◌∙◌, ℕ, List, ap, inl, inr, arith}
+use Rattle.std.proofs.Common.{◌∙◌, ℕ, List, ap, inl, inr, refl, arith}
 use Rattle.std.specs.Prelude.{string_bytes}
 use Rattle.std.proofs.lemmas.Result.{IfOk-weaker, IfErr-weaker, err_from_is_err_and, IfOk-from_err}
 use Rattle.slate_table.proofs.Results.{on_err, store_still, store_err, store_longer}
@@ -8,11 +8,12 @@ use Rattle.slate_table.specs.Paths.{path_of}
 use Rattle.slate_table.specs.SectionReading.{changed_by}
 use Rattle.slate_table.proofs.PartReads.{still_ok, still_err, still_longer}
 use Rattle.slate_table.proofs.FileReads.{reads_rows, index_refused, block_refused, row_refused, may_block, had_block}
-use Rattle.slate_table.specs.FileReading.{RefusesReadRows, MayReadRows}
+use Rattle.slate_table.specs.FileReading.{RefusesReadRows, MayReadRows, ReadsFittingIndex}
+use Rattle.slate_table.proofs.Unasked.{behind_index}
 use Rattle.slate_table.proofs.sst_file.SstFile.read_block.Goals as goal
 
 pub returns-in_err-index : goal.returns-in_err-index
-unfolding MayReadRows
+unfolding MayReadRows ReadsFittingIndex
 returns-in_err-index g c =
     let p = err_from_is_err_and c.from_residual.result c.from_residual.ensures.1 in
     record {
@@ -27,6 +28,10 @@ returns-in_err-index g c =
         | inl unread ↦ inl unread
         | inr read ↦ inr (inl read)
       ]));
+      unasked = (elim c.index.ensures.unasked [
+        | inl same ↦ inl same
+        | inr fits ↦ inr (g.S.Store.acts c.index.new.reader.store, (fits.0, fits.1, fits.2), inl refl)
+      ]);
       objects = c.index.ensures.objects;
       root = c.index.ensures.root;
       same_encoded = c.index.ensures.same_encoded;
@@ -61,6 +66,9 @@ returns-in_err-found g c =
           (may_block (decoded old.transformer) (objects old.store) (objects middle.store) (acts old.store) (acts middle.store) (acts c.read_block.new.store)
           (path_of (string_bytes old.root_path) table.id.0) (path_of c.as_str-root.result.now table.id.0) table entries c.args.block
           c.index.ensures.objects there c.in_ok-index.ensures.found c.in_ok-test_block.ensures.within c.in_err-found.ensures.once));
+      unasked = inr (behind_index (decoded old.transformer) (objects old.store) (objects middle.store) (acts old.store) (acts middle.store) (acts c.read_block.new.store)
+          (path_of (string_bytes old.root_path) table.id.0) (path_of c.as_str-root.result.now table.id.0) table entries c.args.block
+          c.index.ensures.objects there c.in_ok-index.ensures.found c.in_err-found.ensures.once);
       objects = c.read_block.ensures.reaches.same_objects ∙ c.index.ensures.objects;
       root = c.index.ensures.root;
       same_encoded = c.read_block.ensures.stays.same_encoded ∙ c.index.ensures.same_encoded;
@@ -103,6 +111,9 @@ returns g c =
           (had_block (decoded old.transformer) (decoded middle.transformer) (objects old.store) (objects middle.store) (acts old.store) (acts middle.store) (acts c.read_block.new.store)
           (path_of (string_bytes old.root_path) table.id.0) (path_of c.as_str-root.result.now table.id.0) table entries c.args.block c.in_ok-found.found
           c.index.ensures.objects there c.in_ok-index.ensures.found c.in_ok-test_block.ensures.within c.in_ok-found.ensures.found));
+      unasked = (let found = c.in_ok-found.ensures.found in inr (behind_index (decoded old.transformer) (objects old.store) (objects middle.store) (acts old.store) (acts middle.store) (acts c.read_block.new.store)
+          (path_of (string_bytes old.root_path) table.id.0) (path_of c.as_str-root.result.now table.id.0) table entries c.args.block
+          c.index.ensures.objects there c.in_ok-index.ensures.found (inr (found.0, found.1, tt))));
       objects = c.read_block.ensures.reaches.same_objects ∙ c.index.ensures.objects;
       root = c.index.ensures.root;
       same_encoded = c.read_block.ensures.stays.same_encoded ∙ c.index.ensures.same_encoded;
@@ -110,7 +121,7 @@ returns g c =
       later = omega (arith, c.index.ensures.later, c.read_block.ensures.reaches.later);
       still = inr (store_still c.in_ok-found.found c.in_ok-found.ensures.reaches.still ∙ store_still c.in_ok-index.index c.in_ok-index.ensures.still);
       later_transformer = omega (arith, c.index.ensures.later_transformer, c.read_block.ensures.stays.later);
-      still_transformer = inr (inr (still_ok c.in_ok-found.found c.in_ok-found.ensures.stays.still ∙ still_ok c.in_ok-index.index c.in_ok-index.ensures.still_transformer));
+      still_transformer = inr (still_ok c.in_ok-found.found c.in_ok-found.ensures.stays.still ∙ still_ok c.in_ok-index.index c.in_ok-index.ensures.still_transformer);
     }
 
 pub returns-in_err-test_block : goal.returns-in_err-test_block
@@ -123,6 +134,11 @@ returns-in_err-test_block g c =
           rw (p.1, p.2) (inr (inr (inr (inl (entries_of c.in_ok-index.index, c.in_ok-index.ensures.found, past.0, past.1))))));
       twice = (let found = c.in_ok-index.ensures.found in
           rw p.1 (inr (inl (found.0, found.1, tt))));
+      unasked = (let old = c.args.reader.now in
+          let middle = c.index.new.reader in
+          let path = path_of (string_bytes old.root_path) c.args.self.now.handle.id.0 in
+          inr (behind_index (changed_by g.T.BlockTransformer.decoded old.transformer) (g.S.Store.objects old.store) (g.S.Store.objects old.store) (g.S.Store.acts old.store) (g.S.Store.acts middle.store) (g.S.Store.acts middle.store)
+          path path c.args.self.now.handle (entries_of c.in_ok-index.index) c.args.block refl refl c.in_ok-index.ensures.found (inl refl)));
       objects = c.index.ensures.objects;
       root = c.index.ensures.root;
       same_encoded = c.index.ensures.same_encoded;
@@ -130,5 +146,5 @@ returns-in_err-test_block g c =
       later = c.index.ensures.later;
       still = inr (store_still c.in_ok-index.index c.in_ok-index.ensures.still);
       later_transformer = c.index.ensures.later_transformer;
-      still_transformer = inr (inr (still_ok c.in_ok-index.index c.in_ok-index.ensures.still_transformer));
+      still_transformer = inr (still_ok c.in_ok-index.index c.in_ok-index.ensures.still_transformer);
     }

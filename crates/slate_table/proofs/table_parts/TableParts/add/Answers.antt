@@ -16,6 +16,7 @@ returns-in-Ok g c =
       same = tt;
       size = c.in-Ok.ensures.size;
       asks = c.in-Ok.ensures.asks;
+      unasked = c.write.ensures.unasked;
       fault = λ failed. absurd (cc failed);
     }
 
@@ -26,5 +27,6 @@ returns-in-Err g c =
       same = c.in-Err.ensures.same;
       size = tt;
       asks = c.in-Err.ensures.asks;
+      unasked = c.write.ensures.unasked;
       fault = c.in-Err.ensures.fault;
     }

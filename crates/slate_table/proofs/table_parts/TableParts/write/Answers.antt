@@ -6,7 +6,7 @@ use Rattle.slate_block.specs.BlockSpelling.{block_bytes}
 use Rattle.slate_table.specs.Parts.{summed, section}
 use Rattle.slate_table.specs.SectionReading.{changed_by}
 use Rattle.slate_table.specs.TableParts.{cover_behind, fits_parts, separator_behind, IsSame}
-use Rattle.slate_table.proofs.Asking.{unasked, asked_before, memory_exit, memory_no_fault, failed_asks}
+use Rattle.slate_table.proofs.Asking.{unasked as unasked_call, asked_before, memory_exit, memory_no_fault, failed_asks}
 use Rattle.slate_table.proofs.PartsLaws.{begun_again, same_then, some_rows}
 use Rattle.slate_table.proofs.Results.{on_err}
 use Rattle.slate_table.proofs.table_parts.TableParts.write.Goals as goal
@@ -25,7 +25,8 @@ returns-in_err-reserve g c =
       room = IfOk-from_err c.from_residual.result _ c.from_residual.ensures.0;
       same = on_err c.from_residual.result (record { size = refl; format = refl; id = refl; rows = c.in_err-reserve.ensures.items; block = refl; bytes = refl; offsets = refl; separators = refl; stats = refl; keys = refl; values = refl });
       size = IfOk-from_err c.from_residual.result _ c.from_residual.ensures.0;
-      asks = unasked memory;
+      asks = unasked_call memory;
+      unasked = λ _. refl;
       fault = λ is. absurd (memory_no_fault c.from_residual.result memory is);
     }
 
@@ -37,7 +38,8 @@ returns-in_err-write_row g c =
       room = IfOk-from_err c.from_residual-in_err-write_row.result _ c.from_residual-in_err-write_row.ensures.0;
       same = on_err c.from_residual-in_err-write_row.result (record { size = refl; format = refl; id = refl; rows = c.in_ok-reserve.ensures.items; block = c.in_err-write_row.ensures.same_block; bytes = refl; offsets = refl; separators = c.in_err-write_row.ensures.same_separators; stats = refl; keys = refl; values = refl });
       size = IfOk-from_err c.from_residual-in_err-write_row.result _ c.from_residual-in_err-write_row.ensures.0;
-      asks = unasked memory;
+      asks = unasked_call memory;
+      unasked = λ _. refl;
       fault = λ is. absurd (memory_no_fault c.from_residual-in_err-write_row.result memory is);
     }
 
@@ -68,7 +70,8 @@ returns-then-would_fit g c =
       room = omega (arith, c.in_ok-reserve.ensures.ok);
       same = tt;
       size = sym (ap (λ (t : Bool). cond t None (Some (length (section (cover_behind p) (changed_by g.T.BlockTransformer.encoded c.args.transformer.now) (block_bytes p.block.builder.version p.block.builder.rows))))) fit);
-      asks = unasked tt;
+      asks = unasked_call tt;
+      unasked = λ _. refl;
       fault = λ failed. absurd (cc failed);
     }
 
@@ -80,6 +83,7 @@ returns-in_err-stored g c =
       same = on_err c.from_residual-in_err-stored.result (record { size = refl; format = refl; id = refl; rows = c.in_ok-reserve.ensures.items; block = refl; bytes = refl; offsets = refl; separators = refl; stats = refl; keys = refl; values = refl });
       size = IfOk-from_err c.from_residual-in_err-stored.result _ c.from_residual-in_err-stored.ensures.0;
       asks = failed_asks c.in_err-stored.ensures.asks c.from_residual-in_err-stored.ensures.1;
+      unasked = λ fit. absurd (cc (fit, c.if-would_fit.ensures));
       fault = λ _. sym c.if-would_fit.ensures;
     }
 
@@ -93,6 +97,7 @@ returns-in_err-size g c =
       same = on_err c.from_residual-in_err-size.result (same_then c.args.self.now (record c.args.self.now { rows = c.reserve.new.self }) c.begin.new.self before c.in_err-size.ensures.same);
       size = IfOk-from_err c.from_residual-in_err-size.result _ c.from_residual-in_err-size.ensures.0;
       asks = asked_before c.in_ok-stored.ensures.asks memory;
+      unasked = λ fit. absurd (cc (fit, c.if-would_fit.ensures));
       fault = λ _. sym c.if-would_fit.ensures;
     }
 
@@ -110,5 +115,6 @@ returns g c =
       same = tt;
       size = ap Some (c.in_ok-size.ensures.size ∙ ap (λ (l : List ℕ). length (summed (cover_behind p) l)) stored) ∙ sym (ap (λ (t : Bool). cond t None (Some (length (summed (cover_behind p) part)))) fit);
       asks = asked_before c.in_ok-stored.ensures.asks tt;
+      unasked = λ fits. absurd (cc (fits, fit));
       fault = λ failed. absurd (cc failed);
     }

@@ -7,6 +7,7 @@ use Rattle.slate_table.specs.Paths.{path_of}
 use Rattle.slate_table.specs.SectionReading.{changed_by}
 use Rattle.slate_table.specs.Reading.{of_filters}
 use Rattle.slate_table.proofs.FiltersCalls.{query_refused, asked_refuses}
+use Rattle.slate_table.proofs.Unasked.{unanswered_exit, told_no_fault}
 use Rattle.slate_table.proofs.table_store.TableStore.might_match.Goals as goal
 
 pub returns-in_err-filters-clause-cause : goal.returns-in_err-filters-clause-cause
@@ -24,3 +25,15 @@ returns-clause-cause g c =
     asked_refuses _ _ (g.S.Store.objects c.args.store.now) (g.S.Store.acts c.args.store.now) (g.S.Store.acts c.filters_of.new.store) (path_of c.args.root.now c.args.table.now.id.0) info.filter_offset info.filter_len
     (changed_by g.T.BlockTransformer.decoded c.args.transformer.now) (of_filters c.args.table.now) policies c.args.query.now (map named_pair c.in_ok-filters.filters.items) c.in_ok-filters.part_len c.let_through-passes.result c.in_ok-filters.ensures.found
     (c.let_through-passes.ensures.answer ∙ ap (λ (fs : List NamedFilter). told c.in_ok-filters.part_len (asked policies (map named_pair fs) c.args.query.now)) c.deref.ensures.value)
+
+pub returns-in_err-filters-clause-unasked : goal.returns-in_err-filters-clause-unasked
+returns-in_err-filters-clause-unasked g c = c.filters_of.ensures.unasked
+
+pub returns-in_err-filters-clause-unanswered : goal.returns-in_err-filters-clause-unanswered
+returns-in_err-filters-clause-unanswered g c = unanswered_exit c.from_residual.result _ c.from_residual.ensures.1 c.in_err-filters.ensures.unanswered
+
+pub returns-clause-unasked : goal.returns-clause-unasked
+returns-clause-unasked g c = c.filters_of.ensures.unasked
+
+pub returns-clause-unanswered : goal.returns-clause-unanswered
+returns-clause-unanswered g c = λ failed. absurd (told_no_fault c.let_through-passes.result c.in_ok-filters.part_len _ c.let_through-passes.ensures.answer failed)

@@ -5,8 +5,9 @@ use Rattle.slate_types.specs.Faults.{faults_of}
 use Rattle.slate_table.specs.IndexValue.{entries_of}
 use Rattle.slate_table.specs.Paths.{path_of}
 use Rattle.slate_table.specs.SectionReading.{changed_by}
-use Rattle.slate_table.specs.Reading.{of_blocks, block_start, blocks_size, AreBlocksRead, RefusesBlocks, FailsBlocks}
+use Rattle.slate_table.specs.Reading.{Fits, of_blocks, block_start, blocks_size, AreBlocksRead, RefusesBlocks, FailsBlocks}
 use Rattle.slate_table.proofs.BlockReads.{row_read, row_refused}
+use Rattle.slate_table.proofs.Unasked.{no_fault, no_blocks_fault}
 use Rattle.slate_table.proofs.table_store.TableStore.read_blocks.Goals as goal
 
 pub returns-then-blocks : goal.returns-then-blocks
@@ -17,13 +18,15 @@ returns-then-blocks g c =
       count = rw c.new.ensures.items (omega arith);
       cause = tt;
       once = tt;
+      unasked = inl refl;
+      unanswered = λ _. refl;
       objects = refl;
       same_encoded = refl;
       same_decoded = refl;
       later = omega arith;
       still = inr refl;
       later_transformer = omega arith;
-      still_transformer = inr (inr refl);
+      still_transformer = inr refl;
     }
 
 pub returns : goal.returns
@@ -54,6 +57,13 @@ returns g c =
           (inr (row_read (g.S.Store.objects c.args.store.now) (g.S.Store.acts c.args.store.now) (g.S.Store.acts c.read.new.store) (path_of c.args.root.now c.args.table.now.id.0)
           c.block_start-start.result c.saturating_sub-size.result (block_start end entries c.args.blocks.start) (blocks_size end entries c.args.blocks.start c.args.blocks.end) c.in_ok-answer.answer
           (λ (answer : Option (List ℕ)). Unit {0}) c.block_start-start.ensures size c.in_ok-answer.ensures.read tt)));
+      unasked = (elim c.each_block-found.ensures.unasked [
+        | inl same ↦ inl same
+        | inr fits ↦ inr (row_read (g.S.Store.objects c.args.store.now) (g.S.Store.acts c.args.store.now) (g.S.Store.acts c.read.new.store) (path_of c.args.root.now c.args.table.now.id.0)
+            c.block_start-start.result c.saturating_sub-size.result (block_start end entries c.args.blocks.start) (blocks_size end entries c.args.blocks.start c.args.blocks.end) c.in_ok-answer.answer
+            (λ (answer : Option (List ℕ)). Fits (of_blocks c.args.table.now entries c.args.blocks.start answer c.args.blocks.start)) c.block_start-start.ensures size c.in_ok-answer.ensures.read fits)
+      ]);
+      unanswered = λ failed. absurd (no_fault c.each_block-found.result _ (no_blocks_fault decoded (of_blocks c.args.table.now entries c.args.blocks.start c.in_ok-answer.answer) c.args.blocks.start c.args.blocks.end _ _) c.each_block-found.ensures.cause failed);
       objects = c.read.ensures.reaches.same_objects;
       same_encoded = c.each_block-found.ensures.stays.same_encoded;
       same_decoded = c.each_block-found.ensures.stays.same_decoded;
@@ -72,11 +82,13 @@ returns-in_err-answer g c =
       count = IfOk-from_err c.from_residual.result _ c.from_residual.ensures.0;
       cause = rw (p.1, p.2) (inl c.in_err-answer.ensures.cause);
       once = rw p.1 (inl c.in_err-answer.ensures.none);
+      unasked = inl refl;
+      unanswered = λ _. refl;
       objects = c.read.ensures.reaches.same_objects;
       same_encoded = refl;
       same_decoded = refl;
       later = c.read.ensures.reaches.later;
       still = rw (p.1, p.2) (store_err c.in_err-answer.field-0.0 c.in_err-answer.ensures.reaches.still);
       later_transformer = omega arith;
-      still_transformer = inr (inr refl);
+      still_transformer = inr refl;
     }

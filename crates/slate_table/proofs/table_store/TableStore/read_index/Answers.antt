@@ -7,6 +7,7 @@ use Rattle.slate_table.specs.SectionReading.{changed_by}
 use Rattle.slate_table.specs.IndexReading.{index_of}
 use Rattle.slate_table.specs.Reading.{of_index}
 use Rattle.slate_table.proofs.PartReads.{refused, still_ok, still_err}
+use Rattle.slate_table.proofs.Unasked.{unanswered_exit, no_fault, no_index_fault}
 use Rattle.slate_table.proofs.table_store.TableStore.read_index.Goals as goal
 
 pub returns-in_err-part : goal.returns-in_err-part
@@ -19,6 +20,8 @@ returns-in_err-part g c =
           (refused (g.S.Store.objects c.args.store.now) (g.S.Store.acts c.args.store.now) (g.S.Store.acts c.read_part.new.store) (path_of c.args.root.now c.args.table.now.id.0) info.index_offset info.index_len
           (changed_by g.T.BlockTransformer.decoded c.args.transformer.now) (of_index c.args.table.now) (λ part. refusal (index_of info.filter_offset part)) c.in_err-part.field-0.0 c.in_err-part.ensures.cause));
       once = rw p.1 (c.in_err-part.ensures.once);
+      unasked = c.read_part.ensures.unasked;
+      unanswered = unanswered_exit c.from_residual.result _ c.from_residual.ensures.1 c.in_err-part.ensures.unanswered;
       objects = c.read_part.ensures.reaches.same_objects;
       same_encoded = c.read_part.ensures.stays.same_encoded;
       same_decoded = c.read_part.ensures.stays.same_decoded;
@@ -35,11 +38,13 @@ returns g c =
       found = (IfOk-weaker c.decode.result _ _ (λ made h. (f.0, f.1, (c.in_ok-part.part, f.2, h))) c.decode.ensures.found);
       cause = (IfErr-weaker c.decode.result _ _ (λ e h. spread (λ r. (f.0, f.1, inr (c.in_ok-part.part, f.2, r))) h) c.decode.ensures.cause);
       once = (on_err c.decode.result (inr (f.0, f.1, tt)));
+      unasked = inr (f.0, f.1, (f.2.0, f.2.1));
+      unanswered = λ failed. absurd (no_fault c.decode.result _ (no_index_fault c.args.table.now.info.filter_offset c.in_ok-part.part) c.decode.ensures.cause failed);
       objects = c.read_part.ensures.reaches.same_objects;
       same_encoded = c.read_part.ensures.stays.same_encoded;
       same_decoded = c.read_part.ensures.stays.same_decoded;
       later = c.read_part.ensures.reaches.later;
       still = inr (store_still c.in_ok-part.part c.in_ok-part.ensures.reaches.still);
       later_transformer = c.read_part.ensures.stays.later;
-      still_transformer = inr (inr (still_ok c.in_ok-part.part c.in_ok-part.ensures.stays.still));
+      still_transformer = inr (still_ok c.in_ok-part.part c.in_ok-part.ensures.stays.still);
     }
