@@ -1,0 +1,16 @@
+//! Accounts and stock: amounts of assets move between names by serializable transactions.
+//!
+//! The definitions stand in `specs/`: `Orders` says what an order does to a map of amounts, `Commits` which commits are an order's,
+//! and `Journals` which journals are the crate's. `laws` has what follows of these: balances add up to what was issued.
+#![tactic(auto)]
+
+pub mod amount;
+pub mod error;
+pub mod keys;
+pub mod laws;
+pub mod name;
+pub mod order;
+
+pub use error::StockError;
+pub use name::Name;
+pub use order::Order;
