@@ -60,7 +60,7 @@ pub data IsBeside (it : TxnIterator) (old new : CoreModel) : Type 0 where
   committed : (id : List ℕ) (n : Option ℕ) (now : ℤ) (t : Tx) → id ≢ id_of it → AreJournaled old new → IsCommitted old new id n now t → IsBeside it old new
   written : (n : Option ℕ) (now : ℤ) (ops : Ops) → AreJournaled old new → IsWritten old new n now ops → IsBeside it old new
 
--- What a scan has left goes on at each such call.
+-- What a scan has left goes on at each call beside it.
 abbrev pub CallsBesideKeepWhatIsLeft : Type 0
 CallsBesideKeepWhatIsLeft = (m : Meaning) (old new : CoreModel) (it : TxnIterator) (rows : List RowEntry) → IsBeside it old new → IsLeft m old it rows → IsLeft m new it rows
 
