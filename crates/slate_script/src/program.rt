@@ -24,7 +24,7 @@ ghost use Rattle.slate_script.specs.Told.{IsUntrue};
 use crate::generated::run_generated;
 use crate::run::run_script;
 use slate_db::laws::Laws;
-use slate_filter::FilterPolicy;
+use slate_filter::{FilterPolicy, have_valid_names};
 use slate_language::{Generated, NamedExtractor, Xor, keep_used, parse_generated, parse_words};
 use slate_store::{Env, Sink, Source, Store};
 use slate_types::SlateDBError;
@@ -32,9 +32,9 @@ use std::alloc::Global;
 
 /// Runs a script over the store, as the words say, with the operator, the extractor of segments and the transformer that they name and, of the policies of
 /// filters that are handed in, those that they use. Answers the status to end with: 0 where the run answers Ok, 2 exactly
-/// where the words are none of a run, 3 for `ScriptSyntax`, 4 for `ScriptTooLong`, 5 for `ReadFault`, 6 for `WriteFault`, 7
-/// for `StoreFault`, 12, 14, 15, 16, 18 and 19 where a table isn't what was stored, and 20 for want of memory. The names of
-/// the policies are distinct, and they are fewer than 65536, as are the bytes of each name.
+/// where the words are none of a run, or the policies are more than 65535, one has a name of more bytes than that, or two have one
+/// name, 3 for `ScriptSyntax`, 4 for `ScriptTooLong`, 5 for `ReadFault`, 6 for `WriteFault`, 7 for `StoreFault`, 12, 14, 15, 16, 18 and
+/// 19 where a table isn't what was stored, and 20 for want of memory.
 ///
 /// The script is what the source gives, or, where the words begin with `gen`, one that the run makes for itself. Then
 /// the source isn't read, the replies are counted and not written, and the sink takes one line: how many replies there
@@ -56,16 +56,16 @@ pub fn run_main<R: Source, W: Sink, S: Store>(
     store: &mut S,
     policies: Vec<Box<dyn FilterPolicy>>,
 ) -> u8
-    requires names { AreValidNames (map (λ p. (meaning p).name) policies.items) }
     ensures statuses { IsStatus result }
 
-    // 2: exactly where the words are none, and then nothing is read, written or stored
+    // 2: exactly where the policies' names won't do or the words are none, and then nothing is read, written or stored
+    ensures unfit { (AreValidNames (map (λ p. (meaning p).name) policies.items) → ⊥) → result ≡ 2 }
     ensures unknown { let ws = map string_bytes words.now in
         let handed = map (λ p. (meaning p).name) policies.items in
         read_words handed ws ≡ None → read_generated handed ws ≡ None → result ≡ 2 }
     ensures known { let ws = map string_bytes words.now in
         let handed = map (λ p. (meaning p).name) policies.items in
-        (s : Settings) → read_words handed ws ≡ Some s → result ≢ 2 }
+        (s : Settings) → AreValidNames handed → read_words handed ws ≡ Some s → result ≢ 2 }
     ensures unread { result ≡ 2 → source.new ≡ source.old }
     ensures unwritten { result ≡ 2 → sink.new ≡ sink.old }
     ensures unstored { result ≡ 2 → store.new ≡ store.old }
@@ -74,12 +74,12 @@ pub fn run_main<R: Source, W: Sink, S: Store>(
     ensures said { let ws = map string_bytes words.now in
         let handed = map (λ p. (meaning p).name) policies.items in
         let given = map (λ p. meaning p) policies.items in
-        (s : Settings) (script before : List ℕ) → read_words handed ws ≡ Some s → R.left source.old ≡ Some script → W.content sink.old ≡ Some before →
+        (s : Settings) (script before : List ℕ) → AreValidNames handed → read_words handed ws ≡ Some s → R.left source.old ≡ Some script → W.content sink.old ≡ Some before →
         AreLawful given → IsEmpty (S.objects store.old) → HasWritten (main_rules s) script (R.left source.new) before (W.content sink.new) result }
     ensures checked { let ws = map string_bytes words.now in
         let handed = map (λ p. (meaning p).name) policies.items in
         let given = map (λ p. meaning p) policies.items in
-        (s : Settings) (script before : List ℕ) → read_words handed ws ≡ Some s → R.left source.old ≡ Some script → W.content sink.old ≡ Some before →
+        (s : Settings) (script before : List ℕ) → AreValidNames handed → read_words handed ws ≡ Some s → R.left source.old ≡ Some script → W.content sink.old ≡ Some before →
         AreLawful given → (known : List Act) → S.acts store.old ≡ Some known →
         HasWritten (main_rules s) script (R.left source.new) before (W.content sink.new) result ⊎ SlipsFrom (parts_of s).encode [] (S.acts store.old) (S.acts store.new) }
 
@@ -87,7 +87,7 @@ pub fn run_main<R: Source, W: Sink, S: Store>(
     ensures stored { let ws = map string_bytes words.now in
         let handed = map (λ p. (meaning p).name) policies.items in
         let given = map (λ p. meaning p) policies.items in
-        (s : Settings) (script : List ℕ) → read_words handed ws ≡ Some s → R.left source.old ≡ Some script → AreLawful given → IsEmpty (S.objects store.old) →
+        (s : Settings) (script : List ℕ) → AreValidNames handed → read_words handed ws ≡ Some s → R.left source.old ≡ Some script → AreLawful given → IsEmpty (S.objects store.old) →
         result ≡ 0 → IsStoredState (parts_of s) (main_rules s) (layout_of s.options (used ws given) (segments_of s)) (S.objects store.new) (after_lines (main_rules s) opening (lines_of script)) }
     ensures read { let ws = map string_bytes words.now in
         let handed = map (λ p. (meaning p).name) policies.items in
@@ -107,11 +107,11 @@ pub fn run_main<R: Source, W: Sink, S: Store>(
     ensures shown { let ws = map string_bytes words.now in
         let handed = map (λ p. (meaning p).name) policies.items in
         let given = map (λ p. meaning p) policies.items in
-        (s : Settings) → read_words handed ws ≡ Some s → IsDamageStatus result → IsShownStatus (used ws given) (parts_of s) (S.acts store.old) (S.acts store.new) result }
+        (s : Settings) → AreValidNames handed → read_words handed ws ≡ Some s → IsDamageStatus result → IsShownStatus (used ws given) (parts_of s) (S.acts store.old) (S.acts store.new) result }
     ensures complete { let ws = map string_bytes words.now in
         let handed = map (λ p. (meaning p).name) policies.items in
         let given = map (λ p. meaning p) policies.items in
-        (s : Settings) (script : List ℕ) → read_words handed ws ≡ Some s → R.left source.old ≡ Some script → IsWellFormed script → AreLawful given → IsEmpty (S.objects store.old) →
+        (s : Settings) (script : List ℕ) → AreValidNames handed → read_words handed ws ≡ Some s → R.left source.old ≡ Some script → IsWellFormed script → AreLawful given → IsEmpty (S.objects store.old) →
         (Rose (R.faults source.old) (R.faults source.new) → ⊥) → (Rose (W.faults sink.old) (W.faults sink.new) → ⊥) → (Rose (S.faults store.old) (S.faults store.new) → ⊥) → (result ≡ 0) ⊎ (result ≡ 20) }
 
     // no fault is passed over
@@ -127,38 +127,42 @@ pub fn run_main<R: Source, W: Sink, S: Store>(
     ensures summed { let ws = map string_bytes words.now in
         let handed = map (λ p. (meaning p).name) policies.items in
         let given = map (λ p. meaning p) policies.items in
-        (g : Generated) (before : List ℕ) → read_generated handed ws ≡ Some g → W.content sink.old ≡ Some before → AreLawful given → IsEmpty (S.objects store.old) →
+        (g : Generated) (before : List ℕ) → AreValidNames handed → read_generated handed ws ≡ Some g → W.content sink.old ≡ Some before → AreLawful given → IsEmpty (S.objects store.old) →
         HasSummed (summary (main_rules g.settings) (generate g.rounds g.seed)) before (W.content sink.new) result }
     ensures summed_checked { let ws = map string_bytes words.now in
         let handed = map (λ p. (meaning p).name) policies.items in
         let given = map (λ p. meaning p) policies.items in
-        (g : Generated) (before : List ℕ) → read_generated handed ws ≡ Some g → W.content sink.old ≡ Some before → AreLawful given → (known : List Act) → S.acts store.old ≡ Some known →
+        (g : Generated) (before : List ℕ) → AreValidNames handed → read_generated handed ws ≡ Some g → W.content sink.old ≡ Some before → AreLawful given → (known : List Act) → S.acts store.old ≡ Some known →
         HasSummed (summary (main_rules g.settings) (generate g.rounds g.seed)) before (W.content sink.new) result
         ⊎ SlipsFrom (parts_of g.settings).encode [] (S.acts store.old) (S.acts store.new) }
     ensures summed_stored { let ws = map string_bytes words.now in
         let handed = map (λ p. (meaning p).name) policies.items in
         let given = map (λ p. meaning p) policies.items in
-        (g : Generated) → read_generated handed ws ≡ Some g → AreLawful given → IsEmpty (S.objects store.old) →
+        (g : Generated) → AreValidNames handed → read_generated handed ws ≡ Some g → AreLawful given → IsEmpty (S.objects store.old) →
         result ≡ 0 → IsStoredState (parts_of g.settings) (main_rules g.settings) (layout_of g.settings.options (used ws given) (segments_of g.settings)) (S.objects store.new) (after_lines (main_rules g.settings) opening (lines_of (generate g.rounds g.seed))) }
     ensures summed_kinds { let ws = map string_bytes words.now in
         let handed = map (λ p. (meaning p).name) policies.items in
-        (g : Generated) → read_generated handed ws ≡ Some g → IsGeneratedStatus result }
+        (g : Generated) → AreValidNames handed → read_generated handed ws ≡ Some g → IsGeneratedStatus result }
     ensures summed_alone { let ws = map string_bytes words.now in
         let handed = map (λ p. (meaning p).name) policies.items in
-        (g : Generated) → read_generated handed ws ≡ Some g → source.new ≡ source.old }
+        (g : Generated) → AreValidNames handed → read_generated handed ws ≡ Some g → source.new ≡ source.old }
     ensures summed_complete { let ws = map string_bytes words.now in
         let handed = map (λ p. (meaning p).name) policies.items in
         let given = map (λ p. meaning p) policies.items in
-        (g : Generated) → read_generated handed ws ≡ Some g → AreLawful given → IsEmpty (S.objects store.old) →
+        (g : Generated) → AreValidNames handed → read_generated handed ws ≡ Some g → AreLawful given → IsEmpty (S.objects store.old) →
         (Rose (W.faults sink.old) (W.faults sink.new) → ⊥) → (Rose (S.faults store.old) (S.faults store.new) → ⊥) → (result ≡ 0) ⊎ (result ≡ 20) }
     ensures summed_shown { let ws = map string_bytes words.now in
         let handed = map (λ p. (meaning p).name) policies.items in
         let given = map (λ p. meaning p) policies.items in
-        (g : Generated) → read_generated handed ws ≡ Some g → IsDamageStatus result → IsShownStatus (used ws given) (parts_of g.settings) (S.acts store.old) (S.acts store.new) result }
+        (g : Generated) → AreValidNames handed → read_generated handed ws ≡ Some g → IsDamageStatus result → IsShownStatus (used ws given) (parts_of g.settings) (S.acts store.old) (S.acts store.new) result }
     ensures summed_unwritten { let ws = map string_bytes words.now in
         let handed = map (λ p. (meaning p).name) policies.items in
-        (g : Generated) → read_generated handed ws ≡ Some g → (result ≡ 0) ⊎ (result ≡ 6) ⊎ (W.content sink.new ≡ W.content sink.old) }
+        (g : Generated) → AreValidNames handed → read_generated handed ws ≡ Some g → (result ≡ 0) ⊎ (result ≡ 6) ⊎ (W.content sink.new ≡ W.content sink.old) }
 {
+    if !have_valid_names(policies.as_slice()) {
+        drop(policies);
+        return 2;
+    }
     if let Some(generated) = parse_generated(words, policies.as_slice()) {
         let kept = keep_used(policies, words);
         return main_generated(alloc, &generated, sink, store, kept);
