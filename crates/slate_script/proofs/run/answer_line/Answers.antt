@@ -37,13 +37,13 @@ returns-in-Err-answer g c =
       alone = λ m r running alone. tt;
       cause = session_cause _ _ c.args.number c.args.line.now c.args.session.now c.in-Err-answer.error c.in-Err-answer.ensures.cause;
       part = session_part _ _ c.args.session.now c.in-Err-answer.error c.in-Err-answer.ensures.cause;
-      undamaged = λ m r running. not_damage _ _ c.in-Err-answer.error (c.in-Err-answer.ensures.undamaged (is_settled running));
+      undamaged = λ m r running. not_damage _ _ c.in-Err-answer.error (c.in-Err-answer.ensures.honest (is_settled running)).undamaged;
       follows = λ os settled. tt;
-      untrue = λ os settled. c.in-Err-answer.ensures.untrue os settled;
+      untrue = λ os settled. (c.in-Err-answer.ensures.told os settled).untrue;
       tables = tt;
       adds = c.answer.ensures.adds;
       core_kept = λ kept. tt;
-      shown = λ kept. line_shown policies c.in-Ok-Some.meaning _ _ c.args.session.now.core c.in-Err-answer.error (c.in-Err-answer.ensures.shown kept);
+      shown = λ kept. line_shown policies c.in-Ok-Some.meaning _ _ c.args.session.now.core c.in-Err-answer.error (c.in-Err-answer.ensures.sound kept).shown;
       write_fault = λ is. absurd (session_wrote _ _ c.args.session.now c.in-Err-answer.error c.in-Err-answer.ensures.cause (error_of c.in-Err-answer.error is));
       still = tt;
       puts = c.answer.ensures.puts;
@@ -64,26 +64,26 @@ returns-in-Ok g c =
     record {
       meant = (let meant = rw c.in-Ok-Some.field-0-is at c.in-Ok-Some.ensures.meant in
           always c.write_reply.result (meant_line c.args.line.now c.in-Ok-Some.meaning meant.1));
-      running = λ m r running. always c.write_reply.result (runs_on running c.answer.ensures.puts.meaning c.in-Ok.ensures.settings (c.in-Ok.ensures.kept (is_settled running)));
-      answered = λ m r running. meant m r (g.S.Store.objects c.args.env.now.store.now) running (c.in-Ok.ensures.step (is_settled running));
+      running = λ m r running. always c.write_reply.result (runs_on running c.answer.ensures.puts.meaning c.in-Ok.ensures.settings (c.in-Ok.ensures.honest (is_settled running)).kept);
+      answered = λ m r running. meant m r (g.S.Store.objects c.args.env.now.store.now) running (c.in-Ok.ensures.honest (is_settled running)).step;
       checked = λ m r os running. holds_as (StepsAs parts seg c.args.session.now c.answer.new.self c.in-Ok-Some.meaning (Ok c.in-Ok.answer))
           (AnswersLine r c.args.line.now c.args.session.now c.answer.new.self (g.W.Sink.content c.args.sink.now) (g.W.Sink.content c.write_reply.new.sink) c.args.tally.now c.count.new.self c.write_reply.result) os
-          (reach_of g.S.Store g.M.MergeOperator g.T.BlockTransformer c.args.env.now) (reach_of g.S.Store g.M.MergeOperator g.T.BlockTransformer c.answer.new.env) (meant m r (Some os) running) (c.in-Ok.ensures.checked os (is_settled running));
+          (reach_of g.S.Store g.M.MergeOperator g.T.BlockTransformer c.args.env.now) (reach_of g.S.Store g.M.MergeOperator g.T.BlockTransformer c.answer.new.env) (meant m r (Some os) running) (c.in-Ok.ensures.told os (is_settled running)).step;
       settings = always c.write_reply.result c.in-Ok.ensures.settings;
       grows = (let meant = rw c.in-Ok-Some.field-0-is at c.in-Ok-Some.ensures.meant in
           always c.write_reply.result (c.in-Ok.ensures.grows.0, let few : line_load c.in-Ok-Some.meaning ≤ length c.args.line.now = load_of_line c.args.line.now c.in-Ok-Some.meaning meant.1 in omega (arith, c.in-Ok.ensures.grows.1, few)));
       alone = (λ m r running alone.
           let layout = layout_of c.args.laws.now.options policies (segments_by g.X.PrefixExtractor.lengths c.args.laws.now.segments) in
           always c.write_reply.result (subst (λ (x : Meaning). HasTablesAlone x layout (g.S.Store.objects c.answer.new.env.store.now) (runs_of c.answer.new.self.core.events)) running.meaning
-          (c.in-Ok.ensures.alone (is_settled running) (subst (λ (x : Meaning). HasTablesAlone x layout (g.S.Store.objects c.args.env.now.store.now) (runs_of c.args.session.now.core.events)) (sym running.meaning) alone))));
+          ((c.in-Ok.ensures.honest (is_settled running)).alone (subst (λ (x : Meaning). HasTablesAlone x layout (g.S.Store.objects c.args.env.now.store.now) (runs_of c.args.session.now.core.events)) (sym running.meaning) alone))));
       cause = writing_cause c.write_reply.result c.args.number c.args.line.now c.args.session.now c.write_reply.ensures.cause;
       part = writing_no_part (IsPartCause (counts_of (g.S.Store.faults c.args.env.now.store.now) g.M.MergeOperator.faults g.T.BlockTransformer.faults c.args.env.now.operator c.args.env.now.transformer) (counts_of (g.S.Store.faults c.answer.new.env.store.now) g.M.MergeOperator.faults g.T.BlockTransformer.faults c.answer.new.env.operator c.answer.new.env.transformer)) c.write_reply.result c.write_reply.ensures.cause;
       undamaged = λ m r running. writing_no_damage _ c.write_reply.result c.write_reply.ensures.cause;
-      follows = λ os settled. always c.write_reply.result (c.in-Ok.ensures.follows os settled);
+      follows = λ os settled. always c.write_reply.result (c.in-Ok.ensures.told os settled).follows;
       untrue = λ os settled. writing_no_damage _ c.write_reply.result c.write_reply.ensures.cause;
       tables = always c.write_reply.result c.in-Ok.ensures.tables;
       adds = c.answer.ensures.adds;
-      core_kept = λ kept. always c.write_reply.result (c.in-Ok.ensures.core_kept kept);
+      core_kept = λ kept. always c.write_reply.result (c.in-Ok.ensures.sound kept).kept;
       shown = λ kept. writing_no_error _ c.write_reply.result c.write_reply.ensures.cause;
       write_fault = (λ is.
           let meant = rw c.in-Ok-Some.field-0-is at c.in-Ok-Some.ensures.meant in
