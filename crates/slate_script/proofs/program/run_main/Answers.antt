@@ -62,7 +62,7 @@ returns-in-Ok g c =
           let content = g.W.Sink.content c.run_script-ran.new.sink in
           let says = λ (r : Rules). HasWritten r script left before content (0) in
           subst (λ (t : Settings). says (main_rules t)) same (subst says (rules_are its c.transformer_of.result c.transformer_of.ensures)
-          (written_ok _ script left before content (c.in-Ok.ensures.said script before is told (premises _ its.operator c.transformer_of.result _ (fit lawful_policies) empty)))));
+          (written_ok _ script left before content ((c.in-Ok.ensures.honest script is (premises _ its.operator c.transformer_of.result _ (fit lawful_policies) empty)).said before told))));
       checked = (λ s script before valid named is told lawful_policies known began.
           let same : c.in-Some-parse_words.settings ≡ s = same_settings c.parse_words.result c.in-Some-parse_words.settings s c.in-Some-parse_words.is (settings ∙ named) in
           let its = c.in-Some-parse_words.settings in
@@ -74,7 +74,7 @@ returns-in-Ok g c =
           subst (λ t. says (main_rules s) ⊎ SlipsFrom (parts_of s).encode [] (acts c.args.store.now) (acts t)) (sym (c.store-1.given.1 (sym c.in-Ok.ensures.puts.store)))
           (subst (λ (t : Settings). says (main_rules t) ⊎ SlipsFrom (parts_of t).encode [] (acts c.args.store.now) after) same
           (words_or_slips says its c.transformer_of.result c.transformer_of.ensures (acts c.args.store.now) after
-          (written_or_slips _ script left before content (c.in-Ok.ensures.checked script before is told (fit lawful_policies) (lawful its.operator c.transformer_of.result) known began)))));
+          (written_or_slips _ script left before content ((c.in-Ok.ensures.told (record { policies = fit lawful_policies; parts = lawful its.operator c.transformer_of.result })).said script before is told known began)))));
       stored = (λ s script valid named is lawful_policies empty zero.
           let same : c.in-Some-parse_words.settings ≡ s = same_settings c.parse_words.result c.in-Some-parse_words.settings s c.in-Some-parse_words.is (settings ∙ named) in
           let given : List Policy = map (λ p. (goal.FilterPolicy-dyn g (p.vtable, p.value)).meaning p.value) c.args.policies.items in
@@ -85,7 +85,7 @@ returns-in-Ok g c =
           (subst (λ (ps : List Policy). ends (parts_of s) s ps objects) c.keep_used-kept-2.ensures
           (subst (λ (t : Settings). ends (parts_of t) t kept objects) same
           (subst (λ (x : Meaning). IsStoredState x (run_rules c.in-Some-parse_words.settings.options x (segments_of c.in-Some-parse_words.settings)) (layout_of c.in-Some-parse_words.settings.options kept (segments_of c.in-Some-parse_words.settings)) objects (after_lines (run_rules c.in-Some-parse_words.settings.options x (segments_of c.in-Some-parse_words.settings)) opening (lines_of script))) (words_are c.in-Some-parse_words.settings c.transformer_of.result c.transformer_of.ensures)
-          (c.in-Ok.ensures.stored script is (premises _ c.in-Some-parse_words.settings.operator c.transformer_of.result _ (fit lawful_policies) empty))))));
+          (c.in-Ok.ensures.honest script is (premises _ c.in-Some-parse_words.settings.operator c.transformer_of.result _ (fit lawful_policies) empty)).stored))));
       read = λ script other is zero. (c.in-Ok.ensures.read script is).whole;
       no_error = λ script other is zero. (c.in-Ok.ensures.read script is).no_error;
       syntax = λ script is three. absurd (omega (arith, three));
@@ -138,7 +138,7 @@ returns-in-Err g c =
           let content = g.W.Sink.content c.run_script-ran.new.sink in
           let says = λ (r : Rules). HasWritten r script left before content (c.status_of-status.result) in
           subst (λ (t : Settings). says (main_rules t)) same (subst says (rules_are its c.transformer_of.result c.transformer_of.ensures)
-          (written_err _ script left before content c.in-Err.error c.status_of-status.result c.status_of-status.ensures c.in-Err.ensures.cause.kinds (c.in-Err.ensures.read script is).error (c.in-Err.ensures.said script before is told (premises _ its.operator c.transformer_of.result _ (fit lawful_policies) empty)))));
+          (written_err _ script left before content c.in-Err.error c.status_of-status.result c.status_of-status.ensures c.in-Err.ensures.cause.kinds (c.in-Err.ensures.read script is).error ((c.in-Err.ensures.honest script is (premises _ its.operator c.transformer_of.result _ (fit lawful_policies) empty)).said before told))));
       checked = (λ s script before valid named is told lawful_policies known began.
           let same : c.in-Some-parse_words.settings ≡ s = same_settings c.parse_words.result c.in-Some-parse_words.settings s c.in-Some-parse_words.is (settings ∙ named) in
           let its = c.in-Some-parse_words.settings in
@@ -150,7 +150,7 @@ returns-in-Err g c =
           subst (λ t. says (main_rules s) ⊎ SlipsFrom (parts_of s).encode [] (acts c.args.store.now) (acts t)) (sym (c.store-1.given.1 (sym c.in-Err.ensures.puts.store)))
           (subst (λ (t : Settings). says (main_rules t) ⊎ SlipsFrom (parts_of t).encode [] (acts c.args.store.now) after) same
           (words_or_slips says its c.transformer_of.result c.transformer_of.ensures (acts c.args.store.now) after
-          (refused_or_slips _ script left before content c.in-Err.error c.status_of-status.result c.status_of-status.ensures c.in-Err.ensures.cause.kinds (c.in-Err.ensures.read script is).error (c.in-Err.ensures.checked script before is told (fit lawful_policies) (lawful its.operator c.transformer_of.result) known began)))));
+          (refused_or_slips _ script left before content c.in-Err.error c.status_of-status.result c.status_of-status.ensures c.in-Err.ensures.cause.kinds (c.in-Err.ensures.read script is).error ((c.in-Err.ensures.told (record { policies = fit lawful_policies; parts = lawful its.operator c.transformer_of.result })).said script before is told known began)))));
       stored = λ s script valid named is lawful_policies empty zero. absurd (is_ended c.in-Err.error c.in-Err.ensures.cause.kinds (inl (sym c.status_of-status.ensures ∙ zero)));
       read = λ script other is zero. absurd (is_ended c.in-Err.error c.in-Err.ensures.cause.kinds (inl (sym c.status_of-status.ensures ∙ zero)));
       no_error = λ script other is zero. absurd (is_ended c.in-Err.error c.in-Err.ensures.cause.kinds (inl (sym c.status_of-status.ensures ∙ zero)));
@@ -172,7 +172,7 @@ returns-in-Err g c =
       untrue = (λ lawful_policies which.
           let within = subst (λ (n : ℕ). (12 ≤ n) × (n ≤ 19)) c.status_of-status.ensures (damage_between c.status_of-status.result which) in
           subst (λ t. IsUntrue [] (g.S.Store.acts c.args.store.now) (g.S.Store.acts t)) (sym (c.store-1.given.1 (sym c.in-Err.ensures.puts.store)))
-          (c.in-Err.ensures.untrue (fit lawful_policies) (lawful c.in-Some-parse_words.settings.operator c.transformer_of.result) (is_damage c.in-Err.error c.in-Err.ensures.cause.kinds within.0 within.1)));
+          ((c.in-Err.ensures.told (record { policies = fit lawful_policies; parts = lawful c.in-Some-parse_words.settings.operator c.transformer_of.result })).untrue (is_damage c.in-Err.error c.in-Err.ensures.cause.kinds within.0 within.1)));
       shown = (λ s valid named which.
           let same : c.in-Some-parse_words.settings ≡ s = same_settings c.parse_words.result c.in-Some-parse_words.settings s c.in-Some-parse_words.is (settings ∙ named) in
           let within = subst (λ (n : ℕ). (12 ≤ n) × (n ≤ 19)) c.status_of-status.ensures (damage_between c.status_of-status.result which) in
@@ -189,7 +189,7 @@ returns-in-Err g c =
                 (c.in-Err.ensures.shown (is_damage c.in-Err.error c.in-Err.ensures.cause.kinds within.0 within.1)))),
           ));
       complete = (λ s script valid named is formed lawful_policies empty no-read no-write no-store.
-          inr (c.status_of-status.ensures ∙ ap status (c.in-Err.ensures.complete script is formed (premises _ c.in-Some-parse_words.settings.operator c.transformer_of.result _ (fit lawful_policies) empty) (record { source_still = no-read; sink_still = no-write; store = λ h. no-store (subst (λ t. Rose (g.S.Store.faults c.args.store.now) (g.S.Store.faults t)) (sym (c.store-1.given.1 (sym c.in-Err.ensures.puts.store))) h); operator = none_rose c.in-Some-parse_words.settings.operator c.run_script-ran.new.env.operator; transformer = none_rose c.transformer_of.result c.run_script-ran.new.env.transformer }))));
+          inr (c.status_of-status.ensures ∙ ap status ((c.in-Err.ensures.honest script is (premises _ c.in-Some-parse_words.settings.operator c.transformer_of.result _ (fit lawful_policies) empty)).complete formed (record { source_still = no-read; sink_still = no-write; store = λ h. no-store (subst (λ t. Rose (g.S.Store.faults c.args.store.now) (g.S.Store.faults t)) (sym (c.store-1.given.1 (sym c.in-Err.ensures.puts.store))) h); operator = none_rose c.in-Some-parse_words.settings.operator c.run_script-ran.new.env.operator; transformer = none_rose c.transformer_of.result c.run_script-ran.new.env.transformer }))));
       source_still = status_or c.in-Err.error ReadFault c.status_of-status.result _ c.status_of-status.ensures refl c.in-Err.ensures.source_still;
       sink_still = status_or c.in-Err.error WriteFault c.status_of-status.result _ c.status_of-status.ensures refl c.in-Err.ensures.sink_still;
       all = λ script is four. (c.in-Err.ensures.read script is).too_long (ap Err (is_too_long c.in-Err.error c.in-Err.ensures.cause.kinds (sym c.status_of-status.ensures ∙ four)));
