@@ -92,7 +92,8 @@ pub fn run_generated<W: Sink, S: Store, M: MergeOperator, T: BlockTransformer, X
 
     ensures { let reach = ⟦<EnvOf<S, M, T> as Outside>⟧.reach in
         let policies = map (λ p. meaning (p.vtable, p.value)) laws.now.policies.items in
-        let terms = terms_of laws.now.options (segments_by X.lengths laws.now.segments) policies (reach env.old).meaning in
+        let seg = segments_by X.lengths laws.now.segments in
+        let terms = terms_of laws.now.options seg policies (reach env.old).meaning in
         let sunk = sink_of W.content W.faults in
         Sums terms (generate rounds seed) (sunk sink.old) (sunk sink.new) (reach env.old) (reach env.new) result }
 {

@@ -58,7 +58,8 @@ pub fn run_script<
 
     ensures { let reach = ⟦<EnvOf<S, M, T> as Outside>⟧.reach in
         let policies = map (λ p. meaning (p.vtable, p.value)) laws.now.policies.items in
-        let terms = terms_of laws.now.options (segments_by X.lengths laws.now.segments) policies (reach env.old).meaning in
+        let seg = segments_by X.lengths laws.now.segments in
+        let terms = terms_of laws.now.options seg policies (reach env.old).meaning in
         let streams = streams_of R.left R.faults W.content W.faults in
         Runs terms (streams source.old sink.old) (streams source.new sink.new) (reach env.old) (reach env.new) result }
 {
@@ -88,12 +89,14 @@ pub(crate) fn answer_lines<
 
     ensures run { let reach = ⟦<EnvOf<S, M, T> as Outside>⟧.reach in
         let policies = map (λ p. meaning (p.vtable, p.value)) laws.now.policies.items in
-        let terms = terms_of laws.now.options (segments_by X.lengths laws.now.segments) policies (reach env.old).meaning in
+        let seg = segments_by X.lengths laws.now.segments in
+        let terms = terms_of laws.now.options seg policies (reach env.old).meaning in
         let streams = streams_of R.left R.faults W.content W.faults in
         Runs terms (streams source.old sink.old) (streams source.new sink.new) (reach env.old) (reach env.new) result }
     ensures counts { let reach = ⟦<EnvOf<S, M, T> as Outside>⟧.reach in
         let policies = map (λ p. meaning (p.vtable, p.value)) laws.now.policies.items in
-        let terms = terms_of laws.now.options (segments_by X.lengths laws.now.segments) policies (reach env.old).meaning in
+        let seg = segments_by X.lengths laws.now.segments in
+        let terms = terms_of laws.now.options seg policies (reach env.old).meaning in
         let streams = streams_of R.left R.faults W.content W.faults in
         CountsReplies terms (streams source.old sink.old) (reach env.old) (reach env.new) tally.old tally.new result }
 {
@@ -152,7 +155,7 @@ fn answer_line<W: Sink, S: Store, M: MergeOperator, T: BlockTransformer, X: Pref
         let layout = layout_of laws.now.options policies (segments_by X.lengths laws.now.segments) in
         let sunk = sink_of W.content W.faults in
         RepliesLine layout number line.now (reach env.old) (reach env.new) session.old session.new
-            (sunk sink.old) (sunk sink.new) tally.old tally.new result }
+        (sunk sink.old) (sunk sink.new) tally.old tally.new result }
     ensures sink { let sunk = sink_of W.content W.faults in WritesLine line.now (sunk sink.old) (sunk sink.new) result }
 {
     let meaning = match parse_line(alloc, line) {

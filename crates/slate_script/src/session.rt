@@ -28,7 +28,7 @@ ghost use Rattle.slate_db.specs.Sound.{IsKept, IsOperable};
 ghost use Rattle.slate_db.specs.StoredState.{StoresState};
 ghost use Rattle.slate_db.specs.Log.{AreFine};
 ghost use Rattle.slate_language.specs.Answers.{reply_of};
-ghost use Rattle.slate_script.specs.Calls.Line.{Answers, AnswersRead, AnswersWithin, AnswersWrite};
+ghost use Rattle.slate_script.specs.Calls.Line.{Answers, AnswersRead, AnswersScan, AnswersWithin, AnswersWrite};
 ghost use Rattle.slate_script.specs.Session.{StandsFor, Grows, IsDone, IsRefusal, StoresNothing, has_moment, held_load, line_load, reader_id, reader_under};
 ghost use Rattle.slate_script.specs.Scanning.{BeginsWith, EndsBelow, ScansAs};
 
@@ -75,9 +75,12 @@ impl Model for Session {
 
     ghost Value = { SessionModel };
 
-    ghost view = { λ s. record { core = s.core; names = s.names.entries; snapshot_names = s.snapshot_names.entries; now = s.now } };
+    ghost view = { λ s.
+        record { core = s.core; names = s.names.entries; snapshot_names = s.snapshot_names.entries; now = s.now } };
 
-    ghost invariant = { λ s. NamesStand s.names.entries s.snapshot_names.entries s.core.state.txns s.core.state.snapshots × IsTrue (is_moment s.now) };
+    ghost invariant = { λ s.
+        NamesStand s.names.entries s.snapshot_names.entries s.core.state.txns s.core.state.snapshots
+        × IsTrue (is_moment s.now) };
 }
 
 impl Session {
@@ -116,7 +119,9 @@ impl Session {
         requires valid { IsValid laws.now.options }
         requires names { AreValidNames (map (λ p. (meaning (p.vtable, p.value)).name) laws.now.policies.items) }
         ensures { let reach = ⟦<EnvOf<S, M, T> as Outside>⟧.reach in
-            Answers (layout_of laws.now.options (map (λ p. meaning (p.vtable, p.value)) laws.now.policies.items) (segments_by X.lengths laws.now.segments)) line (reach env.old) (reach env.new) self.old self.new result }
+            let policies = map (λ p. meaning (p.vtable, p.value)) laws.now.policies.items in
+            let layout = layout_of laws.now.options policies (segments_by X.lengths laws.now.segments) in
+            Answers layout line (reach env.old) (reach env.new) self.old self.new result }
     {
         match line {
             Line::Get { name, key } => self.get(name, key, env, laws),
@@ -152,8 +157,11 @@ impl Session {
     fn answer_within(&mut self, line: Line) -> Result<Answer, SlateDBError>
         requires moment { IsTrue (has_moment line) }
         requires no_get { (name key : List ℕ) → line ≢ Line.Get name key }
-        requires no_scan { (name : List ℕ) (order : IterationOrder) (start end : Bound (List ℕ)) (sts : List ScanStep) → line ≢ Line.Scan name order start end sts }
-        requires no_prefix { (name : List ℕ) (order : IterationOrder) (p : List ℕ) (start end : Bound (List ℕ)) (sts : List ScanStep) → line ≢ Line.Prefix name order p start end sts }
+        requires no_scan { (name : List ℕ) (order : IterationOrder) (start end : Bound (List ℕ)) (sts : List ScanStep) →
+            line ≢ Line.Scan name order start end sts }
+        requires no_prefix { (name : List ℕ) (order : IterationOrder) (p : List ℕ) (start end : Bound (List ℕ)) →
+            (sts : List ScanStep) →
+            line ≢ Line.Prefix name order p start end sts }
         requires no_flush { line ≢ Line.Flush }
         requires no_write { (ops : Ops) → line ≢ Line.Write ops }
         requires no_merge { (name key value : List ℕ) (ttl : Ttl) → line ≢ Line.Merge name key value ttl }
@@ -196,7 +204,8 @@ impl Session {
     fn reader_id(&self, name: &Bytes) -> Option<Uuid>
         ensures id { result ≡ reader_id self.entry.now name.now }
         ensures known { IfSome result (λ id. IsSome (reader self.entry.now.core.state id)) }
-        ensures reads { (s : State) → StandsFor self.entry.now s → reader s name.now ≡ reader_under self.entry.now.core.state result }
+        ensures reads { (s : State) → StandsFor self.entry.now s →
+            reader s name.now ≡ reader_under self.entry.now.core.state result }
     {
         let transaction = self.names.get(name).copied();
         let snapshot = self.snapshot_names.get(name).copied();
@@ -238,7 +247,8 @@ impl Session {
         laws: &Laws<X>,
     ) -> Result<Answer, SlateDBError>
         ensures { let reach = ⟦<EnvOf<S, M, T> as Outside>⟧.reach in
-            AnswersRead (map (λ p. meaning (p.vtable, p.value)) laws.now.policies.items) (Line.Get name key) (reach env.old) (reach env.new) self.old self.new result }
+            let policies = map (λ p. meaning (p.vtable, p.value)) laws.now.policies.items in
+            AnswersRead policies (Line.Get name key) (reach env.old) (reach env.new) self.old self.new result }
     {
         let Some(id) = self.reader_id(&name) else {
             drop(key);
@@ -264,7 +274,9 @@ impl Session {
     ) -> Result<Answer, SlateDBError>
         requires valid { IsValid laws.now.options }
         ensures { let reach = ⟦<EnvOf<S, M, T> as Outside>⟧.reach in
-            AnswersRead (map (λ p. meaning (p.vtable, p.value)) laws.now.policies.items) (Line.Scan name order start end steps) (reach env.old) (reach env.new) self.old self.new result }
+            let policies = map (λ p. meaning (p.vtable, p.value)) laws.now.policies.items in
+            AnswersRead policies (Line.Scan name order start end steps)
+            (reach env.old) (reach env.new) self.old self.new result }
     {
         let range = BytesRange::try_new(start, end);
         self.scan_range(name, order, range, None, steps, env, laws)
@@ -284,7 +296,9 @@ impl Session {
     ) -> Result<Answer, SlateDBError>
         requires valid { IsValid laws.now.options }
         ensures { let reach = ⟦<EnvOf<S, M, T> as Outside>⟧.reach in
-            AnswersRead (map (λ p. meaning (p.vtable, p.value)) laws.now.policies.items) (Line.Prefix name order prefix start end steps) (reach env.old) (reach env.new) self.old self.new result }
+            let policies = map (λ p. meaning (p.vtable, p.value)) laws.now.policies.items in
+            AnswersRead policies (Line.Prefix name order prefix start end steps)
+            (reach env.old) (reach env.new) self.old self.new result }
     {
         let composed = composed_range(self.alloc, prefix.as_slice(), start, end);
         let range = match composed {
@@ -313,22 +327,17 @@ impl Session {
         requires range { IfSome range (λ r. is_refused r.start r.end ≡ false) }
         requires prefix { IfSome range (λ r. BeginsWith prefix r) }
         requires valid { IsValid laws.now.options }
-        ensures step { let reach = ⟦<EnvOf<S, M, T> as Outside>⟧.reach in
+        ensures scans { let reach = ⟦<EnvOf<S, M, T> as Outside>⟧.reach in
             let policies = map (λ p. meaning (p.vtable, p.value)) laws.now.policies.items in
-            IsAnswered policies (reach env.old) (reach env.new) self.old.core →
-            (seg : Segments) → ScansAs (reach env.old).meaning seg self.old self.new name order range steps result }
-        ensures checked { let reach = ⟦<EnvOf<S, M, T> as Outside>⟧.reach in
-            let policies = map (λ p. meaning (p.vtable, p.value)) laws.now.policies.items in
-            (os : Objects) → IsReadable policies (reach env.old).meaning os self.old.core →
-            (seg : Segments) → OrSlips os (reach env.old) (reach env.new) (ScansAs (reach env.old).meaning seg self.old self.new name order range steps result) }
+            AnswersScan policies name order range steps (reach env.old) (reach env.new) self.old self.new result }
         ensures stores { OnOk result ((m : Meaning) (seg : Segments) → StoresNothing m seg self.old self.new) }
         ensures grows { (line : Line) → line_load line ≡ 0 → OnOk result (Grows line self.old self.new) }
         ensures cause { let reach = ⟦<EnvOf<S, M, T> as Outside>⟧.reach in
-            let policies = map (λ p. meaning (p.vtable, p.value)) laws.now.policies.items in
-            IfErr result (IsScanError policies (reach env.old) (reach env.new) self.old.core) }
+            IfErr result (IsScanError (map (λ p. meaning (p.vtable, p.value)) laws.now.policies.items)
+                (reach env.old) (reach env.new) self.old.core) }
         ensures undamaged { let reach = ⟦<EnvOf<S, M, T> as Outside>⟧.reach in
-            let policies = map (λ p. meaning (p.vtable, p.value)) laws.now.policies.items in
-            IsAnswered policies (reach env.old) (reach env.new) self.old.core → IfErr result (IsFault (reach env.old) (reach env.new)) }
+            IsAnswered (map (λ p. meaning (p.vtable, p.value)) laws.now.policies.items) (reach env.old) (reach env.new)
+                self.old.core → IfErr result (IsFault (reach env.old) (reach env.new)) }
         ensures reads { let reach = ⟦<EnvOf<S, M, T> as Outside>⟧.reach in OnlyReads (reach env.old) (reach env.new) }
     {
         let Some(id) = self.reader_id(&name) else {
@@ -414,7 +423,10 @@ impl Session {
         ttl: Ttl,
         env: &mut Env<'_, S, M, T>,
     ) -> Result<Answer, SlateDBError>
-        ensures { let reach = ⟦<EnvOf<S, M, T> as Outside>⟧.reach in (seg : Segments) → AnswersWrite Unit seg (Line.Merge name key value ttl) (reach env.old) (reach env.new) self.old self.new result }
+        ensures { let reach = ⟦<EnvOf<S, M, T> as Outside>⟧.reach in
+            (seg : Segments) →
+            AnswersWrite Unit seg (Line.Merge name key value ttl)
+            (reach env.old) (reach env.new) self.old self.new result }
     {
         let Some(id) = self.names.get(&name) else {
             drop((key, value));
@@ -485,8 +497,10 @@ impl Session {
         env: &mut Env<'_, S, M, T>,
         laws: &Laws<X>,
     ) -> Result<Answer, SlateDBError>
-        ensures { let reach = ⟦<EnvOf<S, M, T> as Outside>⟧.reach in let seg = segments_by X.lengths laws.now.segments in
-            AnswersWrite (IsOperable (reach env.old).meaning self.old.core × IsSegmented seg self.old.core) seg (Line.Commit name) (reach env.old) (reach env.new) self.old self.new result }
+        ensures { let reach = ⟦<EnvOf<S, M, T> as Outside>⟧.reach in
+            let seg = segments_by X.lengths laws.now.segments in
+            let given = IsOperable (reach env.old).meaning self.old.core × IsSegmented seg self.old.core in
+            AnswersWrite given seg (Line.Commit name) (reach env.old) (reach env.new) self.old self.new result }
     {
         let Some(id) = self.names.remove(&name) else {
             return Ok(Answer::Refused(SlateDBError::UnknownTransaction { name }));
@@ -513,8 +527,10 @@ impl Session {
         env: &mut Env<'_, S, M, T>,
         laws: &Laws<X>,
     ) -> Result<Answer, SlateDBError>
-        ensures { let reach = ⟦<EnvOf<S, M, T> as Outside>⟧.reach in let seg = segments_by X.lengths laws.now.segments in
-            AnswersWrite (IsSegmented seg self.old.core) seg (Line.Write ops) (reach env.old) (reach env.new) self.old self.new result }
+        ensures { let reach = ⟦<EnvOf<S, M, T> as Outside>⟧.reach in
+            let seg = segments_by X.lengths laws.now.segments in
+            AnswersWrite (IsSegmented seg self.old.core) seg (Line.Write ops)
+            (reach env.old) (reach env.new) self.old self.new result }
     {
         let batch = match batch_of(self.alloc, ops) {
             Ok(batch) => batch,
@@ -543,7 +559,9 @@ impl Session {
         requires valid { IsValid laws.now.options }
         requires names { AreValidNames (map (λ p. (meaning (p.vtable, p.value)).name) laws.now.policies.items) }
         ensures { let reach = ⟦<EnvOf<S, M, T> as Outside>⟧.reach in
-            Answers (layout_of laws.now.options (map (λ p. meaning (p.vtable, p.value)) laws.now.policies.items) (segments_by X.lengths laws.now.segments)) Line.Flush (reach env.old) (reach env.new) self.old self.new result }
+            let policies = map (λ p. meaning (p.vtable, p.value)) laws.now.policies.items in
+            let layout = layout_of laws.now.options policies (segments_by X.lengths laws.now.segments) in
+            Answers layout Line.Flush (reach env.old) (reach env.new) self.old self.new result }
     {
         let seq = self.core.flush(env, laws)?;
         Ok(Answer::Flushed(seq))
@@ -589,7 +607,8 @@ fn asked(prefix: Bytes) -> Option<Bytes>
 fn batch_of(alloc: Global, ops: OpList) -> Result<WriteBatch, SlateDBError>
     ensures batch { IfOk result (λ batch. IsBatchOf ops batch) }
     ensures fine { OnOk result (AreFine ops) }
-    ensures refused { IfErr result (λ e. (e ≡ SlateDBError.OutOfMemory) ⊎ (first_refusal (map (λ o. op_refusal o.0 o.1) ops) ≡ Some e)) }
+    ensures refused { IfErr result (λ e.
+        (e ≡ SlateDBError.OutOfMemory) ⊎ (first_refusal (map (λ o. op_refusal o.0 o.1) ops) ≡ Some e)) }
 {
     let mut batch = WriteBatch::new(alloc);
     for (key, op) in ops.into_vec() {
@@ -602,7 +621,8 @@ fn batch_of(alloc: Global, ops: OpList) -> Result<WriteBatch, SlateDBError>
 fn add(batch: &mut WriteBatch, key: Bytes, op: WriteOp) -> Result<(), SlateDBError>
     ensures refused { IfErr result (λ e. (e ≡ SlateDBError.OutOfMemory) ⊎ (op_refusal key op ≡ Some e)) }
     ensures fine { OnOk result (op_refusal key op ≡ None) }
-    ensures means { (ops : Ops) → IsBatchOf ops batch.old → OnOk result (IsBatchOf (ops ++ ((key, op) ∷ [])) batch.new) }
+    ensures means { (ops : Ops) → IsBatchOf ops batch.old →
+        OnOk result (IsBatchOf (ops ++ ((key, op) ∷ [])) batch.new) }
 {
     match op {
         WriteOp::Put(value, options) => batch.put_bytes_with_options(key, value, &options),

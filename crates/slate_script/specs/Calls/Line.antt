@@ -1,17 +1,21 @@
 -- What a session makes of a line.
 --     AnswersWithin line old new result      a line that asks nothing outside
 --     AnswersRead policies line before after old new result      a get or a scan
+--     AnswersScan policies name order range steps before after old new result      a scan of a range, where bounds leave one
 --     AnswersWrite given seg line before after old new result      a line that may call the operator; it steps as the model does where `given` holds
 --     AnswersHonest, AnswersTold, AnswersSound      a line over a store that holds the journal's tables, one whose acts tell of them, and any store where what is kept of the rows holds
 --     Answers layout line before after old new result      all of these, and what holds of each line
-use Rattle.std.specs.Prelude.{◌≡◌, ◌⊎◌, List, Some, Result, IfErr, OnOk}
+use Rattle.std.specs.Prelude.{◌≡◌, ◌⊎◌, ℕ, List, Option, Some, Result, IfErr, OnOk}
+use Rattle.slate_types.specs.declared.bytes_range.BytesRange.{BytesRange}
 use Rattle.slate_types.specs.declared.error.SlateDBError.{SlateDBError}
 use Rattle.slate_types.specs.declared.error.SlateDBError.TheVariants.{OutOfMemory}
+use Rattle.slate_types.specs.declared.iter.IterationOrder.{IterationOrder}
 use Rattle.slate_types.specs.Outside.{Objects, Reach, IsFault, OnlyReads, Puts}
 use Rattle.slate_types.specs.World.{Made}
 use Rattle.slate_filter.specs.Policy.{Policy}
 use Rattle.slate_mem.specs.KeyTests.{Segments}
 use Rattle.slate_txn.specs.declared.line.Line.{Line}
+use Rattle.slate_txn.specs.declared.line.ScanStep.{ScanStep}
 use Rattle.slate_db.specs.Answered.{AddsActs}
 use Rattle.slate_db.specs.Checked.{OrSlips}
 use Rattle.slate_db.specs.Flushed.{Layout}
@@ -21,6 +25,7 @@ use Rattle.slate_db.specs.Parts.{IsTableError}
 use Rattle.slate_db.specs.Readable.{IsAnswered, IsReadable}
 use Rattle.slate_db.specs.Sound.{IsKept}
 use Rattle.slate_language.specs.declared.reply.Answer.{Answer}
+use Rattle.slate_script.specs.Scanning.{ScansAs}
 use Rattle.slate_script.specs.Session.{SessionModel, StepsAs, HasTablesAlone, Grows, IsSettled, IsSettledIn, IsLimit, StoresNothing}
 use Rattle.slate_script.specs.Told.{Follows, IsRefusedAt, IsUntrue, PutsTables}
 
@@ -40,6 +45,11 @@ pub record AnswersRead (policies : List Policy) (line : Line) (before after : Re
   pub cause : IfErr result (λ e. IsFault before after e ⊎ Made before after (λ reads. IsRefusedAt policies line before.meaning old.core reads e))
   pub undamaged : IsAnswered policies before after old.core → IfErr result (IsFault before after)
   pub reads : OnlyReads before after
+
+-- checked: as above
+pub record AnswersScan (policies : List Policy) (name : List ℕ) (order : IterationOrder) (range : Option BytesRange) (steps : List ScanStep) (before after : Reach) (old new : SessionModel) (result : Result Answer SlateDBError) : Type 0 where
+  pub step : IsAnswered policies before after old.core → (seg : Segments) → ScansAs before.meaning seg old new name order range steps result
+  pub checked : (os : Objects) → IsReadable policies before.meaning os old.core → (seg : Segments) → OrSlips os before after (ScansAs before.meaning seg old new name order range steps result)
 
 pub record AnswersWrite (given : Type 0) (seg : Segments) (line : Line) (before after : Reach) (old new : SessionModel) (result : Result Answer SlateDBError) : Type 0 where
   pub step : given → StepsAs before.meaning seg old new line result

@@ -68,23 +68,23 @@ returns-in-Ok g c =
     record {
       line = record {
         meant = (let meant = rw c.in-Ok-Some.field-0-is at c.in-Ok-Some.ensures.meant in
-          always c.write_reply.result (meant_line c.args.line.now c.in-Ok-Some.meaning meant.1));
+            always c.write_reply.result (meant_line c.args.line.now c.in-Ok-Some.meaning meant.1));
         honest = λ m r running. record {
           running = always c.write_reply.result (runs_on running c.answer.ensures.puts.meaning c.in-Ok.ensures.settings (c.in-Ok.ensures.honest (is_settled running)).kept);
           answered = meant m r (g.S.Store.objects c.args.env.now.store.now) running (c.in-Ok.ensures.honest (is_settled running)).step;
           alone = λ alone. (let layout = layout_of c.args.laws.now.options policies (segments_by g.X.PrefixExtractor.lengths c.args.laws.now.segments) in
-          always c.write_reply.result (subst (λ (x : Meaning). HasTablesAlone x layout (g.S.Store.objects c.answer.new.env.store.now) (runs_of c.answer.new.self.core.events)) running.meaning
-          ((c.in-Ok.ensures.honest (is_settled running)).alone (subst (λ (x : Meaning). HasTablesAlone x layout (g.S.Store.objects c.args.env.now.store.now) (runs_of c.args.session.now.core.events)) (sym running.meaning) alone))));
+              always c.write_reply.result (subst (λ (x : Meaning). HasTablesAlone x layout (g.S.Store.objects c.answer.new.env.store.now) (runs_of c.answer.new.self.core.events)) running.meaning
+              ((c.in-Ok.ensures.honest (is_settled running)).alone (subst (λ (x : Meaning). HasTablesAlone x layout (g.S.Store.objects c.args.env.now.store.now) (runs_of c.args.session.now.core.events)) (sym running.meaning) alone))));
           undamaged = writing_no_damage _ c.write_reply.result c.write_reply.ensures.cause;
         };
         checked = λ m r os running. holds_as (StepsAs parts seg c.args.session.now c.answer.new.self c.in-Ok-Some.meaning (Ok c.in-Ok.answer))
-          (AnswersLine r c.args.line.now c.args.session.now c.answer.new.self (g.W.Sink.content c.args.sink.now) (g.W.Sink.content c.write_reply.new.sink) c.args.tally.now c.count.new.self c.write_reply.result) os
-          (reach_of g.S.Store g.M.MergeOperator g.T.BlockTransformer c.args.env.now) (reach_of g.S.Store g.M.MergeOperator g.T.BlockTransformer c.answer.new.env) (meant m r (Some os) running) (c.in-Ok.ensures.told os (is_settled running)).step;
+            (AnswersLine r c.args.line.now c.args.session.now c.answer.new.self (g.W.Sink.content c.args.sink.now) (g.W.Sink.content c.write_reply.new.sink) c.args.tally.now c.count.new.self c.write_reply.result) os
+            (reach_of g.S.Store g.M.MergeOperator g.T.BlockTransformer c.args.env.now) (reach_of g.S.Store g.M.MergeOperator g.T.BlockTransformer c.answer.new.env) (meant m r (Some os) running) (c.in-Ok.ensures.told os (is_settled running)).step;
         told = λ os settled. record { follows = always c.write_reply.result (c.in-Ok.ensures.told os settled).follows; untrue = writing_no_damage _ c.write_reply.result c.write_reply.ensures.cause };
         sound = λ kept. record { kept = always c.write_reply.result (c.in-Ok.ensures.sound kept).kept; shown = writing_no_error _ c.write_reply.result c.write_reply.ensures.cause };
         settings = always c.write_reply.result c.in-Ok.ensures.settings;
         grows = (let meant = rw c.in-Ok-Some.field-0-is at c.in-Ok-Some.ensures.meant in
-          always c.write_reply.result (c.in-Ok.ensures.grows.0, let few : line_load c.in-Ok-Some.meaning ≤ length c.args.line.now = load_of_line c.args.line.now c.in-Ok-Some.meaning meant.1 in omega (arith, c.in-Ok.ensures.grows.1, few)));
+            always c.write_reply.result (c.in-Ok.ensures.grows.0, let few : line_load c.in-Ok-Some.meaning ≤ length c.args.line.now = load_of_line c.args.line.now c.in-Ok-Some.meaning meant.1 in omega (arith, c.in-Ok.ensures.grows.1, few)));
         cause = writing_cause c.write_reply.result c.args.number c.args.line.now c.args.session.now c.write_reply.ensures.cause;
         part = writing_no_part (IsPartCause (counts_of (g.S.Store.faults c.args.env.now.store.now) g.M.MergeOperator.faults g.T.BlockTransformer.faults c.args.env.now.operator c.args.env.now.transformer) (counts_of (g.S.Store.faults c.answer.new.env.store.now) g.M.MergeOperator.faults g.T.BlockTransformer.faults c.answer.new.env.operator c.answer.new.env.transformer)) c.write_reply.result c.write_reply.ensures.cause;
         tables = always c.write_reply.result c.in-Ok.ensures.tables;
@@ -93,8 +93,8 @@ returns-in-Ok g c =
       };
       sink = record {
         write_fault = (λ is.
-          let meant = rw c.in-Ok-Some.field-0-is at c.in-Ok-Some.ensures.meant in
-          (c.write_reply.ensures.write_fault is, meant_line c.args.line.now c.in-Ok-Some.meaning meant.1));
+            let meant = rw c.in-Ok-Some.field-0-is at c.in-Ok-Some.ensures.meant in
+            (c.write_reply.ensures.write_fault is, meant_line c.args.line.now c.in-Ok-Some.meaning meant.1));
         still = c.write_reply.ensures.still;
         uncounted = c.write_reply.ensures.uncounted;
         unanswered = c.write_reply.ensures.unanswered;

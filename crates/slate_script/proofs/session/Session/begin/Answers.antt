@@ -40,15 +40,15 @@ pub returns : goal.returns
 returns c =
     let before : SessionModel = record { core = c.self.inside.core; names = c.self.inside.names.entries; snapshot_names = c.self.inside.snapshot_names.entries; now = c.self.inside.now } in
     leaves_within (lines.Begin c.args.name c.args.level) before c.begin.new.self c.insert.new.self.entries before.snapshot_names before.now (answers.Begun c.args.name c.in_ok-id.start) c.self.view_is (λ m seg.
-          (begin_opens m seg before c.begin.new.self c.insert.new.self.entries c.args.name c.in_ok-id.id c.args.level c.in_ok-id.start c.reader_id.result c.self.invariant.0
-          (c.reader_id.ensures.id ∙ ap (λ (v : SessionModel). reader_id v c.args.name) (sym c.self.view_is)) (subst (λ (v : SessionModel). ReadsUnder v c.args.name c.reader_id.result) (sym c.self.view_is) c.reader_id.ensures.reads) (sym c.if-is_some.ensures)
-          (opens_fresh (rules_in before.core.settings m seg) before.core.state c.begin.new.self.state c.in_ok-id.id c.args.level c.in_ok-id.start (c.in_ok-id.ensures.step m seg))
-          (λ q. named_after c.args.name q (Some c.in_ok-id.id) before.names c.insert.new.self.entries
-          (c.in_ok-insert.ensures.updates.0 q ∙ ap (λ k. cond (is_at (key_cmp k) q) (Some c.in_ok-id.id) (lookup (is_at (key_cmp q)) before.names)) c.in_ok-key.ensures.cases))))
+    (begin_opens m seg before c.begin.new.self c.insert.new.self.entries c.args.name c.in_ok-id.id c.args.level c.in_ok-id.start c.reader_id.result c.self.invariant.0
+    (c.reader_id.ensures.id ∙ ap (λ (v : SessionModel). reader_id v c.args.name) (sym c.self.view_is)) (subst (λ (v : SessionModel). ReadsUnder v c.args.name c.reader_id.result) (sym c.self.view_is) c.reader_id.ensures.reads) (sym c.if-is_some.ensures)
+    (opens_fresh (rules_in before.core.settings m seg) before.core.state c.begin.new.self.state c.in_ok-id.id c.args.level c.in_ok-id.start (c.in_ok-id.ensures.step m seg))
+    (λ q. named_after c.args.name q (Some c.in_ok-id.id) before.names c.insert.new.self.entries
+    (c.in_ok-insert.ensures.updates.0 q ∙ ap (λ k. cond (is_at (key_cmp k) q) (Some c.in_ok-id.id) (lookup (is_at (key_cmp q)) before.names)) c.in_ok-key.ensures.cases))))
     (leaves_event c.self.inside.core c.begin.new.self (events.Begin c.in_ok-id.id c.args.level c.in_ok-id.start) c.in_ok-id.ensures.event refl) c.in_ok-id.ensures.kept c.in_ok-id.ensures.segmented
-          (takes_event c.self.inside.core c.begin.new.self (events.Begin c.in_ok-id.id c.args.level c.in_ok-id.start) c.in_ok-id.ensures.event
-          (opened_more (rules_in c.self.inside.core.settings plain_meaning None) c.self.inside.core.state c.begin.new.self.state c.in_ok-id.id c.args.level c.in_ok-id.start (opens_fresh (rules_in c.self.inside.core.settings plain_meaning None) c.self.inside.core.state c.begin.new.self.state c.in_ok-id.id c.args.level c.in_ok-id.start (c.in_ok-id.ensures.step plain_meaning None)))
-          (opened_own (rules_in c.self.inside.core.settings plain_meaning None) c.self.inside.core.state c.begin.new.self.state c.in_ok-id.id c.args.level c.in_ok-id.start (opens_fresh (rules_in c.self.inside.core.settings plain_meaning None) c.self.inside.core.state c.begin.new.self.state c.in_ok-id.id c.args.level c.in_ok-id.start (c.in_ok-id.ensures.step plain_meaning None))))
+    (takes_event c.self.inside.core c.begin.new.self (events.Begin c.in_ok-id.id c.args.level c.in_ok-id.start) c.in_ok-id.ensures.event
+    (opened_more (rules_in c.self.inside.core.settings plain_meaning None) c.self.inside.core.state c.begin.new.self.state c.in_ok-id.id c.args.level c.in_ok-id.start (opens_fresh (rules_in c.self.inside.core.settings plain_meaning None) c.self.inside.core.state c.begin.new.self.state c.in_ok-id.id c.args.level c.in_ok-id.start (c.in_ok-id.ensures.step plain_meaning None)))
+    (opened_own (rules_in c.self.inside.core.settings plain_meaning None) c.self.inside.core.state c.begin.new.self.state c.in_ok-id.id c.args.level c.in_ok-id.start (opens_fresh (rules_in c.self.inside.core.settings plain_meaning None) c.self.inside.core.state c.begin.new.self.state c.in_ok-id.id c.args.level c.in_ok-id.start (c.in_ok-id.ensures.step plain_meaning None))))
 
 pub returns-in_err-key : goal.returns-in_err-key
 returns-in_err-key c =

@@ -34,33 +34,33 @@ returns g c =
     let went : c.flush.result ≡ Ok c.in_ok-seq.seq = grind (arith, c.branch-seq.ensures, c.in_ok-seq.is) in
     let room = has_room LIMIT _ _ _ c.flush.result c.in_ok-seq.seq (LimitReached LIMIT) went c.flush.ensures.limit in
     let steps = (
-          subst (λ (v : SessionModel). StepsAs m seg v (record before { core = c.flush.new.self }) lines.Flush (Ok (answers.Flushed c.in_ok-seq.seq))) c.self.view_is
-          (flush_as m seg before c.flush.new.self c.in_ok-seq.seq (c.in_ok-seq.ensures.step m seg))) in
+    subst (λ (v : SessionModel). StepsAs m seg v (record before { core = c.flush.new.self }) lines.Flush (Ok (answers.Flushed c.in_ok-seq.seq))) c.self.view_is
+    (flush_as m seg before c.flush.new.self c.in_ok-seq.seq (c.in_ok-seq.ensures.step m seg))) in
     record {
       honest = λ settled. record {
         step = steps;
         kept = (
-          flush_settled m seg layout (g.S.Store.objects c.args.env.now.store.now) (g.S.Store.objects c.flush.new.env.store.now) before c.in_ok-seq.ensures.installed.0 c.flush.new.self c.in_ok-seq.seq
-          c.in_ok-seq.ensures.installed.1 c.in_ok-seq.ensures.installed.2
-          room
-          c.flush.ensures.kept (c.flush.ensures.segmented seg)
-          (subst (λ (v : SessionModel). IsSettled policies m seg (g.S.Store.objects c.args.env.now.store.now) v) (sym c.self.view_is) settled));
+            flush_settled m seg layout (g.S.Store.objects c.args.env.now.store.now) (g.S.Store.objects c.flush.new.env.store.now) before c.in_ok-seq.ensures.installed.0 c.flush.new.self c.in_ok-seq.seq
+            c.in_ok-seq.ensures.installed.1 c.in_ok-seq.ensures.installed.2
+            room
+            c.flush.ensures.kept (c.flush.ensures.segmented seg)
+            (subst (λ (v : SessionModel). IsSettled policies m seg (g.S.Store.objects c.args.env.now.store.now) v) (sym c.self.view_is) settled));
         alone = (λ alone.
-          let h = subst (λ (v : SessionModel). IsSettled policies m seg (g.S.Store.objects c.args.env.now.store.now) v) (sym c.self.view_is) settled in
-          flush_alone m layout c.self.inside.core c.in_ok-seq.ensures.installed.0 c.flush.new.self c.in_ok-seq.seq (g.S.Store.objects c.args.env.now.store.now) (g.S.Store.objects c.flush.new.env.store.now)
-          c.in_ok-seq.ensures.installed.1 c.in_ok-seq.ensures.installed.2 h.kept.0 h.segmented.each h.tables.few
-          room
-          (subst (λ (v : SessionModel). HasTablesAlone m layout (g.S.Store.objects c.args.env.now.store.now) (runs_of v.core.events)) (sym c.self.view_is) alone));
+            let h = subst (λ (v : SessionModel). IsSettled policies m seg (g.S.Store.objects c.args.env.now.store.now) v) (sym c.self.view_is) settled in
+            flush_alone m layout c.self.inside.core c.in_ok-seq.ensures.installed.0 c.flush.new.self c.in_ok-seq.seq (g.S.Store.objects c.args.env.now.store.now) (g.S.Store.objects c.flush.new.env.store.now)
+            c.in_ok-seq.ensures.installed.1 c.in_ok-seq.ensures.installed.2 h.kept.0 h.segmented.each h.tables.few
+            room
+            (subst (λ (v : SessionModel). HasTablesAlone m layout (g.S.Store.objects c.args.env.now.store.now) (runs_of v.core.events)) (sym c.self.view_is) alone));
         undamaged = tt;
       };
       told = λ os settled. record {
         step = λ known began. inl steps;
         follows = (
-          follows_flush m seg layout os _ _ before c.in_ok-seq.ensures.installed.0 c.flush.new.self c.in_ok-seq.seq (g.S.Store.acts c.args.env.now.store.now) (g.S.Store.acts c.flush.new.env.store.now)
-          c.in_ok-seq.ensures.installed.1 c.in_ok-seq.ensures.installed.2 c.in_ok-seq.ensures.acts
-          room
-          c.flush.ensures.kept (c.flush.ensures.segmented seg)
-          (subst (λ (v : SessionModel). IsSettled policies m seg (Some os) v) (sym c.self.view_is) settled));
+            follows_flush m seg layout os _ _ before c.in_ok-seq.ensures.installed.0 c.flush.new.self c.in_ok-seq.seq (g.S.Store.acts c.args.env.now.store.now) (g.S.Store.acts c.flush.new.env.store.now)
+            c.in_ok-seq.ensures.installed.1 c.in_ok-seq.ensures.installed.2 c.in_ok-seq.ensures.acts
+            room
+            c.flush.ensures.kept (c.flush.ensures.segmented seg)
+            (subst (λ (v : SessionModel). IsSettled policies m seg (Some os) v) (sym c.self.view_is) settled));
         untrue = tt;
       };
       sound = λ kept. record { kept = c.flush.ensures.kept (subst (λ (v : SessionModel). IsKept m v.core) (sym c.self.view_is) kept); shown = tt };
@@ -82,10 +82,10 @@ returns-in_err-seq g c =
     let new = reach_of g.S.Store g.M.MergeOperator g.T.BlockTransformer c.flush.new.env in
     failed_answers _ lines.Flush old new _ _ c.from_residual.result (p.1 ∙ ap Err p.2)
     (or_operator {V = Answer} (Err c.in_err-seq.field-0.0) old.faults new.faults c.args.self.now (subst (λ (v : SessionModel). IsFault old new c.in_err-seq.field-0.0 ⊎ IsLimit v c.in_err-seq.field-0.0 ⊎ (c.in_err-seq.field-0.0 ≡ MergeOperatorMissing)) c.self.view_is
-          (flush_cause old new (layout_of c.args.laws.now.options policies (segments_by g.X.PrefixExtractor.lengths c.args.laws.now.segments)) (record { core = c.self.inside.core; names = c.self.inside.names.entries; snapshot_names = c.self.inside.snapshot_names.entries; now = c.self.inside.now }) c.in_err-seq.field-0.0 c.in_err-seq.ensures.cause)))
+    (flush_cause old new (layout_of c.args.laws.now.options policies (segments_by g.X.PrefixExtractor.lengths c.args.laws.now.segments)) (record { core = c.self.inside.core; names = c.self.inside.names.entries; snapshot_names = c.self.inside.snapshot_names.entries; now = c.self.inside.now }) c.in_err-seq.field-0.0 c.in_err-seq.ensures.cause)))
     (λ kept.
-          let before : SessionModel = record { core = c.self.inside.core; names = c.self.inside.names.entries; snapshot_names = c.self.inside.snapshot_names.entries; now = c.self.inside.now } in
-          (subst (λ (v : SessionModel). IsFault old new c.in_err-seq.field-0.0 ⊎ IsLimit v c.in_err-seq.field-0.0) c.self.view_is
-          (operable_cause old new before c.in_err-seq.field-0.0 (c.in_err-seq.ensures.operable (subst (λ (v : SessionModel). IsKept (meaning_of g.M.MergeOperator.combine g.T.BlockTransformer.encoded g.T.BlockTransformer.decoded c.args.env.now.operator c.args.env.now.transformer) v.core) (sym c.self.view_is) kept))
-          (flush_cause old new (layout_of c.args.laws.now.options policies (segments_by g.X.PrefixExtractor.lengths c.args.laws.now.segments)) before c.in_err-seq.field-0.0 c.in_err-seq.ensures.cause))))
+    let before : SessionModel = record { core = c.self.inside.core; names = c.self.inside.names.entries; snapshot_names = c.self.inside.snapshot_names.entries; now = c.self.inside.now } in
+    (subst (λ (v : SessionModel). IsFault old new c.in_err-seq.field-0.0 ⊎ IsLimit v c.in_err-seq.field-0.0) c.self.view_is
+    (operable_cause old new before c.in_err-seq.field-0.0 (c.in_err-seq.ensures.operable (subst (λ (v : SessionModel). IsKept (meaning_of g.M.MergeOperator.combine g.T.BlockTransformer.encoded g.T.BlockTransformer.decoded c.args.env.now.operator c.args.env.now.transformer) v.core) (sym c.self.view_is) kept))
+    (flush_cause old new (layout_of c.args.laws.now.options policies (segments_by g.X.PrefixExtractor.lengths c.args.laws.now.segments)) before c.in_err-seq.field-0.0 c.in_err-seq.ensures.cause))))
     c.flush.ensures.adds c.flush.ensures.puts

@@ -24,13 +24,13 @@ returns g c =
       step = (λ is seg.
           let m = meaning_of g.M.MergeOperator.combine g.T.BlockTransformer.encoded g.T.BlockTransformer.decoded c.args.env.now.operator c.args.env.now.transformer in
           let composed : c.in-Ok.range ≡ prefix_subrange c.args.prefix c.args.start c.args.end = c.in-Ok.ensures.range ∙ ap (λ p. prefix_subrange p c.args.start c.args.end) c.as_slice.ensures in
-          subst (λ (o : Option BytesRange). ScansAs m seg c.args.self.now c.scan_range.new.self c.args.name c.args.order o c.args.steps c.scan_range.result) composed (c.scan_range.ensures.step is seg));
+          subst (λ (o : Option BytesRange). ScansAs m seg c.args.self.now c.scan_range.new.self c.args.name c.args.order o c.args.steps c.scan_range.result) composed (c.scan_range.ensures.scans.step is seg));
       checked = (λ os readable seg.
           let m = meaning_of g.M.MergeOperator.combine g.T.BlockTransformer.encoded g.T.BlockTransformer.decoded c.args.env.now.operator c.args.env.now.transformer in
           let old = reach_of g.S.Store g.M.MergeOperator g.T.BlockTransformer c.args.env.now in
           let new = reach_of g.S.Store g.M.MergeOperator g.T.BlockTransformer c.scan_range.new.env in
           let composed : c.in-Ok.range ≡ prefix_subrange c.args.prefix c.args.start c.args.end = c.in-Ok.ensures.range ∙ ap (λ p. prefix_subrange p c.args.start c.args.end) c.as_slice.ensures in
-          subst (λ (o : Option BytesRange). OrSlips os old new (ScansAs m seg c.args.self.now c.scan_range.new.self c.args.name c.args.order o c.args.steps c.scan_range.result)) composed (c.scan_range.ensures.checked os readable seg));
+          subst (λ (o : Option BytesRange). OrSlips os old new (ScansAs m seg c.args.self.now c.scan_range.new.self c.args.name c.args.order o c.args.steps c.scan_range.result)) composed (c.scan_range.ensures.scans.checked os readable seg));
       stores = c.scan_range.ensures.stores;
       grows = c.scan_range.ensures.grows (lines.Prefix c.args.name c.args.order c.args.prefix c.args.start c.args.end c.args.steps) refl;
       cause = c.scan_range.ensures.cause;

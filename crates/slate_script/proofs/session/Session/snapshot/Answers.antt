@@ -40,15 +40,15 @@ pub returns : goal.returns
 returns c =
     let before : SessionModel = record { core = c.self.inside.core; names = c.self.inside.names.entries; snapshot_names = c.self.inside.snapshot_names.entries; now = c.self.inside.now } in
     leaves_within (lines.Snapshot c.args.name) before c.snapshot.new.self before.names c.insert.new.self.entries before.now (answers.SnapshotAt c.args.name c.in_ok-id.seq) c.self.view_is (λ m seg.
-          (snapshot_opens m seg before c.snapshot.new.self c.insert.new.self.entries c.args.name c.in_ok-id.id c.in_ok-id.seq c.reader_id.result c.self.invariant.0
-          (c.reader_id.ensures.id ∙ ap (λ (v : SessionModel). reader_id v c.args.name) (sym c.self.view_is)) (subst (λ (v : SessionModel). ReadsUnder v c.args.name c.reader_id.result) (sym c.self.view_is) c.reader_id.ensures.reads) (sym c.if-is_some.ensures)
-          (opens_snapshot (rules_in before.core.settings m seg) before.core.state c.snapshot.new.self.state c.in_ok-id.id c.in_ok-id.seq (c.in_ok-id.ensures.step m seg))
-          (λ q. named_after c.args.name q (Some c.in_ok-id.id) before.snapshot_names c.insert.new.self.entries
-          (c.in_ok-insert.ensures.updates.0 q ∙ ap (λ k. cond (is_at (key_cmp k) q) (Some c.in_ok-id.id) (lookup (is_at (key_cmp q)) before.snapshot_names)) c.in_ok-key.ensures.cases))))
+    (snapshot_opens m seg before c.snapshot.new.self c.insert.new.self.entries c.args.name c.in_ok-id.id c.in_ok-id.seq c.reader_id.result c.self.invariant.0
+    (c.reader_id.ensures.id ∙ ap (λ (v : SessionModel). reader_id v c.args.name) (sym c.self.view_is)) (subst (λ (v : SessionModel). ReadsUnder v c.args.name c.reader_id.result) (sym c.self.view_is) c.reader_id.ensures.reads) (sym c.if-is_some.ensures)
+    (opens_snapshot (rules_in before.core.settings m seg) before.core.state c.snapshot.new.self.state c.in_ok-id.id c.in_ok-id.seq (c.in_ok-id.ensures.step m seg))
+    (λ q. named_after c.args.name q (Some c.in_ok-id.id) before.snapshot_names c.insert.new.self.entries
+    (c.in_ok-insert.ensures.updates.0 q ∙ ap (λ k. cond (is_at (key_cmp k) q) (Some c.in_ok-id.id) (lookup (is_at (key_cmp q)) before.snapshot_names)) c.in_ok-key.ensures.cases))))
     (leaves_event c.self.inside.core c.snapshot.new.self (events.Snapshot c.in_ok-id.id c.in_ok-id.seq) c.in_ok-id.ensures.event refl) c.in_ok-id.ensures.kept c.in_ok-id.ensures.segmented
-          (takes_event c.self.inside.core c.snapshot.new.self (events.Snapshot c.in_ok-id.id c.in_ok-id.seq) c.in_ok-id.ensures.event
-          (shown_more (rules_in c.self.inside.core.settings plain_meaning None) c.self.inside.core.state c.snapshot.new.self.state c.in_ok-id.id c.in_ok-id.seq (opens_snapshot (rules_in c.self.inside.core.settings plain_meaning None) c.self.inside.core.state c.snapshot.new.self.state c.in_ok-id.id c.in_ok-id.seq (c.in_ok-id.ensures.step plain_meaning None)))
-          (shown_own (rules_in c.self.inside.core.settings plain_meaning None) c.self.inside.core.state c.snapshot.new.self.state c.in_ok-id.id c.in_ok-id.seq (opens_snapshot (rules_in c.self.inside.core.settings plain_meaning None) c.self.inside.core.state c.snapshot.new.self.state c.in_ok-id.id c.in_ok-id.seq (c.in_ok-id.ensures.step plain_meaning None))))
+    (takes_event c.self.inside.core c.snapshot.new.self (events.Snapshot c.in_ok-id.id c.in_ok-id.seq) c.in_ok-id.ensures.event
+    (shown_more (rules_in c.self.inside.core.settings plain_meaning None) c.self.inside.core.state c.snapshot.new.self.state c.in_ok-id.id c.in_ok-id.seq (opens_snapshot (rules_in c.self.inside.core.settings plain_meaning None) c.self.inside.core.state c.snapshot.new.self.state c.in_ok-id.id c.in_ok-id.seq (c.in_ok-id.ensures.step plain_meaning None)))
+    (shown_own (rules_in c.self.inside.core.settings plain_meaning None) c.self.inside.core.state c.snapshot.new.self.state c.in_ok-id.id c.in_ok-id.seq (opens_snapshot (rules_in c.self.inside.core.settings plain_meaning None) c.self.inside.core.state c.snapshot.new.self.state c.in_ok-id.id c.in_ok-id.seq (c.in_ok-id.ensures.step plain_meaning None))))
 
 pub returns-in_err-key : goal.returns-in_err-key
 returns-in_err-key c =
