@@ -44,7 +44,7 @@ pub(crate) fn scan_rows<S: Store, M: MergeOperator, T: BlockTransformer, X: Pref
     ensures scanned { let reach = ⟦<EnvOf<S, M, T> as Outside>⟧.reach in
         let policies = map (λ p. meaning (p.vtable, p.value)) laws.now.policies.items in
         IfOk result (λ v. HasScanned policies (reach env.old) (reach env.new) core.old core.new
-            id.now order range steps.now v.items) }
+        id.now order range steps.now v.items) }
     ensures undamaged { let reach = ⟦<EnvOf<S, M, T> as Outside>⟧.reach in
         let policies = map (λ p. meaning (p.vtable, p.value)) laws.now.policies.items in
         IsAnswered policies (reach env.old) (reach env.new) core.old →

@@ -334,10 +334,10 @@ impl Session {
         ensures grows { (line : Line) → line_load line ≡ 0 → OnOk result (Grows line self.old self.new) }
         ensures cause { let reach = ⟦<EnvOf<S, M, T> as Outside>⟧.reach in
             IfErr result (IsScanError (map (λ p. meaning (p.vtable, p.value)) laws.now.policies.items)
-                (reach env.old) (reach env.new) self.old.core) }
+            (reach env.old) (reach env.new) self.old.core) }
         ensures undamaged { let reach = ⟦<EnvOf<S, M, T> as Outside>⟧.reach in
             IsAnswered (map (λ p. meaning (p.vtable, p.value)) laws.now.policies.items) (reach env.old) (reach env.new)
-                self.old.core → IfErr result (IsFault (reach env.old) (reach env.new)) }
+            self.old.core → IfErr result (IsFault (reach env.old) (reach env.new)) }
         ensures reads { let reach = ⟦<EnvOf<S, M, T> as Outside>⟧.reach in OnlyReads (reach env.old) (reach env.new) }
     {
         let Some(id) = self.reader_id(&name) else {
