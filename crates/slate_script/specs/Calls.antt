@@ -1,4 +1,4 @@
--- What each function ensures, where that is longer than a line. `old` and `new` are the session, `before` and `after` what is outside.
+-- What functions ensure, where that is longer than a line: a record, whose fields are the facts.
 pub mod Line
 pub mod Run
 pub mod Main

@@ -1,4 +1,4 @@
--- What a session makes of a line.
+-- What a session makes of a line. old, new: the session; before, after: what it reaches.
 --     AnswersWithin line old new result      a line that asks nothing outside
 --     AnswersRead policies line before after old new result      a get or a scan
 --     AnswersScan policies name order range steps before after old new result      a scan of a range, where bounds leave one
