@@ -16,7 +16,7 @@ use Rattle.slate_db.specs.Flushed.{Layout}
 use Rattle.slate_db.specs.Parts.{IsTableError}
 use Rattle.slate_db.specs.Sound.{IsKept}
 use Rattle.slate_language.specs.declared.reply.Answer.{Answer}
-use Rattle.slate_script.specs.Calls.Line.{Answers, AnswersRead, AnswersWithin, AnswersWrite}
+use Rattle.slate_script.specs.Calls.Line.{Answers, AnswersByRead, AnswersWithin, AnswersByWrite}
 use Rattle.slate_script.specs.Session.{SessionModel, StepsAs, Grows, IsLimit, IsSettled, IsSettledIn, StoresNothing}
 use Rattle.slate_script.specs.Told.{IsRefusedAt, IsUntrue, asking_for}
 use Rattle.slate_script.proofs.LineEnds.{keeps_core, keeps_settings, keeps_settled, limit_between, memory_or_limit, no_damage, no_error, or_damage, or_limit, stores_at}
@@ -71,7 +71,7 @@ within_answers layout line reach old new result a =
 
 -- given: had of a settled session
 pub write_answers : {given : Type 0} (layout : Layout) (line : Line) (before after : Reach) (old new : SessionModel) (result : Result Answer SlateDBError) → ((objects : Option Objects) → IsSettled layout.policies before.meaning layout.segments objects old → given) →
-    AnswersWrite given layout.segments line before after old new result → Answers layout line before after old new result
+    AnswersByWrite given layout.segments line before after old new result → Answers layout line before after old new result
 write_answers layout line before after old new result given a =
     quiet layout line before after old new result (λ settled. a.step (given before.objects settled)) (λ os settled. always_holds _ os before after (a.step (given (Some os) settled)))
     a.stores a.grows (or_damage result before.faults after.faults old a.cause) (λ settled. a.cause)
@@ -92,7 +92,7 @@ read_shown policies line (Ok v) before after e cause = tt
 read_shown policies line (Err x) before after e (inl fault) = λ error. absurd (not_damage {X = Unit {0}} before.faults after.faults x (inl fault) error)
 read_shown policies line (Err x) before after e (inr made) = λ error. made
 
-pub read_answers : (layout : Layout) (line : Line) (before after : Reach) (old new : SessionModel) (result : Result Answer SlateDBError) → AnswersRead layout.policies line before after old new result → Answers layout line before after old new result
+pub read_answers : (layout : Layout) (line : Line) (before after : Reach) (old new : SessionModel) (result : Result Answer SlateDBError) → AnswersByRead layout.policies line before after old new result → Answers layout line before after old new result
 read_answers layout line before after old new result a =
     quiet layout line before after old new result (λ settled. a.step (settled_answered layout.policies before after old settled) layout.segments) (λ os settled. a.checked os (settled_readable layout.policies before.meaning os old settled) layout.segments)
     (stores_at result before.meaning layout.segments old new a.stores) a.grows (read_cause layout.policies line result before after old a.cause)

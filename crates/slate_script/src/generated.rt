@@ -7,7 +7,7 @@ ghost use Rattle.slate_db.specs.Meaning.{segments_by};
 ghost use Rattle.slate_language.specs.Generate.{generate};
 ghost use Rattle.slate_language.specs.Tally.{tally_text};
 ghost use Rattle.slate_language.specs.Words.{max_rounds};
-ghost use Rattle.slate_script.specs.Calls.Run.{Sums};
+ghost use Rattle.slate_script.specs.Calls.Run.{RunsSummed};
 ghost use Rattle.slate_script.specs.Run.{HasTold};
 ghost use Rattle.slate_script.specs.Terms.{sink_of, terms_of};
 
@@ -95,7 +95,7 @@ pub fn run_generated<W: Sink, S: Store, M: MergeOperator, T: BlockTransformer, X
         let seg = segments_by X.lengths laws.now.segments in
         let terms = terms_of laws.now.options seg policies (reach env.old).meaning in
         let sunk = sink_of W.content W.faults in
-        Sums terms (generate rounds seed) (sunk sink.old) (sunk sink.new) (reach env.old) (reach env.new) result }
+        RunsSummed terms (generate rounds seed) (sunk sink.old) (sunk sink.new) (reach env.old) (reach env.new) result }
 {
     let script = generate(alloc, rounds, seed)?;
     let mut source = Script::new(script);

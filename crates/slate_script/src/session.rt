@@ -28,7 +28,7 @@ ghost use Rattle.slate_db.specs.Sound.{IsKept, IsOperable};
 ghost use Rattle.slate_db.specs.StoredState.{StoresState};
 ghost use Rattle.slate_db.specs.Log.{AreFine};
 ghost use Rattle.slate_language.specs.Answers.{reply_of};
-ghost use Rattle.slate_script.specs.Calls.Line.{Answers, AnswersRead, AnswersScan, AnswersWithin, AnswersWrite};
+ghost use Rattle.slate_script.specs.Calls.Line.{Answers, AnswersByRead, AnswersByScan, AnswersWithin, AnswersByWrite};
 ghost use Rattle.slate_script.specs.Session.{StandsFor, Grows, IsDone, IsRefusal, StoresNothing, has_moment, held_load, line_load, reader_id, reader_under};
 ghost use Rattle.slate_script.specs.Scanning.{BeginsWith, EndsBelow, ScansAs};
 
@@ -248,7 +248,7 @@ impl Session {
     ) -> Result<Answer, SlateDBError>
         ensures { let reach = ⟦<EnvOf<S, M, T> as Outside>⟧.reach in
             let policies = map (λ p. meaning (p.vtable, p.value)) laws.now.policies.items in
-            AnswersRead policies (Line.Get name key) (reach env.old) (reach env.new) self.old self.new result }
+            AnswersByRead policies (Line.Get name key) (reach env.old) (reach env.new) self.old self.new result }
     {
         let Some(id) = self.reader_id(&name) else {
             drop(key);
@@ -275,7 +275,7 @@ impl Session {
         requires valid { IsValid laws.now.options }
         ensures { let reach = ⟦<EnvOf<S, M, T> as Outside>⟧.reach in
             let policies = map (λ p. meaning (p.vtable, p.value)) laws.now.policies.items in
-            AnswersRead policies (Line.Scan name order start end steps)
+            AnswersByRead policies (Line.Scan name order start end steps)
             (reach env.old) (reach env.new) self.old self.new result }
     {
         let range = BytesRange::try_new(start, end);
@@ -297,7 +297,7 @@ impl Session {
         requires valid { IsValid laws.now.options }
         ensures { let reach = ⟦<EnvOf<S, M, T> as Outside>⟧.reach in
             let policies = map (λ p. meaning (p.vtable, p.value)) laws.now.policies.items in
-            AnswersRead policies (Line.Prefix name order prefix start end steps)
+            AnswersByRead policies (Line.Prefix name order prefix start end steps)
             (reach env.old) (reach env.new) self.old self.new result }
     {
         let composed = composed_range(self.alloc, prefix.as_slice(), start, end);
@@ -329,7 +329,7 @@ impl Session {
         requires valid { IsValid laws.now.options }
         ensures scans { let reach = ⟦<EnvOf<S, M, T> as Outside>⟧.reach in
             let policies = map (λ p. meaning (p.vtable, p.value)) laws.now.policies.items in
-            AnswersScan policies name order range steps (reach env.old) (reach env.new) self.old self.new result }
+            AnswersByScan policies name order range steps (reach env.old) (reach env.new) self.old self.new result }
         ensures stores { OnOk result ((m : Meaning) (seg : Segments) → StoresNothing m seg self.old self.new) }
         ensures grows { (line : Line) → line_load line ≡ 0 → OnOk result (Grows line self.old self.new) }
         ensures cause { let reach = ⟦<EnvOf<S, M, T> as Outside>⟧.reach in
@@ -425,7 +425,7 @@ impl Session {
     ) -> Result<Answer, SlateDBError>
         ensures { let reach = ⟦<EnvOf<S, M, T> as Outside>⟧.reach in
             (seg : Segments) →
-            AnswersWrite Unit seg (Line.Merge name key value ttl)
+            AnswersByWrite Unit seg (Line.Merge name key value ttl)
             (reach env.old) (reach env.new) self.old self.new result }
     {
         let Some(id) = self.names.get(&name) else {
@@ -500,7 +500,7 @@ impl Session {
         ensures { let reach = ⟦<EnvOf<S, M, T> as Outside>⟧.reach in
             let seg = segments_by X.lengths laws.now.segments in
             let given = IsOperable (reach env.old).meaning self.old.core × IsSegmented seg self.old.core in
-            AnswersWrite given seg (Line.Commit name) (reach env.old) (reach env.new) self.old self.new result }
+            AnswersByWrite given seg (Line.Commit name) (reach env.old) (reach env.new) self.old self.new result }
     {
         let Some(id) = self.names.remove(&name) else {
             return Ok(Answer::Refused(SlateDBError::UnknownTransaction { name }));
@@ -529,7 +529,7 @@ impl Session {
     ) -> Result<Answer, SlateDBError>
         ensures { let reach = ⟦<EnvOf<S, M, T> as Outside>⟧.reach in
             let seg = segments_by X.lengths laws.now.segments in
-            AnswersWrite (IsSegmented seg self.old.core) seg (Line.Write ops)
+            AnswersByWrite (IsSegmented seg self.old.core) seg (Line.Write ops)
             (reach env.old) (reach env.new) self.old self.new result }
     {
         let batch = match batch_of(self.alloc, ops) {

@@ -1,8 +1,8 @@
 -- What a session makes of a line. old, new: the session; before, after: what it reaches.
 --     AnswersWithin line old new result      a line that asks nothing outside
---     AnswersRead policies line before after old new result      a get or a scan
---     AnswersScan policies name order range steps before after old new result      a scan of a range, where bounds leave one
---     AnswersWrite given seg line before after old new result      a line that may call the operator; it steps as the model does where `given` holds
+--     AnswersByRead policies line before after old new result      a get or a scan
+--     AnswersByScan policies name order range steps before after old new result      a scan of a range, where bounds leave one
+--     AnswersByWrite given seg line before after old new result      a line that may call the operator; it steps as the model does where `given` holds
 --     AnswersHonest, AnswersTold, AnswersSound      a line over a store that holds the journal's tables, one whose acts tell of them, and any store where what is kept of the rows holds
 --     Answers layout line before after old new result      all of these, and what holds of each line
 use Rattle.std.specs.Prelude.{◌≡◌, ◌⊎◌, ℕ, List, Option, Some, Result, IfErr, OnOk}
@@ -37,7 +37,7 @@ pub record AnswersWithin (line : Line) (old new : SessionModel) (result : Result
   pub cause : IfErr result (λ e. (e ≡ OutOfMemory) ⊎ IsLimit old e)
 
 -- checked: where the objects hold the tables, it steps as the model does, or a section slipped
-pub record AnswersRead (policies : List Policy) (line : Line) (before after : Reach) (old new : SessionModel) (result : Result Answer SlateDBError) : Type 0 where
+pub record AnswersByRead (policies : List Policy) (line : Line) (before after : Reach) (old new : SessionModel) (result : Result Answer SlateDBError) : Type 0 where
   pub step : IsAnswered policies before after old.core → (seg : Segments) → StepsAs before.meaning seg old new line result
   pub checked : (os : Objects) → IsReadable policies before.meaning os old.core → (seg : Segments) → OrSlips os before after (StepsAs before.meaning seg old new line result)
   pub stores : OnOk result ((m : Meaning) (seg : Segments) → StoresNothing m seg old new)
@@ -47,11 +47,11 @@ pub record AnswersRead (policies : List Policy) (line : Line) (before after : Re
   pub reads : OnlyReads before after
 
 -- checked: as above
-pub record AnswersScan (policies : List Policy) (name : List ℕ) (order : IterationOrder) (range : Option BytesRange) (steps : List ScanStep) (before after : Reach) (old new : SessionModel) (result : Result Answer SlateDBError) : Type 0 where
+pub record AnswersByScan (policies : List Policy) (name : List ℕ) (order : IterationOrder) (range : Option BytesRange) (steps : List ScanStep) (before after : Reach) (old new : SessionModel) (result : Result Answer SlateDBError) : Type 0 where
   pub step : IsAnswered policies before after old.core → (seg : Segments) → ScansAs before.meaning seg old new name order range steps result
   pub checked : (os : Objects) → IsReadable policies before.meaning os old.core → (seg : Segments) → OrSlips os before after (ScansAs before.meaning seg old new name order range steps result)
 
-pub record AnswersWrite (given : Type 0) (seg : Segments) (line : Line) (before after : Reach) (old new : SessionModel) (result : Result Answer SlateDBError) : Type 0 where
+pub record AnswersByWrite (given : Type 0) (seg : Segments) (line : Line) (before after : Reach) (old new : SessionModel) (result : Result Answer SlateDBError) : Type 0 where
   pub step : given → StepsAs before.meaning seg old new line result
   pub stores : OnOk result (StoresNothing before.meaning seg old new)
   pub grows : OnOk result (Grows line old new)

@@ -2,7 +2,7 @@
 --     RunsHonest, RunsTold      a run of lawful terms over an honest store that was empty, and over one that tells its acts
 --     Runs t old new before after result      a run over a script
 --     CountsReplies t old before after first tally result      the counts of its replies
---     SumsHonest, SumsTold, Sums t script old new before after result      the same of a run over a script that it makes for itself
+--     SummedHonest, SummedTold, RunsSummed t script old new before after result      the same of a run over a script that it makes for itself
 --     RepliesHonest, RepliesTold, RepliesSound      a line of a session that runs, of one that is settled, and of one whose rows are kept
 --     RepliesLine layout number line before after old new from to first tally result      a line; old, new: the session; from, to: the streams
 --     WritesLine line from to result      what a line does to the sink
@@ -68,20 +68,20 @@ pub record CountsReplies {T : Type 0} (t : Terms) (old : Streams) (before after 
 
 -- ---- a run over a script that it makes for itself
 
-pub record SumsHonest {T : Type 0} (t : Terms) (script : List ℕ) (old new : Streams) (before after : Reach) (result : Result T SlateDBError) : Type 0 where
+pub record SummedHonest {T : Type 0} (t : Terms) (script : List ℕ) (old new : Streams) (before after : Reach) (result : Result T SlateDBError) : Type 0 where
   pub said : (front : List ℕ) → old.taken ≡ Some front → HasTold (summary (rules_by t) script) front new.taken result
   pub stored : OnOk result (IsStoredState t.parts (rules_by t) (layout_by t) after.objects (after_lines (rules_by t) opening (lines_of script)))
   pub complete : NoneRose ⊥ (Rose old.sink new.sink) before after → IfErr result (λ e. e ≡ errors.OutOfMemory)
 
 -- said: or a section slipped
-pub record SumsTold {T : Type 0} (t : Terms) (script : List ℕ) (old new : Streams) (before after : Reach) (result : Result T SlateDBError) : Type 0 where
+pub record SummedTold {T : Type 0} (t : Terms) (script : List ℕ) (old new : Streams) (before after : Reach) (result : Result T SlateDBError) : Type 0 where
   pub said : (front : List ℕ) → old.taken ≡ Some front → OrSlips [] before after (HasTold (summary (rules_by t) script) front new.taken result)
   pub untrue : IfErr result (λ e. IsTableError e → IsUntrue [] before.acts after.acts)
 
-pub record Sums {T : Type 0} (t : Terms) (script : List ℕ) (old new : Streams) (before after : Reach) (result : Result T SlateDBError) : Type 0 where
-  pub honest : Premises t.policies t.parts before.objects → SumsHonest t script old new before after result
+pub record RunsSummed {T : Type 0} (t : Terms) (script : List ℕ) (old new : Streams) (before after : Reach) (result : Result T SlateDBError) : Type 0 where
+  pub honest : Premises t.policies t.parts before.objects → SummedHonest t script old new before after result
   pub undamaged : Premises t.policies t.parts before.objects → IfErr result (λ e. IsTableError e → ⊥)
-  pub told : AreLawfulTerms t → SumsTold t script old new before after result
+  pub told : AreLawfulTerms t → SummedTold t script old new before after result
   pub shown : IfErr result (λ e. IsTableError e → IsShownAtEnd t.policies before after e)
   pub outside : IfErr result (λ e. IsOutside e)
   pub cause : HasCause ⊥ (Rose old.sink new.sink) before after result
