@@ -116,7 +116,7 @@ fn main_generated<W: Sink, S: Store>(
         let sunk = sink_of W.content W.faults in
         let storage = storage_of S.objects S.acts S.faults in
         EndsGenerated generated.now given given (sunk sink.old) (sunk sink.new)
-            (storage store.old) (storage store.new) result }
+        (storage store.old) (storage store.new) result }
     ensures caused { let sunk = sink_of W.content W.faults in
         let storage = storage_of S.objects S.acts S.faults in
         IsCaused (sunk sink.old) (sunk sink.new) (storage store.old) (storage store.new) result }

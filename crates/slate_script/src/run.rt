@@ -7,7 +7,7 @@ ghost use Rattle.slate_db.specs.Flushed.{layout_of};
 ghost use Rattle.slate_db.specs.Meaning.{segments_by};
 ghost use Rattle.slate_language.specs.Answers.{reply_of};
 ghost use Rattle.slate_language.specs.Replies.{reply_line};
-ghost use Rattle.slate_script.specs.Calls.Run.{CountsReplies, RepliesLine, Runs, WritesLine};
+ghost use Rattle.slate_script.specs.Calls.Run.{CountsReplies, RepliesLine, Runs, WritesReply};
 ghost use Rattle.slate_script.specs.Terms.{sink_of, streams_of, terms_of};
 
 use crate::session::Session;
@@ -156,7 +156,7 @@ fn answer_line<W: Sink, S: Store, M: MergeOperator, T: BlockTransformer, X: Pref
         let sunk = sink_of W.content W.faults in
         RepliesLine layout number line.now (reach env.old) (reach env.new) session.old session.new
         (sunk sink.old) (sunk sink.new) tally.old tally.new result }
-    ensures sink { let sunk = sink_of W.content W.faults in WritesLine line.now (sunk sink.old) (sunk sink.new) result }
+    ensures sink { let sunk = sink_of W.content W.faults in WritesReply line.now (sunk sink.old) (sunk sink.new) result }
 {
     let meaning = match parse_line(alloc, line) {
         Ok(None) => return Ok(()),

@@ -5,7 +5,7 @@
 --     SummedHonest, SummedTold, RunsSummed t script old new before after result      the same of a run over a script that it makes for itself
 --     RepliesHonest, RepliesTold, RepliesSound      a line of a session that runs, of one that is settled, and of one whose rows are kept
 --     RepliesLine layout number line before after old new from to first tally result      a line; old, new: the session; from, to: the streams
---     WritesLine line from to result      what a line does to the sink
+--     WritesReply line from to result      what a line does to the sink
 use Rattle.std.specs.Prelude.{◌≡◌, ◌⊎◌, ◌≤◌, ◌+◌, ℕ, List, [], length, false, Some, Result, Err, OnOk, IfErr, IsTrue}
 use Rattle.slate_types.specs.declared.error.SlateDBError.{SlateDBError}
 use Rattle.slate_types.specs.declared.error.SlateDBError.TheVariants as errors
@@ -124,7 +124,7 @@ pub record RepliesLine {T : Type 0} (layout : Layout) (number : ℕ) (line : Lis
   pub adds : AddsActs before.acts after.acts
   pub puts : Puts before after
 
-pub record WritesLine {T : Type 0} (line : List ℕ) (from to : Streams) (result : Result T SlateDBError) : Type 0 where
+pub record WritesReply {T : Type 0} (line : List ℕ) (from to : Streams) (result : Result T SlateDBError) : Type 0 where
   pub write_fault : result ≡ Err errors.WriteFault → Rose from.sink to.sink × IsTrue (is_line line)
   pub still : OnOk result (to.sink ≡ from.sink)
   pub uncounted : IfErr result (λ e. (e ≡ errors.WriteFault) ⊎ (to.sink ≡ from.sink))
