@@ -1,10 +1,13 @@
 -- The parts that the words of a run name.
-use Rattle.std.proofs.Common.{◌≡◌, ℕ, [], ◌++◌, Ok, List, map, Option, Some, None, option_map, ◌⊎◌, inl, inr, refl, sym, ap, subst, ◌∙◌, arith}
+use Rattle.std.proofs.Common.{◌≡◌, ℕ, Bool, true, false, [], ◌++◌, Ok, List, map, Option, Some, None, option_map, ◌⊎◌, inl, inr, refl, sym, ap, subst, ◌∙◌, arith}
+use Rattle.std.specs.Prelude.{◌↔◌}
+use Rattle.std.proofs.lemmas.Bool.{false≢true}
 use Rattle.slate_types.specs.Faults.{Rose, faults_of}
 use Rattle.slate_types.specs.Fold.{IsLawful, KeepsShort}
 use Rattle.slate_types.specs.Lawful.{IsLawfulTransform}
 use Rattle.slate_types.specs.Outside.{Act, Objects}
 use Rattle.slate_store.specs.Store.{IsEmpty}
+use Rattle.slate_filter.specs.Laws.{AreValidNames}
 use Rattle.slate_filter.specs.Policy.{Policy}
 use Rattle.slate_table.specs.Filtered.{AreLawful}
 use Rattle.slate_txn.specs.State.{Rules}
@@ -97,3 +100,10 @@ one_script handed ws g s h k = absurd (some_not_none (read_words handed ws) s k 
 -- what is read with the names of these policies
 pub read_as : {B C : Type 0} (result : C) (xs ys : List B) (name : B → List ℕ) (read : List (List ℕ) → C) → result ≡ read (map name xs) → xs ≡ ys → result ≡ read (map name ys)
 read_as result xs ys name read is same = is ∙ ap (λ zs. read (map name zs)) same
+
+-- names that passed their test, and names that didn't
+pub names_fit : {B : Type 0} (b : Bool) (xs ys : List B) (name : B → List ℕ) → (b ≡ true) ↔ AreValidNames (map name xs) → xs ≡ ys → b ≡ true → AreValidNames (map name ys)
+names_fit b xs ys name tests same is = subst (λ zs. AreValidNames (map name zs)) same (tests.0 is)
+
+pub names_unfit : {B : Type 0} (b : Bool) (xs ys : List B) (name : B → List ℕ) → (b ≡ true) ↔ AreValidNames (map name xs) → xs ≡ ys → b ≡ false → AreValidNames (map name ys) → ⊥
+names_unfit b xs ys name tests same is valid = false≢true (sym is ∙ tests.1 (subst (λ zs. AreValidNames (map name zs)) (sym same) valid))

@@ -108,7 +108,7 @@ unmark_as m seg e core name id ks names known a stepped = changed_as e core name
 
 -- ---- an operation that ran
 
-abbrev Stepped : Meaning → Segments → SessionModel → Line → CoreModel → Reply → Type 0
+abbrev pub Stepped : Meaning → Segments → SessionModel → Line → CoreModel → Reply → Type 0
 Stepped m seg e line core reply = ◌≡◌ {A = State × Reply} (step (rules_in e.core.settings m seg) e.core.state line) (core.state, reply)
 
 pub ran_by : {T : Type 0} (m : Meaning) (seg : Segments) (e : SessionModel) (core : CoreModel) (line named : Line) (ran : Result T SlateDBError) (result : Result Answer SlateDBError) → AnswersBy m seg e core line named →

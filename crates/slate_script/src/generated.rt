@@ -1,23 +1,15 @@
 //! A run over a script that it makes for itself.
-ghost use Rattle.std.specs.Prelude.{◌≡◌, ◌⊎◌, ◌≤◌, [], ℕ, List, None, Some, Err, OnOk, IfErr, map};
+ghost use Rattle.std.specs.Prelude.{◌≡◌, ◌⊎◌, ◌≤◌, ℕ, List, None, Some, Err, IfErr, map};
 ghost use Rattle.slate_types.specs.Config.{IsValid};
 ghost use Rattle.slate_types.specs.Faults.{Rose};
-ghost use Rattle.slate_types.specs.Outside.{Puts};
-ghost use Rattle.slate_store.specs.Lines.{lines_of};
 ghost use Rattle.slate_filter.specs.Laws.{AreValidNames};
-ghost use Rattle.slate_table.specs.Filtered.{AreLawful};
-ghost use Rattle.slate_txn.specs.State.{opening};
-ghost use Rattle.slate_db.specs.Checked.{OrSlips};
-ghost use Rattle.slate_db.specs.Flushed.{layout_of};
-ghost use Rattle.slate_db.specs.Meaning.{IsLawfulMeaning, segments_by};
-ghost use Rattle.slate_db.specs.Parts.{IsTableError};
-ghost use Rattle.slate_language.specs.Generate.{generate, summary};
-ghost use Rattle.slate_language.specs.Replies.{after_lines};
+ghost use Rattle.slate_db.specs.Meaning.{segments_by};
+ghost use Rattle.slate_language.specs.Generate.{generate};
 ghost use Rattle.slate_language.specs.Tally.{tally_text};
 ghost use Rattle.slate_language.specs.Words.{max_rounds};
-ghost use Rattle.slate_script.specs.Run.{run_rules, Premises, HasCause, HasTold, IsOutside, NoneRose};
-ghost use Rattle.slate_script.specs.StoredState.{IsStoredState};
-ghost use Rattle.slate_script.specs.Told.{IsShownAtEnd, IsUntrue};
+ghost use Rattle.slate_script.specs.Calls.Run.{RunsSummed};
+ghost use Rattle.slate_script.specs.Run.{HasTold};
+ghost use Rattle.slate_script.specs.Terms.{sink_of, terms_of};
 
 use crate::run::answer_lines;
 use slate_db::laws::Laws;
@@ -98,39 +90,12 @@ pub fn run_generated<W: Sink, S: Store, M: MergeOperator, T: BlockTransformer, X
     requires names { AreValidNames (map (λ p. (meaning (p.vtable, p.value)).name) laws.now.policies.items) }
     requires few { rounds ≤ max_rounds }
 
-    ensures told { let reach = ⟦<EnvOf<S, M, T> as Outside>⟧.reach in
+    ensures { let reach = ⟦<EnvOf<S, M, T> as Outside>⟧.reach in
         let policies = map (λ p. meaning (p.vtable, p.value)) laws.now.policies.items in
-        (before : List ℕ) → W.content sink.old ≡ Some before → Premises policies (reach env.old).meaning (reach env.old).objects →
-        HasTold (summary (run_rules laws.now.options (reach env.old).meaning (segments_by X.lengths laws.now.segments)) (generate rounds seed)) before (W.content sink.new) result }
-    ensures checked { let reach = ⟦<EnvOf<S, M, T> as Outside>⟧.reach in
-        let policies = map (λ p. meaning (p.vtable, p.value)) laws.now.policies.items in
-        (before : List ℕ) → W.content sink.old ≡ Some before → AreLawful policies → IsLawfulMeaning (reach env.old).meaning →
-        OrSlips [] (reach env.old) (reach env.new) (HasTold (summary (run_rules laws.now.options (reach env.old).meaning (segments_by X.lengths laws.now.segments)) (generate rounds seed)) before (W.content sink.new) result) }
-    ensures stored { let reach = ⟦<EnvOf<S, M, T> as Outside>⟧.reach in
-        let policies = map (λ p. meaning (p.vtable, p.value)) laws.now.policies.items in
-        Premises policies (reach env.old).meaning (reach env.old).objects →
-        OnOk result (IsStoredState (reach env.old).meaning (run_rules laws.now.options (reach env.old).meaning (segments_by X.lengths laws.now.segments)) (layout_of laws.now.options policies (segments_by X.lengths laws.now.segments)) (reach env.new).objects (after_lines (run_rules laws.now.options (reach env.old).meaning (segments_by X.lengths laws.now.segments)) opening (lines_of (generate rounds seed)))) }
-
-    // errors: each has its cause, and no fault is passed over
-    ensures outside { IfErr result (λ e. IsOutside e) }
-    ensures cause { let reach = ⟦<EnvOf<S, M, T> as Outside>⟧.reach in HasCause ⊥ (Rose (W.faults sink.old) (W.faults sink.new)) (reach env.old) (reach env.new) result }
-    ensures undamaged { let reach = ⟦<EnvOf<S, M, T> as Outside>⟧.reach in
-        let policies = map (λ p. meaning (p.vtable, p.value)) laws.now.policies.items in
-        Premises policies (reach env.old).meaning (reach env.old).objects → IfErr result (λ e. IsTableError e → ⊥) }
-    ensures untrue { let reach = ⟦<EnvOf<S, M, T> as Outside>⟧.reach in
-        let policies = map (λ p. meaning (p.vtable, p.value)) laws.now.policies.items in
-        AreLawful policies → IsLawfulMeaning (reach env.old).meaning → IfErr result (λ e. IsTableError e → IsUntrue [] (reach env.old).acts (reach env.new).acts) }
-    ensures shown { let reach = ⟦<EnvOf<S, M, T> as Outside>⟧.reach in
-        let policies = map (λ p. meaning (p.vtable, p.value)) laws.now.policies.items in
-        IfErr result (λ e. IsTableError e → IsShownAtEnd policies (reach env.old) (reach env.new) e) }
-    ensures complete { let reach = ⟦<EnvOf<S, M, T> as Outside>⟧.reach in
-        let policies = map (λ p. meaning (p.vtable, p.value)) laws.now.policies.items in
-        Premises policies (reach env.old).meaning (reach env.old).objects →
-        NoneRose ⊥ (Rose (W.faults sink.old) (W.faults sink.new)) (reach env.old) (reach env.new) → IfErr result (λ e. e ≡ SlateDBError.OutOfMemory) }
-    ensures unwritten { IfErr result (λ e. (e ≡ SlateDBError.WriteFault) ⊎ (W.content sink.new ≡ W.content sink.old)) }
-    ensures sink_still { (result ≡ Err SlateDBError.WriteFault) ⊎ (W.faults sink.new ≡ W.faults sink.old) }
-    ensures later { W.faults sink.old ≤ W.faults sink.new }
-    ensures puts { let reach = ⟦<EnvOf<S, M, T> as Outside>⟧.reach in Puts (reach env.old) (reach env.new) }
+        let seg = segments_by X.lengths laws.now.segments in
+        let terms = terms_of laws.now.options seg policies (reach env.old).meaning in
+        let sunk = sink_of W.content W.faults in
+        RunsSummed terms (generate rounds seed) (sunk sink.old) (sunk sink.new) (reach env.old) (reach env.new) result }
 {
     let script = generate(alloc, rounds, seed)?;
     let mut source = Script::new(script);
@@ -145,7 +110,8 @@ pub fn run_generated<W: Sink, S: Store, M: MergeOperator, T: BlockTransformer, X
 /// Writes the line that the tally is. `WriteFault` comes only where the sink's count of faults rose, and then a front of
 /// the line was written, and not all of it. At another error nothing was written.
 fn write_tally<W: Sink>(alloc: Global, sink: &mut W, tally: &Tally) -> Result<(), SlateDBError>
-    ensures told { (before : List ℕ) → W.content sink.old ≡ Some before → HasTold (tally_text tally.now) before (W.content sink.new) result }
+    ensures told { (before : List ℕ) → W.content sink.old ≡ Some before →
+        HasTold (tally_text tally.now) before (W.content sink.new) result }
     ensures cause { IfErr result (λ e. (e ≡ SlateDBError.OutOfMemory) ⊎ (e ≡ SlateDBError.WriteFault)) }
     ensures write_fault { result ≡ Err SlateDBError.WriteFault → Rose (W.faults sink.old) (W.faults sink.new) }
     ensures sink_still { (result ≡ Err SlateDBError.WriteFault) ⊎ (W.faults sink.new ≡ W.faults sink.old) }

@@ -27,7 +27,8 @@ fn push_entry(
     entries: &mut Vec<JournalEntry>,
     event: &Event,
 ) -> Result<(), AllocError>
-    ensures entries { OnOk result (map entry_commit entries.new.items ≡ map entry_commit entries.old.items ++ shown_in event.now) }
+    ensures entries { let shown = map entry_commit in
+        OnOk result (shown entries.new.items ≡ shown entries.old.items ++ shown_in event.now) }
 {
     match event {
         Event::Commit {
@@ -57,7 +58,8 @@ fn push_commit(
     now: i64,
     tracked: &[Bytes],
 ) -> Result<(), AllocError>
-    ensures entries { OnOk result (map entry_commit entries.new.items ≡ map entry_commit entries.old.items ++ commit_made seq now [] tracked.now) }
+    ensures entries { let shown = map entry_commit in
+        OnOk result (shown entries.new.items ≡ shown entries.old.items ++ commit_made seq now [] tracked.now) }
 {
     let Some(seq) = seq else {
         return Ok(());

@@ -1,30 +1,22 @@
 //! The program: its words, and the status that it ends with.
-ghost use Rattle.std.specs.Prelude.{◌≡◌, ◌≢◌, ◌⊎◌, ◌≤◌, [], ℕ, List, Some, None, map, drop, option_map};
+ghost use Rattle.std.specs.Prelude.{◌≡◌, ◌⊎◌, ◌≤◌, [], Some, map, option_map};
 ghost use Rattle.std.specs.String.{string_bytes};
 ghost use Rattle.slate_types.specs.Config.{IsValid};
-ghost use Rattle.slate_types.specs.Faults.{Rose};
-ghost use Rattle.slate_types.specs.declared.error.SlateDBError.TheVariants as errors;
-ghost use Rattle.slate_store.specs.Lines.{lines_of, script_limit};
-ghost use Rattle.slate_store.specs.Store.{Act, IsEmpty};
+ghost use Rattle.slate_store.specs.Store.{IsEmpty};
 ghost use Rattle.slate_filter.specs.Laws.{AreValidNames};
 ghost use Rattle.slate_table.specs.Filtered.{AreLawful};
-ghost use Rattle.slate_txn.specs.State.{opening};
-ghost use Rattle.slate_db.specs.Checked.{SlipsFrom};
-ghost use Rattle.slate_db.specs.Flushed.{layout_of};
-ghost use Rattle.slate_language.specs.Generate.{generate, summary};
 ghost use Rattle.slate_language.specs.declared.words.Generated.{Generated};
-ghost use Rattle.slate_language.specs.declared.words.Settings.{Settings};
-ghost use Rattle.slate_script.specs.Program.{main_rules, parts_of, segments_of, status, IsDamageStatus, HasSummed, HasWritten, IsGeneratedStatus, IsShownStatus, IsStatus};
-ghost use Rattle.slate_language.specs.Replies.{after_lines, IsWellFormed};
-ghost use Rattle.slate_language.specs.Words.{max_rounds, read_generated, read_words, used};
-ghost use Rattle.slate_script.specs.Run.{script_error, IsOutside, IsScriptError};
-ghost use Rattle.slate_script.specs.StoredState.{IsStoredState};
+ghost use Rattle.slate_language.specs.Words.{max_rounds, read_generated};
+ghost use Rattle.slate_script.specs.Calls.Main.{Ends, EndsGenerated, IsCaused};
+ghost use Rattle.slate_script.specs.Program.{status, IsDamageStatus};
+ghost use Rattle.slate_script.specs.Run.{IsOutside, IsScriptError};
+ghost use Rattle.slate_script.specs.Terms.{sink_of, storage_of, streams_of};
 ghost use Rattle.slate_script.specs.Told.{IsUntrue};
 
 use crate::generated::run_generated;
 use crate::run::run_script;
 use slate_db::laws::Laws;
-use slate_filter::FilterPolicy;
+use slate_filter::{FilterPolicy, have_valid_names};
 use slate_language::{Generated, NamedExtractor, Xor, keep_used, parse_generated, parse_words};
 use slate_store::{Env, Sink, Source, Store};
 use slate_types::SlateDBError;
@@ -32,9 +24,9 @@ use std::alloc::Global;
 
 /// Runs a script over the store, as the words say, with the operator, the extractor of segments and the transformer that they name and, of the policies of
 /// filters that are handed in, those that they use. Answers the status to end with: 0 where the run answers Ok, 2 exactly
-/// where the words are none of a run, 3 for `ScriptSyntax`, 4 for `ScriptTooLong`, 5 for `ReadFault`, 6 for `WriteFault`, 7
-/// for `StoreFault`, 12, 14, 15, 16, 18 and 19 where a table isn't what was stored, and 20 for want of memory. The names of
-/// the policies are distinct, and they are fewer than 65536, as are the bytes of each name.
+/// where the words are none of a run, or the policies are more than 65535, one has a name of more bytes than that, or two have one
+/// name, 3 for `ScriptSyntax`, 4 for `ScriptTooLong`, 5 for `ReadFault`, 6 for `WriteFault`, 7 for `StoreFault`, 12, 14, 15, 16, 18 and
+/// 19 where a table isn't what was stored, and 20 for want of memory.
 ///
 /// The script is what the source gives, or, where the words begin with `gen`, one that the run makes for itself. Then
 /// the source isn't read, the replies are counted and not written, and the sink takes one line: how many replies there
@@ -56,109 +48,28 @@ pub fn run_main<R: Source, W: Sink, S: Store>(
     store: &mut S,
     policies: Vec<Box<dyn FilterPolicy>>,
 ) -> u8
-    requires names { AreValidNames (map (λ p. (meaning p).name) policies.items) }
-    ensures statuses { IsStatus result }
+    ensures ends { let ws = map string_bytes words.now in
+        let handed = map (λ p. (meaning p).name) policies.items in
+        let given = map (λ p. meaning p) policies.items in
+        let streams = streams_of R.left R.faults W.content W.faults in
+        let storage = storage_of S.objects S.acts S.faults in
+        Ends ws handed given (streams source.old sink.old) (streams source.new sink.new)
+        (storage store.old) (storage store.new) result }
+    ensures undamaged { AreLawful (map (λ p. meaning p) policies.items) → IsEmpty (S.objects store.old) →
+        IsDamageStatus result → ⊥ }
+    ensures untrue { AreLawful (map (λ p. meaning p) policies.items) → IsDamageStatus result →
+        IsUntrue [] (S.acts store.old) (S.acts store.new) }
 
-    // 2: exactly where the words are none, and then nothing is read, written or stored
-    ensures unknown { let ws = map string_bytes words.now in
-        let handed = map (λ p. (meaning p).name) policies.items in
-        read_words handed ws ≡ None → read_generated handed ws ≡ None → result ≡ 2 }
-    ensures known { let ws = map string_bytes words.now in
-        let handed = map (λ p. (meaning p).name) policies.items in
-        (s : Settings) → read_words handed ws ≡ Some s → result ≢ 2 }
-    ensures unread { result ≡ 2 → source.new ≡ source.old }
-    ensures unwritten { result ≡ 2 → sink.new ≡ sink.old }
-    ensures unstored { result ≡ 2 → store.new ≡ store.old }
-
-    // what the sink took, by the status: replies, and at 0 those to each line
-    ensures said { let ws = map string_bytes words.now in
-        let handed = map (λ p. (meaning p).name) policies.items in
-        let given = map (λ p. meaning p) policies.items in
-        (s : Settings) (script before : List ℕ) → read_words handed ws ≡ Some s → R.left source.old ≡ Some script → W.content sink.old ≡ Some before →
-        AreLawful given → IsEmpty (S.objects store.old) → HasWritten (main_rules s) script (R.left source.new) before (W.content sink.new) result }
-    ensures checked { let ws = map string_bytes words.now in
-        let handed = map (λ p. (meaning p).name) policies.items in
-        let given = map (λ p. meaning p) policies.items in
-        (s : Settings) (script before : List ℕ) → read_words handed ws ≡ Some s → R.left source.old ≡ Some script → W.content sink.old ≡ Some before →
-        AreLawful given → (known : List Act) → S.acts store.old ≡ Some known →
-        HasWritten (main_rules s) script (R.left source.new) before (W.content sink.new) result ⊎ SlipsFrom (parts_of s).encode [] (S.acts store.old) (S.acts store.new) }
-
-    // 0: what is stored then, to the end of a script of lines
-    ensures stored { let ws = map string_bytes words.now in
-        let handed = map (λ p. (meaning p).name) policies.items in
-        let given = map (λ p. meaning p) policies.items in
-        (s : Settings) (script : List ℕ) → read_words handed ws ≡ Some s → R.left source.old ≡ Some script → AreLawful given → IsEmpty (S.objects store.old) →
-        result ≡ 0 → IsStoredState (parts_of s) (main_rules s) (layout_of s.options (used ws given) (segments_of s)) (S.objects store.new) (after_lines (main_rules s) opening (lines_of script)) }
-    ensures read { let ws = map string_bytes words.now in
-        let handed = map (λ p. (meaning p).name) policies.items in
-        (script : List ℕ) → read_generated handed ws ≡ None → R.left source.old ≡ Some script → result ≡ 0 → IsWellFormed script × (R.left source.new ≡ Some []) }
-
-    // the others, each with its cause
-    ensures no_error { let ws = map string_bytes words.now in
-        let handed = map (λ p. (meaning p).name) policies.items in
-        (script : List ℕ) → read_generated handed ws ≡ None → R.left source.old ≡ Some script → result ≡ 0 → script_error script ≡ None }
-    ensures syntax { (script : List ℕ) → R.left source.old ≡ Some script → result ≡ 3 → (n : ℕ) × (script_error script ≡ Some (errors.ScriptSyntax n)) }
-    ensures too_long { (script : List ℕ) → R.left source.old ≡ Some script → result ≡ 4 → script_error script ≡ Some errors.ScriptTooLong }
-    ensures read_fault { result ≡ 5 → Rose (R.faults source.old) (R.faults source.new) }
-    ensures write_fault { result ≡ 6 → Rose (W.faults sink.old) (W.faults sink.new) }
-    ensures store_fault { result ≡ 7 → Rose (S.faults store.old) (S.faults store.new) }
-    ensures undamaged { AreLawful (map (λ p. meaning p) policies.items) → IsEmpty (S.objects store.old) → IsDamageStatus result → ⊥ }
-    ensures untrue { AreLawful (map (λ p. meaning p) policies.items) → IsDamageStatus result → IsUntrue [] (S.acts store.old) (S.acts store.new) }
-    ensures shown { let ws = map string_bytes words.now in
-        let handed = map (λ p. (meaning p).name) policies.items in
-        let given = map (λ p. meaning p) policies.items in
-        (s : Settings) → read_words handed ws ≡ Some s → IsDamageStatus result → IsShownStatus (used ws given) (parts_of s) (S.acts store.old) (S.acts store.new) result }
-    ensures complete { let ws = map string_bytes words.now in
-        let handed = map (λ p. (meaning p).name) policies.items in
-        let given = map (λ p. meaning p) policies.items in
-        (s : Settings) (script : List ℕ) → read_words handed ws ≡ Some s → R.left source.old ≡ Some script → IsWellFormed script → AreLawful given → IsEmpty (S.objects store.old) →
-        (Rose (R.faults source.old) (R.faults source.new) → ⊥) → (Rose (W.faults sink.old) (W.faults sink.new) → ⊥) → (Rose (S.faults store.old) (S.faults store.new) → ⊥) → (result ≡ 0) ⊎ (result ≡ 20) }
-
-    // no fault is passed over
-    ensures source_still { (result ≡ 5) ⊎ (R.faults source.new ≡ R.faults source.old) }
-    ensures sink_still { (result ≡ 6) ⊎ (W.faults sink.new ≡ W.faults sink.old) }
-
-    // what was read: all that a run can take of a script that is too long, and never more
-    ensures all { (script : List ℕ) → R.left source.old ≡ Some script → result ≡ 4 → R.left source.new ≡ Some (drop script_limit script) }
-    ensures taken { (script : List ℕ) → R.left source.old ≡ Some script → (n : ℕ) × (n ≤ script_limit) × (R.left source.new ≡ Some (drop n script)) }
-    ensures later { (R.faults source.old ≤ R.faults source.new) × (W.faults sink.old ≤ W.faults sink.new) }
-
-    // a script that the run makes for itself: its summary is written, and no reply
-    ensures summed { let ws = map string_bytes words.now in
-        let handed = map (λ p. (meaning p).name) policies.items in
-        let given = map (λ p. meaning p) policies.items in
-        (g : Generated) (before : List ℕ) → read_generated handed ws ≡ Some g → W.content sink.old ≡ Some before → AreLawful given → IsEmpty (S.objects store.old) →
-        HasSummed (summary (main_rules g.settings) (generate g.rounds g.seed)) before (W.content sink.new) result }
-    ensures summed_checked { let ws = map string_bytes words.now in
-        let handed = map (λ p. (meaning p).name) policies.items in
-        let given = map (λ p. meaning p) policies.items in
-        (g : Generated) (before : List ℕ) → read_generated handed ws ≡ Some g → W.content sink.old ≡ Some before → AreLawful given → (known : List Act) → S.acts store.old ≡ Some known →
-        HasSummed (summary (main_rules g.settings) (generate g.rounds g.seed)) before (W.content sink.new) result
-        ⊎ SlipsFrom (parts_of g.settings).encode [] (S.acts store.old) (S.acts store.new) }
-    ensures summed_stored { let ws = map string_bytes words.now in
-        let handed = map (λ p. (meaning p).name) policies.items in
-        let given = map (λ p. meaning p) policies.items in
-        (g : Generated) → read_generated handed ws ≡ Some g → AreLawful given → IsEmpty (S.objects store.old) →
-        result ≡ 0 → IsStoredState (parts_of g.settings) (main_rules g.settings) (layout_of g.settings.options (used ws given) (segments_of g.settings)) (S.objects store.new) (after_lines (main_rules g.settings) opening (lines_of (generate g.rounds g.seed))) }
-    ensures summed_kinds { let ws = map string_bytes words.now in
-        let handed = map (λ p. (meaning p).name) policies.items in
-        (g : Generated) → read_generated handed ws ≡ Some g → IsGeneratedStatus result }
-    ensures summed_alone { let ws = map string_bytes words.now in
-        let handed = map (λ p. (meaning p).name) policies.items in
-        (g : Generated) → read_generated handed ws ≡ Some g → source.new ≡ source.old }
-    ensures summed_complete { let ws = map string_bytes words.now in
-        let handed = map (λ p. (meaning p).name) policies.items in
-        let given = map (λ p. meaning p) policies.items in
-        (g : Generated) → read_generated handed ws ≡ Some g → AreLawful given → IsEmpty (S.objects store.old) →
-        (Rose (W.faults sink.old) (W.faults sink.new) → ⊥) → (Rose (S.faults store.old) (S.faults store.new) → ⊥) → (result ≡ 0) ⊎ (result ≡ 20) }
-    ensures summed_shown { let ws = map string_bytes words.now in
-        let handed = map (λ p. (meaning p).name) policies.items in
-        let given = map (λ p. meaning p) policies.items in
-        (g : Generated) → read_generated handed ws ≡ Some g → IsDamageStatus result → IsShownStatus (used ws given) (parts_of g.settings) (S.acts store.old) (S.acts store.new) result }
-    ensures summed_unwritten { let ws = map string_bytes words.now in
-        let handed = map (λ p. (meaning p).name) policies.items in
-        (g : Generated) → read_generated handed ws ≡ Some g → (result ≡ 0) ⊎ (result ≡ 6) ⊎ (W.content sink.new ≡ W.content sink.old) }
+    // what isn't touched
+    ensures untouched { result ≡ 2 → (source.new ≡ source.old) × (sink.new ≡ sink.old) × (store.new ≡ store.old) }
+    ensures alone { let handed = map (λ p. (meaning p).name) policies.items in
+        (g : Generated) → AreValidNames handed → read_generated handed (map string_bytes words.now) ≡ Some g →
+        source.new ≡ source.old }
 {
+    if !have_valid_names(policies.as_slice()) {
+        drop(policies);
+        return 2;
+    }
     if let Some(generated) = parse_generated(words, policies.as_slice()) {
         let kept = keep_used(policies, words);
         return main_generated(alloc, &generated, sink, store, kept);
@@ -201,24 +112,18 @@ fn main_generated<W: Sink, S: Store>(
     requires valid { IsValid generated.now.settings.options }
     requires names { AreValidNames (map (λ p. (meaning p).name) policies.items) }
     requires few { generated.now.rounds ≤ max_rounds }
-    ensures kinds { IsGeneratedStatus result }
-    ensures summed { (before : List ℕ) → W.content sink.old ≡ Some before → AreLawful (map (λ p. meaning p) policies.items) → IsEmpty (S.objects store.old) →
-        HasSummed (summary (main_rules generated.now.settings) (generate generated.now.rounds generated.now.seed)) before (W.content sink.new) result }
-    ensures checked { (before : List ℕ) → W.content sink.old ≡ Some before → AreLawful (map (λ p. meaning p) policies.items) → (known : List Act) → S.acts store.old ≡ Some known →
-        HasSummed (summary (main_rules generated.now.settings) (generate generated.now.rounds generated.now.seed)) before (W.content sink.new) result
-        ⊎ SlipsFrom (parts_of generated.now.settings).encode [] (S.acts store.old) (S.acts store.new) }
-    ensures stored { AreLawful (map (λ p. meaning p) policies.items) → IsEmpty (S.objects store.old) →
-        result ≡ 0 → IsStoredState (parts_of generated.now.settings) (main_rules generated.now.settings) (layout_of generated.now.settings.options (map (λ p. meaning p) policies.items) (segments_of generated.now.settings)) (S.objects store.new) (after_lines (main_rules generated.now.settings) opening (lines_of (generate generated.now.rounds generated.now.seed))) }
-    ensures write_fault { result ≡ 6 → Rose (W.faults sink.old) (W.faults sink.new) }
-    ensures store_fault { result ≡ 7 → Rose (S.faults store.old) (S.faults store.new) }
-    ensures undamaged { AreLawful (map (λ p. meaning p) policies.items) → IsEmpty (S.objects store.old) → IsDamageStatus result → ⊥ }
-    ensures untrue { AreLawful (map (λ p. meaning p) policies.items) → IsDamageStatus result → IsUntrue [] (S.acts store.old) (S.acts store.new) }
-    ensures shown { IsDamageStatus result → IsShownStatus (map (λ p. meaning p) policies.items) (parts_of generated.now.settings) (S.acts store.old) (S.acts store.new) result }
-    ensures complete { AreLawful (map (λ p. meaning p) policies.items) → IsEmpty (S.objects store.old) →
-        (Rose (W.faults sink.old) (W.faults sink.new) → ⊥) → (Rose (S.faults store.old) (S.faults store.new) → ⊥) → (result ≡ 0) ⊎ (result ≡ 20) }
-    ensures unwritten { (result ≡ 0) ⊎ (result ≡ 6) ⊎ (W.content sink.new ≡ W.content sink.old) }
-    ensures sink_still { (result ≡ 6) ⊎ (W.faults sink.new ≡ W.faults sink.old) }
-    ensures later { W.faults sink.old ≤ W.faults sink.new }
+    ensures ends { let given = map (λ p. meaning p) policies.items in
+        let sunk = sink_of W.content W.faults in
+        let storage = storage_of S.objects S.acts S.faults in
+        EndsGenerated generated.now given given (sunk sink.old) (sunk sink.new)
+        (storage store.old) (storage store.new) result }
+    ensures caused { let sunk = sink_of W.content W.faults in
+        let storage = storage_of S.objects S.acts S.faults in
+        IsCaused (sunk sink.old) (sunk sink.new) (storage store.old) (storage store.new) result }
+    ensures undamaged { AreLawful (map (λ p. meaning p) policies.items) → IsEmpty (S.objects store.old) →
+        IsDamageStatus result → ⊥ }
+    ensures untrue { AreLawful (map (λ p. meaning p) policies.items) → IsDamageStatus result →
+        IsUntrue [] (S.acts store.old) (S.acts store.new) }
 {
     let mut env = Env {
         store: &mut *store,

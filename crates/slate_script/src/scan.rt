@@ -43,10 +43,12 @@ pub(crate) fn scan_rows<S: Store, M: MergeOperator, T: BlockTransformer, X: Pref
     ensures noted { IsNoted core.old core.new id.now }
     ensures scanned { let reach = ⟦<EnvOf<S, M, T> as Outside>⟧.reach in
         let policies = map (λ p. meaning (p.vtable, p.value)) laws.now.policies.items in
-        IfOk result (λ v. HasScanned policies (reach env.old) (reach env.new) core.old core.new id.now order range steps.now v.items) }
+        IfOk result (λ v. HasScanned policies (reach env.old) (reach env.new) core.old core.new
+        id.now order range steps.now v.items) }
     ensures undamaged { let reach = ⟦<EnvOf<S, M, T> as Outside>⟧.reach in
         let policies = map (λ p. meaning (p.vtable, p.value)) laws.now.policies.items in
-        IsAnswered policies (reach env.old) (reach env.new) core.old → IfErr result (IsFault (reach env.old) (reach env.new)) }
+        IsAnswered policies (reach env.old) (reach env.new) core.old →
+        IfErr result (IsFault (reach env.old) (reach env.new)) }
     ensures cause { let reach = ⟦<EnvOf<S, M, T> as Outside>⟧.reach in
         let policies = map (λ p. meaning (p.vtable, p.value)) laws.now.policies.items in
         IfErr result (IsScanError policies (reach env.old) (reach env.new) core.old) }
@@ -74,8 +76,11 @@ fn walk<S: Store, M: MergeOperator, T: BlockTransformer>(
 ) -> Result<Vec<KeyValue>, SlateDBError>
     requires { IsOpenScan core.old scan.old }
     ensures noted { IsNoted core.old core.new (id_of scan.old) }
-    ensures took { let reach = ⟦<EnvOf<S, M, T> as Outside>⟧.reach in IfOk result (λ v. Took (Walks (number_of scan.old) (scan_of scan.old).order steps.now) (reach env.old) (reach env.new) core.old core.new scan.old scan.new [] v.items) }
-    ensures refused { let reach = ⟦<EnvOf<S, M, T> as Outside>⟧.reach in IfErr result (Fails (reach env.old) (reach env.new) scan.old) }
+    ensures took { let reach = ⟦<EnvOf<S, M, T> as Outside>⟧.reach in
+        let means = Walks (number_of scan.old) (scan_of scan.old).order steps.now in
+        IfOk result (λ v. Took means (reach env.old) (reach env.new) core.old core.new scan.old scan.new [] v.items) }
+    ensures refused { let reach = ⟦<EnvOf<S, M, T> as Outside>⟧.reach in
+        IfErr result (Fails (reach env.old) (reach env.new) scan.old) }
     ensures reads { let reach = ⟦<EnvOf<S, M, T> as Outside>⟧.reach in OnlyReads (reach env.old) (reach env.new) }
 {
     let mut rows = Vec::new(alloc);
@@ -93,8 +98,12 @@ fn take<S: Store, M: MergeOperator, T: BlockTransformer>(
 ) -> Result<(), SlateDBError>
     requires { IsOpenScan core.old scan.old }
     ensures noted { IsNoted core.old core.new (id_of scan.old) }
-    ensures took { let reach = ⟦<EnvOf<S, M, T> as Outside>⟧.reach in OnOk result (Took (Walks (number_of scan.old) (scan_of scan.old).order steps.now) (reach env.old) (reach env.new) core.old core.new scan.old scan.new rows.old.items rows.new.items) }
-    ensures refused { let reach = ⟦<EnvOf<S, M, T> as Outside>⟧.reach in IfErr result (Fails (reach env.old) (reach env.new) scan.old) }
+    ensures took { let reach = ⟦<EnvOf<S, M, T> as Outside>⟧.reach in
+        let means = Walks (number_of scan.old) (scan_of scan.old).order steps.now in
+        OnOk result (Took means (reach env.old) (reach env.new) core.old core.new scan.old scan.new
+        rows.old.items rows.new.items) }
+    ensures refused { let reach = ⟦<EnvOf<S, M, T> as Outside>⟧.reach in
+        IfErr result (Fails (reach env.old) (reach env.new) scan.old) }
     ensures reads { let reach = ⟦<EnvOf<S, M, T> as Outside>⟧.reach in OnlyReads (reach env.old) (reach env.new) }
 {
     if steps.is_empty() {
@@ -114,8 +123,12 @@ fn take_steps<S: Store, M: MergeOperator, T: BlockTransformer>(
 ) -> Result<(), SlateDBError>
     requires { IsOpenScan core.old scan.old }
     ensures noted { IsNoted core.old core.new (id_of scan.old) }
-    ensures took { let reach = ⟦<EnvOf<S, M, T> as Outside>⟧.reach in OnOk result (Took (TakesSteps (number_of scan.old) (scan_of scan.old).order steps.now) (reach env.old) (reach env.new) core.old core.new scan.old scan.new rows.old.items rows.new.items) }
-    ensures refused { let reach = ⟦<EnvOf<S, M, T> as Outside>⟧.reach in IfErr result (Fails (reach env.old) (reach env.new) scan.old) }
+    ensures took { let reach = ⟦<EnvOf<S, M, T> as Outside>⟧.reach in
+        let means = TakesSteps (number_of scan.old) (scan_of scan.old).order steps.now in
+        OnOk result (Took means (reach env.old) (reach env.new) core.old core.new scan.old scan.new
+        rows.old.items rows.new.items) }
+    ensures refused { let reach = ⟦<EnvOf<S, M, T> as Outside>⟧.reach in
+        IfErr result (Fails (reach env.old) (reach env.new) scan.old) }
     ensures reads { let reach = ⟦<EnvOf<S, M, T> as Outside>⟧.reach in OnlyReads (reach env.old) (reach env.new) }
 {
     for step in steps {
@@ -134,8 +147,12 @@ fn take_step<S: Store, M: MergeOperator, T: BlockTransformer>(
 ) -> Result<(), SlateDBError>
     requires { IsOpenScan core.old scan.old }
     ensures noted { IsNoted core.old core.new (id_of scan.old) }
-    ensures took { let reach = ⟦<EnvOf<S, M, T> as Outside>⟧.reach in OnOk result (Took (TakesStep (number_of scan.old) (scan_of scan.old).order step.now) (reach env.old) (reach env.new) core.old core.new scan.old scan.new rows.old.items rows.new.items) }
-    ensures refused { let reach = ⟦<EnvOf<S, M, T> as Outside>⟧.reach in IfErr result (Fails (reach env.old) (reach env.new) scan.old) }
+    ensures took { let reach = ⟦<EnvOf<S, M, T> as Outside>⟧.reach in
+        let means = TakesStep (number_of scan.old) (scan_of scan.old).order step.now in
+        OnOk result (Took means (reach env.old) (reach env.new) core.old core.new scan.old scan.new
+        rows.old.items rows.new.items) }
+    ensures refused { let reach = ⟦<EnvOf<S, M, T> as Outside>⟧.reach in
+        IfErr result (Fails (reach env.old) (reach env.new) scan.old) }
     ensures reads { let reach = ⟦<EnvOf<S, M, T> as Outside>⟧.reach in OnlyReads (reach env.old) (reach env.new) }
 {
     match step {
@@ -154,8 +171,12 @@ fn take_rows<S: Store, M: MergeOperator, T: BlockTransformer>(
 ) -> Result<(), SlateDBError>
     requires { IsOpenScan core.old scan.old }
     ensures noted { IsNoted core.old core.new (id_of scan.old) }
-    ensures took { let reach = ⟦<EnvOf<S, M, T> as Outside>⟧.reach in OnOk result (Took (TakesStep (number_of scan.old) (scan_of scan.old).order (Rows count)) (reach env.old) (reach env.new) core.old core.new scan.old scan.new rows.old.items rows.new.items) }
-    ensures refused { let reach = ⟦<EnvOf<S, M, T> as Outside>⟧.reach in IfErr result (Fails (reach env.old) (reach env.new) scan.old) }
+    ensures took { let reach = ⟦<EnvOf<S, M, T> as Outside>⟧.reach in
+        let means = TakesStep (number_of scan.old) (scan_of scan.old).order (Rows count) in
+        OnOk result (Took means (reach env.old) (reach env.new) core.old core.new scan.old scan.new
+        rows.old.items rows.new.items) }
+    ensures refused { let reach = ⟦<EnvOf<S, M, T> as Outside>⟧.reach in
+        IfErr result (Fails (reach env.old) (reach env.new) scan.old) }
     ensures reads { let reach = ⟦<EnvOf<S, M, T> as Outside>⟧.reach in OnlyReads (reach env.old) (reach env.new) }
 {
     for _ in 0..count {

@@ -1,9 +1,8 @@
 //! The core, the open names with their ids, and the moment.
-ghost use Rattle.std.specs.Prelude.{◌≡◌, ◌≢◌, ◌⊎◌, ◌∷◌, ℕ, List, ◌++◌, [], map, Some, None, Ok, IfOk, IfErr, IfSome, IsSome, OnOk, IsTrue, IsOkUnless, false, length, drop};
+ghost use Rattle.std.specs.Prelude.{◌≡◌, ◌≢◌, ◌⊎◌, ◌∷◌, ℕ, List, ◌++◌, [], map, Some, None, Ok, IfOk, IfErr, IfSome, IsSome, OnOk, IsTrue, false, drop};
 ghost use Rattle.slate_types.specs.Config.{IsValid};
 ghost use Rattle.slate_types.specs.Keys.{is_refused, prefix_subrange};
-ghost use Rattle.slate_types.specs.Outside.{Objects, IsFault, OnlyReads, Puts};
-ghost use Rattle.slate_types.specs.World.{Made};
+ghost use Rattle.slate_types.specs.Outside.{Objects, IsFault, OnlyReads};
 ghost use Rattle.std.specs.declared.ops.Bound.{Bound};
 ghost use Rattle.slate_types.specs.declared.iter.IterationOrder.{IterationOrder};
 ghost use Rattle.slate_types.specs.declared.config.Ttl.{Ttl};
@@ -18,23 +17,20 @@ ghost use Rattle.slate_txn.specs.Reply.{Refused};
 ghost use Rattle.slate_txn.specs.Settings.{settings_of};
 ghost use Rattle.slate_txn.specs.State.{State, opening};
 ghost use Rattle.slate_txn.specs.Step.{reader};
-ghost use Rattle.slate_db.specs.Answered.{AddsActs};
 ghost use Rattle.slate_db.specs.Checked.{OrSlips};
 ghost use Rattle.slate_db.specs.Flushed.{layout_of};
-ghost use Rattle.slate_db.specs.Installs.{runs_of, tables_of};
 ghost use Rattle.slate_db.specs.Load.{weight};
 ghost use Rattle.slate_db.specs.Meaning.{Meaning, IsLawfulMeaning, segments_by};
-ghost use Rattle.slate_db.specs.Parts.{IsTableError};
-ghost use Rattle.slate_db.specs.Readable.{IsAnswered, IsReadable, IsReadError};
+ghost use Rattle.slate_db.specs.Readable.{IsAnswered, IsReadable};
 ghost use Rattle.slate_db.specs.Scans.{IsScanError};
 ghost use Rattle.slate_db.specs.Segmented.{IsSegmented};
 ghost use Rattle.slate_db.specs.Sound.{IsKept, IsOperable};
 ghost use Rattle.slate_db.specs.StoredState.{StoresState};
 ghost use Rattle.slate_db.specs.Log.{AreFine};
 ghost use Rattle.slate_language.specs.Answers.{reply_of};
-ghost use Rattle.slate_script.specs.Session.{StandsFor, StepsAs, HasTablesAlone, Grows, IsDone, IsSettled, IsSettledIn, IsLimit, IsRefusal, StoresNothing, has_moment, held_load, line_load, reader_id, reader_under};
+ghost use Rattle.slate_script.specs.Calls.Line.{Answers, AnswersByRead, AnswersByScan, AnswersWithin, AnswersByWrite};
+ghost use Rattle.slate_script.specs.Session.{StandsFor, Grows, IsDone, IsRefusal, StoresNothing, has_moment, held_load, line_load, reader_id, reader_under};
 ghost use Rattle.slate_script.specs.Scanning.{BeginsWith, EndsBelow, ScansAs};
-ghost use Rattle.slate_script.specs.Told.{Follows, IsRefusedAt, IsUntrue, PutsTables, asking_for};
 
 use crate::journal::entries;
 use crate::scan::scan_rows;
@@ -79,9 +75,12 @@ impl Model for Session {
 
     ghost Value = { SessionModel };
 
-    ghost view = { λ s. record { core = s.core; names = s.names.entries; snapshot_names = s.snapshot_names.entries; now = s.now } };
+    ghost view = { λ s.
+        record { core = s.core; names = s.names.entries; snapshot_names = s.snapshot_names.entries; now = s.now } };
 
-    ghost invariant = { λ s. NamesStand s.names.entries s.snapshot_names.entries s.core.state.txns s.core.state.snapshots × IsTrue (is_moment s.now) };
+    ghost invariant = { λ s.
+        NamesStand s.names.entries s.snapshot_names.entries s.core.state.txns s.core.state.snapshots
+        × IsTrue (is_moment s.now) };
 }
 
 impl Session {
@@ -119,42 +118,10 @@ impl Session {
         requires moment { IsTrue (has_moment line) }
         requires valid { IsValid laws.now.options }
         requires names { AreValidNames (map (λ p. (meaning (p.vtable, p.value)).name) laws.now.policies.items) }
-        ensures step { let reach = ⟦<EnvOf<S, M, T> as Outside>⟧.reach in
+        ensures { let reach = ⟦<EnvOf<S, M, T> as Outside>⟧.reach in
             let policies = map (λ p. meaning (p.vtable, p.value)) laws.now.policies.items in
-            IsSettledIn policies (segments_by X.lengths laws.now.segments) (reach env.old) self.old →
-            StepsAs (reach env.old).meaning (segments_by X.lengths laws.now.segments) self.old self.new line result }
-        ensures checked { let reach = ⟦<EnvOf<S, M, T> as Outside>⟧.reach in
-            let policies = map (λ p. meaning (p.vtable, p.value)) laws.now.policies.items in
-            (os : Objects) → IsSettled policies (reach env.old).meaning (segments_by X.lengths laws.now.segments) (Some os) self.old →
-            OrSlips os (reach env.old) (reach env.new) (StepsAs (reach env.old).meaning (segments_by X.lengths laws.now.segments) self.old self.new line result) }
-        ensures settings { OnOk result (self.new.core.settings ≡ self.old.core.settings) }
-        ensures grows { OnOk result (Grows line self.old self.new) }
-        ensures kept { let reach = ⟦<EnvOf<S, M, T> as Outside>⟧.reach in
-            let policies = map (λ p. meaning (p.vtable, p.value)) laws.now.policies.items in
-            IsSettledIn policies (segments_by X.lengths laws.now.segments) (reach env.old) self.old →
-            OnOk result (IsSettled policies (reach env.old).meaning (segments_by X.lengths laws.now.segments) (reach env.new).objects self.new) }
-        ensures core_kept { let reach = ⟦<EnvOf<S, M, T> as Outside>⟧.reach in IsKept (reach env.old).meaning self.old.core → OnOk result (IsKept (reach env.old).meaning self.new.core) }
-        ensures alone { let reach = ⟦<EnvOf<S, M, T> as Outside>⟧.reach in
-            let policies = map (λ p. meaning (p.vtable, p.value)) laws.now.policies.items in
-            IsSettledIn policies (segments_by X.lengths laws.now.segments) (reach env.old) self.old → HasTablesAlone (reach env.old).meaning (layout_of laws.now.options policies (segments_by X.lengths laws.now.segments)) (reach env.old).objects (runs_of self.old.core.events) →
-            OnOk result (HasTablesAlone (reach env.old).meaning (layout_of laws.now.options policies (segments_by X.lengths laws.now.segments)) (reach env.new).objects (runs_of self.new.core.events)) }
-        ensures cause { let reach = ⟦<EnvOf<S, M, T> as Outside>⟧.reach in IfErr result (λ e. IsFault (reach env.old) (reach env.new) e ⊎ IsLimit self.old e ⊎ IsTableError e) }
-        ensures shown { let reach = ⟦<EnvOf<S, M, T> as Outside>⟧.reach in
-            let policies = map (λ p. meaning (p.vtable, p.value)) laws.now.policies.items in
-            IsKept (reach env.old).meaning self.old.core → IfErr result (λ e. IsTableError e → Made (reach env.old) (reach env.new) (λ reads. IsRefusedAt policies line (reach env.old).meaning self.old.core reads e)) }
-        ensures undamaged { let reach = ⟦<EnvOf<S, M, T> as Outside>⟧.reach in
-            let policies = map (λ p. meaning (p.vtable, p.value)) laws.now.policies.items in
-            IsSettledIn policies (segments_by X.lengths laws.now.segments) (reach env.old) self.old →
-            IfErr result (λ e. IsFault (reach env.old) (reach env.new) e ⊎ IsLimit self.old e) }
-        ensures follows { let reach = ⟦<EnvOf<S, M, T> as Outside>⟧.reach in
-            let policies = map (λ p. meaning (p.vtable, p.value)) laws.now.policies.items in
-            (os : Objects) → IsSettled policies (reach env.old).meaning (segments_by X.lengths laws.now.segments) (Some os) self.old → OnOk result (Follows policies (reach env.old).meaning (segments_by X.lengths laws.now.segments) os self.new (reach env.old).acts (reach env.new).acts) }
-        ensures tables { let reach = ⟦<EnvOf<S, M, T> as Outside>⟧.reach in OnOk result (PutsTables (tables_of self.old.core.events) (tables_of self.new.core.events) (reach env.old).acts (reach env.new).acts) }
-        ensures adds { let reach = ⟦<EnvOf<S, M, T> as Outside>⟧.reach in AddsActs (reach env.old).acts (reach env.new).acts }
-        ensures untrue { let reach = ⟦<EnvOf<S, M, T> as Outside>⟧.reach in
-            let policies = map (λ p. meaning (p.vtable, p.value)) laws.now.policies.items in
-            (os : Objects) → IsSettled policies (reach env.old).meaning (segments_by X.lengths laws.now.segments) (Some os) self.old → IfErr result (λ e. IsTableError e → IsUntrue os (reach env.old).acts (reach env.new).acts) }
-        ensures puts { let reach = ⟦<EnvOf<S, M, T> as Outside>⟧.reach in Puts (reach env.old) (reach env.new) }
+            let layout = layout_of laws.now.options policies (segments_by X.lengths laws.now.segments) in
+            Answers layout line (reach env.old) (reach env.new) self.old self.new result }
     {
         match line {
             Line::Get { name, key } => self.get(name, key, env, laws),
@@ -190,16 +157,16 @@ impl Session {
     fn answer_within(&mut self, line: Line) -> Result<Answer, SlateDBError>
         requires moment { IsTrue (has_moment line) }
         requires no_get { (name key : List ℕ) → line ≢ Line.Get name key }
-        requires no_scan { (name : List ℕ) (order : IterationOrder) (start end : Bound (List ℕ)) (sts : List ScanStep) → line ≢ Line.Scan name order start end sts }
-        requires no_prefix { (name : List ℕ) (order : IterationOrder) (p : List ℕ) (start end : Bound (List ℕ)) (sts : List ScanStep) → line ≢ Line.Prefix name order p start end sts }
+        requires no_scan { (name : List ℕ) (order : IterationOrder) (start end : Bound (List ℕ)) (sts : List ScanStep) →
+            line ≢ Line.Scan name order start end sts }
+        requires no_prefix { (name : List ℕ) (order : IterationOrder) (p : List ℕ) (start end : Bound (List ℕ)) →
+            (sts : List ScanStep) →
+            line ≢ Line.Prefix name order p start end sts }
         requires no_flush { line ≢ Line.Flush }
         requires no_write { (ops : Ops) → line ≢ Line.Write ops }
         requires no_merge { (name key value : List ℕ) (ttl : Ttl) → line ≢ Line.Merge name key value ttl }
         requires no_commit { (name : List ℕ) → line ≢ Line.Commit name }
-        ensures step { (m : Meaning) (seg : Segments) → StepsAs m seg self.old self.new line result }
-        ensures stores { OnOk result ((m : Meaning) (seg : Segments) → StoresNothing m seg self.old self.new) }
-        ensures grows { OnOk result (Grows line self.old self.new) }
-        ensures cause { IfErr result (λ e. (e ≡ SlateDBError.OutOfMemory) ⊎ IsLimit self.old e) }
+        ensures { AnswersWithin line self.old self.new result }
     {
         match line {
             Line::Now { moment } => {
@@ -237,7 +204,8 @@ impl Session {
     fn reader_id(&self, name: &Bytes) -> Option<Uuid>
         ensures id { result ≡ reader_id self.entry.now name.now }
         ensures known { IfSome result (λ id. IsSome (reader self.entry.now.core.state id)) }
-        ensures reads { (s : State) → StandsFor self.entry.now s → reader s name.now ≡ reader_under self.entry.now.core.state result }
+        ensures reads { (s : State) → StandsFor self.entry.now s →
+            reader s name.now ≡ reader_under self.entry.now.core.state result }
     {
         let transaction = self.names.get(name).copied();
         let snapshot = self.snapshot_names.get(name).copied();
@@ -246,10 +214,7 @@ impl Session {
 
     /// Opens the name at the last commit, as a transaction.
     fn begin(&mut self, name: Bytes, level: IsolationLevel) -> Result<Answer, SlateDBError>
-        ensures step { (m : Meaning) (seg : Segments) → StepsAs m seg self.old self.new (Line.Begin name level) result }
-        ensures stores { OnOk result ((m : Meaning) (seg : Segments) → StoresNothing m seg self.old self.new) }
-        ensures grows { OnOk result (Grows (Line.Begin name level) self.old self.new) }
-        ensures cause { IfErr result (λ e. (e ≡ SlateDBError.OutOfMemory) ⊎ IsLimit self.old e) }
+        ensures { AnswersWithin (Line.Begin name level) self.old self.new result }
     {
         if self.reader_id(&name).is_some() {
             return Ok(Answer::Refused(SlateDBError::DuplicateTransaction { name }));
@@ -262,10 +227,7 @@ impl Session {
 
     /// Opens the name at the last commit, as a snapshot.
     fn snapshot(&mut self, name: Bytes) -> Result<Answer, SlateDBError>
-        ensures step { (m : Meaning) (seg : Segments) → StepsAs m seg self.old self.new (Line.Snapshot name) result }
-        ensures stores { OnOk result ((m : Meaning) (seg : Segments) → StoresNothing m seg self.old self.new) }
-        ensures grows { OnOk result (Grows (Line.Snapshot name) self.old self.new) }
-        ensures cause { IfErr result (λ e. (e ≡ SlateDBError.OutOfMemory) ⊎ IsLimit self.old e) }
+        ensures { AnswersWithin (Line.Snapshot name) self.old self.new result }
     {
         if self.reader_id(&name).is_some() {
             return Ok(Answer::Refused(SlateDBError::DuplicateTransaction { name }));
@@ -284,23 +246,9 @@ impl Session {
         env: &mut Env<'_, S, M, T>,
         laws: &Laws<X>,
     ) -> Result<Answer, SlateDBError>
-        ensures step { let reach = ⟦<EnvOf<S, M, T> as Outside>⟧.reach in
+        ensures { let reach = ⟦<EnvOf<S, M, T> as Outside>⟧.reach in
             let policies = map (λ p. meaning (p.vtable, p.value)) laws.now.policies.items in
-            IsAnswered policies (reach env.old) (reach env.new) self.old.core →
-            (seg : Segments) → StepsAs (reach env.old).meaning seg self.old self.new (Line.Get name key) result }
-        ensures checked { let reach = ⟦<EnvOf<S, M, T> as Outside>⟧.reach in
-            let policies = map (λ p. meaning (p.vtable, p.value)) laws.now.policies.items in
-            (os : Objects) → IsReadable policies (reach env.old).meaning os self.old.core →
-            (seg : Segments) → OrSlips os (reach env.old) (reach env.new) (StepsAs (reach env.old).meaning seg self.old self.new (Line.Get name key) result) }
-        ensures stores { OnOk result ((m : Meaning) (seg : Segments) → StoresNothing m seg self.old self.new) }
-        ensures grows { OnOk result (Grows (Line.Get name key) self.old self.new) }
-        ensures cause { let reach = ⟦<EnvOf<S, M, T> as Outside>⟧.reach in
-            let policies = map (λ p. meaning (p.vtable, p.value)) laws.now.policies.items in
-            IfErr result (IsReadError (asking_for policies key) (reach env.old) (reach env.new) self.old.core) }
-        ensures undamaged { let reach = ⟦<EnvOf<S, M, T> as Outside>⟧.reach in
-            let policies = map (λ p. meaning (p.vtable, p.value)) laws.now.policies.items in
-            IsAnswered policies (reach env.old) (reach env.new) self.old.core → IfErr result (IsFault (reach env.old) (reach env.new)) }
-        ensures reads { let reach = ⟦<EnvOf<S, M, T> as Outside>⟧.reach in OnlyReads (reach env.old) (reach env.new) }
+            AnswersByRead policies (Line.Get name key) (reach env.old) (reach env.new) self.old self.new result }
     {
         let Some(id) = self.reader_id(&name) else {
             drop(key);
@@ -325,23 +273,10 @@ impl Session {
         laws: &Laws<X>,
     ) -> Result<Answer, SlateDBError>
         requires valid { IsValid laws.now.options }
-        ensures step { let reach = ⟦<EnvOf<S, M, T> as Outside>⟧.reach in
+        ensures { let reach = ⟦<EnvOf<S, M, T> as Outside>⟧.reach in
             let policies = map (λ p. meaning (p.vtable, p.value)) laws.now.policies.items in
-            IsAnswered policies (reach env.old) (reach env.new) self.old.core →
-            (seg : Segments) → StepsAs (reach env.old).meaning seg self.old self.new (Line.Scan name order start end steps) result }
-        ensures checked { let reach = ⟦<EnvOf<S, M, T> as Outside>⟧.reach in
-            let policies = map (λ p. meaning (p.vtable, p.value)) laws.now.policies.items in
-            (os : Objects) → IsReadable policies (reach env.old).meaning os self.old.core →
-            (seg : Segments) → OrSlips os (reach env.old) (reach env.new) (StepsAs (reach env.old).meaning seg self.old self.new (Line.Scan name order start end steps) result) }
-        ensures stores { OnOk result ((m : Meaning) (seg : Segments) → StoresNothing m seg self.old self.new) }
-        ensures grows { OnOk result (Grows (Line.Scan name order start end steps) self.old self.new) }
-        ensures cause { let reach = ⟦<EnvOf<S, M, T> as Outside>⟧.reach in
-            let policies = map (λ p. meaning (p.vtable, p.value)) laws.now.policies.items in
-            IfErr result (IsScanError policies (reach env.old) (reach env.new) self.old.core) }
-        ensures undamaged { let reach = ⟦<EnvOf<S, M, T> as Outside>⟧.reach in
-            let policies = map (λ p. meaning (p.vtable, p.value)) laws.now.policies.items in
-            IsAnswered policies (reach env.old) (reach env.new) self.old.core → IfErr result (IsFault (reach env.old) (reach env.new)) }
-        ensures reads { let reach = ⟦<EnvOf<S, M, T> as Outside>⟧.reach in OnlyReads (reach env.old) (reach env.new) }
+            AnswersByRead policies (Line.Scan name order start end steps)
+            (reach env.old) (reach env.new) self.old self.new result }
     {
         let range = BytesRange::try_new(start, end);
         self.scan_range(name, order, range, None, steps, env, laws)
@@ -360,23 +295,10 @@ impl Session {
         laws: &Laws<X>,
     ) -> Result<Answer, SlateDBError>
         requires valid { IsValid laws.now.options }
-        ensures step { let reach = ⟦<EnvOf<S, M, T> as Outside>⟧.reach in
+        ensures { let reach = ⟦<EnvOf<S, M, T> as Outside>⟧.reach in
             let policies = map (λ p. meaning (p.vtable, p.value)) laws.now.policies.items in
-            IsAnswered policies (reach env.old) (reach env.new) self.old.core →
-            (seg : Segments) → StepsAs (reach env.old).meaning seg self.old self.new (Line.Prefix name order prefix start end steps) result }
-        ensures checked { let reach = ⟦<EnvOf<S, M, T> as Outside>⟧.reach in
-            let policies = map (λ p. meaning (p.vtable, p.value)) laws.now.policies.items in
-            (os : Objects) → IsReadable policies (reach env.old).meaning os self.old.core →
-            (seg : Segments) → OrSlips os (reach env.old) (reach env.new) (StepsAs (reach env.old).meaning seg self.old self.new (Line.Prefix name order prefix start end steps) result) }
-        ensures stores { OnOk result ((m : Meaning) (seg : Segments) → StoresNothing m seg self.old self.new) }
-        ensures grows { OnOk result (Grows (Line.Prefix name order prefix start end steps) self.old self.new) }
-        ensures cause { let reach = ⟦<EnvOf<S, M, T> as Outside>⟧.reach in
-            let policies = map (λ p. meaning (p.vtable, p.value)) laws.now.policies.items in
-            IfErr result (IsScanError policies (reach env.old) (reach env.new) self.old.core) }
-        ensures undamaged { let reach = ⟦<EnvOf<S, M, T> as Outside>⟧.reach in
-            let policies = map (λ p. meaning (p.vtable, p.value)) laws.now.policies.items in
-            IsAnswered policies (reach env.old) (reach env.new) self.old.core → IfErr result (IsFault (reach env.old) (reach env.new)) }
-        ensures reads { let reach = ⟦<EnvOf<S, M, T> as Outside>⟧.reach in OnlyReads (reach env.old) (reach env.new) }
+            AnswersByRead policies (Line.Prefix name order prefix start end steps)
+            (reach env.old) (reach env.new) self.old self.new result }
     {
         let composed = composed_range(self.alloc, prefix.as_slice(), start, end);
         let range = match composed {
@@ -405,22 +327,17 @@ impl Session {
         requires range { IfSome range (λ r. is_refused r.start r.end ≡ false) }
         requires prefix { IfSome range (λ r. BeginsWith prefix r) }
         requires valid { IsValid laws.now.options }
-        ensures step { let reach = ⟦<EnvOf<S, M, T> as Outside>⟧.reach in
+        ensures scans { let reach = ⟦<EnvOf<S, M, T> as Outside>⟧.reach in
             let policies = map (λ p. meaning (p.vtable, p.value)) laws.now.policies.items in
-            IsAnswered policies (reach env.old) (reach env.new) self.old.core →
-            (seg : Segments) → ScansAs (reach env.old).meaning seg self.old self.new name order range steps result }
-        ensures checked { let reach = ⟦<EnvOf<S, M, T> as Outside>⟧.reach in
-            let policies = map (λ p. meaning (p.vtable, p.value)) laws.now.policies.items in
-            (os : Objects) → IsReadable policies (reach env.old).meaning os self.old.core →
-            (seg : Segments) → OrSlips os (reach env.old) (reach env.new) (ScansAs (reach env.old).meaning seg self.old self.new name order range steps result) }
+            AnswersByScan policies name order range steps (reach env.old) (reach env.new) self.old self.new result }
         ensures stores { OnOk result ((m : Meaning) (seg : Segments) → StoresNothing m seg self.old self.new) }
         ensures grows { (line : Line) → line_load line ≡ 0 → OnOk result (Grows line self.old self.new) }
         ensures cause { let reach = ⟦<EnvOf<S, M, T> as Outside>⟧.reach in
-            let policies = map (λ p. meaning (p.vtable, p.value)) laws.now.policies.items in
-            IfErr result (IsScanError policies (reach env.old) (reach env.new) self.old.core) }
+            IfErr result (IsScanError (map (λ p. meaning (p.vtable, p.value)) laws.now.policies.items)
+            (reach env.old) (reach env.new) self.old.core) }
         ensures undamaged { let reach = ⟦<EnvOf<S, M, T> as Outside>⟧.reach in
-            let policies = map (λ p. meaning (p.vtable, p.value)) laws.now.policies.items in
-            IsAnswered policies (reach env.old) (reach env.new) self.old.core → IfErr result (IsFault (reach env.old) (reach env.new)) }
+            IsAnswered (map (λ p. meaning (p.vtable, p.value)) laws.now.policies.items) (reach env.old) (reach env.new)
+            self.old.core → IfErr result (IsFault (reach env.old) (reach env.new)) }
         ensures reads { let reach = ⟦<EnvOf<S, M, T> as Outside>⟧.reach in OnlyReads (reach env.old) (reach env.new) }
     {
         let Some(id) = self.reader_id(&name) else {
@@ -453,9 +370,7 @@ impl Session {
 
     /// Closes the name: its transaction ends, or its snapshot is released.
     fn rollback(&mut self, name: Bytes) -> Answer
-        ensures step { (m : Meaning) (seg : Segments) → StepsAs m seg self.old self.new (Line.Rollback name) (Ok result) }
-        ensures stores { (m : Meaning) (seg : Segments) → StoresNothing m seg self.old self.new }
-        ensures grows { Grows (Line.Rollback name) self.old self.new }
+        ensures { AnswersWithin (Line.Rollback name) self.old self.new (Ok result) }
     {
         let Some(id) = self.names.remove(&name) else {
             return self.release(name);
@@ -467,9 +382,7 @@ impl Session {
     /// Closes the name, which is no transaction's.
     fn release(&mut self, name: Bytes) -> Answer
         requires { find_named name self.old.names ≡ None }
-        ensures step { (m : Meaning) (seg : Segments) → StepsAs m seg self.old self.new (Line.Rollback name) (Ok result) }
-        ensures stores { (m : Meaning) (seg : Segments) → StoresNothing m seg self.old self.new }
-        ensures grows { Grows (Line.Rollback name) self.old self.new }
+        ensures { AnswersWithin (Line.Rollback name) self.old self.new (Ok result) }
     {
         let Some(id) = self.snapshot_names.remove(&name) else {
             return Answer::Refused(SlateDBError::UnknownTransaction { name });
@@ -486,10 +399,7 @@ impl Session {
         value: Bytes,
         ttl: Ttl,
     ) -> Result<Answer, SlateDBError>
-        ensures step { (m : Meaning) (seg : Segments) → StepsAs m seg self.old self.new (Line.Put name key value ttl) result }
-        ensures stores { OnOk result ((m : Meaning) (seg : Segments) → StoresNothing m seg self.old self.new) }
-        ensures grows { OnOk result (Grows (Line.Put name key value ttl) self.old self.new) }
-        ensures cause { IfErr result (λ e. (e ≡ SlateDBError.OutOfMemory) ⊎ IsLimit self.old e) }
+        ensures { AnswersWithin (Line.Put name key value ttl) self.old self.new result }
     {
         let Some(id) = self.names.get(&name) else {
             drop((key, value));
@@ -513,11 +423,10 @@ impl Session {
         ttl: Ttl,
         env: &mut Env<'_, S, M, T>,
     ) -> Result<Answer, SlateDBError>
-        ensures step { let reach = ⟦<EnvOf<S, M, T> as Outside>⟧.reach in (seg : Segments) → StepsAs (reach env.old).meaning seg self.old self.new (Line.Merge name key value ttl) result }
-        ensures stores { let reach = ⟦<EnvOf<S, M, T> as Outside>⟧.reach in OnOk result ((seg : Segments) → StoresNothing (reach env.old).meaning seg self.old self.new) }
-        ensures grows { OnOk result (Grows (Line.Merge name key value ttl) self.old self.new) }
-        ensures cause { let reach = ⟦<EnvOf<S, M, T> as Outside>⟧.reach in IfErr result (λ e. IsFault (reach env.old) (reach env.new) e ⊎ IsLimit self.old e) }
-        ensures reads { let reach = ⟦<EnvOf<S, M, T> as Outside>⟧.reach in OnlyReads (reach env.old) (reach env.new) }
+        ensures { let reach = ⟦<EnvOf<S, M, T> as Outside>⟧.reach in
+            (seg : Segments) →
+            AnswersByWrite Unit seg (Line.Merge name key value ttl)
+            (reach env.old) (reach env.new) self.old self.new result }
     {
         let Some(id) = self.names.get(&name) else {
             drop((key, value));
@@ -538,10 +447,7 @@ impl Session {
 
     /// Puts a delete of the key among the own operations of the name's transaction.
     fn delete(&mut self, name: Bytes, key: Bytes) -> Result<Answer, SlateDBError>
-        ensures step { (m : Meaning) (seg : Segments) → StepsAs m seg self.old self.new (Line.Delete name key) result }
-        ensures stores { OnOk result ((m : Meaning) (seg : Segments) → StoresNothing m seg self.old self.new) }
-        ensures grows { OnOk result (Grows (Line.Delete name key) self.old self.new) }
-        ensures cause { IfErr result (λ e. (e ≡ SlateDBError.OutOfMemory) ⊎ IsLimit self.old e) }
+        ensures { AnswersWithin (Line.Delete name key) self.old self.new result }
     {
         let Some(id) = self.names.get(&name) else {
             drop(key);
@@ -556,10 +462,7 @@ impl Session {
 
     /// Makes the keys part of what the commit of the name's transaction conflicts by.
     fn mark(&mut self, name: Bytes, keys: KeyList) -> Result<Answer, SlateDBError>
-        ensures step { (m : Meaning) (seg : Segments) → StepsAs m seg self.old self.new (Line.Mark name keys) result }
-        ensures stores { OnOk result ((m : Meaning) (seg : Segments) → StoresNothing m seg self.old self.new) }
-        ensures grows { OnOk result (Grows (Line.Mark name keys) self.old self.new) }
-        ensures cause { IfErr result (λ e. (e ≡ SlateDBError.OutOfMemory) ⊎ IsLimit self.old e) }
+        ensures { AnswersWithin (Line.Mark name keys) self.old self.new result }
     {
         let Some(id) = self.names.get(&name) else {
             drop(keys);
@@ -574,10 +477,7 @@ impl Session {
 
     /// Takes the keys out of what the commit of the name's transaction tracks.
     fn unmark(&mut self, name: Bytes, keys: KeyList) -> Result<Answer, SlateDBError>
-        ensures step { (m : Meaning) (seg : Segments) → StepsAs m seg self.old self.new (Line.Unmark name keys) result }
-        ensures stores { OnOk result ((m : Meaning) (seg : Segments) → StoresNothing m seg self.old self.new) }
-        ensures grows { OnOk result (Grows (Line.Unmark name keys) self.old self.new) }
-        ensures cause { IfErr result (λ e. (e ≡ SlateDBError.OutOfMemory) ⊎ IsLimit self.old e) }
+        ensures { AnswersWithin (Line.Unmark name keys) self.old self.new result }
     {
         let Some(id) = self.names.get(&name) else {
             drop(keys);
@@ -597,12 +497,10 @@ impl Session {
         env: &mut Env<'_, S, M, T>,
         laws: &Laws<X>,
     ) -> Result<Answer, SlateDBError>
-        ensures step { let reach = ⟦<EnvOf<S, M, T> as Outside>⟧.reach in IsOperable (reach env.old).meaning self.old.core →
-            IsSegmented (segments_by X.lengths laws.now.segments) self.old.core → StepsAs (reach env.old).meaning (segments_by X.lengths laws.now.segments) self.old self.new (Line.Commit name) result }
-        ensures stores { let reach = ⟦<EnvOf<S, M, T> as Outside>⟧.reach in OnOk result (StoresNothing (reach env.old).meaning (segments_by X.lengths laws.now.segments) self.old self.new) }
-        ensures grows { OnOk result (Grows (Line.Commit name) self.old self.new) }
-        ensures cause { let reach = ⟦<EnvOf<S, M, T> as Outside>⟧.reach in IfErr result (λ e. IsFault (reach env.old) (reach env.new) e ⊎ IsLimit self.old e) }
-        ensures reads { let reach = ⟦<EnvOf<S, M, T> as Outside>⟧.reach in OnlyReads (reach env.old) (reach env.new) }
+        ensures { let reach = ⟦<EnvOf<S, M, T> as Outside>⟧.reach in
+            let seg = segments_by X.lengths laws.now.segments in
+            let given = IsOperable (reach env.old).meaning self.old.core × IsSegmented seg self.old.core in
+            AnswersByWrite given seg (Line.Commit name) (reach env.old) (reach env.new) self.old self.new result }
     {
         let Some(id) = self.names.remove(&name) else {
             return Ok(Answer::Refused(SlateDBError::UnknownTransaction { name }));
@@ -616,8 +514,7 @@ impl Session {
 
     /// The commits so far.
     fn journal(&self) -> Result<Answer, SlateDBError>
-        ensures step { (m : Meaning) (seg : Segments) → StepsAs m seg self.entry.now self.entry.now Line.Journal result }
-        ensures cause { IsOkUnless result SlateDBError.OutOfMemory }
+        ensures { AnswersWithin Line.Journal self.entry.now self.entry.now result }
     {
         let entries = entries(self.alloc, self.core.journal().as_slice())?;
         Ok(Answer::Journal(entries))
@@ -630,13 +527,10 @@ impl Session {
         env: &mut Env<'_, S, M, T>,
         laws: &Laws<X>,
     ) -> Result<Answer, SlateDBError>
-        ensures step { let reach = ⟦<EnvOf<S, M, T> as Outside>⟧.reach in
+        ensures { let reach = ⟦<EnvOf<S, M, T> as Outside>⟧.reach in
             let seg = segments_by X.lengths laws.now.segments in
-            IsSegmented seg self.old.core → StepsAs (reach env.old).meaning seg self.old self.new (Line.Write ops) result }
-        ensures stores { let reach = ⟦<EnvOf<S, M, T> as Outside>⟧.reach in OnOk result (StoresNothing (reach env.old).meaning (segments_by X.lengths laws.now.segments) self.old self.new) }
-        ensures grows { OnOk result (Grows (Line.Write ops) self.old self.new) }
-        ensures cause { let reach = ⟦<EnvOf<S, M, T> as Outside>⟧.reach in IfErr result (λ e. IsFault (reach env.old) (reach env.new) e ⊎ IsLimit self.old e) }
-        ensures reads { let reach = ⟦<EnvOf<S, M, T> as Outside>⟧.reach in OnlyReads (reach env.old) (reach env.new) }
+            AnswersByWrite (IsSegmented seg self.old.core) seg (Line.Write ops)
+            (reach env.old) (reach env.new) self.old self.new result }
     {
         let batch = match batch_of(self.alloc, ops) {
             Ok(batch) => batch,
@@ -650,10 +544,7 @@ impl Session {
 
     /// Moves the rows in memory aside for a flush.
     fn freeze(&mut self) -> Result<Answer, SlateDBError>
-        ensures step { (m : Meaning) (seg : Segments) → StepsAs m seg self.old self.new Line.Freeze result }
-        ensures stores { OnOk result ((m : Meaning) (seg : Segments) → StoresNothing m seg self.old self.new) }
-        ensures grows { OnOk result (Grows Line.Freeze self.old self.new) }
-        ensures cause { IfErr result (λ e. (e ≡ SlateDBError.OutOfMemory) ⊎ IsLimit self.old e) }
+        ensures { AnswersWithin Line.Freeze self.old self.new result }
     {
         let seq = self.core.freeze()?;
         Ok(Answer::Frozen(seq))
@@ -667,26 +558,10 @@ impl Session {
     ) -> Result<Answer, SlateDBError>
         requires valid { IsValid laws.now.options }
         requires names { AreValidNames (map (λ p. (meaning (p.vtable, p.value)).name) laws.now.policies.items) }
-        ensures step { (m : Meaning) (seg : Segments) → StepsAs m seg self.old self.new Line.Flush result }
-        ensures settings { OnOk result (self.new.core.settings ≡ self.old.core.settings) }
-        ensures grows { OnOk result (Grows Line.Flush self.old self.new) }
-        ensures kept { let reach = ⟦<EnvOf<S, M, T> as Outside>⟧.reach in
+        ensures { let reach = ⟦<EnvOf<S, M, T> as Outside>⟧.reach in
             let policies = map (λ p. meaning (p.vtable, p.value)) laws.now.policies.items in
-            IsSettledIn policies (segments_by X.lengths laws.now.segments) (reach env.old) self.old →
-            OnOk result (IsSettled policies (reach env.old).meaning (segments_by X.lengths laws.now.segments) (reach env.new).objects self.new) }
-        ensures core_kept { let reach = ⟦<EnvOf<S, M, T> as Outside>⟧.reach in IsKept (reach env.old).meaning self.old.core → OnOk result (IsKept (reach env.old).meaning self.new.core) }
-        ensures alone { let reach = ⟦<EnvOf<S, M, T> as Outside>⟧.reach in
-            let policies = map (λ p. meaning (p.vtable, p.value)) laws.now.policies.items in
-            IsSettledIn policies (segments_by X.lengths laws.now.segments) (reach env.old) self.old → HasTablesAlone (reach env.old).meaning (layout_of laws.now.options policies (segments_by X.lengths laws.now.segments)) (reach env.old).objects (runs_of self.old.core.events) →
-            OnOk result (HasTablesAlone (reach env.old).meaning (layout_of laws.now.options policies (segments_by X.lengths laws.now.segments)) (reach env.new).objects (runs_of self.new.core.events)) }
-        ensures follows { let reach = ⟦<EnvOf<S, M, T> as Outside>⟧.reach in
-            let policies = map (λ p. meaning (p.vtable, p.value)) laws.now.policies.items in
-            (os : Objects) → IsSettled policies (reach env.old).meaning (segments_by X.lengths laws.now.segments) (Some os) self.old → OnOk result (Follows policies (reach env.old).meaning (segments_by X.lengths laws.now.segments) os self.new (reach env.old).acts (reach env.new).acts) }
-        ensures tables { let reach = ⟦<EnvOf<S, M, T> as Outside>⟧.reach in OnOk result (PutsTables (tables_of self.old.core.events) (tables_of self.new.core.events) (reach env.old).acts (reach env.new).acts) }
-        ensures adds { let reach = ⟦<EnvOf<S, M, T> as Outside>⟧.reach in AddsActs (reach env.old).acts (reach env.new).acts }
-        ensures cause { let reach = ⟦<EnvOf<S, M, T> as Outside>⟧.reach in IfErr result (λ e. IsFault (reach env.old) (reach env.new) e ⊎ IsLimit self.old e ⊎ (e ≡ SlateDBError.MergeOperatorMissing)) }
-        ensures operable { let reach = ⟦<EnvOf<S, M, T> as Outside>⟧.reach in IsKept (reach env.old).meaning self.old.core → IfErr result (λ e. IsFault (reach env.old) (reach env.new) e ⊎ IsLimit self.old e) }
-        ensures puts { let reach = ⟦<EnvOf<S, M, T> as Outside>⟧.reach in Puts (reach env.old) (reach env.new) }
+            let layout = layout_of laws.now.options policies (segments_by X.lengths laws.now.segments) in
+            Answers layout Line.Flush (reach env.old) (reach env.new) self.old self.new result }
     {
         let seq = self.core.flush(env, laws)?;
         Ok(Answer::Flushed(seq))
@@ -732,7 +607,8 @@ fn asked(prefix: Bytes) -> Option<Bytes>
 fn batch_of(alloc: Global, ops: OpList) -> Result<WriteBatch, SlateDBError>
     ensures batch { IfOk result (λ batch. IsBatchOf ops batch) }
     ensures fine { OnOk result (AreFine ops) }
-    ensures refused { IfErr result (λ e. (e ≡ SlateDBError.OutOfMemory) ⊎ (first_refusal (map (λ o. op_refusal o.0 o.1) ops) ≡ Some e)) }
+    ensures refused { IfErr result (λ e.
+        (e ≡ SlateDBError.OutOfMemory) ⊎ (first_refusal (map (λ o. op_refusal o.0 o.1) ops) ≡ Some e)) }
 {
     let mut batch = WriteBatch::new(alloc);
     for (key, op) in ops.into_vec() {
@@ -745,7 +621,8 @@ fn batch_of(alloc: Global, ops: OpList) -> Result<WriteBatch, SlateDBError>
 fn add(batch: &mut WriteBatch, key: Bytes, op: WriteOp) -> Result<(), SlateDBError>
     ensures refused { IfErr result (λ e. (e ≡ SlateDBError.OutOfMemory) ⊎ (op_refusal key op ≡ Some e)) }
     ensures fine { OnOk result (op_refusal key op ≡ None) }
-    ensures means { (ops : Ops) → IsBatchOf ops batch.old → OnOk result (IsBatchOf (ops ++ ((key, op) ∷ [])) batch.new) }
+    ensures means { (ops : Ops) → IsBatchOf ops batch.old →
+        OnOk result (IsBatchOf (ops ++ ((key, op) ∷ [])) batch.new) }
 {
     match op {
         WriteOp::Put(value, options) => batch.put_bytes_with_options(key, value, &options),

@@ -29,21 +29,25 @@ returns-in-Ok g c =
     let line : tally_text c.answer_lines.new.tally ≡ summary r script = ap tally_text (counts ∙ ap (λ t. tallied t (answers r opening (meanings (lines_of script)))) c.new-tally.ensures) ∙ tally_summary r script formed in
     subst (λ bs. HasTold bs before (g.W.Sink.content c.write_tally.new.sink) c.write_tally.result) line (c.write_tally.ensures.told before told)) in
     record {
-      told = λ before told premises. tells before told (c.in-Ok.ensures.counted script left premises);
-      checked = λ before told lawful_policies lawful. holds_as (c.answer_lines.new.tally ≡ tallied c.new-tally.result (answers r opening (meanings (lines_of script))))
-          (HasTold (summary r script) before (g.W.Sink.content c.write_tally.new.sink) c.write_tally.result) [] (reach_of g.S.Store g.M.MergeOperator g.T.BlockTransformer c.args.env.now) (reach_of g.S.Store g.M.MergeOperator g.T.BlockTransformer c.answer_lines.new.env)
-          (tells before told) (c.in-Ok.ensures.checked_count script left lawful_policies lawful);
-      stored = λ premises. always c.write_tally.result (c.in-Ok.ensures.stored script left premises);
+      honest = λ premises. record {
+        said = λ before told. tells before told (c.in-Ok.ensures.counts.honest script left premises);
+        stored = always c.write_tally.result (c.in-Ok.ensures.run.honest script left premises).stored;
+        complete = λ none. only_memory_left _ _ c.write_tally.result c.write_tally.ensures.cause c.write_tally.ensures.write_fault none;
+      };
+      undamaged = λ premises. writing_no_damage ⊥ c.write_tally.result c.write_tally.ensures.cause;
+      told = λ lawful. record {
+        said = λ before told. holds_as (c.answer_lines.new.tally ≡ tallied c.new-tally.result (answers r opening (meanings (lines_of script))))
+            (HasTold (summary r script) before (g.W.Sink.content c.write_tally.new.sink) c.write_tally.result) [] (reach_of g.S.Store g.M.MergeOperator g.T.BlockTransformer c.args.env.now) (reach_of g.S.Store g.M.MergeOperator g.T.BlockTransformer c.answer_lines.new.env)
+            (tells before told) (c.in-Ok.ensures.counts.told script left lawful);
+        untrue = writing_no_damage _ c.write_tally.result c.write_tally.ensures.cause;
+      };
+      shown = writing_no_error _ c.write_tally.result c.write_tally.ensures.cause;
       outside = only_kinds c.write_tally.result c.write_tally.ensures.cause;
       cause = only_cause _ _ c.write_tally.result c.write_tally.ensures.cause c.write_tally.ensures.write_fault;
-      undamaged = λ premises. writing_no_damage ⊥ c.write_tally.result c.write_tally.ensures.cause;
-      untrue = λ lawful_policies lawful. writing_no_damage _ c.write_tally.result c.write_tally.ensures.cause;
-      shown = writing_no_error _ c.write_tally.result c.write_tally.ensures.cause;
-      complete = λ premises none. only_memory_left _ _ c.write_tally.result c.write_tally.ensures.cause c.write_tally.ensures.write_fault none;
       unwritten = c.write_tally.ensures.unwritten;
       sink_still = c.write_tally.ensures.sink_still;
       later = c.write_tally.ensures.later;
-      puts = c.answer_lines.ensures.puts;
+      puts = c.answer_lines.ensures.run.puts;
     }
 
 pub returns : goal.returns
@@ -53,19 +57,24 @@ returns g c =
     let script = generate c.args.rounds c.args.seed in
     let left : Some c.new-source.result ≡ Some script = ap Some (c.new-source.ensures ∙ c.in_ok-script.ensures.script) in
     let formed : IsWellFormed script = generated_formed c.args.rounds c.args.seed c.requires.few in
-    let outside : IsOutside c.in-Err.error = formed_outside script c.in-Err.error formed (c.in-Err.ensures.read script left).error in
+    let run = c.in-Err.ensures.run in
+    let outside : IsOutside c.in-Err.error = formed_outside script c.in-Err.error formed (run.read script left).error in
     record {
-      told = λ before told premises. told_none (summary r script) before (g.W.Sink.content c.args.sink.now) c.in-Err.error (λ is. never_rose (c.in-Err.ensures.cause.write_fault (ap Err is)));
-      checked = λ before told lawful_policies lawful known began. inl (told_none (summary r script) before (g.W.Sink.content c.args.sink.now) c.in-Err.error (λ is. never_rose (c.in-Err.ensures.cause.write_fault (ap Err is))));
-      stored = λ premises. tt;
+      honest = λ premises. record {
+        said = λ before told. told_none (summary r script) before (g.W.Sink.content c.args.sink.now) c.in-Err.error (λ is. never_rose (run.cause.write_fault (ap Err is)));
+        stored = tt;
+        complete = λ none. (run.honest script left premises).complete formed (lines_none _ _ none);
+      };
+      undamaged = run.undamaged;
+      told = λ lawful. record {
+        said = λ before told known began. inl (told_none (summary r script) before (g.W.Sink.content c.args.sink.now) c.in-Err.error (λ is. never_rose (run.cause.write_fault (ap Err is))));
+        untrue = (run.told lawful).untrue;
+      };
+      shown = run.shown;
       outside = outside;
-      cause = lines_cause _ _ c.in-Err.error outside c.in-Err.ensures.cause;
-      undamaged = c.in-Err.ensures.undamaged;
-      untrue = c.in-Err.ensures.untrue;
-      shown = c.in-Err.ensures.shown;
-      complete = λ premises none. c.in-Err.ensures.complete script left formed premises (lines_none _ _ none);
+      cause = lines_cause _ _ c.in-Err.error outside run.cause;
       unwritten = inr refl;
       sink_still = inr refl;
       later = omega arith;
-      puts = c.answer_lines.ensures.puts;
+      puts = c.answer_lines.ensures.run.puts;
     }

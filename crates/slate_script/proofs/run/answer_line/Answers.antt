@@ -28,28 +28,32 @@ pub returns-in-Err-answer : goal.returns-in-Err-answer
 returns-in-Err-answer g c =
     let policies = map (λ p. (goal.FilterPolicy-dyn g (p.vtable, p.value)).meaning p.value) c.args.laws.now.policies.items in
     record {
-      meant = tt;
-      running = λ m r running. tt;
-      answered = λ m r running. failed_answered c.in-Err-answer.error r c.args.line.now c.args.session.now c.answer.new.self (g.W.Sink.content c.args.sink.now) (g.W.Sink.content c.args.sink.now) c.args.tally.now c.args.tally.now (session_wrote _ _ c.args.session.now c.in-Err-answer.error c.in-Err-answer.ensures.cause);
-      checked = λ m r os running known began. inl (failed_answered c.in-Err-answer.error r c.args.line.now c.args.session.now c.answer.new.self (g.W.Sink.content c.args.sink.now) (g.W.Sink.content c.args.sink.now) c.args.tally.now c.args.tally.now (session_wrote _ _ c.args.session.now c.in-Err-answer.error c.in-Err-answer.ensures.cause));
-      settings = tt;
-      grows = tt;
-      alone = λ m r running alone. tt;
-      cause = session_cause _ _ c.args.number c.args.line.now c.args.session.now c.in-Err-answer.error c.in-Err-answer.ensures.cause;
-      part = session_part _ _ c.args.session.now c.in-Err-answer.error c.in-Err-answer.ensures.cause;
-      undamaged = λ m r running. not_damage _ _ c.in-Err-answer.error (c.in-Err-answer.ensures.undamaged (is_settled running));
-      follows = λ os settled. tt;
-      untrue = λ os settled. c.in-Err-answer.ensures.untrue os settled;
-      tables = tt;
-      adds = c.answer.ensures.adds;
-      core_kept = λ kept. tt;
-      shown = λ kept. line_shown policies c.in-Ok-Some.meaning _ _ c.args.session.now.core c.in-Err-answer.error (c.in-Err-answer.ensures.shown kept);
-      write_fault = λ is. absurd (session_wrote _ _ c.args.session.now c.in-Err-answer.error c.in-Err-answer.ensures.cause (error_of c.in-Err-answer.error is));
-      still = tt;
-      puts = c.answer.ensures.puts;
-      uncounted = inr refl;
-      unanswered = inr refl;
-      later = omega arith;
+      line = record {
+        meant = tt;
+        honest = λ m r running. record {
+          running = tt;
+          answered = failed_answered c.in-Err-answer.error r c.args.line.now c.args.session.now c.answer.new.self (g.W.Sink.content c.args.sink.now) (g.W.Sink.content c.args.sink.now) c.args.tally.now c.args.tally.now (session_wrote _ _ c.args.session.now c.in-Err-answer.error c.in-Err-answer.ensures.cause);
+          alone = λ alone. tt;
+          undamaged = not_damage _ _ c.in-Err-answer.error (c.in-Err-answer.ensures.honest (is_settled running)).undamaged;
+        };
+        checked = λ m r os running known began. inl (failed_answered c.in-Err-answer.error r c.args.line.now c.args.session.now c.answer.new.self (g.W.Sink.content c.args.sink.now) (g.W.Sink.content c.args.sink.now) c.args.tally.now c.args.tally.now (session_wrote _ _ c.args.session.now c.in-Err-answer.error c.in-Err-answer.ensures.cause));
+        told = λ os settled. record { follows = tt; untrue = (c.in-Err-answer.ensures.told os settled).untrue };
+        sound = λ kept. record { kept = tt; shown = line_shown policies c.in-Ok-Some.meaning _ _ c.args.session.now.core c.in-Err-answer.error (c.in-Err-answer.ensures.sound kept).shown };
+        settings = tt;
+        grows = tt;
+        cause = session_cause _ _ c.args.number c.args.line.now c.args.session.now c.in-Err-answer.error c.in-Err-answer.ensures.cause;
+        part = session_part _ _ c.args.session.now c.in-Err-answer.error c.in-Err-answer.ensures.cause;
+        tables = tt;
+        adds = c.answer.ensures.adds;
+        puts = c.answer.ensures.puts;
+      };
+      sink = record {
+        write_fault = λ is. absurd (session_wrote _ _ c.args.session.now c.in-Err-answer.error c.in-Err-answer.ensures.cause (error_of c.in-Err-answer.error is));
+        still = tt;
+        uncounted = inr refl;
+        unanswered = inr refl;
+        later = omega arith;
+      };
     }
 
 pub returns-in-Ok : goal.returns-in-Ok
@@ -62,65 +66,72 @@ returns-in-Ok g c =
     let means = rw c.in-Ok-Some.field-0-is at c.in-Ok-Some.ensures.meant in
     meant_answered c.write_reply.result c.args.line.now c.in-Ok-Some.meaning c.in-Ok.answer (g.W.Sink.content c.args.sink.now) (g.W.Sink.content c.write_reply.new.sink) c.args.tally.now c.count.new.self running means.0 means.1 c.count.ensures c.write_reply.ensures.ok c.write_reply.ensures.part) in
     record {
-      meant = (let meant = rw c.in-Ok-Some.field-0-is at c.in-Ok-Some.ensures.meant in
-          always c.write_reply.result (meant_line c.args.line.now c.in-Ok-Some.meaning meant.1));
-      running = λ m r running. always c.write_reply.result (runs_on running c.answer.ensures.puts.meaning c.in-Ok.ensures.settings (c.in-Ok.ensures.kept (is_settled running)));
-      answered = λ m r running. meant m r (g.S.Store.objects c.args.env.now.store.now) running (c.in-Ok.ensures.step (is_settled running));
-      checked = λ m r os running. holds_as (StepsAs parts seg c.args.session.now c.answer.new.self c.in-Ok-Some.meaning (Ok c.in-Ok.answer))
-          (AnswersLine r c.args.line.now c.args.session.now c.answer.new.self (g.W.Sink.content c.args.sink.now) (g.W.Sink.content c.write_reply.new.sink) c.args.tally.now c.count.new.self c.write_reply.result) os
-          (reach_of g.S.Store g.M.MergeOperator g.T.BlockTransformer c.args.env.now) (reach_of g.S.Store g.M.MergeOperator g.T.BlockTransformer c.answer.new.env) (meant m r (Some os) running) (c.in-Ok.ensures.checked os (is_settled running));
-      settings = always c.write_reply.result c.in-Ok.ensures.settings;
-      grows = (let meant = rw c.in-Ok-Some.field-0-is at c.in-Ok-Some.ensures.meant in
-          always c.write_reply.result (c.in-Ok.ensures.grows.0, let few : line_load c.in-Ok-Some.meaning ≤ length c.args.line.now = load_of_line c.args.line.now c.in-Ok-Some.meaning meant.1 in omega (arith, c.in-Ok.ensures.grows.1, few)));
-      alone = (λ m r running alone.
-          let layout = layout_of c.args.laws.now.options policies (segments_by g.X.PrefixExtractor.lengths c.args.laws.now.segments) in
-          always c.write_reply.result (subst (λ (x : Meaning). HasTablesAlone x layout (g.S.Store.objects c.answer.new.env.store.now) (runs_of c.answer.new.self.core.events)) running.meaning
-          (c.in-Ok.ensures.alone (is_settled running) (subst (λ (x : Meaning). HasTablesAlone x layout (g.S.Store.objects c.args.env.now.store.now) (runs_of c.args.session.now.core.events)) (sym running.meaning) alone))));
-      cause = writing_cause c.write_reply.result c.args.number c.args.line.now c.args.session.now c.write_reply.ensures.cause;
-      part = writing_no_part (IsPartCause (counts_of (g.S.Store.faults c.args.env.now.store.now) g.M.MergeOperator.faults g.T.BlockTransformer.faults c.args.env.now.operator c.args.env.now.transformer) (counts_of (g.S.Store.faults c.answer.new.env.store.now) g.M.MergeOperator.faults g.T.BlockTransformer.faults c.answer.new.env.operator c.answer.new.env.transformer)) c.write_reply.result c.write_reply.ensures.cause;
-      undamaged = λ m r running. writing_no_damage _ c.write_reply.result c.write_reply.ensures.cause;
-      follows = λ os settled. always c.write_reply.result (c.in-Ok.ensures.follows os settled);
-      untrue = λ os settled. writing_no_damage _ c.write_reply.result c.write_reply.ensures.cause;
-      tables = always c.write_reply.result c.in-Ok.ensures.tables;
-      adds = c.answer.ensures.adds;
-      core_kept = λ kept. always c.write_reply.result (c.in-Ok.ensures.core_kept kept);
-      shown = λ kept. writing_no_error _ c.write_reply.result c.write_reply.ensures.cause;
-      write_fault = (λ is.
-          let meant = rw c.in-Ok-Some.field-0-is at c.in-Ok-Some.ensures.meant in
-          (c.write_reply.ensures.write_fault is, meant_line c.args.line.now c.in-Ok-Some.meaning meant.1));
-      still = c.write_reply.ensures.still;
-      puts = c.answer.ensures.puts;
-      uncounted = c.write_reply.ensures.uncounted;
-      unanswered = c.write_reply.ensures.unanswered;
-      later = c.write_reply.ensures.later;
+      line = record {
+        meant = (let meant = rw c.in-Ok-Some.field-0-is at c.in-Ok-Some.ensures.meant in
+            always c.write_reply.result (meant_line c.args.line.now c.in-Ok-Some.meaning meant.1));
+        honest = λ m r running. record {
+          running = always c.write_reply.result (runs_on running c.answer.ensures.puts.meaning c.in-Ok.ensures.settings (c.in-Ok.ensures.honest (is_settled running)).kept);
+          answered = meant m r (g.S.Store.objects c.args.env.now.store.now) running (c.in-Ok.ensures.honest (is_settled running)).step;
+          alone = λ alone. (let layout = layout_of c.args.laws.now.options policies (segments_by g.X.PrefixExtractor.lengths c.args.laws.now.segments) in
+              always c.write_reply.result (subst (λ (x : Meaning). HasTablesAlone x layout (g.S.Store.objects c.answer.new.env.store.now) (runs_of c.answer.new.self.core.events)) running.meaning
+              ((c.in-Ok.ensures.honest (is_settled running)).alone (subst (λ (x : Meaning). HasTablesAlone x layout (g.S.Store.objects c.args.env.now.store.now) (runs_of c.args.session.now.core.events)) (sym running.meaning) alone))));
+          undamaged = writing_no_damage _ c.write_reply.result c.write_reply.ensures.cause;
+        };
+        checked = λ m r os running. holds_as (StepsAs parts seg c.args.session.now c.answer.new.self c.in-Ok-Some.meaning (Ok c.in-Ok.answer))
+            (AnswersLine r c.args.line.now c.args.session.now c.answer.new.self (g.W.Sink.content c.args.sink.now) (g.W.Sink.content c.write_reply.new.sink) c.args.tally.now c.count.new.self c.write_reply.result) os
+            (reach_of g.S.Store g.M.MergeOperator g.T.BlockTransformer c.args.env.now) (reach_of g.S.Store g.M.MergeOperator g.T.BlockTransformer c.answer.new.env) (meant m r (Some os) running) (c.in-Ok.ensures.told os (is_settled running)).step;
+        told = λ os settled. record { follows = always c.write_reply.result (c.in-Ok.ensures.told os settled).follows; untrue = writing_no_damage _ c.write_reply.result c.write_reply.ensures.cause };
+        sound = λ kept. record { kept = always c.write_reply.result (c.in-Ok.ensures.sound kept).kept; shown = writing_no_error _ c.write_reply.result c.write_reply.ensures.cause };
+        settings = always c.write_reply.result c.in-Ok.ensures.settings;
+        grows = (let meant = rw c.in-Ok-Some.field-0-is at c.in-Ok-Some.ensures.meant in
+            always c.write_reply.result (c.in-Ok.ensures.grows.0, let few : line_load c.in-Ok-Some.meaning ≤ length c.args.line.now = load_of_line c.args.line.now c.in-Ok-Some.meaning meant.1 in omega (arith, c.in-Ok.ensures.grows.1, few)));
+        cause = writing_cause c.write_reply.result c.args.number c.args.line.now c.args.session.now c.write_reply.ensures.cause;
+        part = writing_no_part (IsPartCause (counts_of (g.S.Store.faults c.args.env.now.store.now) g.M.MergeOperator.faults g.T.BlockTransformer.faults c.args.env.now.operator c.args.env.now.transformer) (counts_of (g.S.Store.faults c.answer.new.env.store.now) g.M.MergeOperator.faults g.T.BlockTransformer.faults c.answer.new.env.operator c.answer.new.env.transformer)) c.write_reply.result c.write_reply.ensures.cause;
+        tables = always c.write_reply.result c.in-Ok.ensures.tables;
+        adds = c.answer.ensures.adds;
+        puts = c.answer.ensures.puts;
+      };
+      sink = record {
+        write_fault = (λ is.
+            let meant = rw c.in-Ok-Some.field-0-is at c.in-Ok-Some.ensures.meant in
+            (c.write_reply.ensures.write_fault is, meant_line c.args.line.now c.in-Ok-Some.meaning meant.1));
+        still = c.write_reply.ensures.still;
+        uncounted = c.write_reply.ensures.uncounted;
+        unanswered = c.write_reply.ensures.unanswered;
+        later = c.write_reply.ensures.later;
+      };
     }
 
 pub returns-in-Err : goal.returns-in-Err
 returns-in-Err g c =
     let by = parse_error c.args.number c.args.line.now c.in-Err.error c.at_line.result c.in-Err.ensures.cause c.at_line.ensures.memory c.at_line.ensures.syntax in
     record {
-      meant = tt;
-      running = λ m r running. tt;
-      answered = λ m r running. failed_answered c.at_line.result r c.args.line.now c.args.session.now c.args.session.now (g.W.Sink.content c.args.sink.now) (g.W.Sink.content c.args.sink.now) c.args.tally.now c.args.tally.now (parse_wrote c.args.number c.args.line.now c.at_line.result by);
-      checked = λ m r os running known began. inl (failed_answered c.at_line.result r c.args.line.now c.args.session.now c.args.session.now (g.W.Sink.content c.args.sink.now) (g.W.Sink.content c.args.sink.now) c.args.tally.now c.args.tally.now (parse_wrote c.args.number c.args.line.now c.at_line.result by));
-      settings = tt;
-      grows = tt;
-      alone = λ m r running alone. tt;
-      cause = parse_cause c.args.number c.args.line.now c.args.session.now c.at_line.result by;
-      part = λ part. absurd (parse_no_part c.args.number c.args.line.now c.at_line.result by part);
-      undamaged = λ m r running. parse_no_damage c.args.number c.args.line.now c.at_line.result by;
-      follows = λ os settled. tt;
-      untrue = λ os settled damage. absurd (parse_no_damage c.args.number c.args.line.now c.at_line.result by damage);
-      tables = tt;
-      adds = adds_same _ _ refl;
-      core_kept = λ kept. tt;
-      shown = λ kept damage. absurd (parse_no_damage c.args.number c.args.line.now c.at_line.result by damage);
-      write_fault = λ is. absurd (parse_wrote c.args.number c.args.line.now c.at_line.result by (error_of c.at_line.result is));
-      still = tt;
-      puts = puts_none _;
-      uncounted = inr refl;
-      unanswered = inr refl;
-      later = omega arith;
+      line = record {
+        meant = tt;
+        honest = λ m r running. record {
+          running = tt;
+          answered = failed_answered c.at_line.result r c.args.line.now c.args.session.now c.args.session.now (g.W.Sink.content c.args.sink.now) (g.W.Sink.content c.args.sink.now) c.args.tally.now c.args.tally.now (parse_wrote c.args.number c.args.line.now c.at_line.result by);
+          alone = λ alone. tt;
+          undamaged = parse_no_damage c.args.number c.args.line.now c.at_line.result by;
+        };
+        checked = λ m r os running known began. inl (failed_answered c.at_line.result r c.args.line.now c.args.session.now c.args.session.now (g.W.Sink.content c.args.sink.now) (g.W.Sink.content c.args.sink.now) c.args.tally.now c.args.tally.now (parse_wrote c.args.number c.args.line.now c.at_line.result by));
+        told = λ os settled. record { follows = tt; untrue = λ damage. absurd (parse_no_damage c.args.number c.args.line.now c.at_line.result by damage) };
+        sound = λ kept. record { kept = tt; shown = λ damage. absurd (parse_no_damage c.args.number c.args.line.now c.at_line.result by damage) };
+        settings = tt;
+        grows = tt;
+        cause = parse_cause c.args.number c.args.line.now c.args.session.now c.at_line.result by;
+        part = λ part. absurd (parse_no_part c.args.number c.args.line.now c.at_line.result by part);
+        tables = tt;
+        adds = adds_same _ _ refl;
+        puts = puts_none _;
+      };
+      sink = record {
+        write_fault = λ is. absurd (parse_wrote c.args.number c.args.line.now c.at_line.result by (error_of c.at_line.result is));
+        still = tt;
+        uncounted = inr refl;
+        unanswered = inr refl;
+        later = omega arith;
+      };
     }
 
 pub returns-in-Ok-None : goal.returns-in-Ok-None
@@ -128,26 +139,30 @@ returns-in-Ok-None g c =
     let policies = map (λ p. (goal.FilterPolicy-dyn g (p.vtable, p.value)).meaning p.value) c.args.laws.now.policies.items in
     let silent = c.in-Ok-None.ensures.silent (ap Ok c.in-Ok-None.field-0-is) in
     record {
-      meant = silent_line c.args.line.now silent;
-      running = λ m r running. running;
-      answered = λ m r running. silent_answered r c.args.line.now c.args.session.now (g.W.Sink.content c.args.sink.now) c.args.tally.now silent;
-      checked = λ m r os running known began. inl (silent_answered r c.args.line.now c.args.session.now (g.W.Sink.content c.args.sink.now) c.args.tally.now silent);
-      settings = refl;
-      grows = (omega arith, omega arith);
-      alone = λ m r running alone. alone;
-      cause = tt;
-      part = tt;
-      undamaged = λ m r running. tt;
-      follows = λ os settled. follows_itself policies (meaning_of g.M.MergeOperator.combine g.T.BlockTransformer.encoded g.T.BlockTransformer.decoded c.args.env.now.operator c.args.env.now.transformer) (segments_by g.X.PrefixExtractor.lengths c.args.laws.now.segments) os c.args.session.now (g.S.Store.acts c.args.env.now.store.now) settled;
-      untrue = λ os settled. tt;
-      tables = stores_itself (tables_of c.args.session.now.core.events) (g.S.Store.acts c.args.env.now.store.now);
-      adds = adds_same _ _ refl;
-      core_kept = λ kept. kept;
-      shown = λ kept. tt;
-      write_fault = λ is. absurd (is_no_error is);
-      still = refl;
-      puts = puts_none _;
-      uncounted = tt;
-      unanswered = tt;
-      later = omega arith;
+      line = record {
+        meant = silent_line c.args.line.now silent;
+        honest = λ m r running. record {
+          running = running;
+          answered = silent_answered r c.args.line.now c.args.session.now (g.W.Sink.content c.args.sink.now) c.args.tally.now silent;
+          alone = λ alone. alone;
+          undamaged = tt;
+        };
+        checked = λ m r os running known began. inl (silent_answered r c.args.line.now c.args.session.now (g.W.Sink.content c.args.sink.now) c.args.tally.now silent);
+        told = λ os settled. record { follows = follows_itself policies (meaning_of g.M.MergeOperator.combine g.T.BlockTransformer.encoded g.T.BlockTransformer.decoded c.args.env.now.operator c.args.env.now.transformer) (segments_by g.X.PrefixExtractor.lengths c.args.laws.now.segments) os c.args.session.now (g.S.Store.acts c.args.env.now.store.now) settled; untrue = tt };
+        sound = λ kept. record { kept = kept; shown = tt };
+        settings = refl;
+        grows = (omega arith, omega arith);
+        cause = tt;
+        part = tt;
+        tables = stores_itself (tables_of c.args.session.now.core.events) (g.S.Store.acts c.args.env.now.store.now);
+        adds = adds_same _ _ refl;
+        puts = puts_none _;
+      };
+      sink = record {
+        write_fault = λ is. absurd (is_no_error is);
+        still = refl;
+        uncounted = tt;
+        unanswered = tt;
+        later = omega arith;
+      };
     }

@@ -80,55 +80,61 @@ pub returns-in-Err : goal.returns-in-Err
 returns-in-Err g c =
     let r = run_rules c.args.laws.now.options (meaning_of g.M.MergeOperator.combine g.T.BlockTransformer.encoded g.T.BlockTransformer.decoded c.args.env.now.operator c.args.env.now.transformer) (segments_by g.X.PrefixExtractor.lengths c.args.laws.now.segments) in
     record {
-      said = λ script before is told-is premises. reader_says c.next.new.self before (g.R.Source.left c.next.new.source) c.in-Err.error c.in-Err.ensures.told (λ h. c.in-Err.ensures.too_long (ap Err h)) (λ h. (c.in-Err.ensures.read_fault (ap Err h)).1) c.in-Err.ensures.cause (c.loop-line.invariant.told script is) premises told-is;
-      checked = λ script before is told-is lawful_policies lawful. holds_as (IsAt (Unit {0}) r script (g.R.Source.left c.loop-line.source) (g.W.Sink.content c.args.sink.now) (g.W.Sink.content c.loop-line.sink) c.args.tally.now c.loop-line.tally c.loop-line.lines c.loop-line.number c.loop-line.session)
-          (HasSaid r script (g.R.Source.left c.next.new.source) before (g.W.Sink.content c.loop-line.sink) (failed c.in-Err.error)) [] (reach_of g.S.Store g.M.MergeOperator g.T.BlockTransformer c.args.env.now) (reach_of g.S.Store g.M.MergeOperator g.T.BlockTransformer c.loop-line.env)
-          (λ at. reader_says c.next.new.self before (g.R.Source.left c.next.new.source) c.in-Err.error c.in-Err.ensures.told (λ h. c.in-Err.ensures.too_long (ap Err h)) (λ h. (c.in-Err.ensures.read_fault (ap Err h)).1) c.in-Err.ensures.cause at tt told-is) (c.loop-line.invariant.checked script is lawful_policies lawful);
-      checked_count = λ script is lawful_policies lawful. tt;
-      counted = λ script is premises. tt;
-      stored = λ script is premises. tt;
-      read = λ script is. record {
-        whole = (tt);
-        no_error = (tt);
-        error = (let at = c.loop-line.invariant.told script is in
-            let told = c.in-Err.ensures.told at.left at.rest in
-            (reader_error c.next.new.self told.0 c.in-Err.error at told.2 (λ h. c.in-Err.ensures.too_long (ap Err h)) c.in-Err.ensures.cause));
-        too_long = (λ long.
-            let kind : c.in-Err.error ≡ ScriptTooLong = same_error c.in-Err.error ScriptTooLong (Err c.in-Err.error) refl long in
-            let at = c.loop-line.invariant.told script is in
-            let told = c.in-Err.ensures.told at.left at.rest in
-            reader_full c.next.new.self told.0 (g.R.Source.left c.next.new.source) at told.2 (c.in-Err.ensures.too_long (ap Err kind)).0 told.1);
-        taken = (let at = c.loop-line.invariant.told script is in
-            let told = c.in-Err.ensures.told at.left at.rest in
-            reader_read c.next.new.self told.0 (g.R.Source.left c.next.new.source) at told.2 c.in-Err.ensures.within told.1);
+      run = record {
+        honest = λ script is premises. record {
+          said = λ before told-is. reader_says c.next.new.self before (g.R.Source.left c.next.new.source) c.in-Err.error c.in-Err.ensures.told (λ h. c.in-Err.ensures.too_long (ap Err h)) (λ h. (c.in-Err.ensures.read_fault (ap Err h)).1) c.in-Err.ensures.cause (c.loop-line.invariant.told script is) premises told-is;
+          stored = tt;
+          complete = λ formed none. (let at = c.loop-line.invariant.told script is in
+              let told = c.in-Err.ensures.told at.left at.rest in
+              let by = reader_error c.next.new.self told.0 c.in-Err.error at told.2 (λ h. c.in-Err.ensures.too_long (ap Err h)) c.in-Err.ensures.cause in
+              (reader_complete script c.in-Err.error by c.in-Err.ensures.cause formed (λ h. none.source_still (rose_from _ _ _ c.loop-line.invariant.source_later (c.in-Err.ensures.read_fault (ap Err h)).0))));
+        };
+        undamaged = (λ premises.
+            (reader_undamaged c.in-Err.error c.in-Err.ensures.cause));
+        told = λ lawful. record {
+          said = λ script before is told-is. (holds_as (IsAt (Unit {0}) r script (g.R.Source.left c.loop-line.source) (g.W.Sink.content c.args.sink.now) (g.W.Sink.content c.loop-line.sink) c.args.tally.now c.loop-line.tally c.loop-line.lines c.loop-line.number c.loop-line.session)
+              (HasSaid r script (g.R.Source.left c.next.new.source) before (g.W.Sink.content c.loop-line.sink) (failed c.in-Err.error)) [] (reach_of g.S.Store g.M.MergeOperator g.T.BlockTransformer c.args.env.now) (reach_of g.S.Store g.M.MergeOperator g.T.BlockTransformer c.loop-line.env)
+              (λ at. reader_says c.next.new.self before (g.R.Source.left c.next.new.source) c.in-Err.error c.in-Err.ensures.told (λ h. c.in-Err.ensures.too_long (ap Err h)) (λ h. (c.in-Err.ensures.read_fault (ap Err h)).1) c.in-Err.ensures.cause at tt told-is) (c.loop-line.invariant.checked script is lawful.policies lawful.parts));
+          untrue = (λ damage. absurd (reader_undamaged c.in-Err.error c.in-Err.ensures.cause damage));
+        };
+        read = λ script is. record {
+          whole = (tt);
+          no_error = (tt);
+          error = (let at = c.loop-line.invariant.told script is in
+              let told = c.in-Err.ensures.told at.left at.rest in
+              (reader_error c.next.new.self told.0 c.in-Err.error at told.2 (λ h. c.in-Err.ensures.too_long (ap Err h)) c.in-Err.ensures.cause));
+          too_long = (λ long.
+              let kind : c.in-Err.error ≡ ScriptTooLong = same_error c.in-Err.error ScriptTooLong (Err c.in-Err.error) refl long in
+              let at = c.loop-line.invariant.told script is in
+              let told = c.in-Err.ensures.told at.left at.rest in
+              reader_full c.next.new.self told.0 (g.R.Source.left c.next.new.source) at told.2 (c.in-Err.ensures.too_long (ap Err kind)).0 told.1);
+          taken = (let at = c.loop-line.invariant.told script is in
+              let told = c.in-Err.ensures.told at.left at.rest in
+              reader_read c.next.new.self told.0 (g.R.Source.left c.next.new.source) at told.2 c.in-Err.ensures.within told.1);
+        };
+        shown = λ damage. absurd (reader_undamaged c.in-Err.error c.in-Err.ensures.cause damage);
+        cause = record {
+          kinds = (reader_kinds c.in-Err.error c.in-Err.ensures.cause);
+          read_fault = (λ fault.
+              rose_from _ _ _ c.loop-line.invariant.source_later (c.in-Err.ensures.read_fault (ap Err (same_error c.in-Err.error ReadFault (Err c.in-Err.error) refl fault))).0);
+          write_fault = (λ fault.
+              absurd (reader_not_write c.in-Err.error c.in-Err.ensures.cause (same_error c.in-Err.error WriteFault (Err c.in-Err.error) refl fault)));
+          store_fault = (λ fault.
+              absurd (reader_no_part c.in-Err.error c.in-Err.ensures.cause (subst IsPartError (sym (same_error c.in-Err.error StoreFault (Err c.in-Err.error) refl fault)) tt)));
+          operator_fault = (λ message fault.
+              absurd (reader_no_part c.in-Err.error c.in-Err.ensures.cause (subst IsPartError (sym (same_error c.in-Err.error (Callback message) (Err c.in-Err.error) refl fault)) tt)));
+          transform_fault = (λ fault.
+              absurd (reader_no_part c.in-Err.error c.in-Err.ensures.cause (subst IsPartError (sym (same_error c.in-Err.error BlockTransformError (Err c.in-Err.error) refl fault)) tt)));
+        };
+        source_still = error_or c.in-Err.error ReadFault _ (Err c.in-Err.error) refl refl c.in-Err.ensures.still (λ h. h ∙ c.loop-line.invariant.source_still);
+        sink_still = inr c.loop-line.invariant.sink_still;
+        later = (omega (arith, c.loop-line.invariant.source_later, c.next.ensures.later), c.loop-line.invariant.sink_later);
+        puts = c.loop-line.invariant.puts;
       };
-      cause = record {
-        kinds = (reader_kinds c.in-Err.error c.in-Err.ensures.cause);
-        read_fault = (λ fault.
-            rose_from _ _ _ c.loop-line.invariant.source_later (c.in-Err.ensures.read_fault (ap Err (same_error c.in-Err.error ReadFault (Err c.in-Err.error) refl fault))).0);
-        write_fault = (λ fault.
-            absurd (reader_not_write c.in-Err.error c.in-Err.ensures.cause (same_error c.in-Err.error WriteFault (Err c.in-Err.error) refl fault)));
-        store_fault = (λ fault.
-            absurd (reader_no_part c.in-Err.error c.in-Err.ensures.cause (subst IsPartError (sym (same_error c.in-Err.error StoreFault (Err c.in-Err.error) refl fault)) tt)));
-        operator_fault = (λ message fault.
-            absurd (reader_no_part c.in-Err.error c.in-Err.ensures.cause (subst IsPartError (sym (same_error c.in-Err.error (Callback message) (Err c.in-Err.error) refl fault)) tt)));
-        transform_fault = (λ fault.
-            absurd (reader_no_part c.in-Err.error c.in-Err.ensures.cause (subst IsPartError (sym (same_error c.in-Err.error BlockTransformError (Err c.in-Err.error) refl fault)) tt)));
+      counts = record {
+        honest = λ script is premises. tt;
+        told = λ script is lawful. tt;
       };
-      undamaged = (λ premises.
-          (reader_undamaged c.in-Err.error c.in-Err.ensures.cause));
-      untrue = (λ lawful_policies lawful.
-          (λ damage. absurd (reader_undamaged c.in-Err.error c.in-Err.ensures.cause damage)));
-      shown = λ damage. absurd (reader_undamaged c.in-Err.error c.in-Err.ensures.cause damage);
-      complete = (λ script is formed premises none.
-          let at = c.loop-line.invariant.told script is in
-          let told = c.in-Err.ensures.told at.left at.rest in
-          let by = reader_error c.next.new.self told.0 c.in-Err.error at told.2 (λ h. c.in-Err.ensures.too_long (ap Err h)) c.in-Err.ensures.cause in
-          (reader_complete script c.in-Err.error by c.in-Err.ensures.cause formed (λ h. none.source_still (rose_from _ _ _ c.loop-line.invariant.source_later (c.in-Err.ensures.read_fault (ap Err h)).0))));
-      source_still = error_or c.in-Err.error ReadFault _ (Err c.in-Err.error) refl refl c.in-Err.ensures.still (λ h. h ∙ c.loop-line.invariant.source_still);
-      sink_still = inr c.loop-line.invariant.sink_still;
-      later = (omega (arith, c.loop-line.invariant.source_later, c.next.ensures.later), c.loop-line.invariant.sink_later);
-      puts = c.loop-line.invariant.puts;
     }
 
 -- ---- at a line that isn't answered
@@ -137,7 +143,7 @@ returns-in-Err g c =
 its_cause : (g : given.Over) (c : goal.After-drop-lines-inside-in-Err-answer_line-2 g) → LineError (c.loop-line.number + 1) c.as_slice.result.now c.in-Err-answer_line.error
 its_cause g c =
     line_cause c.loop-line.session c.loop-line.number c.loop-line.lines.given c.in-Err-answer_line.error c.loop-line.invariant.weighs c.loop-line.invariant.loads c.loop-line.invariant.counted c.loop-line.invariant.within
-    c.in-Err-answer_line.ensures.cause
+    c.in-Err-answer_line.ensures.line.cause
 
 pub returns-in-Err-answer_line : goal.returns-in-Err-answer_line
 returns-in-Err-answer_line g c =
@@ -146,57 +152,63 @@ returns-in-Err-answer_line g c =
     let seg = segments_by g.X.PrefixExtractor.lengths c.args.laws.now.segments in
     let r = run_rules c.args.laws.now.options m seg in
     record {
-      said = λ script before is told-is premises. line_says c.answer_line.new.session c.answer_line.new.tally before (g.R.Source.left c.next.new.source) (g.W.Sink.content c.answer_line.new.sink) c.in-Err-answer_line.error (its_cause g c) (λ h. (c.in-Err-answer_line.ensures.write_fault (ap Err h)).1) c.in-Err-answer_line.ensures.unanswered (took_told (λ v. v.items) c.in-Ok-Some.field-0 c.in-Ok-Some.line c.as_slice.result.now (g.R.Source.left c.next.new.source) c.next.new.self c.in-Ok-Some.ensures.told c.in-Ok-Some.ensures.within c.in-Ok-Some.field-0-is c.as_slice.ensures.value (c.loop-line.invariant.told script is)) (c.in-Err-answer_line.ensures.answered m r (c.loop-line.invariant.running premises)) premises told-is;
-      checked = λ script before is told-is lawful_policies lawful. slips_on (IsAt (Unit {0}) r script (g.R.Source.left c.loop-line.source) (g.W.Sink.content c.args.sink.now) (g.W.Sink.content c.loop-line.sink) c.args.tally.now c.loop-line.tally c.loop-line.lines c.loop-line.number c.loop-line.session) (AnswersLine r c.as_slice.result.now c.loop-line.session c.answer_line.new.session (g.W.Sink.content c.loop-line.sink) (g.W.Sink.content c.answer_line.new.sink) c.loop-line.tally c.answer_line.new.tally (failed c.in-Err-answer_line.error))
-          (HasSaid r script (g.R.Source.left c.next.new.source) before (g.W.Sink.content c.answer_line.new.sink) (failed c.in-Err-answer_line.error))
-          policies seg c.loop-line.session (reach_of g.S.Store g.M.MergeOperator g.T.BlockTransformer c.args.env.now) (reach_of g.S.Store g.M.MergeOperator g.T.BlockTransformer c.loop-line.env) (reach_of g.S.Store g.M.MergeOperator g.T.BlockTransformer c.answer_line.new.env) c.loop-line.invariant.puts.meaning (c.loop-line.invariant.followed lawful_policies lawful) c.answer_line.ensures.adds (c.loop-line.invariant.checked script is lawful_policies lawful)
-          (λ os settled. c.in-Err-answer_line.ensures.checked m r os (record { meaning = c.loop-line.invariant.puts.meaning; rules = ap (λ x. rules_in x m seg) c.loop-line.invariant.settings; settled = settled }))
-          (λ at says. line_says c.answer_line.new.session c.answer_line.new.tally before (g.R.Source.left c.next.new.source) (g.W.Sink.content c.answer_line.new.sink) c.in-Err-answer_line.error (its_cause g c) (λ h. (c.in-Err-answer_line.ensures.write_fault (ap Err h)).1) c.in-Err-answer_line.ensures.unanswered (took_told (λ v. v.items) c.in-Ok-Some.field-0 c.in-Ok-Some.line c.as_slice.result.now (g.R.Source.left c.next.new.source) c.next.new.self c.in-Ok-Some.ensures.told c.in-Ok-Some.ensures.within c.in-Ok-Some.field-0-is c.as_slice.ensures.value at) says tt told-is);
-      checked_count = λ script is lawful_policies lawful. tt;
-      counted = λ script is premises. tt;
-      stored = λ script is premises. tt;
-      read = λ script is. record {
-        whole = (tt);
-        no_error = (tt);
-        error = (let took = took_told (λ v. v.items) c.in-Ok-Some.field-0 c.in-Ok-Some.line c.as_slice.result.now (g.R.Source.left c.next.new.source) c.next.new.self c.in-Ok-Some.ensures.told c.in-Ok-Some.ensures.within c.in-Ok-Some.field-0-is c.as_slice.ensures.value (c.loop-line.invariant.told script is) in
-            (line_error c.in-Err-answer_line.error took (its_cause g c)));
-        too_long = (λ long.
-            let kind : c.in-Err-answer_line.error ≡ ScriptTooLong = same_error c.in-Err-answer_line.error ScriptTooLong (Err c.in-Err-answer_line.error) refl long in
-            absurd (line_not_long (c.loop-line.number + 1) c.as_slice.result.now c.in-Err-answer_line.error (its_cause g c) kind));
-        taken = (let took = took_told (λ v. v.items) c.in-Ok-Some.field-0 c.in-Ok-Some.line c.as_slice.result.now (g.R.Source.left c.next.new.source) c.next.new.self c.in-Ok-Some.ensures.told c.in-Ok-Some.ensures.within c.in-Ok-Some.field-0-is c.as_slice.ensures.value (c.loop-line.invariant.told script is) in
-            line_read took c.in-Ok-Some.ensures.within);
+      run = record {
+        honest = λ script is premises. record {
+          said = λ before told-is. line_says c.answer_line.new.session c.answer_line.new.tally before (g.R.Source.left c.next.new.source) (g.W.Sink.content c.answer_line.new.sink) c.in-Err-answer_line.error (its_cause g c) (λ h. (c.in-Err-answer_line.ensures.sink.write_fault (ap Err h)).1) c.in-Err-answer_line.ensures.sink.unanswered (took_told (λ v. v.items) c.in-Ok-Some.field-0 c.in-Ok-Some.line c.as_slice.result.now (g.R.Source.left c.next.new.source) c.next.new.self c.in-Ok-Some.ensures.told c.in-Ok-Some.ensures.within c.in-Ok-Some.field-0-is c.as_slice.ensures.value (c.loop-line.invariant.told script is)) ((c.in-Err-answer_line.ensures.line.honest m r (c.loop-line.invariant.running premises)).answered) premises told-is;
+          stored = tt;
+          complete = λ formed none. (let took = took_told (λ v. v.items) c.in-Ok-Some.field-0 c.in-Ok-Some.line c.as_slice.result.now (g.R.Source.left c.next.new.source) c.next.new.self c.in-Ok-Some.ensures.told c.in-Ok-Some.ensures.within c.in-Ok-Some.field-0-is c.as_slice.ensures.value (c.loop-line.invariant.told script is) in
+              let by = line_error c.in-Err-answer_line.error took (its_cause g c) in
+              (only_memory c.in-Err-answer_line.error (line_complete script c.as_slice.result.now (c.loop-line.number + 1) c.in-Err-answer_line.error by (its_cause g c) formed (λ h. none.sink_still (rose_from _ _ _ c.loop-line.invariant.sink_later (c.in-Err-answer_line.ensures.sink.write_fault (ap Err h)).0)))
+              (λ part. no_part (counts_of (g.S.Store.faults c.loop-line.env.store.now) g.M.MergeOperator.faults g.T.BlockTransformer.faults c.loop-line.env.operator c.loop-line.env.transformer) (counts_of (g.S.Store.faults c.answer_line.new.env.store.now) g.M.MergeOperator.faults g.T.BlockTransformer.faults c.answer_line.new.env.operator c.answer_line.new.env.transformer) c.in-Err-answer_line.error (λ h. none.store (rose_from _ _ _ c.loop-line.invariant.puts.later.store h)) (λ h. none.operator (rose_from _ _ _ c.loop-line.invariant.puts.later.operator h)) (λ h. none.transformer (rose_from _ _ _ c.loop-line.invariant.puts.later.transformer h))
+              ((c.in-Err-answer_line.ensures.line.honest (meaning_of g.M.MergeOperator.combine g.T.BlockTransformer.encoded g.T.BlockTransformer.decoded c.args.env.now.operator c.args.env.now.transformer) (run_rules c.args.laws.now.options (meaning_of g.M.MergeOperator.combine g.T.BlockTransformer.encoded g.T.BlockTransformer.decoded c.args.env.now.operator c.args.env.now.transformer) (segments_by g.X.PrefixExtractor.lengths c.args.laws.now.segments)) (c.loop-line.invariant.running premises)).undamaged) part (c.in-Err-answer_line.ensures.line.part part))));
+        };
+        undamaged = (λ premises.
+            ((c.in-Err-answer_line.ensures.line.honest (meaning_of g.M.MergeOperator.combine g.T.BlockTransformer.encoded g.T.BlockTransformer.decoded c.args.env.now.operator c.args.env.now.transformer) (run_rules c.args.laws.now.options (meaning_of g.M.MergeOperator.combine g.T.BlockTransformer.encoded g.T.BlockTransformer.decoded c.args.env.now.operator c.args.env.now.transformer) (segments_by g.X.PrefixExtractor.lengths c.args.laws.now.segments)) (c.loop-line.invariant.running premises)).undamaged));
+        told = λ lawful. record {
+          said = λ script before is told-is. (slips_on (IsAt (Unit {0}) r script (g.R.Source.left c.loop-line.source) (g.W.Sink.content c.args.sink.now) (g.W.Sink.content c.loop-line.sink) c.args.tally.now c.loop-line.tally c.loop-line.lines c.loop-line.number c.loop-line.session) (AnswersLine r c.as_slice.result.now c.loop-line.session c.answer_line.new.session (g.W.Sink.content c.loop-line.sink) (g.W.Sink.content c.answer_line.new.sink) c.loop-line.tally c.answer_line.new.tally (failed c.in-Err-answer_line.error))
+              (HasSaid r script (g.R.Source.left c.next.new.source) before (g.W.Sink.content c.answer_line.new.sink) (failed c.in-Err-answer_line.error))
+              policies seg c.loop-line.session (reach_of g.S.Store g.M.MergeOperator g.T.BlockTransformer c.args.env.now) (reach_of g.S.Store g.M.MergeOperator g.T.BlockTransformer c.loop-line.env) (reach_of g.S.Store g.M.MergeOperator g.T.BlockTransformer c.answer_line.new.env) c.loop-line.invariant.puts.meaning (c.loop-line.invariant.followed lawful.policies lawful.parts) c.answer_line.ensures.line.adds (c.loop-line.invariant.checked script is lawful.policies lawful.parts)
+              (λ os settled. c.in-Err-answer_line.ensures.line.checked m r os (record { meaning = c.loop-line.invariant.puts.meaning; rules = ap (λ x. rules_in x m seg) c.loop-line.invariant.settings; settled = settled }))
+              (λ at says. line_says c.answer_line.new.session c.answer_line.new.tally before (g.R.Source.left c.next.new.source) (g.W.Sink.content c.answer_line.new.sink) c.in-Err-answer_line.error (its_cause g c) (λ h. (c.in-Err-answer_line.ensures.sink.write_fault (ap Err h)).1) c.in-Err-answer_line.ensures.sink.unanswered (took_told (λ v. v.items) c.in-Ok-Some.field-0 c.in-Ok-Some.line c.as_slice.result.now (g.R.Source.left c.next.new.source) c.next.new.self c.in-Ok-Some.ensures.told c.in-Ok-Some.ensures.within c.in-Ok-Some.field-0-is c.as_slice.ensures.value at) says tt told-is));
+          untrue = ((λ damage. untrue_on policies (meaning_of g.M.MergeOperator.combine g.T.BlockTransformer.encoded g.T.BlockTransformer.decoded c.args.env.now.operator c.args.env.now.transformer) (segments_by g.X.PrefixExtractor.lengths c.args.laws.now.segments) c.loop-line.session (g.S.Store.acts c.args.env.now.store.now) (g.S.Store.acts c.loop-line.env.store.now) (g.S.Store.acts c.answer_line.new.env.store.now) (c.loop-line.invariant.followed lawful.policies lawful.parts)
+              (subst (λ (m : Meaning). (os : Objects) → IsSettled policies m (segments_by g.X.PrefixExtractor.lengths c.args.laws.now.segments) (Some os) c.loop-line.session → IsUntrue os (g.S.Store.acts c.loop-line.env.store.now) (g.S.Store.acts c.answer_line.new.env.store.now)) c.loop-line.invariant.puts.meaning (λ os settled. (c.in-Err-answer_line.ensures.line.told os settled).untrue damage))));
+        };
+        read = λ script is. record {
+          whole = (tt);
+          no_error = (tt);
+          error = (let took = took_told (λ v. v.items) c.in-Ok-Some.field-0 c.in-Ok-Some.line c.as_slice.result.now (g.R.Source.left c.next.new.source) c.next.new.self c.in-Ok-Some.ensures.told c.in-Ok-Some.ensures.within c.in-Ok-Some.field-0-is c.as_slice.ensures.value (c.loop-line.invariant.told script is) in
+              (line_error c.in-Err-answer_line.error took (its_cause g c)));
+          too_long = (λ long.
+              let kind : c.in-Err-answer_line.error ≡ ScriptTooLong = same_error c.in-Err-answer_line.error ScriptTooLong (Err c.in-Err-answer_line.error) refl long in
+              absurd (line_not_long (c.loop-line.number + 1) c.as_slice.result.now c.in-Err-answer_line.error (its_cause g c) kind));
+          taken = (let took = took_told (λ v. v.items) c.in-Ok-Some.field-0 c.in-Ok-Some.line c.as_slice.result.now (g.R.Source.left c.next.new.source) c.next.new.self c.in-Ok-Some.ensures.told c.in-Ok-Some.ensures.within c.in-Ok-Some.field-0-is c.as_slice.ensures.value (c.loop-line.invariant.told script is) in
+              line_read took c.in-Ok-Some.ensures.within);
+        };
+        shown = λ damage. shown_at_end policies (reach_of g.S.Store g.M.MergeOperator g.T.BlockTransformer c.args.env.now) (reach_of g.S.Store g.M.MergeOperator g.T.BlockTransformer c.loop-line.env) (reach_of g.S.Store g.M.MergeOperator g.T.BlockTransformer c.answer_line.new.env) c.loop-line.session.core c.in-Err-answer_line.error c.loop-line.invariant.puts.meaning c.loop-line.invariant.kept c.loop-line.invariant.stored
+            ((c.in-Err-answer_line.ensures.line.sound (subst (λ (x : Meaning). IsKept x c.loop-line.session.core) (sym c.loop-line.invariant.puts.meaning) c.loop-line.invariant.kept)).shown damage);
+        cause = record {
+          kinds = (line_kinds (c.loop-line.number + 1) c.as_slice.result.now c.in-Err-answer_line.error (its_cause g c));
+          read_fault = λ fault. absurd (line_not_read (c.loop-line.number + 1) c.as_slice.result.now c.in-Err-answer_line.error (its_cause g c) (same_error c.in-Err-answer_line.error ReadFault (Err c.in-Err-answer_line.error) refl fault));
+          write_fault = λ fault. rose_from _ _ _ c.loop-line.invariant.sink_later (c.in-Err-answer_line.ensures.sink.write_fault (ap Err (same_error c.in-Err-answer_line.error WriteFault (Err c.in-Err-answer_line.error) refl fault))).0;
+          store_fault = (λ fault.
+              let kind : c.in-Err-answer_line.error ≡ StoreFault = same_error c.in-Err-answer_line.error StoreFault (Err c.in-Err-answer_line.error) refl fault in
+              rose_from _ _ _ c.loop-line.invariant.puts.later.store (store_rose (counts_of (g.S.Store.faults c.loop-line.env.store.now) g.M.MergeOperator.faults g.T.BlockTransformer.faults c.loop-line.env.operator c.loop-line.env.transformer) (counts_of (g.S.Store.faults c.answer_line.new.env.store.now) g.M.MergeOperator.faults g.T.BlockTransformer.faults c.answer_line.new.env.operator c.answer_line.new.env.transformer) c.in-Err-answer_line.error kind (c.in-Err-answer_line.ensures.line.part (subst IsPartError (sym kind) tt))));
+          operator_fault = (λ message fault.
+              let kind : c.in-Err-answer_line.error ≡ (Callback message) = same_error c.in-Err-answer_line.error (Callback message) (Err c.in-Err-answer_line.error) refl fault in
+              rose_from _ _ _ c.loop-line.invariant.puts.later.operator (operator_rose (counts_of (g.S.Store.faults c.loop-line.env.store.now) g.M.MergeOperator.faults g.T.BlockTransformer.faults c.loop-line.env.operator c.loop-line.env.transformer) (counts_of (g.S.Store.faults c.answer_line.new.env.store.now) g.M.MergeOperator.faults g.T.BlockTransformer.faults c.answer_line.new.env.operator c.answer_line.new.env.transformer) c.in-Err-answer_line.error message kind (c.in-Err-answer_line.ensures.line.part (subst IsPartError (sym kind) tt))));
+          transform_fault = (λ fault.
+              let kind : c.in-Err-answer_line.error ≡ BlockTransformError = same_error c.in-Err-answer_line.error BlockTransformError (Err c.in-Err-answer_line.error) refl fault in
+              rose_from _ _ _ c.loop-line.invariant.puts.later.transformer (transformer_rose (counts_of (g.S.Store.faults c.loop-line.env.store.now) g.M.MergeOperator.faults g.T.BlockTransformer.faults c.loop-line.env.operator c.loop-line.env.transformer) (counts_of (g.S.Store.faults c.answer_line.new.env.store.now) g.M.MergeOperator.faults g.T.BlockTransformer.faults c.answer_line.new.env.operator c.answer_line.new.env.transformer) c.in-Err-answer_line.error kind (c.in-Err-answer_line.ensures.line.part (subst IsPartError (sym kind) tt))));
+        };
+        source_still = inr (unless_error c.in-Ok-Some.field-0 ReadFault c.in-Ok-Some.ensures.still ∙ c.loop-line.invariant.source_still);
+        sink_still = error_is_or c.in-Err-answer_line.error WriteFault (Err c.in-Err-answer_line.error) refl c.in-Err-answer_line.ensures.sink.uncounted (λ h. h ∙ c.loop-line.invariant.sink_still);
+        later = (omega (arith, c.loop-line.invariant.source_later, c.next.ensures.later), omega (arith, c.loop-line.invariant.sink_later, c.answer_line.ensures.sink.later));
+        puts = puts_then _ _ _ c.loop-line.invariant.puts c.answer_line.ensures.line.puts;
       };
-      cause = record {
-        kinds = (line_kinds (c.loop-line.number + 1) c.as_slice.result.now c.in-Err-answer_line.error (its_cause g c));
-        read_fault = λ fault. absurd (line_not_read (c.loop-line.number + 1) c.as_slice.result.now c.in-Err-answer_line.error (its_cause g c) (same_error c.in-Err-answer_line.error ReadFault (Err c.in-Err-answer_line.error) refl fault));
-        write_fault = λ fault. rose_from _ _ _ c.loop-line.invariant.sink_later (c.in-Err-answer_line.ensures.write_fault (ap Err (same_error c.in-Err-answer_line.error WriteFault (Err c.in-Err-answer_line.error) refl fault))).0;
-        store_fault = (λ fault.
-            let kind : c.in-Err-answer_line.error ≡ StoreFault = same_error c.in-Err-answer_line.error StoreFault (Err c.in-Err-answer_line.error) refl fault in
-            rose_from _ _ _ c.loop-line.invariant.puts.later.store (store_rose (counts_of (g.S.Store.faults c.loop-line.env.store.now) g.M.MergeOperator.faults g.T.BlockTransformer.faults c.loop-line.env.operator c.loop-line.env.transformer) (counts_of (g.S.Store.faults c.answer_line.new.env.store.now) g.M.MergeOperator.faults g.T.BlockTransformer.faults c.answer_line.new.env.operator c.answer_line.new.env.transformer) c.in-Err-answer_line.error kind (c.in-Err-answer_line.ensures.part (subst IsPartError (sym kind) tt))));
-        operator_fault = (λ message fault.
-            let kind : c.in-Err-answer_line.error ≡ (Callback message) = same_error c.in-Err-answer_line.error (Callback message) (Err c.in-Err-answer_line.error) refl fault in
-            rose_from _ _ _ c.loop-line.invariant.puts.later.operator (operator_rose (counts_of (g.S.Store.faults c.loop-line.env.store.now) g.M.MergeOperator.faults g.T.BlockTransformer.faults c.loop-line.env.operator c.loop-line.env.transformer) (counts_of (g.S.Store.faults c.answer_line.new.env.store.now) g.M.MergeOperator.faults g.T.BlockTransformer.faults c.answer_line.new.env.operator c.answer_line.new.env.transformer) c.in-Err-answer_line.error message kind (c.in-Err-answer_line.ensures.part (subst IsPartError (sym kind) tt))));
-        transform_fault = (λ fault.
-            let kind : c.in-Err-answer_line.error ≡ BlockTransformError = same_error c.in-Err-answer_line.error BlockTransformError (Err c.in-Err-answer_line.error) refl fault in
-            rose_from _ _ _ c.loop-line.invariant.puts.later.transformer (transformer_rose (counts_of (g.S.Store.faults c.loop-line.env.store.now) g.M.MergeOperator.faults g.T.BlockTransformer.faults c.loop-line.env.operator c.loop-line.env.transformer) (counts_of (g.S.Store.faults c.answer_line.new.env.store.now) g.M.MergeOperator.faults g.T.BlockTransformer.faults c.answer_line.new.env.operator c.answer_line.new.env.transformer) c.in-Err-answer_line.error kind (c.in-Err-answer_line.ensures.part (subst IsPartError (sym kind) tt))));
+      counts = record {
+        honest = λ script is premises. tt;
+        told = λ script is lawful. tt;
       };
-      undamaged = (λ premises.
-          (c.in-Err-answer_line.ensures.undamaged (meaning_of g.M.MergeOperator.combine g.T.BlockTransformer.encoded g.T.BlockTransformer.decoded c.args.env.now.operator c.args.env.now.transformer) (run_rules c.args.laws.now.options (meaning_of g.M.MergeOperator.combine g.T.BlockTransformer.encoded g.T.BlockTransformer.decoded c.args.env.now.operator c.args.env.now.transformer) (segments_by g.X.PrefixExtractor.lengths c.args.laws.now.segments)) (c.loop-line.invariant.running premises)));
-      untrue = (λ lawful_policies lawful.
-          (λ damage. untrue_on policies (meaning_of g.M.MergeOperator.combine g.T.BlockTransformer.encoded g.T.BlockTransformer.decoded c.args.env.now.operator c.args.env.now.transformer) (segments_by g.X.PrefixExtractor.lengths c.args.laws.now.segments) c.loop-line.session (g.S.Store.acts c.args.env.now.store.now) (g.S.Store.acts c.loop-line.env.store.now) (g.S.Store.acts c.answer_line.new.env.store.now) (c.loop-line.invariant.followed lawful_policies lawful)
-          (subst (λ (m : Meaning). (os : Objects) → IsSettled policies m (segments_by g.X.PrefixExtractor.lengths c.args.laws.now.segments) (Some os) c.loop-line.session → IsUntrue os (g.S.Store.acts c.loop-line.env.store.now) (g.S.Store.acts c.answer_line.new.env.store.now)) c.loop-line.invariant.puts.meaning (λ os settled. c.in-Err-answer_line.ensures.untrue os settled damage))));
-      shown = λ damage. shown_at_end policies (reach_of g.S.Store g.M.MergeOperator g.T.BlockTransformer c.args.env.now) (reach_of g.S.Store g.M.MergeOperator g.T.BlockTransformer c.loop-line.env) (reach_of g.S.Store g.M.MergeOperator g.T.BlockTransformer c.answer_line.new.env) c.loop-line.session.core c.in-Err-answer_line.error c.loop-line.invariant.puts.meaning c.loop-line.invariant.kept c.loop-line.invariant.stored
-          (c.in-Err-answer_line.ensures.shown (subst (λ (x : Meaning). IsKept x c.loop-line.session.core) (sym c.loop-line.invariant.puts.meaning) c.loop-line.invariant.kept) damage);
-      complete = (λ script is formed premises none.
-          let took = took_told (λ v. v.items) c.in-Ok-Some.field-0 c.in-Ok-Some.line c.as_slice.result.now (g.R.Source.left c.next.new.source) c.next.new.self c.in-Ok-Some.ensures.told c.in-Ok-Some.ensures.within c.in-Ok-Some.field-0-is c.as_slice.ensures.value (c.loop-line.invariant.told script is) in
-          let by = line_error c.in-Err-answer_line.error took (its_cause g c) in
-          (only_memory c.in-Err-answer_line.error (line_complete script c.as_slice.result.now (c.loop-line.number + 1) c.in-Err-answer_line.error by (its_cause g c) formed (λ h. none.sink_still (rose_from _ _ _ c.loop-line.invariant.sink_later (c.in-Err-answer_line.ensures.write_fault (ap Err h)).0)))
-          (λ part. no_part (counts_of (g.S.Store.faults c.loop-line.env.store.now) g.M.MergeOperator.faults g.T.BlockTransformer.faults c.loop-line.env.operator c.loop-line.env.transformer) (counts_of (g.S.Store.faults c.answer_line.new.env.store.now) g.M.MergeOperator.faults g.T.BlockTransformer.faults c.answer_line.new.env.operator c.answer_line.new.env.transformer) c.in-Err-answer_line.error (λ h. none.store (rose_from _ _ _ c.loop-line.invariant.puts.later.store h)) (λ h. none.operator (rose_from _ _ _ c.loop-line.invariant.puts.later.operator h)) (λ h. none.transformer (rose_from _ _ _ c.loop-line.invariant.puts.later.transformer h))
-          (c.in-Err-answer_line.ensures.undamaged (meaning_of g.M.MergeOperator.combine g.T.BlockTransformer.encoded g.T.BlockTransformer.decoded c.args.env.now.operator c.args.env.now.transformer) (run_rules c.args.laws.now.options (meaning_of g.M.MergeOperator.combine g.T.BlockTransformer.encoded g.T.BlockTransformer.decoded c.args.env.now.operator c.args.env.now.transformer) (segments_by g.X.PrefixExtractor.lengths c.args.laws.now.segments)) (c.loop-line.invariant.running premises)) part (c.in-Err-answer_line.ensures.part part))));
-      source_still = inr (unless_error c.in-Ok-Some.field-0 ReadFault c.in-Ok-Some.ensures.still ∙ c.loop-line.invariant.source_still);
-      sink_still = error_is_or c.in-Err-answer_line.error WriteFault (Err c.in-Err-answer_line.error) refl c.in-Err-answer_line.ensures.uncounted (λ h. h ∙ c.loop-line.invariant.sink_still);
-      later = (omega (arith, c.loop-line.invariant.source_later, c.next.ensures.later), omega (arith, c.loop-line.invariant.sink_later, c.answer_line.ensures.later));
-      puts = puts_then _ _ _ c.loop-line.invariant.puts c.answer_line.ensures.puts;
     }
 
 -- ---- the next turn
@@ -209,35 +221,35 @@ loop-line-preserved g c =
     let r = run_rules c.args.laws.now.options m seg in
     record {
       told = λ script is. answer_it (Premises policies m (g.S.Store.objects c.args.env.now.store.now)) r script c.as_slice.result.now (g.R.Source.left c.next.new.source) (g.W.Sink.content c.args.sink.now) (g.W.Sink.content c.loop-line.sink) (g.W.Sink.content c.answer_line.new.sink) c.args.tally.now c.loop-line.tally c.answer_line.new.tally c.next.new.self (c.loop-line.number + 1) c.loop-line.session c.answer_line.new.session
-          (took_told (λ v. v.items) c.in-Ok-Some.field-0 c.in-Ok-Some.line c.as_slice.result.now (g.R.Source.left c.next.new.source) c.next.new.self c.in-Ok-Some.ensures.told c.in-Ok-Some.ensures.within c.in-Ok-Some.field-0-is c.as_slice.ensures.value (c.loop-line.invariant.told script is)) c.in-Ok.ensures.meant (λ premises. c.in-Ok.ensures.answered m r (c.loop-line.invariant.running premises));
+          (took_told (λ v. v.items) c.in-Ok-Some.field-0 c.in-Ok-Some.line c.as_slice.result.now (g.R.Source.left c.next.new.source) c.next.new.self c.in-Ok-Some.ensures.told c.in-Ok-Some.ensures.within c.in-Ok-Some.field-0-is c.as_slice.ensures.value (c.loop-line.invariant.told script is)) c.in-Ok.ensures.line.meant (λ premises. (c.in-Ok.ensures.line.honest m r (c.loop-line.invariant.running premises)).answered);
       checked = λ script is lawful_policies lawful. slips_on (IsAt (Unit {0}) r script (g.R.Source.left c.loop-line.source) (g.W.Sink.content c.args.sink.now) (g.W.Sink.content c.loop-line.sink) c.args.tally.now c.loop-line.tally c.loop-line.lines c.loop-line.number c.loop-line.session) (AnswersLine r c.as_slice.result.now c.loop-line.session c.answer_line.new.session (g.W.Sink.content c.loop-line.sink) (g.W.Sink.content c.answer_line.new.sink) c.loop-line.tally c.answer_line.new.tally done)
           (IsAt (Unit {0}) r script (g.R.Source.left c.next.new.source) (g.W.Sink.content c.args.sink.now) (g.W.Sink.content c.answer_line.new.sink) c.args.tally.now c.answer_line.new.tally c.next.new.self (c.loop-line.number + 1) c.answer_line.new.session)
-          policies seg c.loop-line.session (reach_of g.S.Store g.M.MergeOperator g.T.BlockTransformer c.args.env.now) (reach_of g.S.Store g.M.MergeOperator g.T.BlockTransformer c.loop-line.env) (reach_of g.S.Store g.M.MergeOperator g.T.BlockTransformer c.answer_line.new.env) c.loop-line.invariant.puts.meaning (c.loop-line.invariant.followed lawful_policies lawful) c.answer_line.ensures.adds (c.loop-line.invariant.checked script is lawful_policies lawful)
-          (λ os settled. c.in-Ok.ensures.checked m r os (record { meaning = c.loop-line.invariant.puts.meaning; rules = ap (λ x. rules_in x m seg) c.loop-line.invariant.settings; settled = settled }))
+          policies seg c.loop-line.session (reach_of g.S.Store g.M.MergeOperator g.T.BlockTransformer c.args.env.now) (reach_of g.S.Store g.M.MergeOperator g.T.BlockTransformer c.loop-line.env) (reach_of g.S.Store g.M.MergeOperator g.T.BlockTransformer c.answer_line.new.env) c.loop-line.invariant.puts.meaning (c.loop-line.invariant.followed lawful_policies lawful) c.answer_line.ensures.line.adds (c.loop-line.invariant.checked script is lawful_policies lawful)
+          (λ os settled. c.in-Ok.ensures.line.checked m r os (record { meaning = c.loop-line.invariant.puts.meaning; rules = ap (λ x. rules_in x m seg) c.loop-line.invariant.settings; settled = settled }))
           (λ at says. answer_it (Unit {0}) r script c.as_slice.result.now (g.R.Source.left c.next.new.source) (g.W.Sink.content c.args.sink.now) (g.W.Sink.content c.loop-line.sink) (g.W.Sink.content c.answer_line.new.sink) c.args.tally.now c.loop-line.tally c.answer_line.new.tally c.next.new.self (c.loop-line.number + 1) c.loop-line.session c.answer_line.new.session
-          (took_told (λ v. v.items) c.in-Ok-Some.field-0 c.in-Ok-Some.line c.as_slice.result.now (g.R.Source.left c.next.new.source) c.next.new.self c.in-Ok-Some.ensures.told c.in-Ok-Some.ensures.within c.in-Ok-Some.field-0-is c.as_slice.ensures.value at) c.in-Ok.ensures.meant (λ p. says));
-      settings = c.in-Ok.ensures.settings ∙ c.loop-line.invariant.settings;
+          (took_told (λ v. v.items) c.in-Ok-Some.field-0 c.in-Ok-Some.line c.as_slice.result.now (g.R.Source.left c.next.new.source) c.next.new.self c.in-Ok-Some.ensures.told c.in-Ok-Some.ensures.within c.in-Ok-Some.field-0-is c.as_slice.ensures.value at) c.in-Ok.ensures.line.meant (λ p. says));
+      settings = c.in-Ok.ensures.line.settings ∙ c.loop-line.invariant.settings;
       counted =
           let further : c.loop-line.lines.given < c.next.new.self.given = subst (λ o. IfSome o (λ _. c.loop-line.lines.given < c.next.new.self.given)) c.in-Ok-Some.field-0-is c.in-Ok-Some.ensures.further in
           omega (arith, c.loop-line.invariant.counted);
       within = omega (arith, c.in-Ok-Some.ensures.within);
-      weighs = omega (arith, c.in-Ok.ensures.grows.0, c.loop-line.invariant.weighs);
+      weighs = omega (arith, c.in-Ok.ensures.line.grows.0, c.loop-line.invariant.weighs);
       loads =
           let taken : c.loop-line.lines.given + length c.in-Ok-Some.line.items ≤ c.next.new.self.given = subst (λ o. IfSome o (λ l. c.loop-line.lines.given + length l.items ≤ c.next.new.self.given)) c.in-Ok-Some.field-0-is c.in-Ok-Some.ensures.counted in
           let line : length c.as_slice.result.now ≡ length c.in-Ok-Some.line.items = ap length c.as_slice.ensures.value in
-          omega (arith, c.in-Ok.ensures.grows.1, c.loop-line.invariant.loads, taken, line);
-      running = λ premises. c.in-Ok.ensures.running (meaning_of g.M.MergeOperator.combine g.T.BlockTransformer.encoded g.T.BlockTransformer.decoded c.args.env.now.operator c.args.env.now.transformer) (run_rules c.args.laws.now.options (meaning_of g.M.MergeOperator.combine g.T.BlockTransformer.encoded g.T.BlockTransformer.decoded c.args.env.now.operator c.args.env.now.transformer) (segments_by g.X.PrefixExtractor.lengths c.args.laws.now.segments)) (c.loop-line.invariant.running premises);
+          omega (arith, c.in-Ok.ensures.line.grows.1, c.loop-line.invariant.loads, taken, line);
+      running = λ premises. (c.in-Ok.ensures.line.honest (meaning_of g.M.MergeOperator.combine g.T.BlockTransformer.encoded g.T.BlockTransformer.decoded c.args.env.now.operator c.args.env.now.transformer) (run_rules c.args.laws.now.options (meaning_of g.M.MergeOperator.combine g.T.BlockTransformer.encoded g.T.BlockTransformer.decoded c.args.env.now.operator c.args.env.now.transformer) (segments_by g.X.PrefixExtractor.lengths c.args.laws.now.segments)) (c.loop-line.invariant.running premises)).running;
       kept = subst (λ (x : Meaning). IsKept x c.answer_line.new.session.core) c.loop-line.invariant.puts.meaning
-          (c.in-Ok.ensures.core_kept (subst (λ (x : Meaning). IsKept x c.loop-line.session.core) (sym c.loop-line.invariant.puts.meaning) c.loop-line.invariant.kept));
-      alone = λ premises. c.in-Ok.ensures.alone (meaning_of g.M.MergeOperator.combine g.T.BlockTransformer.encoded g.T.BlockTransformer.decoded c.args.env.now.operator c.args.env.now.transformer) (run_rules c.args.laws.now.options (meaning_of g.M.MergeOperator.combine g.T.BlockTransformer.encoded g.T.BlockTransformer.decoded c.args.env.now.operator c.args.env.now.transformer) (segments_by g.X.PrefixExtractor.lengths c.args.laws.now.segments)) (c.loop-line.invariant.running premises) (c.loop-line.invariant.alone premises);
+          ((c.in-Ok.ensures.line.sound (subst (λ (x : Meaning). IsKept x c.loop-line.session.core) (sym c.loop-line.invariant.puts.meaning) c.loop-line.invariant.kept)).kept);
+      alone = λ premises. (c.in-Ok.ensures.line.honest (meaning_of g.M.MergeOperator.combine g.T.BlockTransformer.encoded g.T.BlockTransformer.decoded c.args.env.now.operator c.args.env.now.transformer) (run_rules c.args.laws.now.options (meaning_of g.M.MergeOperator.combine g.T.BlockTransformer.encoded g.T.BlockTransformer.decoded c.args.env.now.operator c.args.env.now.transformer) (segments_by g.X.PrefixExtractor.lengths c.args.laws.now.segments)) (c.loop-line.invariant.running premises)).alone (c.loop-line.invariant.alone premises);
       followed = λ lawful_policies lawful. follows_on policies (meaning_of g.M.MergeOperator.combine g.T.BlockTransformer.encoded g.T.BlockTransformer.decoded c.args.env.now.operator c.args.env.now.transformer) (segments_by g.X.PrefixExtractor.lengths c.args.laws.now.segments) c.loop-line.session c.answer_line.new.session (g.S.Store.acts c.args.env.now.store.now) (g.S.Store.acts c.loop-line.env.store.now) (g.S.Store.acts c.answer_line.new.env.store.now) (c.loop-line.invariant.followed lawful_policies lawful)
-          (subst (λ (m : Meaning). (os : Objects) → IsSettled policies m (segments_by g.X.PrefixExtractor.lengths c.args.laws.now.segments) (Some os) c.loop-line.session → Follows policies m (segments_by g.X.PrefixExtractor.lengths c.args.laws.now.segments) os c.answer_line.new.session (g.S.Store.acts c.loop-line.env.store.now) (g.S.Store.acts c.answer_line.new.env.store.now)) c.loop-line.invariant.puts.meaning c.in-Ok.ensures.follows);
-      stored = stores_on (tables_of c.loop-line.session.core.events) (tables_of c.answer_line.new.session.core.events) _ _ _ c.loop-line.invariant.stored c.in-Ok.ensures.tables;
+          (subst (λ (m : Meaning). (os : Objects) → IsSettled policies m (segments_by g.X.PrefixExtractor.lengths c.args.laws.now.segments) (Some os) c.loop-line.session → Follows policies m (segments_by g.X.PrefixExtractor.lengths c.args.laws.now.segments) os c.answer_line.new.session (g.S.Store.acts c.loop-line.env.store.now) (g.S.Store.acts c.answer_line.new.env.store.now)) c.loop-line.invariant.puts.meaning (λ os settled. (c.in-Ok.ensures.line.told os settled).follows));
+      stored = stores_on (tables_of c.loop-line.session.core.events) (tables_of c.answer_line.new.session.core.events) _ _ _ c.loop-line.invariant.stored c.in-Ok.ensures.line.tables;
       source_later = omega (arith, c.next.ensures.later);
-      sink_later = omega (arith, c.answer_line.ensures.later);
+      sink_later = omega (arith, c.answer_line.ensures.sink.later);
       source_still = unless_error c.in-Ok-Some.field-0 ReadFault c.in-Ok-Some.ensures.still ∙ c.loop-line.invariant.source_still;
-      sink_still = c.in-Ok.ensures.still ∙ c.loop-line.invariant.sink_still;
-      puts = puts_then _ _ _ c.loop-line.invariant.puts c.answer_line.ensures.puts;
+      sink_still = c.in-Ok.ensures.sink.still ∙ c.loop-line.invariant.sink_still;
+      puts = puts_then _ _ _ c.loop-line.invariant.puts c.answer_line.ensures.line.puts;
     }
 
 -- ---- the end
@@ -247,53 +259,59 @@ returns g c =
     let policies = map (λ p. (goal.FilterPolicy-dyn g (p.vtable, p.value)).meaning p.value) c.args.laws.now.policies.items in
     let r = run_rules c.args.laws.now.options (meaning_of g.M.MergeOperator.combine g.T.BlockTransformer.encoded g.T.BlockTransformer.decoded c.args.env.now.operator c.args.env.now.transformer) (segments_by g.X.PrefixExtractor.lengths c.args.laws.now.segments) in
     record {
-      said = λ script before is told-is premises. let at = c.loop-line.invariant.told script is in end_says c.next.new.self before (g.R.Source.left c.next.new.source) (g.R.Source.left c.next.new.source) at (end_told (λ v. v.items) c.in-Ok-None.field-0 (g.R.Source.left c.next.new.source) c.next.new.self c.in-Ok-None.ensures.told c.in-Ok-None.field-0-is at) premises told-is;
-      checked = λ script before is told-is lawful_policies lawful. holds_as (IsAt (Unit {0}) r script (g.R.Source.left c.loop-line.source) (g.W.Sink.content c.args.sink.now) (g.W.Sink.content c.loop-line.sink) c.args.tally.now c.loop-line.tally c.loop-line.lines c.loop-line.number c.loop-line.session)
-          (HasSaid r script (g.R.Source.left c.next.new.source) before (g.W.Sink.content c.loop-line.sink) done) [] (reach_of g.S.Store g.M.MergeOperator g.T.BlockTransformer c.args.env.now) (reach_of g.S.Store g.M.MergeOperator g.T.BlockTransformer c.loop-line.env)
-          (λ at. end_says c.next.new.self before (g.R.Source.left c.next.new.source) (g.R.Source.left c.next.new.source) at (end_told (λ v. v.items) c.in-Ok-None.field-0 (g.R.Source.left c.next.new.source) c.next.new.self c.in-Ok-None.ensures.told c.in-Ok-None.field-0-is at) tt told-is) (c.loop-line.invariant.checked script is lawful_policies lawful);
-      counted = λ script is premises. let at = c.loop-line.invariant.told script is in end_counts c.next.new.self (g.R.Source.left c.next.new.source) at (end_told (λ v. v.items) c.in-Ok-None.field-0 (g.R.Source.left c.next.new.source) c.next.new.self c.in-Ok-None.ensures.told c.in-Ok-None.field-0-is at) premises;
-      checked_count = λ script is lawful_policies lawful. holds_as (IsAt (Unit {0}) r script (g.R.Source.left c.loop-line.source) (g.W.Sink.content c.args.sink.now) (g.W.Sink.content c.loop-line.sink) c.args.tally.now c.loop-line.tally c.loop-line.lines c.loop-line.number c.loop-line.session)
-          (c.loop-line.tally ≡ tallied c.args.tally.now (answers r opening (meanings (lines_of script)))) [] (reach_of g.S.Store g.M.MergeOperator g.T.BlockTransformer c.args.env.now) (reach_of g.S.Store g.M.MergeOperator g.T.BlockTransformer c.loop-line.env)
-          (λ at. end_counts c.next.new.self (g.R.Source.left c.next.new.source) at (end_told (λ v. v.items) c.in-Ok-None.field-0 (g.R.Source.left c.next.new.source) c.next.new.self c.in-Ok-None.ensures.told c.in-Ok-None.field-0-is at) tt) (c.loop-line.invariant.checked script is lawful_policies lawful);
-      stored = (λ script is premises.
-          let m = meaning_of g.M.MergeOperator.combine g.T.BlockTransformer.encoded g.T.BlockTransformer.decoded c.args.env.now.operator c.args.env.now.transformer in
-          let r = run_rules c.args.laws.now.options m (segments_by g.X.PrefixExtractor.lengths c.args.laws.now.segments) in
-          let at = c.loop-line.invariant.told script is in
-          let end = end_told (λ v. v.items) c.in-Ok-None.field-0 (g.R.Source.left c.next.new.source) c.next.new.self c.in-Ok-None.ensures.told c.in-Ok-None.field-0-is at in
-          let running = c.loop-line.invariant.running premises in
-          stored_state m (segments_by g.X.PrefixExtractor.lengths c.args.laws.now.segments) r (layout_of c.args.laws.now.options policies (segments_by g.X.PrefixExtractor.lengths c.args.laws.now.segments)) (g.S.Store.objects c.loop-line.env.store.now) c.loop-line.session (after_lines r opening (lines_of script)) running.rules
-          (c.close-2.ensures.stores m running.settled.lawful running.settled.kept)
-          (subst (λ bs. StandsFor c.loop-line.session (after_lines r opening (lines_of bs))) (sym (end_there c.next.new.self end.0 at end.2).0) (at.session premises))
-          (c.loop-line.invariant.alone premises));
-      read = λ script is. record {
-        whole = (let at = c.loop-line.invariant.told script is in
-            let end = end_told (λ v. v.items) c.in-Ok-None.field-0 (g.R.Source.left c.next.new.source) c.next.new.self c.in-Ok-None.ensures.told c.in-Ok-None.field-0-is at in
-            (end_formed c.next.new.self end.0 at end.2, end.1 ∙ ap Some (end_there c.next.new.self end.0 at end.2).2));
-        no_error = (let at = c.loop-line.invariant.told script is in
-            let end = end_told (λ v. v.items) c.in-Ok-None.field-0 (g.R.Source.left c.next.new.source) c.next.new.self c.in-Ok-None.ensures.told c.in-Ok-None.field-0-is at in
-            end_no_error c.next.new.self end.0 at end.2);
-        error = (tt);
-        too_long = (λ long.
-            absurd (is_no_error long));
-        taken = (let at = c.loop-line.invariant.told script is in
-            let end = end_told (λ v. v.items) c.in-Ok-None.field-0 (g.R.Source.left c.next.new.source) c.next.new.self c.in-Ok-None.ensures.told c.in-Ok-None.field-0-is at in
-            end_read c.next.new.self end.0 (g.R.Source.left c.next.new.source) at end.2 c.in-Ok-None.ensures.within end.1);
+      run = record {
+        honest = λ script is premises. record {
+          said = λ before told-is. let at = c.loop-line.invariant.told script is in end_says c.next.new.self before (g.R.Source.left c.next.new.source) (g.R.Source.left c.next.new.source) at (end_told (λ v. v.items) c.in-Ok-None.field-0 (g.R.Source.left c.next.new.source) c.next.new.self c.in-Ok-None.ensures.told c.in-Ok-None.field-0-is at) premises told-is;
+          stored = (let m = meaning_of g.M.MergeOperator.combine g.T.BlockTransformer.encoded g.T.BlockTransformer.decoded c.args.env.now.operator c.args.env.now.transformer in
+              let r = run_rules c.args.laws.now.options m (segments_by g.X.PrefixExtractor.lengths c.args.laws.now.segments) in
+              let at = c.loop-line.invariant.told script is in
+              let end = end_told (λ v. v.items) c.in-Ok-None.field-0 (g.R.Source.left c.next.new.source) c.next.new.self c.in-Ok-None.ensures.told c.in-Ok-None.field-0-is at in
+              let running = c.loop-line.invariant.running premises in
+              stored_state m (segments_by g.X.PrefixExtractor.lengths c.args.laws.now.segments) r (layout_of c.args.laws.now.options policies (segments_by g.X.PrefixExtractor.lengths c.args.laws.now.segments)) (g.S.Store.objects c.loop-line.env.store.now) c.loop-line.session (after_lines r opening (lines_of script)) running.rules
+              (c.close-2.ensures.stores m running.settled.lawful running.settled.kept)
+              (subst (λ bs. StandsFor c.loop-line.session (after_lines r opening (lines_of bs))) (sym (end_there c.next.new.self end.0 at end.2).0) (at.session premises))
+              (c.loop-line.invariant.alone premises));
+          complete = λ formed none. tt;
+        };
+        undamaged = λ premises. tt;
+        told = λ lawful. record {
+          said = λ script before is told-is. (holds_as (IsAt (Unit {0}) r script (g.R.Source.left c.loop-line.source) (g.W.Sink.content c.args.sink.now) (g.W.Sink.content c.loop-line.sink) c.args.tally.now c.loop-line.tally c.loop-line.lines c.loop-line.number c.loop-line.session)
+              (HasSaid r script (g.R.Source.left c.next.new.source) before (g.W.Sink.content c.loop-line.sink) done) [] (reach_of g.S.Store g.M.MergeOperator g.T.BlockTransformer c.args.env.now) (reach_of g.S.Store g.M.MergeOperator g.T.BlockTransformer c.loop-line.env)
+              (λ at. end_says c.next.new.self before (g.R.Source.left c.next.new.source) (g.R.Source.left c.next.new.source) at (end_told (λ v. v.items) c.in-Ok-None.field-0 (g.R.Source.left c.next.new.source) c.next.new.self c.in-Ok-None.ensures.told c.in-Ok-None.field-0-is at) tt told-is) (c.loop-line.invariant.checked script is lawful.policies lawful.parts));
+          untrue = tt;
+        };
+        read = λ script is. record {
+          whole = (let at = c.loop-line.invariant.told script is in
+              let end = end_told (λ v. v.items) c.in-Ok-None.field-0 (g.R.Source.left c.next.new.source) c.next.new.self c.in-Ok-None.ensures.told c.in-Ok-None.field-0-is at in
+              (end_formed c.next.new.self end.0 at end.2, end.1 ∙ ap Some (end_there c.next.new.self end.0 at end.2).2));
+          no_error = (let at = c.loop-line.invariant.told script is in
+              let end = end_told (λ v. v.items) c.in-Ok-None.field-0 (g.R.Source.left c.next.new.source) c.next.new.self c.in-Ok-None.ensures.told c.in-Ok-None.field-0-is at in
+              end_no_error c.next.new.self end.0 at end.2);
+          error = (tt);
+          too_long = (λ long.
+              absurd (is_no_error long));
+          taken = (let at = c.loop-line.invariant.told script is in
+              let end = end_told (λ v. v.items) c.in-Ok-None.field-0 (g.R.Source.left c.next.new.source) c.next.new.self c.in-Ok-None.ensures.told c.in-Ok-None.field-0-is at in
+              end_read c.next.new.self end.0 (g.R.Source.left c.next.new.source) at end.2 c.in-Ok-None.ensures.within end.1);
+        };
+        shown = tt;
+        cause = record {
+          kinds = tt;
+          read_fault = λ fault. absurd (is_no_error fault);
+          write_fault = λ fault. absurd (is_no_error fault);
+          store_fault = λ fault. absurd (is_no_error fault);
+          operator_fault = λ message fault. absurd (is_no_error fault);
+          transform_fault = λ fault. absurd (is_no_error fault);
+        };
+        source_still = inr (unless_error c.in-Ok-None.field-0 ReadFault c.in-Ok-None.ensures.still ∙ c.loop-line.invariant.source_still);
+        sink_still = inr c.loop-line.invariant.sink_still;
+        later = (omega (arith, c.loop-line.invariant.source_later, c.next.ensures.later), c.loop-line.invariant.sink_later);
+        puts = c.loop-line.invariant.puts;
       };
-      cause = record {
-        kinds = tt;
-        read_fault = λ fault. absurd (is_no_error fault);
-        write_fault = λ fault. absurd (is_no_error fault);
-        store_fault = λ fault. absurd (is_no_error fault);
-        operator_fault = λ message fault. absurd (is_no_error fault);
-        transform_fault = λ fault. absurd (is_no_error fault);
+      counts = record {
+        honest = λ script is premises. let at = c.loop-line.invariant.told script is in end_counts c.next.new.self (g.R.Source.left c.next.new.source) at (end_told (λ v. v.items) c.in-Ok-None.field-0 (g.R.Source.left c.next.new.source) c.next.new.self c.in-Ok-None.ensures.told c.in-Ok-None.field-0-is at) premises;
+        told = λ script is lawful. (holds_as (IsAt (Unit {0}) r script (g.R.Source.left c.loop-line.source) (g.W.Sink.content c.args.sink.now) (g.W.Sink.content c.loop-line.sink) c.args.tally.now c.loop-line.tally c.loop-line.lines c.loop-line.number c.loop-line.session)
+            (c.loop-line.tally ≡ tallied c.args.tally.now (answers r opening (meanings (lines_of script)))) [] (reach_of g.S.Store g.M.MergeOperator g.T.BlockTransformer c.args.env.now) (reach_of g.S.Store g.M.MergeOperator g.T.BlockTransformer c.loop-line.env)
+            (λ at. end_counts c.next.new.self (g.R.Source.left c.next.new.source) at (end_told (λ v. v.items) c.in-Ok-None.field-0 (g.R.Source.left c.next.new.source) c.next.new.self c.in-Ok-None.ensures.told c.in-Ok-None.field-0-is at) tt) (c.loop-line.invariant.checked script is lawful.policies lawful.parts));
       };
-      undamaged = λ premises. tt;
-      untrue = λ lawful_policies lawful. tt;
-      shown = tt;
-      complete = (λ script is formed premises none.
-          tt);
-      source_still = inr (unless_error c.in-Ok-None.field-0 ReadFault c.in-Ok-None.ensures.still ∙ c.loop-line.invariant.source_still);
-      sink_still = inr c.loop-line.invariant.sink_still;
-      later = (omega (arith, c.loop-line.invariant.source_later, c.next.ensures.later), c.loop-line.invariant.sink_later);
-      puts = c.loop-line.invariant.puts;
     }

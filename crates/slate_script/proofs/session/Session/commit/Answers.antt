@@ -32,7 +32,8 @@ use Rattle.slate_script.proofs.MeaningOf.{counts_of, meaning_of}
 pub returns-in_default : goal.returns-in_default
 returns-in_default g c =
     record {
-      step = (λ operable segmented.
+      step = (λ given.
+          let operable = given.0 in let segmented = given.1 in
           let seg = (segments_by g.X.PrefixExtractor.lengths c.args.laws.now.segments) in
           let m = meaning_of g.M.MergeOperator.combine g.T.BlockTransformer.encoded g.T.BlockTransformer.decoded c.args.env.now.operator c.args.env.now.transformer in
           let before : SessionModel = record { core = c.self.inside.core; names = c.self.inside.names.entries; snapshot_names = c.self.inside.snapshot_names.entries; now = c.self.inside.now } in
@@ -74,80 +75,72 @@ invariant_of-self-2 g c =
       c.self.invariant.1,
     )
 
-pub returns-clause-step : goal.returns-clause-step
-returns-clause-step g c = λ operable segmented.
-    let seg = (segments_by g.X.PrefixExtractor.lengths c.args.laws.now.segments) in
-    let m = meaning_of g.M.MergeOperator.combine g.T.BlockTransformer.encoded g.T.BlockTransformer.decoded c.args.env.now.operator c.args.env.now.transformer in
-    let old_counts = counts_of (g.S.Store.faults c.args.env.now.store.now) g.M.MergeOperator.faults g.T.BlockTransformer.faults c.args.env.now.operator c.args.env.now.transformer in
-    let new_counts = counts_of (g.S.Store.faults c.commit.new.env.store.now) g.M.MergeOperator.faults g.T.BlockTransformer.faults c.commit.new.env.operator c.commit.new.env.transformer in
-    let before : SessionModel = record { core = c.self.inside.core; names = c.self.inside.names.entries; snapshot_names = c.self.inside.snapshot_names.entries; now = c.self.inside.now } in
-    let held : IsSegmented seg before.core = subst (λ (v : SessionModel). IsSegmented seg v.core) (sym c.self.view_is) segmented in
-    let id = c.in-Some.id in
-    let known : find_named c.args.name before.names ≡ Some id = find_named_lookup c.args.name before.names ∙ sym c.in-Some.ensures.value in
-    let t : IsNamed (find_named id before.core.state.txns) = named_of (find_named id before.core.state.txns) (c.self.invariant.0.transactions.opened c.args.name id known) in
-    let closed : Closes before.core c.commit.new.self id = elim c.match-commit.branch [
-      | in-Ok w ↦ closes_committed before.core c.commit.new.self id w.in-Ok.seq _ t.value (w.in-Ok.ensures.event t.value t.is)
-      | in-Err w ↦ closes_ended before.core c.commit.new.self id w.in-Err.ensures.ended
-    ] in
-    let updates : (q : List ℕ) → find_named q c.remove.new.self.entries ≡ cond (bytes_eq c.args.name q) None (find_named q before.names) = λ q. named_after c.args.name q None before.names c.remove.new.self.entries (c.remove.ensures.updates.0 q) in
-    let after : SessionModel = record before { core = c.commit.new.self; names = c.remove.new.self.entries } in
-    subst (λ (v : SessionModel). StepsAs m seg v after (lines.Commit c.args.name) c.match-commit.result) c.self.view_is
-    (elim c.match-commit.branch [
-      | in-Ok w ↦ subst (λ (r : Result Answer SlateDBError). StepsAs m seg before after (lines.Commit c.args.name) r) (sym w.result-is)
-          (commit_as m seg before c.commit.new.self c.remove.new.self.entries c.args.name id (answers.Committed w.in-Ok.seq) c.self.invariant.0 known closed.txns closed.snapshots closed.flushed updates
-          (commit_moment (rules_in before.core.settings m seg) before.core c.commit.new.self id (Committed w.in-Ok.seq) (given_moment c.self.inside.now c.self.invariant.1) (w.in-Ok.ensures.step held)))
-      | in-Err w ↦ subst (λ (r : Result Answer SlateDBError). StepsAs m seg before after (lines.Commit c.args.name) r) (sym w.result-is)
-          (refused_as m seg old_counts new_counts before c.commit.new.self c.remove.new.self.entries c.args.name id w.in-Err.error w.refused.result
-          (λ a. commit_as m seg before c.commit.new.self c.remove.new.self.entries c.args.name id a c.self.invariant.0 known closed.txns closed.snapshots closed.flushed updates)
-          w.refused.ensures.reply w.refused.ensures.answered
-          (refused_moment m seg before.core c.commit.new.self id w.in-Err.error (given_moment c.self.inside.now c.self.invariant.1)
-          (w.in-Err.ensures.refused (subst (λ (v : SessionModel). IsOperable m v.core) (sym c.self.view_is) operable) held)))
-    ])
-
-pub returns-clause-stores : goal.returns-clause-stores
-returns-clause-stores g c =
-    let seg = (segments_by g.X.PrefixExtractor.lengths c.args.laws.now.segments) in
-    let before : SessionModel = record { core = c.self.inside.core; names = c.self.inside.names.entries; snapshot_names = c.self.inside.snapshot_names.entries; now = c.self.inside.now } in
-    let id = c.in-Some.id in
-    let known : find_named c.args.name before.names ≡ Some id = find_named_lookup c.args.name before.names ∙ sym c.in-Some.ensures.value in
-    let t : IsNamed (find_named id before.core.state.txns) = named_of (find_named id before.core.state.txns) (c.self.invariant.0.transactions.opened c.args.name id known) in
-    let closed : Closes before.core c.commit.new.self id = elim c.match-commit.branch [
-      | in-Ok w ↦ closes_committed before.core c.commit.new.self id w.in-Ok.seq _ t.value (w.in-Ok.ensures.event t.value t.is)
-      | in-Err w ↦ closes_ended before.core c.commit.new.self id w.in-Err.ensures.ended
-    ] in
-    let m = meaning_of g.M.MergeOperator.combine g.T.BlockTransformer.encoded g.T.BlockTransformer.decoded c.args.env.now.operator c.args.env.now.transformer in
-    subst (λ (v : SessionModel). OnOk c.match-commit.result (StoresNothing m seg v (record before { core = c.commit.new.self; names = c.remove.new.self.entries }))) c.self.view_is
-    (always c.match-commit.result (stores_by m seg before c.commit.new.self c.remove.new.self.entries before.snapshot_names before.now (leaves_closed before.core c.commit.new.self id closed) c.commit.ensures.kept c.commit.ensures.segmented))
-
-pub returns-clause-grows : goal.returns-clause-grows
-returns-clause-grows g c =
-    let before : SessionModel = record { core = c.self.inside.core; names = c.self.inside.names.entries; snapshot_names = c.self.inside.snapshot_names.entries; now = c.self.inside.now } in
-    let id = c.in-Some.id in
-    let known : find_named c.args.name before.names ≡ Some id = find_named_lookup c.args.name before.names ∙ sym c.in-Some.ensures.value in
-    let t : IsNamed (find_named id before.core.state.txns) = named_of (find_named id before.core.state.txns) (c.self.invariant.0.transactions.opened c.args.name id known) in
-    let closed : Closes before.core c.commit.new.self id = elim c.match-commit.branch [
-      | in-Ok w ↦ closes_committed before.core c.commit.new.self id w.in-Ok.seq _ t.value (w.in-Ok.ensures.event t.value t.is)
-      | in-Err w ↦ closes_ended before.core c.commit.new.self id w.in-Err.ensures.ended
-    ] in
-    subst (λ (v : SessionModel). OnOk c.match-commit.result (Grows (lines.Commit c.args.name) v (record before { core = c.commit.new.self; names = c.remove.new.self.entries }))) c.self.view_is
-    (always c.match-commit.result (grows before c.commit.new.self c.remove.new.self.entries before.snapshot_names before.now (lines.Commit c.args.name) 0 (omega arith)
-    (takes_closed before.core c.commit.new.self id t.value closed t.is (c.commit.ensures.load t.value t.is))))
-
-pub returns-clause-cause : goal.returns-clause-cause
-returns-clause-cause g c =
-    let before : SessionModel = record { core = c.self.inside.core; names = c.self.inside.names.entries; snapshot_names = c.self.inside.snapshot_names.entries; now = c.self.inside.now } in
-    let id = c.in-Some.id in
-    let known : find_named c.args.name before.names ≡ Some id = find_named_lookup c.args.name before.names ∙ sym c.in-Some.ensures.value in
-    let t : IsNamed (find_named id before.core.state.txns) = named_of (find_named id before.core.state.txns) (c.self.invariant.0.transactions.opened c.args.name id known) in
-    let m = meaning_of g.M.MergeOperator.combine g.T.BlockTransformer.encoded g.T.BlockTransformer.decoded c.args.env.now.operator c.args.env.now.transformer in
-    let old = counts_of (g.S.Store.faults c.args.env.now.store.now) g.M.MergeOperator.faults g.T.BlockTransformer.faults c.args.env.now.operator c.args.env.now.transformer in
-    let new = counts_of (g.S.Store.faults c.commit.new.env.store.now) g.M.MergeOperator.faults g.T.BlockTransformer.faults c.commit.new.env.operator c.commit.new.env.transformer in
-    subst (λ (v : SessionModel). IfErr c.match-commit.result (λ e. IsCounted old new e ⊎ IsLimit v e)) c.self.view_is
-    (elim c.match-commit.branch [
-      | in-Ok w ↦ subst (λ (r : Result Answer SlateDBError). IfErr r (λ e. IsCounted old new e ⊎ IsLimit before e)) (sym w.result-is) tt
-      | in-Err w ↦ subst (λ (r : Result Answer SlateDBError). IfErr r (λ e. IsCounted old new e ⊎ IsLimit before e)) (sym w.result-is)
-          (commit_cause old new before (conflict before.core.state.commits t.value) m.combine _ _ _ _ _ t.value.ops w.in-Err.error w.refused.result w.refused.ensures.other (w.in-Err.ensures.cause t.value t.is))
-    ])
-
-pub returns-clause-reads : goal.returns-clause-reads
-returns-clause-reads g c = c.commit.ensures.reads
+pub returns : goal.returns
+returns g c =
+    record {
+      step = (λ given. let operable = given.0 in let segmented = given.1 in
+          let seg = (segments_by g.X.PrefixExtractor.lengths c.args.laws.now.segments) in
+          let m = meaning_of g.M.MergeOperator.combine g.T.BlockTransformer.encoded g.T.BlockTransformer.decoded c.args.env.now.operator c.args.env.now.transformer in
+          let old_counts = counts_of (g.S.Store.faults c.args.env.now.store.now) g.M.MergeOperator.faults g.T.BlockTransformer.faults c.args.env.now.operator c.args.env.now.transformer in
+          let new_counts = counts_of (g.S.Store.faults c.commit.new.env.store.now) g.M.MergeOperator.faults g.T.BlockTransformer.faults c.commit.new.env.operator c.commit.new.env.transformer in
+          let before : SessionModel = record { core = c.self.inside.core; names = c.self.inside.names.entries; snapshot_names = c.self.inside.snapshot_names.entries; now = c.self.inside.now } in
+          let held : IsSegmented seg before.core = subst (λ (v : SessionModel). IsSegmented seg v.core) (sym c.self.view_is) segmented in
+          let id = c.in-Some.id in
+          let known : find_named c.args.name before.names ≡ Some id = find_named_lookup c.args.name before.names ∙ sym c.in-Some.ensures.value in
+          let t : IsNamed (find_named id before.core.state.txns) = named_of (find_named id before.core.state.txns) (c.self.invariant.0.transactions.opened c.args.name id known) in
+          let closed : Closes before.core c.commit.new.self id = elim c.match-commit.branch [
+            | in-Ok w ↦ closes_committed before.core c.commit.new.self id w.in-Ok.seq _ t.value (w.in-Ok.ensures.event t.value t.is)
+            | in-Err w ↦ closes_ended before.core c.commit.new.self id w.in-Err.ensures.ended
+          ] in
+          let updates : (q : List ℕ) → find_named q c.remove.new.self.entries ≡ cond (bytes_eq c.args.name q) None (find_named q before.names) = λ q. named_after c.args.name q None before.names c.remove.new.self.entries (c.remove.ensures.updates.0 q) in
+          let after : SessionModel = record before { core = c.commit.new.self; names = c.remove.new.self.entries } in
+          subst (λ (v : SessionModel). StepsAs m seg v after (lines.Commit c.args.name) c.match-commit.result) c.self.view_is
+          (elim c.match-commit.branch [
+            | in-Ok w ↦ subst (λ (r : Result Answer SlateDBError). StepsAs m seg before after (lines.Commit c.args.name) r) (sym w.result-is)
+                (commit_as m seg before c.commit.new.self c.remove.new.self.entries c.args.name id (answers.Committed w.in-Ok.seq) c.self.invariant.0 known closed.txns closed.snapshots closed.flushed updates
+                (commit_moment (rules_in before.core.settings m seg) before.core c.commit.new.self id (Committed w.in-Ok.seq) (given_moment c.self.inside.now c.self.invariant.1) (w.in-Ok.ensures.step held)))
+            | in-Err w ↦ subst (λ (r : Result Answer SlateDBError). StepsAs m seg before after (lines.Commit c.args.name) r) (sym w.result-is)
+                (refused_as m seg old_counts new_counts before c.commit.new.self c.remove.new.self.entries c.args.name id w.in-Err.error w.refused.result
+                (λ a. commit_as m seg before c.commit.new.self c.remove.new.self.entries c.args.name id a c.self.invariant.0 known closed.txns closed.snapshots closed.flushed updates)
+                w.refused.ensures.reply w.refused.ensures.answered
+                (refused_moment m seg before.core c.commit.new.self id w.in-Err.error (given_moment c.self.inside.now c.self.invariant.1)
+                (w.in-Err.ensures.refused (subst (λ (v : SessionModel). IsOperable m v.core) (sym c.self.view_is) operable) held)))
+          ]));
+      stores = (let seg = (segments_by g.X.PrefixExtractor.lengths c.args.laws.now.segments) in
+          let before : SessionModel = record { core = c.self.inside.core; names = c.self.inside.names.entries; snapshot_names = c.self.inside.snapshot_names.entries; now = c.self.inside.now } in
+          let id = c.in-Some.id in
+          let known : find_named c.args.name before.names ≡ Some id = find_named_lookup c.args.name before.names ∙ sym c.in-Some.ensures.value in
+          let t : IsNamed (find_named id before.core.state.txns) = named_of (find_named id before.core.state.txns) (c.self.invariant.0.transactions.opened c.args.name id known) in
+          let closed : Closes before.core c.commit.new.self id = elim c.match-commit.branch [
+            | in-Ok w ↦ closes_committed before.core c.commit.new.self id w.in-Ok.seq _ t.value (w.in-Ok.ensures.event t.value t.is)
+            | in-Err w ↦ closes_ended before.core c.commit.new.self id w.in-Err.ensures.ended
+          ] in
+          let m = meaning_of g.M.MergeOperator.combine g.T.BlockTransformer.encoded g.T.BlockTransformer.decoded c.args.env.now.operator c.args.env.now.transformer in
+          subst (λ (v : SessionModel). OnOk c.match-commit.result (StoresNothing m seg v (record before { core = c.commit.new.self; names = c.remove.new.self.entries }))) c.self.view_is
+          (always c.match-commit.result (stores_by m seg before c.commit.new.self c.remove.new.self.entries before.snapshot_names before.now (leaves_closed before.core c.commit.new.self id closed) c.commit.ensures.kept c.commit.ensures.segmented)));
+      grows = (let before : SessionModel = record { core = c.self.inside.core; names = c.self.inside.names.entries; snapshot_names = c.self.inside.snapshot_names.entries; now = c.self.inside.now } in
+          let id = c.in-Some.id in
+          let known : find_named c.args.name before.names ≡ Some id = find_named_lookup c.args.name before.names ∙ sym c.in-Some.ensures.value in
+          let t : IsNamed (find_named id before.core.state.txns) = named_of (find_named id before.core.state.txns) (c.self.invariant.0.transactions.opened c.args.name id known) in
+          let closed : Closes before.core c.commit.new.self id = elim c.match-commit.branch [
+            | in-Ok w ↦ closes_committed before.core c.commit.new.self id w.in-Ok.seq _ t.value (w.in-Ok.ensures.event t.value t.is)
+            | in-Err w ↦ closes_ended before.core c.commit.new.self id w.in-Err.ensures.ended
+          ] in
+          subst (λ (v : SessionModel). OnOk c.match-commit.result (Grows (lines.Commit c.args.name) v (record before { core = c.commit.new.self; names = c.remove.new.self.entries }))) c.self.view_is
+          (always c.match-commit.result (grows before c.commit.new.self c.remove.new.self.entries before.snapshot_names before.now (lines.Commit c.args.name) 0 (omega arith)
+          (takes_closed before.core c.commit.new.self id t.value closed t.is (c.commit.ensures.load t.value t.is)))));
+      cause = (let before : SessionModel = record { core = c.self.inside.core; names = c.self.inside.names.entries; snapshot_names = c.self.inside.snapshot_names.entries; now = c.self.inside.now } in
+          let id = c.in-Some.id in
+          let known : find_named c.args.name before.names ≡ Some id = find_named_lookup c.args.name before.names ∙ sym c.in-Some.ensures.value in
+          let t : IsNamed (find_named id before.core.state.txns) = named_of (find_named id before.core.state.txns) (c.self.invariant.0.transactions.opened c.args.name id known) in
+          let m = meaning_of g.M.MergeOperator.combine g.T.BlockTransformer.encoded g.T.BlockTransformer.decoded c.args.env.now.operator c.args.env.now.transformer in
+          let old = counts_of (g.S.Store.faults c.args.env.now.store.now) g.M.MergeOperator.faults g.T.BlockTransformer.faults c.args.env.now.operator c.args.env.now.transformer in
+          let new = counts_of (g.S.Store.faults c.commit.new.env.store.now) g.M.MergeOperator.faults g.T.BlockTransformer.faults c.commit.new.env.operator c.commit.new.env.transformer in
+          subst (λ (v : SessionModel). IfErr c.match-commit.result (λ e. IsCounted old new e ⊎ IsLimit v e)) c.self.view_is
+          (elim c.match-commit.branch [
+            | in-Ok w ↦ subst (λ (r : Result Answer SlateDBError). IfErr r (λ e. IsCounted old new e ⊎ IsLimit before e)) (sym w.result-is) tt
+            | in-Err w ↦ subst (λ (r : Result Answer SlateDBError). IfErr r (λ e. IsCounted old new e ⊎ IsLimit before e)) (sym w.result-is)
+                (commit_cause old new before (conflict before.core.state.commits t.value) m.combine _ _ _ _ _ t.value.ops w.in-Err.error w.refused.result w.refused.ensures.other (w.in-Err.ensures.cause t.value t.is))
+          ]));
+      reads = c.commit.ensures.reads;
+    }

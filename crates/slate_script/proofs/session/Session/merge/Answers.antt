@@ -20,15 +20,15 @@ use Rattle.slate_script.proofs.session.Session.merge.Goals as goal
 use Rattle.slate_script.proofs.MeaningOf.{counts_of, meaning_of}
 
 pub returns-in_default : goal.returns-in_default
-returns-in_default g c =
+returns-in_default g c seg =
     record {
-      step = (λ seg.
+      step = (λ given.
           let m = meaning_of g.M.MergeOperator.combine g.T.BlockTransformer.encoded g.T.BlockTransformer.decoded c.args.env.now.operator c.args.env.now.transformer in
           let before : SessionModel = record { core = c.self.inside.core; names = c.self.inside.names.entries; snapshot_names = c.self.inside.snapshot_names.entries; now = c.self.inside.now } in
           let none : find_named c.args.name before.names ≡ None = find_named_lookup c.args.name before.names ∙ sym c.in_default.ensures.value in
           subst (λ (v : SessionModel). StepsAs m seg v v (lines.Merge c.args.name c.args.key c.args.value c.args.ttl) (Ok (answers.Refused (errors.UnknownTransaction c.args.name)))) c.self.view_is
           (merge_unknown m seg before c.args.name c.args.key c.args.value c.args.ttl none));
-      stores = λ seg. record { settings = refl; runs = refl; later = omega arith; kept = λ k. k; segmented = λ k. k };
+      stores = record { settings = refl; runs = refl; later = omega arith; kept = λ k. k; segmented = λ k. k };
       grows = (omega arith, omega arith);
       cause = tt;
       reads = reads_none _;
@@ -44,9 +44,9 @@ invariant_of-self g c = (
 )
 
 pub returns : goal.returns
-returns g c =
+returns g c seg =
     record {
-      step = (λ seg.
+      step = (λ given.
           let m = meaning_of g.M.MergeOperator.combine g.T.BlockTransformer.encoded g.T.BlockTransformer.decoded c.args.env.now.operator c.args.env.now.transformer in
           let before : SessionModel = record { core = c.self.inside.core; names = c.self.inside.names.entries; snapshot_names = c.self.inside.snapshot_names.entries; now = c.self.inside.now } in
           let known : find_named c.args.name before.names ≡ Some c.in-Some.id.now = find_named_lookup c.args.name c.self.inside.names.entries ∙ sym c.in-Some.ensures.value in
@@ -56,7 +56,7 @@ returns g c =
           (ran_in m seg before c.merge-merge.new.self (lines.Merge c.in-Some.id.now c.as_slice.result.now c.as_slice-2.result.now c.args.ttl) (lines.Merge c.args.name c.as_slice.result.now c.as_slice-2.result.now c.args.ttl) c.merge-merge.result c.done.result
           (merge_as m seg before c.merge-merge.new.self c.args.name c.in-Some.id.now c.as_slice.result.now c.as_slice-2.result.now c.args.ttl c.self.invariant.0.transactions known)
           c.merge-merge.ensures.step c.merge-merge.ensures.refused c.merge-merge.ensures.same c.done.ensures))));
-      stores = always c.done.result (λ seg.
+      stores = always c.done.result (
           let m = meaning_of g.M.MergeOperator.combine g.T.BlockTransformer.encoded g.T.BlockTransformer.decoded c.args.env.now.operator c.args.env.now.transformer in
           let before : SessionModel = record { core = c.self.inside.core; names = c.self.inside.names.entries; snapshot_names = c.self.inside.snapshot_names.entries; now = c.self.inside.now } in
           subst (λ (v : SessionModel). StoresNothing m seg v (record before { core = c.merge-merge.new.self })) c.self.view_is

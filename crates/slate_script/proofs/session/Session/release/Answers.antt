@@ -1,8 +1,5 @@
-use Rattle.std.proofs.Common.{length, arith, ◌≡◌, None, Some, Ok, List, ℕ, refl, sym, subst, ◌∙◌, ap}
+use Rattle.std.proofs.Common.{◌≡◌, None, Some, Ok, List, ℕ, refl, sym, subst, ◌∙◌, ap}
 use Rattle.slate_mem.specs.KeyTests.{Segments}
-use Rattle.slate_db.specs.Segmented.{IsSegmented}
-use Rattle.slate_db.specs.Sound.{IsKept}
-use Rattle.slate_db.specs.Installs.{runs_of}
 use Rattle.slate_txn.specs.Named.{find_named}
 use Rattle.slate_txn.specs.State.{State}
 use Rattle.slate_txn.specs.declared.event.Event.TheVariants as events
@@ -10,35 +7,24 @@ use Rattle.slate_txn.specs.declared.line.Line.TheVariants as lines
 use Rattle.slate_db.specs.Meaning.{Meaning, rules_in}
 use Rattle.slate_language.specs.declared.reply.Answer.TheVariants as answers
 use Rattle.slate_types.specs.declared.error.SlateDBError.TheVariants as errors
-use Rattle.slate_script.specs.Session.{SessionModel, StepsAs, Grows, NamesStand, StoresNothing}
 use Rattle.slate_script.proofs.NamesLaws.{find_named_lookup, named_after}
 use Rattle.slate_script.proofs.SessionNames.{closes_snapshot, names_released}
 use Rattle.slate_script.proofs.SessionSteps.{rollback_refused, rollback_releases, plain_meaning}
-use Rattle.slate_script.proofs.SessionLeaves.{leaves_event, stores}
-use Rattle.slate_script.proofs.Growth.{grows, released_fewer, released_own, takes_event}
+use Rattle.slate_script.proofs.SessionLeaves.{leaves_event}
+use Rattle.slate_script.proofs.Growth.{released_fewer, released_own, takes_event}
+use Rattle.slate_script.proofs.Within.{leaves_within, still_within}
+use Rattle.slate_script.specs.Calls.Line.{AnswersWithin}
+use Rattle.slate_script.specs.Session.{SessionModel, NamesStand}
 use Rattle.slate_script.proofs.session.Session.release.Goals as goal
 
 pub returns-in_default : goal.returns-in_default
 returns-in_default c =
-    record {
-      step = (λ m seg.
-          let before : SessionModel = record { core = c.self.inside.core; names = c.self.inside.names.entries; snapshot_names = c.self.inside.snapshot_names.entries; now = c.self.inside.now } in
-          let none : find_named c.args.name before.names ≡ None = ap (λ (v : SessionModel). find_named c.args.name v.names) c.self.view_is ∙ c.requires in
-          let unshown : find_named c.args.name before.snapshot_names ≡ None = find_named_lookup c.args.name before.snapshot_names ∙ sym c.in_default.ensures.value in
-          subst (λ (v : SessionModel). StepsAs m seg v (record before { snapshot_names = c.remove.new.self.entries }) (lines.Rollback c.args.name) (Ok (answers.Refused (errors.UnknownTransaction c.args.name)))) c.self.view_is
-          (subst (λ (ns : List (List ℕ × List ℕ)). StepsAs m seg before (record before { snapshot_names = ns }) (lines.Rollback c.args.name) (Ok (answers.Refused (errors.UnknownTransaction c.args.name)))) (sym c.in_default.ensures.unchanged)
-          (rollback_refused m seg before c.args.name none unshown)));
-      stores = (let same : length c.self.inside.core.events ≡ length c.args.self.now.core.events = ap (λ (v : SessionModel). length v.core.events) c.self.view_is in
-          λ m seg. record {
-            settings = ap (λ (v : SessionModel). v.core.settings) c.self.view_is;
-            runs = ap (λ (v : SessionModel). runs_of v.core.events) c.self.view_is;
-            later = omega (arith, same);
-            kept = λ k. subst (λ (v : SessionModel). IsKept m v.core) (sym c.self.view_is) k;
-            segmented = λ k. subst (λ (v : SessionModel). IsSegmented seg v.core) (sym c.self.view_is) k;
-          });
-      grows = (let before : SessionModel = record { core = c.self.inside.core; names = c.self.inside.names.entries; snapshot_names = c.self.inside.snapshot_names.entries; now = c.self.inside.now } in
-          subst (λ (v : SessionModel). Grows (lines.Rollback c.args.name) v (record before { snapshot_names = c.remove.new.self.entries })) c.self.view_is (omega arith, omega arith));
-    }
+    let before : SessionModel = record { core = c.self.inside.core; names = c.self.inside.names.entries; snapshot_names = c.self.inside.snapshot_names.entries; now = c.self.inside.now } in
+    let none : find_named c.args.name before.names ≡ None = ap (λ (v : SessionModel). find_named c.args.name v.names) c.self.view_is ∙ c.requires in
+    let unshown : find_named c.args.name before.snapshot_names ≡ None = find_named_lookup c.args.name before.snapshot_names ∙ sym c.in_default.ensures.value in
+    subst (λ (ns : List (List ℕ × List ℕ)). AnswersWithin (lines.Rollback c.args.name) c.args.self.now (record before { snapshot_names = ns }) (Ok (answers.Refused (errors.UnknownTransaction c.args.name)))) (sym c.in_default.ensures.unchanged)
+    (subst (λ (v : SessionModel). AnswersWithin (lines.Rollback c.args.name) c.args.self.now v (Ok (answers.Refused (errors.UnknownTransaction c.args.name)))) (sym c.self.view_is)
+    (still_within (lines.Rollback c.args.name) (answers.Refused (errors.UnknownTransaction c.args.name)) c.self.view_is (λ m seg. rollback_refused m seg before c.args.name none unshown)))
 
 pub release-requires : goal.release-requires
 release-requires c = c.self.invariant.0.shown.opened c.args.name c.in-Some.id (find_named_lookup c.args.name c.self.inside.snapshot_names.entries ∙ sym c.in-Some.ensures.value)
@@ -56,22 +42,11 @@ invariant_of-self-2 c =
 
 pub returns : goal.returns
 returns c =
-    record {
-      step = (λ m seg.
-          let before : SessionModel = record { core = c.self.inside.core; names = c.self.inside.names.entries; snapshot_names = c.self.inside.snapshot_names.entries; now = c.self.inside.now } in
-          let known : find_named c.args.name before.snapshot_names ≡ Some c.in-Some.id = find_named_lookup c.args.name before.snapshot_names ∙ sym c.in-Some.ensures.value in
-          subst (λ (v : SessionModel). StepsAs m seg v (record before { core = c.release.new.self; snapshot_names = c.remove.new.self.entries }) (lines.Rollback c.args.name) (Ok answers.Done)) c.self.view_is
-          (rollback_releases m seg before c.release.new.self c.remove.new.self.entries c.args.name c.in-Some.id c.self.invariant.0 known
-          (closes_snapshot (rules_in before.core.settings m seg) before.core.state c.release.new.self.state c.args.name c.in-Some.id (c.release.ensures.step m seg) c.self.invariant.0 known)
-          (λ q. named_after c.args.name q None before.snapshot_names c.remove.new.self.entries (c.remove.ensures.updates.0 q))));
-      stores = (let before : SessionModel = record { core = c.self.inside.core; names = c.self.inside.names.entries; snapshot_names = c.self.inside.snapshot_names.entries; now = c.self.inside.now } in
-          subst (λ (v : SessionModel). (m : Meaning) (seg : Segments) → StoresNothing m seg v (record before { core = c.release.new.self; snapshot_names = c.remove.new.self.entries })) c.self.view_is
-          (stores before c.release.new.self before.names c.remove.new.self.entries before.now (leaves_event c.self.inside.core c.release.new.self (events.Release c.in-Some.id) c.release.ensures.event refl) c.release.ensures.kept c.release.ensures.segmented));
-      grows = (let before : SessionModel = record { core = c.self.inside.core; names = c.self.inside.names.entries; snapshot_names = c.self.inside.snapshot_names.entries; now = c.self.inside.now } in
-          let known : find_named c.args.name before.snapshot_names ≡ Some c.in-Some.id = find_named_lookup c.args.name before.snapshot_names ∙ sym c.in-Some.ensures.value in
-          let is = closes_snapshot (rules_in before.core.settings plain_meaning None) before.core.state c.release.new.self.state c.args.name c.in-Some.id (c.release.ensures.step plain_meaning None) c.self.invariant.0 known in
-          subst (λ (v : SessionModel). Grows (lines.Rollback c.args.name) v (record before { core = c.release.new.self; snapshot_names = c.remove.new.self.entries })) c.self.view_is
-          (grows before c.release.new.self before.names c.remove.new.self.entries before.now (lines.Rollback c.args.name) 0 (omega arith)
-          (takes_event c.self.inside.core c.release.new.self (events.Release c.in-Some.id) c.release.ensures.event
-          (released_fewer before.core.state c.release.new.self.state c.in-Some.id is) (released_own before.core.state c.release.new.self.state c.in-Some.id is))));
-    }
+    let before : SessionModel = record { core = c.self.inside.core; names = c.self.inside.names.entries; snapshot_names = c.self.inside.snapshot_names.entries; now = c.self.inside.now } in
+    let known : find_named c.args.name before.snapshot_names ≡ Some c.in-Some.id = find_named_lookup c.args.name before.snapshot_names ∙ sym c.in-Some.ensures.value in
+    let closes = λ (m : Meaning) (seg : Segments). closes_snapshot (rules_in before.core.settings m seg) before.core.state c.release.new.self.state c.args.name c.in-Some.id (c.release.ensures.step m seg) c.self.invariant.0 known in
+    leaves_within (lines.Rollback c.args.name) before c.release.new.self before.names c.remove.new.self.entries before.now answers.Done c.self.view_is
+    (λ m seg. rollback_releases m seg before c.release.new.self c.remove.new.self.entries c.args.name c.in-Some.id c.self.invariant.0 known (closes m seg) (λ q. named_after c.args.name q None before.snapshot_names c.remove.new.self.entries (c.remove.ensures.updates.0 q)))
+    (leaves_event c.self.inside.core c.release.new.self (events.Release c.in-Some.id) c.release.ensures.event refl) c.release.ensures.kept c.release.ensures.segmented
+    (takes_event c.self.inside.core c.release.new.self (events.Release c.in-Some.id) c.release.ensures.event
+    (released_fewer before.core.state c.release.new.self.state c.in-Some.id (closes plain_meaning None)) (released_own before.core.state c.release.new.self.state c.in-Some.id (closes plain_meaning None)))

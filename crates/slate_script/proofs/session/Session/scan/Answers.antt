@@ -14,17 +14,20 @@ scan_range-requires-clause-range g c = λ κs lives. bounds_fit c.args.start c.a
 pub scan_range-requires-clause-prefix : goal.scan_range-requires-clause-prefix
 scan_range-requires-clause-prefix g c = λ κs lives. begins_none c.try_new-range.result
 
-pub returns-clause-step : goal.returns-clause-step
-returns-clause-step g c = λ is seg.
-    let m = meaning_of g.M.MergeOperator.combine g.T.BlockTransformer.encoded g.T.BlockTransformer.decoded c.args.env.now.operator c.args.env.now.transformer in
-    subst (λ (o : Option BytesRange). ScansAs m seg c.args.self.now c.scan_range.new.self c.args.name c.args.order o c.args.steps c.scan_range.result) c.try_new-range.ensures (c.scan_range.ensures.step is seg)
-
-pub returns-clause-checked : goal.returns-clause-checked
-returns-clause-checked g c = λ os readable seg.
-    let m = meaning_of g.M.MergeOperator.combine g.T.BlockTransformer.encoded g.T.BlockTransformer.decoded c.args.env.now.operator c.args.env.now.transformer in
-    let old = reach_of g.S.Store g.M.MergeOperator g.T.BlockTransformer c.args.env.now in
-    let new = reach_of g.S.Store g.M.MergeOperator g.T.BlockTransformer c.scan_range.new.env in
-    subst (λ (o : Option BytesRange). OrSlips os old new (ScansAs m seg c.args.self.now c.scan_range.new.self c.args.name c.args.order o c.args.steps c.scan_range.result)) c.try_new-range.ensures (c.scan_range.ensures.checked os readable seg)
-
-pub returns-clause-grows : goal.returns-clause-grows
-returns-clause-grows g c = c.scan_range.ensures.grows (lines.Scan c.args.name c.args.order c.args.start c.args.end c.args.steps) refl
+pub returns : goal.returns
+returns g c =
+    record {
+      step = (λ is seg.
+          let m = meaning_of g.M.MergeOperator.combine g.T.BlockTransformer.encoded g.T.BlockTransformer.decoded c.args.env.now.operator c.args.env.now.transformer in
+          subst (λ (o : Option BytesRange). ScansAs m seg c.args.self.now c.scan_range.new.self c.args.name c.args.order o c.args.steps c.scan_range.result) c.try_new-range.ensures (c.scan_range.ensures.scans.step is seg));
+      checked = (λ os readable seg.
+          let m = meaning_of g.M.MergeOperator.combine g.T.BlockTransformer.encoded g.T.BlockTransformer.decoded c.args.env.now.operator c.args.env.now.transformer in
+          let old = reach_of g.S.Store g.M.MergeOperator g.T.BlockTransformer c.args.env.now in
+          let new = reach_of g.S.Store g.M.MergeOperator g.T.BlockTransformer c.scan_range.new.env in
+          subst (λ (o : Option BytesRange). OrSlips os old new (ScansAs m seg c.args.self.now c.scan_range.new.self c.args.name c.args.order o c.args.steps c.scan_range.result)) c.try_new-range.ensures (c.scan_range.ensures.scans.checked os readable seg));
+      stores = c.scan_range.ensures.stores;
+      grows = c.scan_range.ensures.grows (lines.Scan c.args.name c.args.order c.args.start c.args.end c.args.steps) refl;
+      cause = c.scan_range.ensures.cause;
+      undamaged = c.scan_range.ensures.undamaged;
+      reads = c.scan_range.ensures.reads;
+    }

@@ -21,28 +21,33 @@ use Rattle.slate_script.proofs.Growth.{grows, takes_noted}
 use Rattle.slate_script.proofs.session.Session.scan_range.Goals as goal
 use Rattle.slate_script.proofs.MeaningOf.{meaning_of}
 
-pub returns-in_default-clause-step : goal.returns-in_default-clause-step
-returns-in_default-clause-step g c = λ is seg.
-    let m = meaning_of g.M.MergeOperator.combine g.T.BlockTransformer.encoded g.T.BlockTransformer.decoded c.args.env.now.operator c.args.env.now.transformer in
-    scan_refused m seg c.args.self.now c.args.name c.args.order c.args.range c.args.steps c.reader_id.result c.reader_id.ensures.reads c.in_default.is
+pub returns-in_default-clause-scans : goal.returns-in_default-clause-scans
+returns-in_default-clause-scans g c = record {
+  step = (λ is seg.
+      let m = meaning_of g.M.MergeOperator.combine g.T.BlockTransformer.encoded g.T.BlockTransformer.decoded c.args.env.now.operator c.args.env.now.transformer in
+      scan_refused m seg c.args.self.now c.args.name c.args.order c.args.range c.args.steps c.reader_id.result c.reader_id.ensures.reads c.in_default.is);
+  checked = (λ os readable seg known began.
+      let m = meaning_of g.M.MergeOperator.combine g.T.BlockTransformer.encoded g.T.BlockTransformer.decoded c.args.env.now.operator c.args.env.now.transformer in
+      inl (scan_refused m seg c.args.self.now c.args.name c.args.order c.args.range c.args.steps c.reader_id.result c.reader_id.ensures.reads c.in_default.is));
+}
 
-pub returns-in_default-range-clause-step : goal.returns-in_default-range-clause-step
-returns-in_default-range-clause-step g c = λ is seg.
-    let m = meaning_of g.M.MergeOperator.combine g.T.BlockTransformer.encoded g.T.BlockTransformer.decoded c.args.env.now.operator c.args.env.now.transformer in
-    range_refused m seg c.args.self.now c.args.name c.in-Some.id c.args.order c.args.range c.args.steps c.reader_id.result c.reader_id.ensures.reads c.reader_id.ensures.known c.in-Some.is c.in_default-range.is
+pub returns-in_default-range-clause-scans : goal.returns-in_default-range-clause-scans
+returns-in_default-range-clause-scans g c = record {
+  step = (λ is seg.
+      let m = meaning_of g.M.MergeOperator.combine g.T.BlockTransformer.encoded g.T.BlockTransformer.decoded c.args.env.now.operator c.args.env.now.transformer in
+      range_refused m seg c.args.self.now c.args.name c.in-Some.id c.args.order c.args.range c.args.steps c.reader_id.result c.reader_id.ensures.reads c.reader_id.ensures.known c.in-Some.is c.in_default-range.is);
+  checked = (λ os readable seg known began.
+      let m = meaning_of g.M.MergeOperator.combine g.T.BlockTransformer.encoded g.T.BlockTransformer.decoded c.args.env.now.operator c.args.env.now.transformer in
+      inl (range_refused m seg c.args.self.now c.args.name c.in-Some.id c.args.order c.args.range c.args.steps c.reader_id.result c.reader_id.ensures.reads c.reader_id.ensures.known c.in-Some.is c.in_default-range.is));
+}
 
-pub returns-in_default-clause-checked : goal.returns-in_default-clause-checked
-returns-in_default-clause-checked g c = λ os readable seg known began.
-    let m = meaning_of g.M.MergeOperator.combine g.T.BlockTransformer.encoded g.T.BlockTransformer.decoded c.args.env.now.operator c.args.env.now.transformer in
-    inl (scan_refused m seg c.args.self.now c.args.name c.args.order c.args.range c.args.steps c.reader_id.result c.reader_id.ensures.reads c.in_default.is)
-
-pub returns-in_default-range-clause-checked : goal.returns-in_default-range-clause-checked
-returns-in_default-range-clause-checked g c = λ os readable seg known began.
-    let m = meaning_of g.M.MergeOperator.combine g.T.BlockTransformer.encoded g.T.BlockTransformer.decoded c.args.env.now.operator c.args.env.now.transformer in
-    inl (range_refused m seg c.args.self.now c.args.name c.in-Some.id c.args.order c.args.range c.args.steps c.reader_id.result c.reader_id.ensures.reads c.reader_id.ensures.known c.in-Some.is c.in_default-range.is)
-
-pub returns-in_err-rows-clause-checked : goal.returns-in_err-rows-clause-checked
-returns-in_err-rows-clause-checked g c = λ os readable seg known began. inl (λ s stands. IfOk-from_err c.from_residual.result _ c.from_residual.ensures.0)
+pub returns-in_err-rows-clause-scans : goal.returns-in_err-rows-clause-scans
+returns-in_err-rows-clause-scans g c = record {
+  step = (λ is seg s stands.
+      IfOk-from_err c.from_residual.result _ c.from_residual.ensures.0);
+  checked = (λ os readable seg known began.
+      inl (λ s stands. IfOk-from_err c.from_residual.result _ c.from_residual.ensures.0));
+}
 
 pub scan_rows-scanned-requires-clause-open : goal.scan_rows-scanned-requires-clause-open
 scan_rows-scanned-requires-clause-open g c = λ κs lives.
@@ -71,31 +76,31 @@ invariant_of-self-2 g c =
       c.self.invariant.1,
     )
 
-pub returns-clause-step : goal.returns-clause-step
-returns-clause-step g c = λ is seg.
-    let policies = map (λ p. (goal.FilterPolicy-dyn g (p.vtable, p.value)).meaning p.value) c.args.laws.now.policies.items in
-    let before : SessionModel = record { core = c.self.inside.core; names = c.self.inside.names.entries; snapshot_names = c.self.inside.snapshot_names.entries; now = c.self.inside.now } in
-    let m = meaning_of g.M.MergeOperator.combine g.T.BlockTransformer.encoded g.T.BlockTransformer.decoded c.args.env.now.operator c.args.env.now.transformer in
-    let old = reach_of g.S.Store g.M.MergeOperator g.T.BlockTransformer c.args.env.now in
-    let new = reach_of g.S.Store g.M.MergeOperator g.T.BlockTransformer c.scan_rows-scanned.new.env in
-    let fits = subst (λ (o : Option BytesRange). IfSome o (λ r. is_refused r.start r.end ≡ false)) c.in-Some-range.is c.requires.range in
-    scan_handed m seg before c.args.self.now c.scan_rows-scanned.new.core c.args.name c.in-Some.id c.args.order c.args.range c.in-Some-range.range c.args.steps c.as_slice.result.now c.in_ok-rows.rows.items (answers.Rows c.in_ok-rows.rows) c.self.view_is c.self.invariant.0
-    (ap (λ (v : SessionModel). reader_id v c.args.name) c.self.view_is ∙ sym c.reader_id.ensures.id ∙ c.in-Some.is) c.in-Some-range.is fits c.as_slice.ensures refl
-    (c.in_ok-rows.ensures.scanned.answers seg (subst (λ (v : SessionModel). IsAnswered policies old new v.core) (sym c.self.view_is) is))
-
-pub returns-clause-checked : goal.returns-clause-checked
-returns-clause-checked g c = λ os readable seg.
-    let policies = map (λ p. (goal.FilterPolicy-dyn g (p.vtable, p.value)).meaning p.value) c.args.laws.now.policies.items in
-    let before : SessionModel = record { core = c.self.inside.core; names = c.self.inside.names.entries; snapshot_names = c.self.inside.snapshot_names.entries; now = c.self.inside.now } in
-    let m = meaning_of g.M.MergeOperator.combine g.T.BlockTransformer.encoded g.T.BlockTransformer.decoded c.args.env.now.operator c.args.env.now.transformer in
-    let old = reach_of g.S.Store g.M.MergeOperator g.T.BlockTransformer c.args.env.now in
-    let new = reach_of g.S.Store g.M.MergeOperator g.T.BlockTransformer c.scan_rows-scanned.new.env in
-    let fits = subst (λ (o : Option BytesRange). IfSome o (λ r. is_refused r.start r.end ≡ false)) c.in-Some-range.is c.requires.range in
-    holds_as (HandsOut m seg before.core c.scan_rows-scanned.new.core c.in-Some.id c.args.order c.in-Some-range.range c.as_slice.result.now c.in_ok-rows.rows.items)
-    (ScansAs m seg c.args.self.now (record before { core = c.scan_rows-scanned.new.core }) c.args.name c.args.order c.args.range c.args.steps (Ok (answers.Rows c.in_ok-rows.rows))) os old new
-    (scan_handed m seg before c.args.self.now c.scan_rows-scanned.new.core c.args.name c.in-Some.id c.args.order c.args.range c.in-Some-range.range c.args.steps c.as_slice.result.now c.in_ok-rows.rows.items (answers.Rows c.in_ok-rows.rows) c.self.view_is c.self.invariant.0
-    (ap (λ (v : SessionModel). reader_id v c.args.name) c.self.view_is ∙ sym c.reader_id.ensures.id ∙ c.in-Some.is) c.in-Some-range.is fits c.as_slice.ensures refl)
-    (c.in_ok-rows.ensures.scanned.checked seg os (subst (λ (v : SessionModel). IsReadable policies m os v.core) (sym c.self.view_is) readable))
+pub returns-clause-scans : goal.returns-clause-scans
+returns-clause-scans g c = record {
+  step = (λ is seg.
+      let policies = map (λ p. (goal.FilterPolicy-dyn g (p.vtable, p.value)).meaning p.value) c.args.laws.now.policies.items in
+      let before : SessionModel = record { core = c.self.inside.core; names = c.self.inside.names.entries; snapshot_names = c.self.inside.snapshot_names.entries; now = c.self.inside.now } in
+      let m = meaning_of g.M.MergeOperator.combine g.T.BlockTransformer.encoded g.T.BlockTransformer.decoded c.args.env.now.operator c.args.env.now.transformer in
+      let old = reach_of g.S.Store g.M.MergeOperator g.T.BlockTransformer c.args.env.now in
+      let new = reach_of g.S.Store g.M.MergeOperator g.T.BlockTransformer c.scan_rows-scanned.new.env in
+      let fits = subst (λ (o : Option BytesRange). IfSome o (λ r. is_refused r.start r.end ≡ false)) c.in-Some-range.is c.requires.range in
+      scan_handed m seg before c.args.self.now c.scan_rows-scanned.new.core c.args.name c.in-Some.id c.args.order c.args.range c.in-Some-range.range c.args.steps c.as_slice.result.now c.in_ok-rows.rows.items (answers.Rows c.in_ok-rows.rows) c.self.view_is c.self.invariant.0
+      (ap (λ (v : SessionModel). reader_id v c.args.name) c.self.view_is ∙ sym c.reader_id.ensures.id ∙ c.in-Some.is) c.in-Some-range.is fits c.as_slice.ensures refl
+      (c.in_ok-rows.ensures.scanned.answers seg (subst (λ (v : SessionModel). IsAnswered policies old new v.core) (sym c.self.view_is) is)));
+  checked = (λ os readable seg.
+      let policies = map (λ p. (goal.FilterPolicy-dyn g (p.vtable, p.value)).meaning p.value) c.args.laws.now.policies.items in
+      let before : SessionModel = record { core = c.self.inside.core; names = c.self.inside.names.entries; snapshot_names = c.self.inside.snapshot_names.entries; now = c.self.inside.now } in
+      let m = meaning_of g.M.MergeOperator.combine g.T.BlockTransformer.encoded g.T.BlockTransformer.decoded c.args.env.now.operator c.args.env.now.transformer in
+      let old = reach_of g.S.Store g.M.MergeOperator g.T.BlockTransformer c.args.env.now in
+      let new = reach_of g.S.Store g.M.MergeOperator g.T.BlockTransformer c.scan_rows-scanned.new.env in
+      let fits = subst (λ (o : Option BytesRange). IfSome o (λ r. is_refused r.start r.end ≡ false)) c.in-Some-range.is c.requires.range in
+      holds_as (HandsOut m seg before.core c.scan_rows-scanned.new.core c.in-Some.id c.args.order c.in-Some-range.range c.as_slice.result.now c.in_ok-rows.rows.items)
+      (ScansAs m seg c.args.self.now (record before { core = c.scan_rows-scanned.new.core }) c.args.name c.args.order c.args.range c.args.steps (Ok (answers.Rows c.in_ok-rows.rows))) os old new
+      (scan_handed m seg before c.args.self.now c.scan_rows-scanned.new.core c.args.name c.in-Some.id c.args.order c.args.range c.in-Some-range.range c.args.steps c.as_slice.result.now c.in_ok-rows.rows.items (answers.Rows c.in_ok-rows.rows) c.self.view_is c.self.invariant.0
+      (ap (λ (v : SessionModel). reader_id v c.args.name) c.self.view_is ∙ sym c.reader_id.ensures.id ∙ c.in-Some.is) c.in-Some-range.is fits c.as_slice.ensures refl)
+      (c.in_ok-rows.ensures.scanned.checked seg os (subst (λ (v : SessionModel). IsReadable policies m os v.core) (sym c.self.view_is) readable)));
+}
 
 pub returns-clause-grows : goal.returns-clause-grows
 returns-clause-grows g c = λ line none.

@@ -20,62 +20,54 @@ use Rattle.slate_script.proofs.session.Session.write.Goals as goal
 use Rattle.slate_script.proofs.session.Session.write.Goals.{in-Ok-write, in-Err-write}
 use Rattle.slate_script.proofs.MeaningOf.{counts_of, meaning_of}
 
-pub returns-clause-step : goal.returns-clause-step
-returns-clause-step g c = λ segmented.
-    let seg = (segments_by g.X.PrefixExtractor.lengths c.args.laws.now.segments) in
-    let before : SessionModel = record { core = c.self.inside.core; names = c.self.inside.names.entries; snapshot_names = c.self.inside.snapshot_names.entries; now = c.self.inside.now } in
-    let m = meaning_of g.M.MergeOperator.combine g.T.BlockTransformer.encoded g.T.BlockTransformer.decoded c.args.env.now.operator c.args.env.now.transformer in
-    let old = counts_of (g.S.Store.faults c.args.env.now.store.now) g.M.MergeOperator.faults g.T.BlockTransformer.faults c.args.env.now.operator c.args.env.now.transformer in
-    let new = counts_of (g.S.Store.faults c.write.new.env.store.now) g.M.MergeOperator.faults g.T.BlockTransformer.faults c.write.new.env.operator c.write.new.env.transformer in
-    let held : IsSegmented seg before.core = subst (λ (v : SessionModel). IsSegmented seg v.core) (sym c.self.view_is) segmented in
-    subst (λ (v : SessionModel). StepsAs m seg v (record before { core = c.write.new.self }) (lines.Write c.args.ops) c.match-write.result) c.self.view_is
-    (elim c.match-write.branch [
-      | in-Ok-write w ↦ subst (λ (r : Result Answer SlateDBError). StepsAs m seg before (record before { core = c.write.new.self }) (lines.Write c.args.ops) r) (sym w.result-is)
-          (write_as m seg before c.write.new.self c.args.ops (answers.Written w.in-Ok-write.seq) (written_txns c.self.inside.core c.write.new.self w.in-Ok-write.seq _ c.in-Ok.batch.ops w.in-Ok-write.ensures.event)
-          (written_snapshots c.self.inside.core c.write.new.self w.in-Ok-write.seq _ c.in-Ok.batch.ops w.in-Ok-write.ensures.event)
-          (written_flushed c.self.inside.core c.write.new.self w.in-Ok-write.seq _ c.in-Ok.batch.ops w.in-Ok-write.ensures.event)
-          (at_moment (rules_in before.core.settings m seg) before.core c.write.new.self c.args.ops (Written w.in-Ok-write.seq) (given_moment c.self.inside.now c.self.invariant.1) (w.in-Ok-write.ensures.step held c.args.ops c.in-Ok.ensures.batch c.in-Ok.ensures.fine)))
-      | in-Err-write w ↦ subst (λ (r : Result Answer SlateDBError). StepsAs m seg before (record before { core = c.write.new.self }) (lines.Write c.args.ops) r) (sym w.result-is)
-          (commit_refused m seg old new before c.write.new.self c.args.ops w.in-Err-write.error w.refused-in-Err-write.result w.in-Err-write.ensures.same w.refused-in-Err-write.ensures.reply w.refused-in-Err-write.ensures.answered
-          (refused_at_moment (rules_in before.core.settings m seg) before.core c.args.ops w.in-Err-write.error (given_moment c.self.inside.now c.self.invariant.1) (at_ops c.args.ops c.in-Ok.ensures.batch c.in-Ok.ensures.fine (w.in-Err-write.ensures.refused held))))
-    ])
-
-pub returns-clause-stores : goal.returns-clause-stores
-returns-clause-stores g c =
-    let seg = (segments_by g.X.PrefixExtractor.lengths c.args.laws.now.segments) in
-    let before : SessionModel = record { core = c.self.inside.core; names = c.self.inside.names.entries; snapshot_names = c.self.inside.snapshot_names.entries; now = c.self.inside.now } in
-    let m = meaning_of g.M.MergeOperator.combine g.T.BlockTransformer.encoded g.T.BlockTransformer.decoded c.args.env.now.operator c.args.env.now.transformer in
-    subst (λ (v : SessionModel). OnOk c.match-write.result (StoresNothing m seg v (record before { core = c.write.new.self }))) c.self.view_is
-    (always c.match-write.result (elim c.match-write.branch [
-      | in-Ok-write w ↦ stores_by m seg before c.write.new.self before.names before.snapshot_names before.now (leaves_written c.self.inside.core c.write.new.self w.in-Ok-write.seq _ c.in-Ok.batch.ops w.in-Ok-write.ensures.event) w.in-Ok-write.ensures.kept w.in-Ok-write.ensures.segmented
-      | in-Err-write w ↦ stores_by m seg before c.write.new.self before.names before.snapshot_names before.now (leaves_same c.self.inside.core c.write.new.self w.in-Err-write.ensures.same) (kept_same m c.self.inside.core c.write.new.self w.in-Err-write.ensures.same) (w.in-Err-write.ensures.segmented_refused seg)
-    ]))
-
-pub returns-clause-grows : goal.returns-clause-grows
-returns-clause-grows g c =
-    let before : SessionModel = record { core = c.self.inside.core; names = c.self.inside.names.entries; snapshot_names = c.self.inside.snapshot_names.entries; now = c.self.inside.now } in
-    subst (λ (v : SessionModel). OnOk c.match-write.result (Grows (lines.Write c.args.ops) v (record before { core = c.write.new.self }))) c.self.view_is
-    (grows_where c.match-write.result (lines.Write c.args.ops) before (record before { core = c.write.new.self }) (elim c.match-write.branch [
-      | in-Ok-write w ↦ grows before c.write.new.self before.names before.snapshot_names before.now (lines.Write c.args.ops) (length c.args.ops) (omega arith)
-          (takes_written c.self.inside.core c.write.new.self w.in-Ok-write.seq _ c.in-Ok.batch.ops (length c.args.ops) w.in-Ok-write.ensures.event (w.in-Ok-write.ensures.load c.args.ops c.in-Ok.ensures.batch))
-      | in-Err-write w ↦ grows before c.write.new.self before.names before.snapshot_names before.now (lines.Write c.args.ops) 0 (omega arith) (takes_same c.self.inside.core c.write.new.self w.in-Err-write.ensures.same)
-    ]))
-
-pub returns-clause-cause : goal.returns-clause-cause
-returns-clause-cause g c =
-    let before : SessionModel = record { core = c.self.inside.core; names = c.self.inside.names.entries; snapshot_names = c.self.inside.snapshot_names.entries; now = c.self.inside.now } in
-    let m = meaning_of g.M.MergeOperator.combine g.T.BlockTransformer.encoded g.T.BlockTransformer.decoded c.args.env.now.operator c.args.env.now.transformer in
-    let old = counts_of (g.S.Store.faults c.args.env.now.store.now) g.M.MergeOperator.faults g.T.BlockTransformer.faults c.args.env.now.operator c.args.env.now.transformer in
-    let new = counts_of (g.S.Store.faults c.write.new.env.store.now) g.M.MergeOperator.faults g.T.BlockTransformer.faults c.write.new.env.operator c.write.new.env.transformer in
-    subst (λ (v : SessionModel). IfErr c.match-write.result (λ e. IsCounted old new e ⊎ IsLimit v e)) c.self.view_is
-    (elim c.match-write.branch [
-      | in-Ok-write w ↦ subst (λ (r : Result Answer SlateDBError). IfErr r (λ e. IsCounted old new e ⊎ IsLimit before e)) (sym w.result-is) tt
-      | in-Err-write w ↦ subst (λ (r : Result Answer SlateDBError). IfErr r (λ e. IsCounted old new e ⊎ IsLimit before e)) (sym w.result-is)
-          (write_cause old new before m.combine (segments_by g.X.PrefixExtractor.lengths c.args.laws.now.segments) before.core.segments before.core.settings.default_millis _ c.in-Ok.batch w.in-Err-write.error w.refused-in-Err-write.result w.refused-in-Err-write.ensures.other w.in-Err-write.ensures.cause)
-    ])
-
-pub returns-clause-reads : goal.returns-clause-reads
-returns-clause-reads g c = c.write.ensures.reads
+pub returns : goal.returns
+returns g c =
+    record {
+      step = (λ segmented.
+          let seg = (segments_by g.X.PrefixExtractor.lengths c.args.laws.now.segments) in
+          let before : SessionModel = record { core = c.self.inside.core; names = c.self.inside.names.entries; snapshot_names = c.self.inside.snapshot_names.entries; now = c.self.inside.now } in
+          let m = meaning_of g.M.MergeOperator.combine g.T.BlockTransformer.encoded g.T.BlockTransformer.decoded c.args.env.now.operator c.args.env.now.transformer in
+          let old = counts_of (g.S.Store.faults c.args.env.now.store.now) g.M.MergeOperator.faults g.T.BlockTransformer.faults c.args.env.now.operator c.args.env.now.transformer in
+          let new = counts_of (g.S.Store.faults c.write.new.env.store.now) g.M.MergeOperator.faults g.T.BlockTransformer.faults c.write.new.env.operator c.write.new.env.transformer in
+          let held : IsSegmented seg before.core = subst (λ (v : SessionModel). IsSegmented seg v.core) (sym c.self.view_is) segmented in
+          subst (λ (v : SessionModel). StepsAs m seg v (record before { core = c.write.new.self }) (lines.Write c.args.ops) c.match-write.result) c.self.view_is
+          (elim c.match-write.branch [
+            | in-Ok-write w ↦ subst (λ (r : Result Answer SlateDBError). StepsAs m seg before (record before { core = c.write.new.self }) (lines.Write c.args.ops) r) (sym w.result-is)
+                (write_as m seg before c.write.new.self c.args.ops (answers.Written w.in-Ok-write.seq) (written_txns c.self.inside.core c.write.new.self w.in-Ok-write.seq _ c.in-Ok.batch.ops w.in-Ok-write.ensures.event)
+                (written_snapshots c.self.inside.core c.write.new.self w.in-Ok-write.seq _ c.in-Ok.batch.ops w.in-Ok-write.ensures.event)
+                (written_flushed c.self.inside.core c.write.new.self w.in-Ok-write.seq _ c.in-Ok.batch.ops w.in-Ok-write.ensures.event)
+                (at_moment (rules_in before.core.settings m seg) before.core c.write.new.self c.args.ops (Written w.in-Ok-write.seq) (given_moment c.self.inside.now c.self.invariant.1) (w.in-Ok-write.ensures.step held c.args.ops c.in-Ok.ensures.batch c.in-Ok.ensures.fine)))
+            | in-Err-write w ↦ subst (λ (r : Result Answer SlateDBError). StepsAs m seg before (record before { core = c.write.new.self }) (lines.Write c.args.ops) r) (sym w.result-is)
+                (commit_refused m seg old new before c.write.new.self c.args.ops w.in-Err-write.error w.refused-in-Err-write.result w.in-Err-write.ensures.same w.refused-in-Err-write.ensures.reply w.refused-in-Err-write.ensures.answered
+                (refused_at_moment (rules_in before.core.settings m seg) before.core c.args.ops w.in-Err-write.error (given_moment c.self.inside.now c.self.invariant.1) (at_ops c.args.ops c.in-Ok.ensures.batch c.in-Ok.ensures.fine (w.in-Err-write.ensures.refused held))))
+          ]));
+      stores = (let seg = (segments_by g.X.PrefixExtractor.lengths c.args.laws.now.segments) in
+          let before : SessionModel = record { core = c.self.inside.core; names = c.self.inside.names.entries; snapshot_names = c.self.inside.snapshot_names.entries; now = c.self.inside.now } in
+          let m = meaning_of g.M.MergeOperator.combine g.T.BlockTransformer.encoded g.T.BlockTransformer.decoded c.args.env.now.operator c.args.env.now.transformer in
+          subst (λ (v : SessionModel). OnOk c.match-write.result (StoresNothing m seg v (record before { core = c.write.new.self }))) c.self.view_is
+          (always c.match-write.result (elim c.match-write.branch [
+            | in-Ok-write w ↦ stores_by m seg before c.write.new.self before.names before.snapshot_names before.now (leaves_written c.self.inside.core c.write.new.self w.in-Ok-write.seq _ c.in-Ok.batch.ops w.in-Ok-write.ensures.event) w.in-Ok-write.ensures.kept w.in-Ok-write.ensures.segmented
+            | in-Err-write w ↦ stores_by m seg before c.write.new.self before.names before.snapshot_names before.now (leaves_same c.self.inside.core c.write.new.self w.in-Err-write.ensures.same) (kept_same m c.self.inside.core c.write.new.self w.in-Err-write.ensures.same) (w.in-Err-write.ensures.segmented_refused seg)
+          ])));
+      grows = (let before : SessionModel = record { core = c.self.inside.core; names = c.self.inside.names.entries; snapshot_names = c.self.inside.snapshot_names.entries; now = c.self.inside.now } in
+          subst (λ (v : SessionModel). OnOk c.match-write.result (Grows (lines.Write c.args.ops) v (record before { core = c.write.new.self }))) c.self.view_is
+          (grows_where c.match-write.result (lines.Write c.args.ops) before (record before { core = c.write.new.self }) (elim c.match-write.branch [
+            | in-Ok-write w ↦ grows before c.write.new.self before.names before.snapshot_names before.now (lines.Write c.args.ops) (length c.args.ops) (omega arith)
+                (takes_written c.self.inside.core c.write.new.self w.in-Ok-write.seq _ c.in-Ok.batch.ops (length c.args.ops) w.in-Ok-write.ensures.event (w.in-Ok-write.ensures.load c.args.ops c.in-Ok.ensures.batch))
+            | in-Err-write w ↦ grows before c.write.new.self before.names before.snapshot_names before.now (lines.Write c.args.ops) 0 (omega arith) (takes_same c.self.inside.core c.write.new.self w.in-Err-write.ensures.same)
+          ])));
+      cause = (let before : SessionModel = record { core = c.self.inside.core; names = c.self.inside.names.entries; snapshot_names = c.self.inside.snapshot_names.entries; now = c.self.inside.now } in
+          let m = meaning_of g.M.MergeOperator.combine g.T.BlockTransformer.encoded g.T.BlockTransformer.decoded c.args.env.now.operator c.args.env.now.transformer in
+          let old = counts_of (g.S.Store.faults c.args.env.now.store.now) g.M.MergeOperator.faults g.T.BlockTransformer.faults c.args.env.now.operator c.args.env.now.transformer in
+          let new = counts_of (g.S.Store.faults c.write.new.env.store.now) g.M.MergeOperator.faults g.T.BlockTransformer.faults c.write.new.env.operator c.write.new.env.transformer in
+          subst (λ (v : SessionModel). IfErr c.match-write.result (λ e. IsCounted old new e ⊎ IsLimit v e)) c.self.view_is
+          (elim c.match-write.branch [
+            | in-Ok-write w ↦ subst (λ (r : Result Answer SlateDBError). IfErr r (λ e. IsCounted old new e ⊎ IsLimit before e)) (sym w.result-is) tt
+            | in-Err-write w ↦ subst (λ (r : Result Answer SlateDBError). IfErr r (λ e. IsCounted old new e ⊎ IsLimit before e)) (sym w.result-is)
+                (write_cause old new before m.combine (segments_by g.X.PrefixExtractor.lengths c.args.laws.now.segments) before.core.segments before.core.settings.default_millis _ c.in-Ok.batch w.in-Err-write.error w.refused-in-Err-write.result w.refused-in-Err-write.ensures.other w.in-Err-write.ensures.cause)
+          ]));
+      reads = c.write.ensures.reads;
+    }
 
 pub returns-in-Err : goal.returns-in-Err
 returns-in-Err g c =

@@ -1,0 +1,89 @@
+-- What a session makes of a line. old, new: the session; before, after: what it reaches.
+--     AnswersWithin line old new result      a line that asks nothing outside
+--     AnswersByRead policies line before after old new result      a get or a scan
+--     AnswersByScan policies name order range steps before after old new result      a scan of a range, where bounds leave one
+--     AnswersByWrite given seg line before after old new result      a line that may call the operator; it steps as the model does where `given` holds
+--     AnswersHonest, AnswersTold, AnswersSound      a line over a store that holds the journal's tables, one whose acts tell of them, and any store where what is kept of the rows holds
+--     Answers layout line before after old new result      all of these, and what holds of each line
+use Rattle.std.specs.Prelude.{◌≡◌, ◌⊎◌, ℕ, List, Option, Some, Result, IfErr, OnOk}
+use Rattle.slate_types.specs.declared.bytes_range.BytesRange.{BytesRange}
+use Rattle.slate_types.specs.declared.error.SlateDBError.{SlateDBError}
+use Rattle.slate_types.specs.declared.error.SlateDBError.TheVariants.{OutOfMemory}
+use Rattle.slate_types.specs.declared.iter.IterationOrder.{IterationOrder}
+use Rattle.slate_types.specs.Outside.{Objects, Reach, IsFault, OnlyReads, Puts}
+use Rattle.slate_types.specs.World.{Made}
+use Rattle.slate_filter.specs.Policy.{Policy}
+use Rattle.slate_mem.specs.KeyTests.{Segments}
+use Rattle.slate_txn.specs.declared.line.Line.{Line}
+use Rattle.slate_txn.specs.declared.line.ScanStep.{ScanStep}
+use Rattle.slate_db.specs.Answered.{AddsActs}
+use Rattle.slate_db.specs.Checked.{OrSlips}
+use Rattle.slate_db.specs.Flushed.{Layout}
+use Rattle.slate_db.specs.Installs.{runs_of, tables_of}
+use Rattle.slate_db.specs.Meaning.{Meaning}
+use Rattle.slate_db.specs.Parts.{IsTableError}
+use Rattle.slate_db.specs.Readable.{IsAnswered, IsReadable}
+use Rattle.slate_db.specs.Sound.{IsKept}
+use Rattle.slate_language.specs.declared.reply.Answer.{Answer}
+use Rattle.slate_script.specs.Scanning.{ScansAs}
+use Rattle.slate_script.specs.Session.{SessionModel, StepsAs, HasTablesAlone, Grows, IsSettled, IsSettledIn, IsLimit, StoresNothing}
+use Rattle.slate_script.specs.Told.{Follows, IsRefusedAt, IsUntrue, PutsTables}
+
+-- for parts of each meaning, and each segments
+pub record AnswersWithin (line : Line) (old new : SessionModel) (result : Result Answer SlateDBError) : Type 0 where
+  pub step : (m : Meaning) (seg : Segments) → StepsAs m seg old new line result
+  pub stores : OnOk result ((m : Meaning) (seg : Segments) → StoresNothing m seg old new)
+  pub grows : OnOk result (Grows line old new)
+  pub cause : IfErr result (λ e. (e ≡ OutOfMemory) ⊎ IsLimit old e)
+
+-- checked: where the objects hold the tables, it steps as the model does, or a section slipped
+pub record AnswersByRead (policies : List Policy) (line : Line) (before after : Reach) (old new : SessionModel) (result : Result Answer SlateDBError) : Type 0 where
+  pub step : IsAnswered policies before after old.core → (seg : Segments) → StepsAs before.meaning seg old new line result
+  pub checked : (os : Objects) → IsReadable policies before.meaning os old.core → (seg : Segments) → OrSlips os before after (StepsAs before.meaning seg old new line result)
+  pub stores : OnOk result ((m : Meaning) (seg : Segments) → StoresNothing m seg old new)
+  pub grows : OnOk result (Grows line old new)
+  pub cause : IfErr result (λ e. IsFault before after e ⊎ Made before after (λ reads. IsRefusedAt policies line before.meaning old.core reads e))
+  pub undamaged : IsAnswered policies before after old.core → IfErr result (IsFault before after)
+  pub reads : OnlyReads before after
+
+-- checked: as above
+pub record AnswersByScan (policies : List Policy) (name : List ℕ) (order : IterationOrder) (range : Option BytesRange) (steps : List ScanStep) (before after : Reach) (old new : SessionModel) (result : Result Answer SlateDBError) : Type 0 where
+  pub step : IsAnswered policies before after old.core → (seg : Segments) → ScansAs before.meaning seg old new name order range steps result
+  pub checked : (os : Objects) → IsReadable policies before.meaning os old.core → (seg : Segments) → OrSlips os before after (ScansAs before.meaning seg old new name order range steps result)
+
+pub record AnswersByWrite (given : Type 0) (seg : Segments) (line : Line) (before after : Reach) (old new : SessionModel) (result : Result Answer SlateDBError) : Type 0 where
+  pub step : given → StepsAs before.meaning seg old new line result
+  pub stores : OnOk result (StoresNothing before.meaning seg old new)
+  pub grows : OnOk result (Grows line old new)
+  pub cause : IfErr result (λ e. IsFault before after e ⊎ IsLimit old e)
+  pub reads : OnlyReads before after
+
+-- ---- a line
+
+pub record AnswersHonest (layout : Layout) (line : Line) (before after : Reach) (old new : SessionModel) (result : Result Answer SlateDBError) : Type 0 where
+  pub step : StepsAs before.meaning layout.segments old new line result
+  pub kept : OnOk result (IsSettled layout.policies before.meaning layout.segments after.objects new)
+  pub alone : HasTablesAlone before.meaning layout before.objects (runs_of old.core.events) → OnOk result (HasTablesAlone before.meaning layout after.objects (runs_of new.core.events))
+  pub undamaged : IfErr result (λ e. IsFault before after e ⊎ IsLimit old e)
+
+-- step: or a section slipped
+pub record AnswersTold (layout : Layout) (line : Line) (os : Objects) (before after : Reach) (old new : SessionModel) (result : Result Answer SlateDBError) : Type 0 where
+  pub step : OrSlips os before after (StepsAs before.meaning layout.segments old new line result)
+  pub follows : OnOk result (Follows layout.policies before.meaning layout.segments os new before.acts after.acts)
+  pub untrue : IfErr result (λ e. IsTableError e → IsUntrue os before.acts after.acts)
+
+pub record AnswersSound (layout : Layout) (line : Line) (before after : Reach) (old new : SessionModel) (result : Result Answer SlateDBError) : Type 0 where
+  pub kept : OnOk result (IsKept before.meaning new.core)
+  pub shown : IfErr result (λ e. IsTableError e → Made before after (λ reads. IsRefusedAt layout.policies line before.meaning old.core reads e))
+
+-- layout: has the policies and the segments
+pub record Answers (layout : Layout) (line : Line) (before after : Reach) (old new : SessionModel) (result : Result Answer SlateDBError) : Type 0 where
+  pub honest : IsSettledIn layout.policies layout.segments before old → AnswersHonest layout line before after old new result
+  pub told : (os : Objects) → IsSettled layout.policies before.meaning layout.segments (Some os) old → AnswersTold layout line os before after old new result
+  pub sound : IsKept before.meaning old.core → AnswersSound layout line before after old new result
+  pub settings : OnOk result (new.core.settings ≡ old.core.settings)
+  pub grows : OnOk result (Grows line old new)
+  pub cause : IfErr result (λ e. IsFault before after e ⊎ IsLimit old e ⊎ IsTableError e)
+  pub tables : OnOk result (PutsTables (tables_of old.core.events) (tables_of new.core.events) before.acts after.acts)
+  pub adds : AddsActs before.acts after.acts
+  pub puts : Puts before after
