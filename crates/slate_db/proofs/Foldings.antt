@@ -12,7 +12,8 @@ use Rattle.slate_types.specs.World.{AnswersWorld, Made, Sees, World}
 use Rattle.slate_types.proofs.Calls.{seen}
 use Rattle.slate_merge.specs.declared.operator_iterator.MergeOperatorIterator.{MergeOperatorIterator}
 use Rattle.slate_merge.specs.Folding.{is_open, is_within}
-use Rattle.slate_merge.specs.Folds.{NoneOpen, RefusesBrought, brings_taken, refuses_folds, rest_taken, sound_taken}
+use Rattle.slate_merge.specs.Folds.{NoneOpen, RefusesBrought, refuses_folds, rest_taken, sound_taken}
+use Rattle.slate_merge.specs.Offers.{Comes, Offer, Rises}
 use Rattle.slate_merge.specs.OperatorIterators.{IsGoing, IsOperable, RefusesBy, SoundUnless, refuses_folding, sound_folding}
 use Rattle.slate_db.specs.Sound.{AreBases}
 
@@ -55,23 +56,23 @@ module _ {S : Type 0} (rest : S → World → List RowEntry) (sound : S → Worl
   whole_going refuses whole going h at e reads each r = whole it.iterator w reads at e (sound_going going h) each r
 
 -- a seek asks no operator
-no_seek : {Q : Type 0} (brings : RowEntry → Type 0) (m : Meaning) (key : List ℕ) (e : SlateDBError) → RefusesBrought brings m (Some key) e → Q
-no_seek brings m key e (inl operand) = let never : Some key ≡ None = operand.refuses.0 in cc
-no_seek brings m key e (inr rise) = let never : Some key ≡ None = rise.refuses.0 in cc
+no_seek : {Q : Type 0} (brings rises : RowEntry → Type 0) (m : Meaning) (key : List ℕ) (e : SlateDBError) → RefusesBrought brings rises m (Some key) e → Q
+no_seek brings rises m key e (inl operand) = let never : Some key ≡ None = operand.refuses.0 in cc
+no_seek brings rises m key e (inr rise) = let never : Some key ≡ None = rise.refuses.0 in cc
 
-pub seek_undamaged : {S : Type 0} (rest : S → World → List RowEntry) (sound : S → World → Type 0) (order : S → IterationOrder) (refuses : S → Meaning → List Act → Option (List ℕ) → SlateDBError → Type 0) (brings : S → Meaning → List Act → RowEntry → Type 0) →
+pub seek_undamaged : {S : Type 0} (rest : S → World → List RowEntry) (sound : S → World → Type 0) (order : S → IterationOrder) (refuses : S → Meaning → List Act → Option (List ℕ) → SlateDBError → Type 0) (offers : Option RowEntry → S → Meaning → List Act → Offer → Type 0) →
     ((x : S) (w : World) (reads : List Act) (at : Option (List ℕ)) (e : SlateDBError) → sound x w → AllByRecursion (AnswersWorld w) reads → refuses x w.meaning reads at e → ¬ IsDamage e) →
     (it : MergeOperatorIterator S) (w : World) (a b : Reach) (key : List ℕ) (e : SlateDBError) → Sees w a b → IsGoing it → sound_folding rest sound order it w →
-    Made a b (λ reads. IsFault a b e ⊎ refuses_folding refuses brings it a.meaning reads (Some key) e) → IsFault a b e ⊎ Made a b (λ reads. refuses it.iterator a.meaning reads (Some key) e × ¬ IsDamage e)
-seek_undamaged {S = S} rest sound order refuses brings whole it w a b key e sees going h made = by made.2
+    Made a b (λ reads. IsFault a b e ⊎ refuses_folding refuses offers it a.meaning reads (Some key) e) → IsFault a b e ⊎ Made a b (λ reads. refuses it.iterator a.meaning reads (Some key) e × ¬ IsDamage e)
+seek_undamaged {S = S} rest sound order refuses offers whole it w a b key e sees going h made = by made.2
   where
-    own : refuses_folds refuses brings (it.iterator, it.ahead, []) a.meaning made.0 (Some key) e → IsFault a b e ⊎ Made a b (λ reads. refuses it.iterator a.meaning reads (Some key) e × ¬ IsDamage e)
+    own : refuses_folds refuses offers (it.iterator, it.ahead, []) a.meaning made.0 (Some key) e → IsFault a b e ⊎ Made a b (λ reads. refuses it.iterator a.meaning reads (Some key) e × ¬ IsDamage e)
     own (inl r) = inr (made.0, made.1, (r, whole_going rest sound order it w refuses whole going h (Some key) e made.0 (seen w a b made.0 sees made.1) (subst (λ (m : Meaning). refuses it.iterator m made.0 (Some key) e) (sym sees.meaning) r)))
-    own (inr brought) = no_seek (λ r. brings_taken brings (it.iterator, it.ahead, []) a.meaning made.0 r) a.meaning key e brought
+    own (inr brought) = no_seek (λ r. offers it.ahead it.iterator a.meaning made.0 (Comes r)) (λ r. offers it.ahead it.iterator a.meaning made.0 (Rises r)) a.meaning key e brought
 
-    by : IsFault a b e ⊎ refuses_folding refuses brings it a.meaning made.0 (Some key) e → IsFault a b e ⊎ Made a b (λ reads. refuses it.iterator a.meaning reads (Some key) e × ¬ IsDamage e)
+    by : IsFault a b e ⊎ refuses_folding refuses offers it a.meaning made.0 (Some key) e → IsFault a b e ⊎ Made a b (λ reads. refuses it.iterator a.meaning reads (Some key) e × ¬ IsDamage e)
     by (inl k) = inl k
-    by (inr k) = own (refuses_going (λ d. refuses_folds refuses brings (it.iterator, it.ahead, []) a.meaning made.0 (Some key) d) it e going k)
+    by (inr k) = own (refuses_going (λ d. refuses_folds refuses offers (it.iterator, it.ahead, []) a.meaning made.0 (Some key) d) it e going k)
 
 -- ---- operands
 

@@ -94,6 +94,7 @@ mod ScanFilters
 mod ScanOpenings
 mod ScanRefusals
 mod ScanBringings
+mod ScanRises
 mod OpenNotes
 mod Readers
 mod ScanMerges

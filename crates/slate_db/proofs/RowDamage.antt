@@ -25,7 +25,7 @@ use Rattle.slate_read.specs.TableWalk.{RefusesRows}
 use Rattle.slate_db.specs.Installs.{AreHandles, tables_of}
 use Rattle.slate_db.specs.Model.{CoreModel}
 use Rattle.slate_db.specs.Parts.{IsTableError}
-use Rattle.slate_db.specs.Scans.{IsOpeningError, IsRefusedByScan, IsRefusedInScan, IsScanError, IsScanned, ShowsAmong}
+use Rattle.slate_db.specs.Scans.{IsOpeningError, IsRefusedByScan, IsRefusedInScan, IsReadAmong, IsScanError, IsScanned, ShowsAmong}
 use Rattle.slate_db.specs.Shown.{IsUnreadable}
 use Rattle.slate_db.proofs.Damaged.{block_damage, block_unreadable, bound, in_block, index_unreadable, number_damage, passes}
 use Rattle.slate_db.proofs.Shown.{known_version, unreadable_kind}
@@ -147,7 +147,7 @@ rise_kind e h = absurd h
 pub scan_kind : (m : Meaning) (c : CoreModel) (acts : List Act) (at : Option (List ℕ)) (e : SlateDBError) → IsRefusedByScan m c acts at e → IsTableError e
 scan_kind m c acts at e r = by r.refused
   where
-    by : RefusesBrought (IsScanned m c r.handles acts) m at e ⊎ ShowsAmong m.decode r.handles acts e → IsTableError e
+    by : RefusesBrought (IsScanned m c r.handles acts) (IsReadAmong m r.handles acts) m at e ⊎ ShowsAmong m.decode r.handles acts e → IsTableError e
     by (inl (inl operand)) = subst IsTableError (sym operand.refuses.1) tt
     by (inl (inr rise)) = rise_kind e rise.refuses.2
     by (inr (h, among, shows)) = unreadable_kind e (shown_unreadable m.decode h acts e (known_version (tables_of c.events) r.handles h r.are among) shows)

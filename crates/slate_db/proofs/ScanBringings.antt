@@ -51,14 +51,14 @@ source_brings m s reads r = bringing.brings_source s.iterator m reads r
 
 source_handed : (m : Meaning) (x y : ScanSource) (by : List Act) (answer : Option RowEntry) → source_takes x m by answer y → HandsOut (source_brings m x) by answer (source_brings m y)
 source_handed m x y by answer takes =
-    kept_tells (λ (u : ReadSource) acts q. bringing.brings_source u m acts q) (λ u rs a v. bringing.source_takes u m rs a v) (λ u v rs a k. k) (upto_seq x.predicate.max_seq) x.iterator y.iterator by answer takes.0
+    kept_tells (λ (u : ReadSource) acts q. bringing.brings_source u m acts q) (λ u rs a v. bringing.source_takes u m rs a v) (λ u v rs a k. k.0) (upto_seq x.predicate.max_seq) x.iterator y.iterator by answer takes.0
 
 source_less : (m : Meaning) (x y : ScanSource) (by : List Act) → CallsOnce source_begins source_takes source_seeks m x by y → NoMoreRows (source_brings m x) by (source_brings m y)
-source_less m x y by (inl begins) = begins.0
+source_less m x y by (inl begins) = begins.0.0
 source_less m x y by (inr (inl (answer, takes))) = (source_handed m x y by answer takes).1
-source_less m x y by (inr (inr (key, seeks))) = seeks.0
+source_less m x y by (inr (inr (key, seeks))) = seeks.0.0
 
-by_source : (m : Meaning) (x : ScanSource) (reads : List Act) (r : RowEntry) → BringsByCalls source_begins source_takes source_seeks x m reads r → source_brings m x reads r
+pub by_source : (m : Meaning) (x : ScanSource) (reads : List Act) (r : RowEntry) → BringsByCalls source_begins source_takes source_seeks x m reads r → source_brings m x reads r
 by_source m x reads r c =
     calls_to source_begins source_takes source_seeks m (source_brings m) (source_less m) (λ u v by q takes. (source_handed m u v by (Some q) takes).0) (λ u some all q k within. source_grows u.iterator m some all q k within) x reads r c
 
@@ -171,7 +171,7 @@ module _ (m : Meaning) (range : BytesRange) (order : IterationOrder) (reads : Li
   run_there hs run (Batch it) among h k = absurd h
   run_there hs run (Memory it) among h k = absurd h
 
-  some_run : (n : ℕ) (hs : List SsTableHandle) (runs : List SortedRun) (sources : List ScanSource) → AllByRecursion (AreTablesAmong hs) runs → AreEach (IsRunSource range order n) runs sources → SourcesBring sources m reads r → IsReadAmong m hs reads r
+  pub some_run : (n : ℕ) (hs : List SsTableHandle) (runs : List SortedRun) (sources : List ScanSource) → AllByRecursion (AreTablesAmong hs) runs → AreEach (IsRunSource range order n) runs sources → SourcesBring sources m reads r → IsReadAmong m hs reads r
   some_run n hs [] [] among h k = absurd k
   some_run n hs (run ∷ runs) (s ∷ sources) among h (inl k) = run_there hs run s.iterator among.0 h.0.1 k
   some_run n hs (run ∷ runs) (s ∷ sources) among h (inr k) = some_run n hs runs sources among.1 h.1 k

@@ -26,7 +26,8 @@ use Rattle.slate_merge.specs.declared.folding.Folding.{Folding}
 use Rattle.slate_merge.specs.declared.merge_iterator.MergeState.{MergeState}
 use Rattle.slate_merge.specs.declared.merge_iterator.MergeState.TheVariants.{Begun, New, Refused}
 use Rattle.slate_merge.specs.Folding.{NoneRises, folded}
-use Rattle.slate_merge.specs.Folds.{Blames, BlamesNext, IsRise, MeetsOpen, MeetsRise, RefusesBrought}
+use Rattle.slate_merge.specs.Folds.{Blames, BlamesNext, IsRise, MeetsOpen, MeetsRise}
+use Rattle.slate_merge.specs.Offers.{Comes, Rises}
 use Rattle.slate_merge.specs.MergeLaws.{merged_in_order}
 use Rattle.slate_merge.specs.Merging.{AnyByRecursion, blames, waiting_sources}
 use Rattle.slate_merge.specs.MergeStateLaws.{any_weaker, merges}
@@ -34,7 +35,6 @@ use Rattle.slate_merge.specs.MergeStates.{IsFrontIn, IsMergeOf, WaitingAre, refu
 use Rattle.slate_merge.specs.OperatorLaws.{brought_weaker}
 use Rattle.slate_merge.specs.OperatorIterators.{IsFolding, IsGoing, IsOperable, Keeps, RefusesBy, Stays, StaysIn, rest_folding}
 use Rattle.slate_merge.specs.Peeking.{TakesAhead, with_ahead}
-use Rattle.slate_merge.proofs.Tellings.{none_of}
 use Rattle.slate_read.specs.declared.sorted_run.SortedRun.{SortedRun}
 use Rattle.slate_read.specs.ReadSources as read
 use Rattle.slate_read.specs.Showing.{ShowsByReads}
@@ -51,19 +51,20 @@ use Rattle.slate_db.specs.Lookup.{AreFilteredAs}
 use Rattle.slate_db.specs.Log.{AreFine}
 use Rattle.slate_db.specs.Meaning.{rules_of}
 use Rattle.slate_db.specs.Model.{CoreModel, Rows, memory}
-use Rattle.slate_db.specs.OpenScans.{AreScanSources, CanOpen, FoldsRefuse, IsBlamedFor, SourcesBring, folded_rows, merged_rows}
+use Rattle.slate_db.specs.OpenScans.{AreScanSources, CanOpen, FoldsRefuse, IsBlamedFor, SourcesBring, SourcesRise, folded_rows, merged_rows}
 use Rattle.slate_filter.specs.Policy.{Policy}
 use Rattle.slate_db.specs.Readable.{IsAnswered, IsOwnRow, IsReadable}
 use Rattle.slate_db.specs.ScanFilters.{AreRunsLeft, AreTablesThere, RunsAreLeft, ShowsFilters, scan_query}
 use Rattle.slate_db.specs.Scanned.{AreStoredRuns, own_rows}
-use Rattle.slate_db.specs.Scans.{AreForIn, FoldsAll, IsFor, IsOpeningError, IsOperableIn, IsReached, IsRefusedByScan, IsScanRefusal, IsScanned, IsShownByScan, IsSoundIn, IsSoundSource, IsWorldOf, Leaves, MergedSources, RefusesIn, ScanRefuses, ScanSource, fold_brings, has_value, left_in, merge_refuses, merge_rows, order_of, source_refuses, source_rows}
+use Rattle.slate_db.specs.Scans.{AreForIn, FoldsAll, IsFor, IsOpeningError, IsOperableIn, IsReadAmong, IsReached, IsRefusedByScan, IsScanRefusal, IsScanned, IsShownByScan, IsSoundIn, IsSoundSource, IsWorldOf, Leaves, MergedSources, RefusesFold, RefusesIn, ScanRefuses, ScanSource, has_value, left_in, merge_offers, merge_refuses, merge_rows, order_of, source_refuses, source_rows}
 use Rattle.slate_db.specs.Sound.{AreBases}
 use Rattle.slate_db.specs.Whole.{IsWhole, Unseen}
 use Rattle.slate_db.proofs.Answered.{from_first, from_last}
 use Rattle.slate_db.proofs.Filters.{filtered_known}
 use Rattle.slate_db.proofs.Foldings.{bases_closed, closed_bases, going_refuses, refuses_going}
 use Rattle.slate_db.proofs.Runs.{all_handles}
-use Rattle.slate_db.proofs.ScanBringings.{merge_sources, scanned_later, sources_scanned}
+use Rattle.slate_db.proofs.ScanBringings.{merge_sources, read_later, scanned_later, sources_scanned}
+use Rattle.slate_db.proofs.ScanRises.{merge_risen, sources_risen}
 use Rattle.slate_db.proofs.ScanFilters.{shows_more, tables_there}
 use Rattle.slate_db.proofs.ScanOpenings.{ScanOpens, runs_of_core, scan_opens, stored}
 use Rattle.slate_db.proofs.ScanRefusals.{IsShown, blamed_shows}
@@ -141,12 +142,8 @@ module _ (sources : List ScanSource) (order : IterationOrder) (merge : MergedSou
       (later : List Act) (at : Option (List ℕ)) (e : SlateDBError) → merge_refuses v.iterator m later at e → IsBlamedFor sources m (reads ++ later) at e
   opened_later v m reads going ready less later at e h =
       waiting_blamed source_refuses sources it.iterator.state fresh_waits m (reads ++ later) at e
-      (λ is. ready_never v m later at e ready (going_refuses (λ d. merge_refuses v.iterator m later at d ⊎ RefusesBrought (fold_brings v m later) m at d) v e going (inl h)) is)
+      (λ is. ready_never v m later at e ready (going_refuses (λ d. merge_refuses v.iterator m later at d ⊎ RefusesFold v m later at d) v e going (inl h)) is)
       (less later at e h)
-
-  fresh_sources : (m : Meaning) (reads : List Act) (r : RowEntry) → fold_brings fresh m reads r → SourcesBring sources m reads r
-  fresh_sources m reads r (inl none) = absurd (none_of r none)
-  fresh_sources m reads r (inr c) = merge_sources sources merge made.waits m reads r c
 
   -- what it refuses from then on, its sources bring, or refuse
   pub opened_brought : (v : Merged) (m : Meaning) (reads : List Act) → IsReady (Folds v m) → NoMore (Folds it m) reads (Folds v m) → (later : List Act) (at : Option (List ℕ)) (e : SlateDBError) → Folds v m later at e → FoldsRefuse sources m (reads ++ later) at e
@@ -155,10 +152,13 @@ module _ (sources : List ScanSource) (order : IterationOrder) (merge : MergedSou
       begun : e ≢ IteratorNotInitialized
       begun is = ready_never v m later at e ready h is
 
-      by : ((false ≡ false) × (e ≡ IteratorNotInitialized)) ⊎ (merge_refuses merge m (reads ++ later) at e ⊎ RefusesBrought (fold_brings fresh m (reads ++ later)) m at e) → FoldsRefuse sources m (reads ++ later) at e
+      by : ((false ≡ false) × (e ≡ IteratorNotInitialized)) ⊎ (merge_refuses merge m (reads ++ later) at e ⊎ RefusesFold fresh m (reads ++ later) at e) → FoldsRefuse sources m (reads ++ later) at e
       by (inl bad) = absurd (begun bad.1)
       by (inr (inl refused)) = inr (waiting_blamed source_refuses sources merge.state made.waits m (reads ++ later) at e begun refused)
-      by (inr (inr brought)) = inl (brought_weaker (fold_brings fresh m (reads ++ later)) (SourcesBring sources m (reads ++ later)) m at e (fresh_sources m (reads ++ later)) brought)
+      by (inr (inr brought)) =
+          let all = reads ++ later in
+          inl (brought_weaker (λ r. merge_offers None merge m all (Comes r)) (SourcesBring sources m all) (λ r. merge_offers None merge m all (Rises r)) (SourcesRise sources m all) m at e
+          (λ r c. merge_sources sources merge made.waits m all r c) (λ r c. merge_risen sources merge made.waits m all r c) brought)
 
   not_waiting : {Q : Type 0} (answer : Option RowEntry) (s : MergeState ScanSource) → WaitingAre sources s → IsFrontIn answer s → Q
   not_waiting answer (New waiting) is front = absurd front
@@ -177,7 +177,7 @@ module _ (sources : List ScanSource) (order : IterationOrder) (merge : MergedSou
   pub opening_own : (takes : MergedSources → Meaning → List Act → Option RowEntry → MergedSources → Type 0) → ((u v : MergedSources) (m : Meaning) (reads : List Act) (answer : Option RowEntry) → takes u m reads answer v → IsFrontIn answer u.state) →
       (v : Merged) (a b : Reach) (reads : List Act) (e : SlateDBError) → Stays merge_refuses takes it a.meaning reads None e v → IsFault a b e ⊎ Folds it a.meaning reads None e → IsFault a b e ⊎ refuses_in source_refuses it.iterator.state a.meaning reads None e
   opening_own takes front v a b reads e stays (inl fault) = inl fault
-  opening_own takes front v a b reads e stays (inr r) = inr (by_fresh (subst (λ (u : Merged). RefusesBy u.refusal u.begun (λ d. refuses_in source_refuses it.iterator.state a.meaning reads None d ⊎ RefusesBrought (fold_brings u a.meaning reads) a.meaning None d) e) (sym is_fresh) r))
+  opening_own takes front v a b reads e stays (inr r) = inr (by_fresh (subst (λ (u : Merged). RefusesBy u.refusal u.begun (λ d. refuses_in source_refuses it.iterator.state a.meaning reads None d ⊎ RefusesFold u a.meaning reads None d) e) (sym is_fresh) r))
     where
       met : MeetsOpen (λ u rs answer x. takes u a.meaning rs answer x) it.folding.snapshot_barrier_seq it.ahead reads it.iterator v.iterator → refuses_in source_refuses it.iterator.state a.meaning reads None e
       met (row, is_open_row, taken) = not_waiting (Some row) it.iterator.state fresh_waits (front it.iterator v.iterator a.meaning reads (Some row)
@@ -190,12 +190,12 @@ module _ (sources : List ScanSource) (order : IterationOrder) (merge : MergedSou
           first [] t is = no_rows ends.newer ends.oldest (ends.row ∷ []) is
           first (row ∷ rows) t is = not_waiting (Some row) it.iterator.state fresh_waits (front it.iterator t.0 a.meaning t.1 (Some row) t.4)
 
-      stayed : StaysIn None false None e ((reads ≡ []) × (v ≡ it)) (Keeps e v × BlamedOn takes a.meaning reads e v) → RefusesBrought (fold_brings fresh a.meaning reads) a.meaning None e → refuses_in source_refuses it.iterator.state a.meaning reads None e
+      stayed : StaysIn None false None e ((reads ≡ []) × (v ≡ it)) (Keeps e v × BlamedOn takes a.meaning reads e v) → RefusesFold fresh a.meaning reads None e → refuses_in source_refuses it.iterator.state a.meaning reads None e
       stayed (inl s) refused = unbegun it.iterator.state fresh_waits a.meaning reads None e s.1
       stayed (inr s) (inl operand) = elim (s.1.1.0 operand.refuses.1) [ inl own ↦ own | inr meets ↦ met meets ]
       stayed (inr s) (inr rise) = elim (blames_rise e rise.refuses.2 s.1.1) [ inl own ↦ own | inr meets ↦ risen meets ]
 
-      by_fresh : ((false ≡ false) × (e ≡ IteratorNotInitialized)) ⊎ (refuses_in source_refuses it.iterator.state a.meaning reads None e ⊎ RefusesBrought (fold_brings fresh a.meaning reads) a.meaning None e) → refuses_in source_refuses it.iterator.state a.meaning reads None e
+      by_fresh : ((false ≡ false) × (e ≡ IteratorNotInitialized)) ⊎ (refuses_in source_refuses it.iterator.state a.meaning reads None e ⊎ RefusesFold fresh a.meaning reads None e) → refuses_in source_refuses it.iterator.state a.meaning reads None e
       by_fresh (inl h) = unbegun it.iterator.state fresh_waits a.meaning reads None e h.1
       by_fresh (inr (inl h)) = h
       by_fresh (inr (inr h)) = stayed (subst (λ (u : Merged). StaysIn u.refusal u.begun None e ((reads ≡ []) × (v ≡ it)) (Keeps e v × BlamedOn takes a.meaning reads e v)) (sym is_fresh) stays) h
@@ -246,7 +246,7 @@ refused_later m c done reads at e r = record {
   handles = r.handles;
   are = r.are;
   refused = elim r.refused [
-    | inl k ↦ inl (brought_weaker (IsScanned m c r.handles reads) (IsScanned m c r.handles (done ++ reads)) m at e (scanned_later m c r.handles done reads) k)
+    | inl k ↦ inl (brought_weaker (IsScanned m c r.handles reads) (IsScanned m c r.handles (done ++ reads)) (IsReadAmong m r.handles reads) (IsReadAmong m r.handles (done ++ reads)) m at e (scanned_later m c r.handles done reads) (read_later m r.handles done reads) k)
     | inr s ↦ inr (s.0, s.1, by_reads_later m.decode s.0 done reads e s.2)
   ];
 }
@@ -282,10 +282,13 @@ module _ (m : Meaning) (c : CoreModel) (x : Unseen) (w : IsWhole c x) (left : Li
       by (inr r) = inr (inr (sources_for rows reads blamed later at e r))
 
   -- some tables are among those of the core
+  read_of : (reads : List Act) (r : RowEntry) → IsReadAmong m (handles_of left) reads r → IsReadAmong m (handles_of x.runs) reads r
+  read_of reads r (h, there, unread) = (h, among h there, unread)
+
   scanned_of : (reads : List Act) (r : RowEntry) → IsScanned m c (handles_of left) reads r → IsScanned m c (handles_of x.runs) reads r
   scanned_of reads r (inl own) = inl own
   scanned_of reads r (inr (inl there)) = inr (inl there)
-  scanned_of reads r (inr (inr (h, there, unread))) = inr (inr (h, among h there, unread))
+  scanned_of reads r (inr (inr there)) = inr (inr (read_of reads r there))
 
   abbrev pub LaterBrought : Merged → List Act → Type 0
   LaterBrought rows reads = (later : List Act) (at : Option (List ℕ)) (e : SlateDBError) → Folds rows m later at e → FoldsRefuse sources m (reads ++ later) at e
@@ -299,16 +302,17 @@ module _ (m : Meaning) (c : CoreModel) (x : Unseen) (w : IsWhole c x) (left : Li
       of reached (inl met) = record {
         handles = handles_of x.runs;
         are = all_handles c.events x.runs w.tied.runs;
-        refused = inl (brought_weaker (SourcesBring sources m (reads ++ later)) (IsScanned m c (handles_of x.runs) (reads ++ later)) m at e
-            (λ r k. scanned_of (reads ++ later) r (sources_scanned m range order (reads ++ later) r c n ops layers left sources are owns turned k)) met);
+        refused = inl (brought_weaker (SourcesBring sources m (reads ++ later)) (IsScanned m c (handles_of x.runs) (reads ++ later)) (SourcesRise sources m (reads ++ later)) (IsReadAmong m (handles_of x.runs) (reads ++ later)) m at e
+            (λ r k. scanned_of (reads ++ later) r (sources_scanned m range order (reads ++ later) r c n ops layers left sources are owns turned k))
+            (λ r k. read_of (reads ++ later) r (sources_risen m range order (reads ++ later) r n ops layers left sources are k)) met);
       }
       of reached (inr blamed) = refused_by (reads ++ later) at e (shown (reads ++ later) at e reached blamed)
 
-      folds : merge_refuses rows.iterator m later at e ⊎ RefusesBrought (fold_brings rows m later) m at e → Folds rows m later at e
-      folds k = going_refuses (λ d. merge_refuses rows.iterator m later at d ⊎ RefusesBrought (fold_brings rows m later) m at d) rows e going k
+      folds : merge_refuses rows.iterator m later at e ⊎ RefusesFold rows m later at e → Folds rows m later at e
+      folds k = going_refuses (λ d. merge_refuses rows.iterator m later at d ⊎ RefusesFold rows m later at d) rows e going k
 
       by : OwnRefusal range rows m later at e → IsRefusedByScan m c (reads ++ later) at e
-      by (inl met) = of (met_anywhere (fold_brings rows m later) range m at e met) (brought later at e (folds (inr met)))
+      by (inl met) = of (met_anywhere rows range m later at e met) (brought later at e (folds (inr met)))
       by (inr r) = of r.0 (brought later at e (folds (inl r.1)))
 
   -- before: the filters were asked

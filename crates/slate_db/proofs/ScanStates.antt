@@ -22,7 +22,6 @@ use Rattle.slate_types.proofs.KeyOrder.{le_lt_trans, lt_irreflexive, lt_le_trans
 use Rattle.slate_merge.specs.declared.folding.Folding.{Folding}
 use Rattle.slate_merge.specs.declared.operator_iterator.MergeOperatorIterator.{MergeOperatorIterator}
 use Rattle.slate_merge.specs.Folding.{NoneRises}
-use Rattle.slate_merge.specs.Folds.{RefusesBrought}
 use Rattle.slate_merge.specs.Kept.{Copies}
 use Rattle.slate_merge.specs.OperatorIterators.{IsGoing, IsOperable, refuses_folding, rest_folding, sound_folding}
 use Rattle.slate_merge.specs.Peeking.{with_ahead}
@@ -31,7 +30,7 @@ use Rattle.slate_txn.specs.Alone.{first_left}
 use Rattle.slate_db.specs.declared.scan.DbIterator.{DbIterator}
 use Rattle.slate_db.specs.declared.scan.ScanState.{ScanState}
 use Rattle.slate_db.specs.declared.scan.ScanState.TheVariants.{Walking, Done, Refused}
-use Rattle.slate_db.specs.Scans.{AnswersAgain, AreForIn, FoldsAll, IsOperableIn, IsReached, IsSoundIn, IsSoundMerged, Leaves, MergedSources, RefusesIn, SourcesRefuse, fold_brings, left_in, merge_brings, merge_refuses, merge_rows, order_of_merge}
+use Rattle.slate_db.specs.Scans.{AnswersAgain, AreForIn, FoldsAll, IsOperableIn, IsReached, IsSoundIn, IsSoundMerged, Leaves, MergedSources, RefusesFold, RefusesIn, SourcesRefuse, left_in, merge_offers, merge_refuses, merge_rows, order_of_merge}
 use Rattle.slate_db.specs.Values.{HasValues, has_value}
 use Rattle.slate_db.proofs.Foldings.{bases_closed, closed_bases, going_refuses, refuses_going, refuses_weaker}
 use Rattle.slate_db.proofs.Passing.{has_none}
@@ -173,19 +172,19 @@ sources_walk r range a b x u v is h = on_ok_weaker r
 
 -- what a state refuses for that is going
 abbrev pub OwnRefusal : BytesRange → Merged → Meaning → List Act → Option (List ℕ) → SlateDBError → Type 0
-OwnRefusal range u m reads at e = RefusesBrought (fold_brings u m reads) m at e ⊎ (IsReached range at × merge_refuses u.iterator m reads at e)
+OwnRefusal range u m reads at e = RefusesFold u m reads at e ⊎ (IsReached range at × merge_refuses u.iterator m reads at e)
 
 abbrev pub Folds : Merged → Meaning → List Act → Option (List ℕ) → SlateDBError → Type 0
-Folds u m reads at e = refuses_folding merge_refuses merge_brings u m reads at e
+Folds u m reads at e = refuses_folding merge_refuses merge_offers u m reads at e
 
 -- what it refuses as an iterator that folds
 abbrev FoldsGoing : Merged → Meaning → List Act → Option (List ℕ) → SlateDBError → Type 0
-FoldsGoing u m reads at e = merge_refuses u.iterator m reads at e ⊎ RefusesBrought (fold_brings u m reads) m at e
+FoldsGoing u m reads at e = merge_refuses u.iterator m reads at e ⊎ RefusesFold u m reads at e
 
 -- no seek meets such a row
-pub met_anywhere : (brings : RowEntry → Type 0) (range : BytesRange) (m : Meaning) (at : Option (List ℕ)) (e : SlateDBError) → RefusesBrought brings m at e → IsReached range at
-met_anywhere brings range m at e (inl operand) = subst (IsReached range) (sym operand.refuses.0) tt
-met_anywhere brings range m at e (inr rise) = subst (IsReached range) (sym rise.refuses.0) tt
+pub met_anywhere : (u : Merged) (range : BytesRange) (m : Meaning) (reads : List Act) (at : Option (List ℕ)) (e : SlateDBError) → RefusesFold u m reads at e → IsReached range at
+met_anywhere u range m reads at e (inl operand) = subst (IsReached range) (sym operand.refuses.0) tt
+met_anywhere u range m reads at e (inr rise) = subst (IsReached range) (sym rise.refuses.0) tt
 
 own_of : (range : BytesRange) (u : Merged) (m : Meaning) (reads : List Act) (at : Option (List ℕ)) (e : SlateDBError) → IsReached range at → FoldsGoing u m reads at e → OwnRefusal range u m reads at e
 own_of range u m reads at e reached (inl k) = inr (reached, k)
@@ -200,7 +199,7 @@ later_walk r range a b x u v is goes h = on_both r goes h
     back g reads less later at e f = refuses_going (FoldsGoing u a.meaning (reads ++ later) at) u e g.0 (less later at e (going_refuses (FoldsGoing v a.meaning later at) v e g.1 f))
 
     own : Goes u v → (reads : List Act) → NoMore (Folds u a.meaning) reads (Folds v a.meaning) → (later : List Act) (at : Option (List ℕ)) (e : SlateDBError) → OwnRefusal range v a.meaning later at e → OwnRefusal range u a.meaning (reads ++ later) at e
-    own g reads less later at e (inl f) = own_of range u a.meaning (reads ++ later) at e (met_anywhere (fold_brings v a.meaning later) range a.meaning at e f) (back g reads less later at e (inr f))
+    own g reads less later at e (inl f) = own_of range u a.meaning (reads ++ later) at e (met_anywhere v range a.meaning later at e f) (back g reads less later at e (inr f))
     own g reads less later at e (inr f) = own_of range u a.meaning (reads ++ later) at e f.0 (back g reads less later at e (inl f.1))
 
     by : Goes u v → (reads : List Act) → NoMore (Folds u a.meaning) reads (Folds v a.meaning) → NoMore (RefusesIn range (Walking u) a.meaning) reads (RefusesIn range (Walking v) a.meaning)

@@ -11,7 +11,8 @@
 --     folded_rows m order w sources      what they fold to, by what the parts mean
 --     IsBlamedFor sources m reads at e      by the reads a source refuses for it, and not for want of an `init`
 --     SourcesBring sources m reads r      by the reads a source may hand out the row
---     FoldsRefuse sources m reads at e      such a row is an operand, and there is no operator, or rises above one; or a source refuses for it
+--     SourcesRise sources m reads r      by the reads a source may hand out the row next behind an operand of its key with a lesser sequence
+--     FoldsRefuse sources m reads at e      a row that is brought is an operand, and there is no operator, or one rises; or a source refuses for it
 use Rattle.std.specs.Prelude.{◌≡◌, ◌≢◌, ◌⊎◌, ℕ, true, List, [], ◌∷◌, ◌++◌, map, reverse, Option, Some, None}
 use Rattle.slate_types.specs.declared.bytes_range.BytesRange.{BytesRange}
 use Rattle.slate_types.specs.declared.error.SlateDBError.{SlateDBError}
@@ -28,6 +29,7 @@ use Rattle.slate_mem.specs.Batch.{Ops}
 use Rattle.slate_merge.specs.Folding.{folded}
 use Rattle.slate_merge.specs.Folds.{RefusesBrought}
 use Rattle.slate_merge.specs.Merge.{merged}
+use Rattle.slate_merge.specs.Offers.{RisesByCalls}
 use Rattle.slate_merge.specs.Merging.{AnyByRecursion, CanMerge, blames, waiting_sources}
 use Rattle.slate_read.specs.declared.read_source.ReadSource.{ReadSource}
 use Rattle.slate_read.specs.declared.read_source.ReadSource.TheVariants.{Run, Batch, Memory}
@@ -37,7 +39,7 @@ use Rattle.slate_read.specs.SourceBringing as bringing
 use Rattle.slate_db.specs.Model.{Rows}
 use Rattle.slate_db.specs.ScanFilters.{RunsAreLeft}
 use Rattle.slate_db.specs.Scanned.{Brings, HasOwn}
-use Rattle.slate_db.specs.Scans.{IsSoundSource, ScanSource, order_of, source_refuses, source_rows}
+use Rattle.slate_db.specs.Scans.{IsSoundSource, ScanSource, order_of, source_begins, source_refuses, source_rows, source_seeks, source_takes}
 
 pub record HasRows (order : IterationOrder) (means : Rows → Type 0) (it : RowList) : Type 0 where
   pub rows : means it.rows
@@ -99,5 +101,8 @@ IsBlamedFor sources m reads at e = (e ≢ IteratorNotInitialized) × blames sour
 abbrev pub SourcesBring : List ScanSource → Meaning → List Act → RowEntry → Type 0
 SourcesBring sources m reads r = AnyByRecursion (λ s. bringing.brings_source s.iterator m reads r) sources
 
+abbrev pub SourcesRise : List ScanSource → Meaning → List Act → RowEntry → Type 0
+SourcesRise sources m reads r = AnyByRecursion (λ s. RisesByCalls source_begins source_takes source_seeks s m reads r) sources
+
 abbrev pub FoldsRefuse : List ScanSource → Meaning → List Act → Option (List ℕ) → SlateDBError → Type 0
-FoldsRefuse sources m reads at e = RefusesBrought (SourcesBring sources m reads) m at e ⊎ IsBlamedFor sources m reads at e
+FoldsRefuse sources m reads at e = RefusesBrought (SourcesBring sources m reads) (SourcesRise sources m reads) m at e ⊎ IsBlamedFor sources m reads at e

@@ -3,7 +3,8 @@
 --     source_rows, IsSoundSource, order_of, source_refuses, source_begins, source_takes, source_seeks      what it is as an iterator
 --     merge_rows, IsSoundMerged, order_of_merge, merge_refuses, merge_begins, merge_takes, merge_seeks      of the sources merged
 --     merge_brings rows m reads r      the rows that calls of the merge may hand out by the reads
---     fold_brings rows m reads r      these, and the row that was read ahead
+--     merge_offers ahead rows m reads o      these, and those that rise, behind the row that is held ahead
+--     RefusesFold rows m reads at e      an operand without an operator, or a row that rises above one, of what comes next where they are folded
 --     left_of it w      the rows that are left, tombstones among them
 --     brought_in state w      the rows that the sources still bring, whose operands aren't folded yet
 --     IsOperableIn state w      without an operator none of these is an operand; and none rises above the operand before it
@@ -27,8 +28,8 @@
 --     IsScanned m c hs reads r      so it is, or the row stands in memory, or is of an open transaction's own
 --     IsShownByScan m c reads e, IsRefusedByScan m c reads at e      the reads show it of the tables that the journal names; or, but for a seek,
 --                                                                 such a row is an operand, and there is no operator; or there is one,
---                                                                 and such a row has a greater sequence than an operand of its key:
---                                                                 it names the two
+--                                                                 and a row of one of these tables, which was read, has a greater
+--                                                                 sequence than an operand of its key: it names the two
 --     IsRefusedInScan policies m c reads e      so it is, or the reads of its opening show it of the filters that were asked
 --     IsOpeningError policies query before after c e, IsScanError policies before after c e      a fault that came in the call, or want of memory, or such a refusal by its reads: an opening meets no operand
 use Rattle.std.specs.Prelude.{◌≡◌, ◌≢◌, ◌⊎◌, ℕ, ◌<◌, true, List, [], filter, count_by, Contains, Option, Some, None, Result, Err, IsSome, slice_get}
@@ -53,9 +54,10 @@ use Rattle.slate_merge.specs.declared.operator_iterator.MergeOperatorIterator.{M
 use Rattle.slate_merge.specs.Calls.{BringsByCalls}
 use Rattle.slate_merge.specs.Filtering.{TakesKept, upto_seq}
 use Rattle.slate_merge.specs.Folding.{NoneRises}
-use Rattle.slate_merge.specs.Folds.{IsRise, RefusesBrought, brings_taken}
+use Rattle.slate_merge.specs.Folds.{IsRise, RefusesBrought}
 use Rattle.slate_merge.specs.MergeBringing.{MergeBegins, MergeSeeks, MergeTakes}
 use Rattle.slate_merge.specs.MergeStates.{IsSoundMerge, refuses_in, rest_of_merge}
+use Rattle.slate_merge.specs.Offers.{Comes, Offer, Rises, offers}
 use Rattle.slate_merge.specs.OperatorIterators.{IsGoing, RefusesBy, rest_folding, sound_folding}
 use Rattle.slate_merge.specs.Peeking.{with_ahead}
 use Rattle.slate_read.specs.declared.read_source.ReadSource.{ReadSource}
@@ -186,13 +188,16 @@ abbrev pub SourcesRefuse : BytesRange → ScanState → Meaning → List Act →
 SourcesRefuse range (Walking rows) m reads at e = IsReached range at × merge_refuses rows.iterator m reads at e
 SourcesRefuse range _ m reads at e = ⊥
 
--- the row that was read ahead, and those that calls of the merge may hand out
-abbrev pub fold_brings : MergeOperatorIterator MergedSources → Meaning → List Act → RowEntry → Type 0
-fold_brings rows m reads r = brings_taken merge_brings (rows.iterator, rows.ahead, []) m reads r
+abbrev pub merge_offers : Option RowEntry → MergedSources → Meaning → List Act → Offer → Type 0
+merge_offers ahead rows m reads o = offers merge_begins merge_takes merge_seeks ahead rows m reads o
+
+-- of the row that was read ahead, and of those that calls of the merge may hand out
+abbrev pub RefusesFold : MergeOperatorIterator MergedSources → Meaning → List Act → Option (List ℕ) → SlateDBError → Type 0
+RefusesFold rows m reads at e = RefusesBrought (λ r. merge_offers rows.ahead rows.iterator m reads (Comes r)) (λ r. merge_offers rows.ahead rows.iterator m reads (Rises r)) m at e
 
 -- an operand without an operator, and a row that rises above one: no seek meets them
 abbrev pub RefusesIn : BytesRange → ScanState → Meaning → List Act → Option (List ℕ) → SlateDBError → Type 0
-RefusesIn range (Walking rows) m reads at e = RefusesBy rows.refusal rows.begun (λ d. RefusesBrought (fold_brings rows m reads) m at d ⊎ (IsReached range at × merge_refuses rows.iterator m reads at d)) e
+RefusesIn range (Walking rows) m reads at e = RefusesBy rows.refusal rows.begun (λ d. RefusesFold rows m reads at d ⊎ (IsReached range at × merge_refuses rows.iterator m reads at d)) e
 RefusesIn range Done m reads at e = ⊥
 RefusesIn range (Refused kept) m reads at e = (kept ≢ OutOfMemory) × (e ≡ kept)
 
@@ -276,7 +281,7 @@ IsScanned m c hs reads r = IsOwnRow c r ⊎ Contains (newest_first (memory c)) r
 pub record IsRefusedByScan (m : Meaning) (c : CoreModel) (reads : List Act) (at : Option (List ℕ)) (e : SlateDBError) : Type 0 where
   pub handles : List SsTableHandle
   pub are : AreHandles (tables_of c.events) handles
-  pub refused : RefusesBrought (IsScanned m c handles reads) m at e ⊎ ShowsAmong m.decode handles reads e
+  pub refused : RefusesBrought (IsScanned m c handles reads) (IsReadAmong m handles reads) m at e ⊎ ShowsAmong m.decode handles reads e
 
 pub record IsShownByFilters (policies : List Policy) (query : Option FilterQuery) (m : Meaning) (c : CoreModel) (reads : List Act) (e : SlateDBError) : Type 0 where
   pub handles : List SsTableHandle

@@ -15,7 +15,7 @@ ghost use Rattle.slate_db.specs.Installs.{handles_of};
 ghost use Rattle.slate_db.specs.OpenScans.{AreEach, AreScanSources, CanOpen, FoldsRefuse, HasRows, IsBlamedFor, IsMemorySource, IsRunSource, LeftSources, folded_rows, merged_rows};
 ghost use Rattle.slate_db.specs.ScanFilters.{FailsAsking, scan_query};
 ghost use Rattle.slate_db.specs.Scanned.{HasOwn};
-ghost use Rattle.slate_db.specs.Scans.{FoldsAll, IsOperableIn, IsSoundMerged, merge_brings, merge_refuses, merge_rows, order_of_merge};
+ghost use Rattle.slate_db.specs.Scans.{FoldsAll, IsOperableIn, IsSoundMerged, merge_offers, merge_refuses, merge_rows, order_of_merge};
 ghost use Rattle.slate_db.specs.Sound.{AreBases};
 
 use crate::layers::Layers;
@@ -332,7 +332,7 @@ pub(crate) fn merged<'a, S: Store, M: MergeOperator, T: BlockTransformer>(
         (w.meaning.combine ≡ None → AreBases (merged_rows order w sources.entry.items)) → IfOk result (λ rows. IsOperableIn (ScanState.Walking rows) w) }
     ensures checked { let reach = ⟦<EnvOf<S, M, T> as Outside>⟧.reach in (w : World) → AllByRecursion (CanOpen w order) sources.entry.items → OnOk result (Checks w (reach env.old) (reach env.new)) }
     ensures later { let reach = ⟦<EnvOf<S, M, T> as Outside>⟧.reach in IfOk result (λ rows. Made (reach env.old) (reach env.new) (λ reads. (later : List Act) (at : Option (List ℕ)) (e : SlateDBError) → merge_refuses rows.iterator (reach env.old).meaning later at e → IsBlamedFor sources.entry.items (reach env.old).meaning (reads ++ later) at e)) }
-    ensures brought { let reach = ⟦<EnvOf<S, M, T> as Outside>⟧.reach in IfOk result (λ rows. Made (reach env.old) (reach env.new) (λ reads. (later : List Act) (at : Option (List ℕ)) (e : SlateDBError) → refuses_folding merge_refuses merge_brings rows (reach env.old).meaning later at e → FoldsRefuse sources.entry.items (reach env.old).meaning (reads ++ later) at e)) }
+    ensures brought { let reach = ⟦<EnvOf<S, M, T> as Outside>⟧.reach in IfOk result (λ rows. Made (reach env.old) (reach env.new) (λ reads. (later : List Act) (at : Option (List ℕ)) (e : SlateDBError) → refuses_folding merge_refuses merge_offers rows (reach env.old).meaning later at e → FoldsRefuse sources.entry.items (reach env.old).meaning (reads ++ later) at e)) }
     ensures cause { let reach = ⟦<EnvOf<S, M, T> as Outside>⟧.reach in IfErr result (λ e. Made (reach env.old) (reach env.new) (λ reads. IsFault (reach env.old) (reach env.new) e ⊎ IsBlamedFor sources.entry.items (reach env.old).meaning reads None e)) }
     ensures reads { let reach = ⟦<EnvOf<S, M, T> as Outside>⟧.reach in OnlyReads (reach env.old) (reach env.new) }
 {

@@ -142,8 +142,10 @@ fn is_row(answer: Option<&RowEntry>, expected: &Row) -> bool {
 fn looks_ahead(alloc: Global) -> Result<bool, SlateDBError> {
     let mut rows = PeekingIterator::new(source(alloc, &[A_1, C_2], UP))?;
     rows.init(alloc, &mut ())?;
-    let once = is_row(rows.peek(alloc, &mut ())?, &A_1);
-    let twice = is_row(rows.peek(alloc, &mut ())?, &A_1);
+    rows.read_ahead(alloc, &mut ())?;
+    let once = is_row(rows.ahead(), &A_1);
+    rows.read_ahead(alloc, &mut ())?;
+    let twice = is_row(rows.ahead(), &A_1);
     rows.seek(alloc, b"a", &mut ())?;
     let first = is_row(rows.next(alloc, &mut ())?.as_ref(), &A_1);
     let second = is_row(rows.next(alloc, &mut ())?.as_ref(), &C_2);

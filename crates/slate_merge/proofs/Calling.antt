@@ -51,9 +51,9 @@ module _ {S : Type 0} (begins : S → Meaning → List Act → S → Type 0) (ta
   calls_stay m x reads later r c = brings_before_others x m reads later r c
 
   -- what calls may hand out is brought, where each call tells so
-  module _ (m : Meaning) (brings : S → List Act → RowEntry → Type 0) (less : (x y : S) (by : List Act) → CallsOnce begins takes seeks m x by y → NoMoreRows (brings x) by (brings y))
-      (takes_brought : (x y : S) (by : List Act) (r : RowEntry) → takes x m by (Some r) y → brings x by r) (grows : (x : S) (reads all : List Act) (r : RowEntry) → brings x reads r → ((a : Act) → Contains reads a → Contains all a) → brings x all r) where
-    calls_back : (reads : List Act) (r : RowEntry) (x y : S) (each : List (List Act)) → AreCalls begins takes seeks m reads x each y → brings y reads r → brings x reads r
+  module _ (m : Meaning) {R : Type 0} (brings : S → List Act → R → Type 0) (less : (x y : S) (by : List Act) → CallsOnce begins takes seeks m x by y → NoMoreRows (brings x) by (brings y))
+      (grows : (x : S) (reads all : List Act) (r : R) → brings x reads r → ((a : Act) → Contains reads a → Contains all a) → brings x all r) where
+    pub calls_back : (reads : List Act) (r : R) (x y : S) (each : List (List Act)) → AreCalls begins takes seeks m reads x each y → brings y reads r → brings x reads r
     calls_back reads r x y [] same k = subst (λ (z : S). brings z reads r) (sym same) k
     calls_back reads r x y (by ∷ each) (among, (next, call, calls)) k =
         grows x (by ++ reads) reads r (less x next by call reads r (calls_back reads r next y each calls k)) (λ a c. within a (Contains-append_cases by reads a c))
@@ -62,5 +62,7 @@ module _ {S : Type 0} (begins : S → Meaning → List Act → S → Type 0) (ta
         within a (inl c) = All-contains (λ z. Contains reads z) by a (All-from_recursion (λ z. Contains reads z) by among) c
         within a (inr c) = c
 
+  module _ (m : Meaning) (brings : S → List Act → RowEntry → Type 0) (less : (x y : S) (by : List Act) → CallsOnce begins takes seeks m x by y → NoMoreRows (brings x) by (brings y))
+      (takes_brought : (x y : S) (by : List Act) (r : RowEntry) → takes x m by (Some r) y → brings x by r) (grows : (x : S) (reads all : List Act) (r : RowEntry) → brings x reads r → ((a : Act) → Contains reads a → Contains all a) → brings x all r) where
     pub calls_to : (x : S) (reads : List Act) (r : RowEntry) → BringsByCalls begins takes seeks x m reads r → brings x reads r
-    calls_to x reads r c = calls_back reads r x c.last c.each c.calls (grows c.last c.by reads r (takes_brought c.last c.after c.by r c.taken) (λ a k. All-contains (λ z. Contains reads z) c.by a (All-from_recursion (λ z. Contains reads z) c.by c.among) k))
+    calls_to x reads r c = calls_back m brings less grows reads r x c.last c.each c.calls (grows c.last c.by reads r (takes_brought c.last c.after c.by r c.taken) (λ a k. All-contains (λ z. Contains reads z) c.by a (All-from_recursion (λ z. Contains reads z) c.by c.among) k))

@@ -14,7 +14,7 @@ use Rattle.slate_types.specs.World.{World, IsCall, Made, Sees}
 use Rattle.slate_types.proofs.Calls.{call_both, call_none, checks_none, met, sees_first, sees_last}
 use Rattle.slate_types.proofs.Moves.{Moves}
 use Rattle.slate_types.proofs.Reaching.{fault_earlier}
-use Rattle.slate_merge.specs.Calls.{BringsByCalls}
+use Rattle.slate_merge.specs.Offers.{offers}
 use Rattle.slate_merge.specs.Folding.{AreLinked, begins_linked, folded, follows, is_open, links}
 use Rattle.slate_merge.specs.FoldedLaws.{folded_gathered, folded_through}
 use Rattle.slate_merge.specs.Folds.{Blames, BlamesNext, Taken, folds_held, hands_out, refuses_folds, refuses_taken, rest_folds, rest_taken, sound_taken, takes_ahead}
@@ -140,14 +140,14 @@ module _ {S : Type 0} (rest : S → World → List RowEntry) (sound : S → Worl
     abbrev pub HandsFolds : Option ℕ → Reach → Reach → S → Option RowEntry → Option RowEntry → S → Option RowEntry → Type 0
     HandsFolds barrier a b x ahead answer y more =
         Made a b (λ reads. hands_out {S = S} takes barrier (x, ahead, []) a.meaning reads answer (y, more, [])
-        × NoMore (refuses_folds {S = S} refuses (BringsByCalls begins takes seeks) (x, ahead, []) a.meaning) reads (refuses_folds {S = S} refuses (BringsByCalls begins takes seeks) (y, more, []) a.meaning))
+        × NoMore (refuses_folds {S = S} refuses (offers begins takes seeks) (x, ahead, []) a.meaning) reads (refuses_folds {S = S} refuses (offers begins takes seeks) (y, more, []) a.meaning))
 
     hands : (barrier : Option ℕ) (a b : Reach) (x y : S) (ahead answer more : Option RowEntry) (reads : List Act) → IsCall a b reads → (a.meaning.combine ≡ None → IfSome answer (λ row. is_open barrier row ≡ false) × takes_ahead {S = S} takes (x, ahead, []) a.meaning reads answer (y, more, [])) →
         folds_held {S = S} takes (x, ahead, []) a.meaning reads (y, more, []) → NoMore (refuses x a.meaning) reads (refuses y a.meaning) → HandsFolds barrier a b x ahead answer y more
     hands barrier a b x y ahead answer more reads call plain held less = (
       reads,
       call,
-      ((plain, held), folds_less (BringsByCalls begins takes seeks) refuses a.meaning (x, ahead, []) (y, more, []) reads less (held_less begins takes seeks a.meaning x y ahead more reads held)),
+      ((plain, held), folds_less (offers begins takes seeks) refuses a.meaning (x, ahead, []) (y, more, []) reads less (held_less begins takes seeks a.meaning x y ahead more reads held)),
     )
 
     -- nothing is folded
@@ -155,9 +155,9 @@ module _ {S : Type 0} (rest : S → World → List RowEntry) (sound : S → Worl
     alone barrier a b x y ahead answer closed s = hands barrier a b x y ahead answer None s.taken.0 s.taken.1 (λ none. (closed, s.taken.2.0)) (ahead_held takes a.meaning x y ahead answer s.taken.0 s.taken.2.0) s.taken.2.1
 
     pub folded_none : (different : Bool) (barrier : Option ℕ) (a b : Reach) (x y : S) (ahead more : Option RowEntry) → more ≡ None → Step (rest_taken rest) (sound_taken rest sound order_of) (refuses_taken refuses) (takes_ahead takes) a b (x, ahead, []) None (y, None, []) →
-        Step (rest_folds different barrier rest) (sound_taken rest sound order_of) (refuses_folds refuses (BringsByCalls begins takes seeks)) (hands_out takes barrier) a b (x, ahead, []) None (y, more, [])
+        Step (rest_folds different barrier rest) (sound_taken rest sound order_of) (refuses_folds refuses (offers begins takes seeks)) (hands_out takes barrier) a b (x, ahead, []) None (y, more, [])
     folded_none different barrier a b x y ahead more none s =
-        subst (λ (o : Option RowEntry). Step (rest_folds different barrier rest) (sound_taken rest sound order_of) (refuses_folds refuses (BringsByCalls begins takes seeks)) (hands_out takes barrier) a b (x, ahead, []) None (y, o, [])) (sym none)
+        subst (λ (o : Option RowEntry). Step (rest_folds different barrier rest) (sound_taken rest sound order_of) (refuses_folds refuses (offers begins takes seeks)) (hands_out takes barrier) a b (x, ahead, []) None (y, o, [])) (sym none)
         (record {
           rows = λ w sees h. (ap (folded (operator_at w.meaning.combine) different barrier) (s.rows w sees h).0, ap (folded (operator_at w.meaning.combine) different barrier) (s.rows w sees h).1);
           still = s.still;
@@ -166,9 +166,9 @@ module _ {S : Type 0} (rest : S → World → List RowEntry) (sound : S → Worl
         })
 
     pub through_step : (different : Bool) (barrier : Option ℕ) (a b : Reach) (x y : S) (ahead more : Option RowEntry) (row : RowEntry) → more ≡ None → is_open barrier row ≡ false → Step (rest_taken rest) (sound_taken rest sound order_of) (refuses_taken refuses) (takes_ahead takes) a b (x, ahead, []) (Some row) (y, None, []) →
-        Step (rest_folds different barrier rest) (sound_taken rest sound order_of) (refuses_folds refuses (BringsByCalls begins takes seeks)) (hands_out takes barrier) a b (x, ahead, []) (Some row) (y, more, [])
+        Step (rest_folds different barrier rest) (sound_taken rest sound order_of) (refuses_folds refuses (offers begins takes seeks)) (hands_out takes barrier) a b (x, ahead, []) (Some row) (y, more, [])
     through_step different barrier a b x y ahead more row none closed s =
-        subst (λ (o : Option RowEntry). Step (rest_folds different barrier rest) (sound_taken rest sound order_of) (refuses_folds refuses (BringsByCalls begins takes seeks)) (hands_out takes barrier) a b (x, ahead, []) (Some row) (y, o, [])) (sym none)
+        subst (λ (o : Option RowEntry). Step (rest_folds different barrier rest) (sound_taken rest sound order_of) (refuses_folds refuses (offers begins takes seeks)) (hands_out takes barrier) a b (x, ahead, []) (Some row) (y, o, [])) (sym none)
         (record {
           rows = λ w sees h. ap (folded (operator_at w.meaning.combine) different barrier) (s.rows w sees h) ∙ folded_through (operator_at w.meaning.combine) different barrier row (rest y w) closed;
           still = s.still;
@@ -180,7 +180,7 @@ module _ {S : Type 0} (rest : S → World → List RowEntry) (sound : S → Worl
         Moves (rest_taken rest) (sound_taken rest sound order_of) (refuses_taken refuses) a b (x, ahead, []) (y, more, newer ++ (oldest ∷ [])) → AreLinked (links different barrier) newer oldest →
         ((w : World) → Sees w a b → sound_taken rest sound order_of (x, ahead, []) w → begins_linked (links different barrier) oldest (with_ahead more (rest y w)) ≡ false) →
         fold_rows (operator_at a.meaning.combine oldest.key) (oldest ∷ reverse newer) ≡ Some row → (a.meaning.combine ≡ None → ⊥) → Came takes refuses a b x ahead y more →
-        Step (rest_folds different barrier rest) (sound_taken rest sound order_of) (refuses_folds refuses (BringsByCalls begins takes seeks)) (hands_out takes barrier) a b (x, ahead, []) (Some row) (y, more, [])
+        Step (rest_folds different barrier rest) (sound_taken rest sound order_of) (refuses_folds refuses (offers begins takes seeks)) (hands_out takes barrier) a b (x, ahead, []) (Some row) (y, more, [])
     folded_step different barrier a b x y ahead more newer oldest row m linked ends fold some came = record {
       rows = λ w sees h. ap (folded (operator_at w.meaning.combine) different barrier) (sym (m.rows w sees h))
           ∙ folded_gathered (operator_at w.meaning.combine) different barrier newer oldest row (with_ahead more (rest y w)) linked (ends w sees h)
@@ -193,12 +193,12 @@ module _ {S : Type 0} (rest : S → World → List RowEntry) (sound : S → Worl
     -- what a call refuses for
     abbrev pub RefusesFolds : Bool → Option ℕ → Reach → Reach → S → Option RowEntry → SlateDBError → S → Type 0
     RefusesFolds different barrier a b x ahead e y =
-        Made a b (λ reads. (IsFault a b e ⊎ refuses_folds {S = S} refuses (BringsByCalls begins takes seeks) (x, ahead, []) a.meaning reads None e) × BlamesNext refuses takes different barrier ahead a.meaning reads None e x y)
+        Made a b (λ reads. (IsFault a b e ⊎ refuses_folds {S = S} refuses (offers begins takes seeks) (x, ahead, []) a.meaning reads None e) × BlamesNext refuses takes different barrier ahead a.meaning reads None e x y)
 
     pub source_blames : (different : Bool) (barrier : Option ℕ) (a b : Reach) (x y : S) (ahead : Option RowEntry) (e : SlateDBError) → Made a b (λ reads. IsFault a b e ⊎ refuses x a.meaning reads None e) → RefusesFolds different barrier a b x ahead e y
     source_blames different barrier a b x y ahead e (reads, call, why) = (reads, call, by why)
       where
-        by : IsFault a b e ⊎ refuses x a.meaning reads None e → (IsFault a b e ⊎ refuses_folds {S = S} refuses (BringsByCalls begins takes seeks) (x, ahead, []) a.meaning reads None e) × BlamesNext refuses takes different barrier ahead a.meaning reads None e x y
+        by : IsFault a b e ⊎ refuses x a.meaning reads None e → (IsFault a b e ⊎ refuses_folds {S = S} refuses (offers begins takes seeks) (x, ahead, []) a.meaning reads None e) × BlamesNext refuses takes different barrier ahead a.meaning reads None e x y
         by (inl k) = (inl k, fault_blames a b e k)
         by (inr k) = (inr (inl k), own_blames e k)
 

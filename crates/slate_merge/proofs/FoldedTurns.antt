@@ -35,7 +35,7 @@ not_less : (m n : ℕ) → nat_le n m ≡ true → nat_lt m n ≡ false
 not_less m n h = grind (arith, nat_tests, h)
 
 -- a row in turn behind one of its key has no greater sequence
-not_greater : (order : IterationOrder) (r s : RowEntry) → s.key ≡ r.key → row_before order s r ≡ false → nat_le s.seq r.seq ≡ true
+pub not_greater : (order : IterationOrder) (r s : RowEntry) → s.key ≡ r.key → row_before order s r ≡ false → nat_le s.seq r.seq ≡ true
 not_greater order r s same turn = by (nat_le s.seq r.seq) refl
   where
     by : (b : Bool) → nat_le s.seq r.seq ≡ b → b ≡ true

@@ -1,5 +1,5 @@
 -- What the call of one source does to a merge under way.
-use Rattle.std.proofs.Common.{◌≡◌, ◌⊎◌, inl, inr, ℕ, ◌≤◌, ◌<◌, true, List, [], ◌∷◌, ◌++◌, length, Option, Some, None, sym, ap, subst, ◌∙◌, arith, IsPermutation, slice_index_or}
+use Rattle.std.proofs.Common.{◌≡◌, ◌⊎◌, inl, inr, ℕ, ◌≤◌, ◌<◌, true, List, [], ◌∷◌, ◌++◌, length, Option, Some, None, sym, ap, subst, ◌∙◌, arith, append_assoc, IsPermutation, slice_index_or}
 use Rattle.std.proofs.lemmas.List.Sorted.{length_permutation}
 use Rattle.std.specs.BinaryHeap.{IsHeap, IsUpperBound, KeepsHeap}
 use Rattle.slate_types.specs.declared.error.SlateDBError.{SlateDBError}
@@ -15,18 +15,18 @@ use Rattle.slate_types.proofs.Moves.{Moves}
 use Rattle.slate_types.proofs.Reaching.{fault_earlier}
 use Rattle.slate_merge.specs.declared.head.Head.{Head}
 use Rattle.slate_merge.specs.NoMoreRows.{AddsNone, AddsNoneByCall, NoMoreRows}
-use Rattle.slate_merge.specs.CallLaws.{brings_behind_others}
-use Rattle.slate_merge.specs.Calls.{BringsByCalls}
+use Rattle.slate_merge.specs.Offers.{Offer, Rises, offers, offers_behind_others}
 use Rattle.slate_merge.specs.Heads.{head_cmp}
-use Rattle.slate_merge.specs.Merging.{AnyByRecursion, Sources, left_in, IsMergingIn, IsSoundHead, blames, either_refusal, begun_sources, merging_bound, AreReady, IsFront}
-use Rattle.slate_merge.specs.MergeBringing.{sources_bring, takes_front}
+use Rattle.slate_merge.specs.Merging.{AnyByRecursion, Sources, left_in, IsMergingIn, IsSoundHead, blames, either_refusal, begun_sources, merging_bound, AreReady, HasRow, IsFront}
+use Rattle.slate_merge.specs.MergeBringing.{StandBehind, sources_offer, takes_front}
 use Rattle.slate_merge.specs.MergeSteps.{Falls, Goes, Joins}
 use Rattle.slate_merge.proofs.HeadLaws.{each_shuffled}
-use Rattle.slate_merge.proofs.StepLaws.{Gives, joins_weaker, steps_still, steps_rows, steps_smaller}
+use Rattle.slate_merge.proofs.StepLaws.{Gives, any_shuffled, joins_weaker, steps_still, steps_rows, steps_smaller}
 use Rattle.slate_merge.proofs.SeekLaws.{sought_still, sought_rows}
 use Rattle.slate_merge.proofs.BeginLaws.{begun_still, begun_rows, begun_bound}
-use Rattle.slate_merge.proofs.Calling.{by_calls, call_tells, called_less}
-use Rattle.slate_merge.proofs.MergeBringings.{brought_begun, brought_empty, brought_gone, brought_put, head_handed, then_hands}
+use Rattle.slate_merge.proofs.Heaps.{none_above}
+use Rattle.slate_merge.proofs.Offerings.{next_rises, offers_called, offers_held, offers_taken}
+use Rattle.slate_merge.proofs.MergeBringings.{brought_begun, brought_empty, brought_gone, brought_put}
 use Rattle.slate_merge.proofs.Blames.{head_blamed, blamed_put, blamed_gone, blamed_begun, blamed_empty}
 use Rattle.std.proofs.lemmas.List.{nil_from_length}
 
@@ -47,13 +47,13 @@ front_first [] others x is p = let long = length_permutation [] (x ∷ others) p
 front_first (y ∷ heads) others x is p = ap (λ (h : Head _). h.row) (sym is)
 
 -- no head is left
-pub none_step : {S : Type 0} (brings : S → Meaning → List Act → RowEntry → Type 0) (rest : S → World → List RowEntry) (sound : S → World → Type 0) (refuses : S → Meaning → List Act → Option (List ℕ) → SlateDBError → Type 0) (order_of : S → IterationOrder) (a : Reach) (heads new : List (Head S)) → length heads ≡ 0 → new ≡ heads
-    → (o : IterationOrder) → Step (left_in rest o) (IsMergingIn rest sound order_of o) (blames refuses) (takes_front brings) a a (begun_sources heads) None (begun_sources new)
-none_step {S} brings rest sound refuses order_of a heads new long same o = record {
+pub none_step : {S : Type 0} (offers : Option RowEntry → S → Meaning → List Act → Offer → Type 0) (rest : S → World → List RowEntry) (sound : S → World → Type 0) (refuses : S → Meaning → List Act → Option (List ℕ) → SlateDBError → Type 0) (order_of : S → IterationOrder) (a : Reach) (heads new : List (Head S)) → length heads ≡ 0 → new ≡ heads
+    → (o : IterationOrder) → Step (left_in rest o) (IsMergingIn rest sound order_of o) (blames refuses) (takes_front offers) a a (begun_sources heads) None (begun_sources new)
+none_step {S} offers rest sound refuses order_of a heads new long same o = record {
   rows = λ w s m. (none w heads (nil_from_length heads long), none w new (same ∙ nil_from_length heads long));
   still = λ w s m. subst (λ (l : List (Head S)). IsMergingIn rest sound order_of o (begun_sources l) w) (sym same) m;
   checked = λ w m. checks_none w a;
-  taken = ([], call_none a, ((nil_from_length heads long, λ later r k. subst (λ (l : List (Head S)). sources_bring brings (begun_sources l) a.meaning later r) same k), λ later at e h. subst (λ (l : List (Head S)). blames refuses (begun_sources l) a.meaning later at e) same h));
+  taken = ([], call_none a, ((nil_from_length heads long, λ later o k. subst (λ (l : List (Head S)). sources_offer offers (begun_sources l) a.meaning later o) same k, tt), λ later at e h. subst (λ (l : List (Head S)). blames refuses (begun_sources l) a.meaning later at e) same h));
 }
   where
     none : (w : World) (l : List (Head S)) → l ≡ [] → left_in rest o (begun_sources l) w ≡ []
@@ -63,17 +63,18 @@ module _ {S : Type 0} (rest : S → World → List RowEntry) (sound : S → Worl
   abbrev goes : Reach → Reach → S → Option RowEntry → S → Type 0
   goes a b = Goes rest sound refuses takes bound order_of a b
 
-  -- what the sources bring
-  abbrev brings : S → Meaning → List Act → RowEntry → Type 0
-  brings = BringsByCalls begins takes seeks
+  -- what the sources offer
+  abbrev offered : Option RowEntry → S → Meaning → List Act → Offer → Type 0
+  offered = offers begins takes seeks
 
-  brings_more : (x : S) (m : Meaning) (done reads : List Act) (r : RowEntry) → brings x m reads r → brings x m (done ++ reads) r
-  brings_more x m done reads r k = brings_behind_others begins takes seeks x m done reads r k
+  offers_more : (ahead : Option RowEntry) (x : S) (m : Meaning) (done reads : List Act) (o : Offer) → offered ahead x m reads o → offered ahead x m (done ++ reads) o
+  offers_more ahead x m done reads o k = offers_behind_others begins takes seeks ahead x m done reads o k
 
-  -- what is brought of x behind a call and a `next` was brought before
-  handed_on : (m : Meaning) (x source : S) (y : Head S) (r s : List Act) → NoMoreRows (by_calls begins takes seeks m x) r (by_calls begins takes seeks m source) → takes source m s (Some y.row) y.source
-      → (later : List Act) (q : RowEntry) → (y.row ≡ q) ⊎ brings y.source m later q → brings x m ((r ++ s) ++ later) q
-  handed_on m x source y r s less taken = head_handed begins takes seeks m x y (r ++ s) (then_hands begins takes seeks m x source y.source r s (Some y.row) less (call_tells begins takes seeks m source y.source s (Some y.row) taken))
+  -- what is offered of x behind a call and a `next` was offered before
+  handed_on : (m : Meaning) (x source : S) (y : Head S) (r s : List Act) → NoMoreRows (offered None x m) r (offered None source m) → takes source m s (Some y.row) y.source
+      → (later : List Act) (o : Offer) → offered (Some y.row) y.source m later o → offered None x m ((r ++ s) ++ later) o
+  handed_on m x source y r s less taken later o k =
+      subst (λ (acts : List Act). offered None x m acts o) (sym (append_assoc r s later)) (less (s ++ later) o (offers_taken begins takes seeks m source y.source s y.row taken later o k))
 
   abbrev merging : IterationOrder → Sources S → World → Type 0
   merging order x w = IsMergingIn rest sound order_of order x w
@@ -132,12 +133,12 @@ module _ {S : Type 0} (rest : S → World → List RowEntry) (sound : S → Worl
   module _ (more : (x : S) (m : Meaning) (done reads : List Act) (at : Option (List ℕ)) (e : SlateDBError) → refuses x m reads at e → refuses x m (done ++ reads) at e) where
     -- a head's source made a call, and then another that put it back
     pub joined_made : (a b c : Reach) (r : List Act) (heads others new : List (Head S)) (x : Head S) (source : S) (behind : ℕ) (order : IterationOrder) → IsCall a b r → NoMore (refuses x.source a.meaning) r (refuses source a.meaning)
-        → NoMoreRows (by_calls begins takes seeks a.meaning x.source) r (by_calls begins takes seeks a.meaning source) → IsPermutation heads (x ∷ others) → Joins (goes b c) source behind order others new → AddsNoneByCall (sources_bring brings) (blames refuses) a c (begun_sources heads) (begun_sources new)
+        → NoMoreRows (offered None x.source a.meaning) r (offered None source a.meaning) → IsPermutation heads (x ∷ others) → Joins (goes b c) source behind order others new → AddsNoneByCall (sources_offer offered) (blames refuses) a c (begun_sources heads) (begun_sources new)
     joined_made a b c r heads others new x source behind order call less fewer p (inl j) =
         let reads = r ++ j.1.step.taken.0 in (
           reads,
           call_both a b c r j.1.step.taken.0 call j.1.step.taken.1,
-          subst (λ (l : List (Head S)). AddsNone (sources_bring brings) (blames refuses) a.meaning (begun_sources heads) reads (begun_sources l)) (sym j.2) (blamed_gone refuses more a.meaning reads [] heads others x p, brought_gone brings brings_more a.meaning reads [] heads others x p),
+          subst (λ (l : List (Head S)). AddsNone (sources_offer offered) (blames refuses) a.meaning (begun_sources heads) reads (begun_sources l)) (sym j.2) (blamed_gone refuses more a.meaning reads [] heads others x p, brought_gone offered offers_more a.meaning reads [] heads others x p),
         )
     joined_made a b c r heads others new x source behind order call less fewer p (inr j) =
         let y : Head S = record { row = j.0; behind = behind; order = order; source = j.1 } in
@@ -147,20 +148,39 @@ module _ {S : Type 0} (rest : S → World → List RowEntry) (sound : S → Worl
           call_both a b c r s call j.2.step.taken.1,
           (
             blamed_put refuses more a.meaning (r ++ s) [] heads others new x y p j.3 (no_more_both (refuses x.source a.meaning) (refuses source a.meaning) (refuses j.1 a.meaning) r s less own.1),
-            brought_put brings brings_more a.meaning (r ++ s) [] heads others new x y p j.3 (λ later q k. inr (handed_on a.meaning x.source source y r s fewer own.0 later q k)),
+            brought_put offered offers_more a.meaning (r ++ s) [] heads others new x y p j.3 (λ later o k. offers_held begins takes seeks a.meaning (Some x.row) x.source ((r ++ s) ++ later) o (handed_on a.meaning x.source source y r s fewer own.0 later o k)),
           ),
         )
 
+    -- of what stands behind the first row no other head is above it, so that what is rises
+    front_behind : (a b : Reach) (heads others new : List (Head S)) (x : Head S) (p : IsPermutation heads (x ∷ others)) → (IsHeap head_cmp heads → IsUpperBound head_cmp x others) → (j : Joins (goes a b) x.source x.behind x.order others new)
+        → StandBehind offered x.row (begun_sources heads) a.meaning (joined_made a a b [] heads others new x x.source x.behind x.order (call_none a) (λ later at e h. h) (λ later o k. k) p j).0 new
+    unfolding joined_made
+    front_behind a b heads others new x p top (inl j) order heaped r has above =
+        let all = each_shuffled (λ (h : Head S). h.order ≡ order) heads (x ∷ others) p heaped.ordered in
+        none_above order x others all.0 (top heaped.heap) all.1 r (subst (λ (l : List (Head S)). HasRow l r) j.2 has) above
+    front_behind a b heads others new x p top (inr j) order heaped r has above = by (any_shuffled (λ (h : Head S). h.row ≡ r) (y ∷ others) new j.3 has)
+      where
+        y : Head S
+        y = record { row = j.0; behind = x.behind; order = x.order; source = j.1 }
+
+        by : HasRow (y ∷ others) r → sources_offer offered (begun_sources heads) a.meaning j.2.step.taken.0 (Rises r)
+        by (inl is) = inr (any_shuffled (λ (h : Head S). offered (Some h.row) h.source a.meaning j.2.step.taken.0 (Rises r)) heads (x ∷ others) p
+            (inl (inl (next_rises begins takes seeks a.meaning x.source j.1 j.2.step.taken.0 x.row r (subst (λ (q : RowEntry). takes x.source a.meaning j.2.step.taken.0 (Some q) j.1) is j.2.step.taken.2.0) above))))
+        by (inr rest) =
+            let all = each_shuffled (λ (h : Head S). h.order ≡ order) heads (x ∷ others) p heaped.ordered in
+            none_above order x others all.0 (top heaped.heap) all.1 r rest above
+
     -- the first row of a merge
     pub first_step : (a b : Reach) (heads others new : List (Head S)) (x : Head S) → x ≡ slice_index_or heads 0 x → IsPermutation heads (x ∷ others) → (IsHeap head_cmp heads → IsHeap head_cmp others) → (IsHeap head_cmp heads → IsUpperBound head_cmp x others) → KeepsHeap head_cmp others new
-        → Joins (goes a b) x.source x.behind x.order others new → (o : IterationOrder) → Step (left_in rest o) (merging o) (blames refuses) (takes_front brings) a b (begun_sources heads) (Some x.row) (begun_sources new)
+        → Joins (goes a b) x.source x.behind x.order others new → (o : IterationOrder) → Step (left_in rest o) (merging o) (blames refuses) (takes_front offered) a b (begun_sources heads) (Some x.row) (begun_sources new)
     first_step a b heads others new x first p keeps top stays j o =
-        let made = joined_made a a b [] heads others new x x.source x.behind x.order (call_none a) (λ later at e h. h) (λ later q k. k) p j in
+        let made = joined_made a a b [] heads others new x x.source x.behind x.order (call_none a) (λ later at e h. h) (λ later o k. k) p j in
         record {
           rows = λ w s m. steps_rows (rest_at w) (sound_at w o) o heads others new x p top (joins_in a b x.source x.behind x.order others new w o s j) m;
           still = λ w s m. steps_still (rest_at w) (sound_at w o) o [] heads others new x p keeps stays (joins_in a b x.source x.behind x.order others new w o s j) m;
           checked = λ w m. (joined a b x.source x.behind x.order others new j).2.step.checked w (sound_first w o heads others x p m);
-          taken = (made.0, made.1, ((front_first heads others x first p, made.2.1), made.2.0));
+          taken = (made.0, made.1, ((front_first heads others x first p, made.2.1, front_behind a b heads others new x p top j), made.2.0));
         }
 
     pub first_smaller : (a b : Reach) (heads others new : List (Head S)) (x : Head S) (source : S) → IsPermutation heads (x ∷ others) → bound source ≤ bound x.source → Joins (goes a b) source x.behind x.order others new → merging_bound bound [] new < merging_bound bound [] heads
@@ -174,9 +194,9 @@ module _ {S : Type 0} (rest : S → World → List RowEntry) (sound : S → Worl
 
     -- a seek of the first head's source
     pub seek_made : (key : List ℕ) (a b c : Reach) (heads others new : List (Head S)) (x : Head S) (source : S) → IsPermutation heads (x ∷ others) → Sought key a b x.source source → Joins (goes b c) source x.behind x.order others new
-        → AddsNoneByCall (sources_bring brings) (blames refuses) a c (begun_sources heads) (begun_sources new)
+        → AddsNoneByCall (sources_offer offered) (blames refuses) a c (begun_sources heads) (begun_sources new)
     seek_made key a b c heads others new x source p made j =
-        joined_made a b c made.0 heads others new x source x.behind x.order made.1 made.2.1 (called_less begins takes seeks a.meaning x.source source made.0 (inr (inr (key, made.2.0)))) p j
+        joined_made a b c made.0 heads others new x source x.behind x.order made.1 made.2.1 (offers_called begins takes seeks a.meaning x.source source made.0 (inr (inr (key, made.2.0)))) p j
 
     pub seek_moves : (key : List ℕ) (a b c : Reach) (heads others new : List (Head S)) (x : Head S) (source : S) → IsPermutation heads (x ∷ others) → (IsHeap head_cmp heads → IsHeap head_cmp others) → KeepsHeap head_cmp others new
         → ((w : World) → Sees w a b → sound x.source w → rest source w ≡ drop_before (order_of x.source) key (rest x.source w)) → ((w : World) → Sees w a b → sound x.source w → sound source w) → ((w : World) → sound x.source w → Checks w a b)
@@ -207,12 +227,12 @@ module _ {S : Type 0} (rest : S → World → List RowEntry) (sound : S → Worl
 
     -- a source that waited began, and went among the heads
     pub begun_made : (a b c : Reach) (source begun : S) (waiting : List S) (behind : ℕ) (order : IterationOrder) (heads new : List (Head S)) → Begun a b source begun → Joins (goes b c) begun behind order heads new
-        → AddsNoneByCall (sources_bring brings) (blames refuses) a c (record { waiting = source ∷ waiting; heads = heads }) (record { waiting = waiting; heads = new })
+        → AddsNoneByCall (sources_offer offered) (blames refuses) a c (record { waiting = source ∷ waiting; heads = heads }) (record { waiting = waiting; heads = new })
     begun_made a b c source begun waiting behind order heads new made (inl j) =
         let reads = made.0 ++ j.1.step.taken.0 in (
           reads,
           call_both a b c made.0 j.1.step.taken.0 made.1 j.1.step.taken.1,
-          subst (λ (l : List (Head S)). AddsNone (sources_bring brings) (blames refuses) a.meaning (record { waiting = source ∷ waiting; heads = heads }) reads (record { waiting = waiting; heads = l })) (sym j.2) (blamed_empty refuses more a.meaning reads source waiting heads, brought_empty brings brings_more a.meaning reads source waiting heads),
+          subst (λ (l : List (Head S)). AddsNone (sources_offer offered) (blames refuses) a.meaning (record { waiting = source ∷ waiting; heads = heads }) reads (record { waiting = waiting; heads = l })) (sym j.2) (blamed_empty refuses more a.meaning reads source waiting heads, brought_empty offered offers_more a.meaning reads source waiting heads),
         )
     begun_made a b c source begun waiting behind order heads new made (inr j) =
         let y : Head S = record { row = j.0; behind = behind; order = order; source = j.1 } in
@@ -223,7 +243,7 @@ module _ {S : Type 0} (rest : S → World → List RowEntry) (sound : S → Worl
           call_both a b c r s made.1 j.2.step.taken.1,
           (
             blamed_begun refuses more a.meaning (r ++ s) source waiting heads new y j.3 (no_more_both (refuses source a.meaning) (refuses begun a.meaning) (refuses j.1 a.meaning) r s made.2.1 own.1),
-            brought_begun brings brings_more a.meaning (r ++ s) source waiting heads new y j.3 (handed_on a.meaning source begun y r s (called_less begins takes seeks a.meaning source begun r (inl made.2.0)) own.0),
+            brought_begun offered offers_more a.meaning (r ++ s) source waiting heads new y j.3 (handed_on a.meaning source begun y r s (offers_called begins takes seeks a.meaning source begun r (inl made.2.0)) own.0),
           ),
         )
 

@@ -14,10 +14,13 @@ pub mod NoMoreRows
 pub mod Handings
 pub mod Tellings
 pub mod Calling
+pub mod Offerings
+pub mod Heaps
 pub mod MergeBringings
 pub mod Goings
 pub mod MergeLoops
 pub mod MergeStateSteps
+pub mod MergeRises
 pub mod Requires
 pub mod Peeks
 pub mod FoldGroups

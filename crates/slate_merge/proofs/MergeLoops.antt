@@ -18,17 +18,16 @@ use Rattle.slate_merge.specs.declared.head.Head.{Head}
 use Rattle.slate_merge.specs.Heads.{head_cmp}
 use Rattle.slate_merge.specs.Merge.{begins_with, counted, past_key, row_bytes, shown_rows, with_key}
 use Rattle.slate_merge.specs.Merging.{ArePlaced, left_rows, left_in, IsMergingIn, IsSoundHead, IsTop, has_key, blames, begun_sources, AreReady, IsFront}
-use Rattle.slate_merge.specs.CallLaws.{brings_behind_others}
-use Rattle.slate_merge.specs.Calls.{BringsByCalls}
+use Rattle.slate_merge.specs.Offers.{Offer, offers, offers_behind_others}
 use Rattle.slate_merge.specs.NoMoreRows.{AddsNoneByCall}
-use Rattle.slate_merge.specs.MergeBringing.{sources_bring}
+use Rattle.slate_merge.specs.MergeBringing.{sources_offer}
 use Rattle.slate_merge.specs.MergeSteps.{CountsKey, CountsTaken, Renews, TakesMerged}
 use Rattle.slate_merge.proofs.HeadLaws.{each_shuffled}
 use Rattle.slate_merge.proofs.SeekLaws.{past_none, past_one, counted_one}
 use Rattle.slate_merge.proofs.DecidedLaws.{shown_alone, takes_older, shown_older}
 use Rattle.slate_merge.proofs.RenewLaws.{Renewed, moved_out, moved_in, renewed_begun, renewed_placed, renewed_rows}
 use Rattle.slate_merge.proofs.Blames.{blamed_put}
-use Rattle.slate_merge.proofs.Calling.{called_less}
+use Rattle.slate_merge.proofs.Offerings.{offers_begun}
 use Rattle.slate_merge.proofs.MergeBringings.{brought_put}
 
 -- ---- rows of a key
@@ -181,22 +180,21 @@ module _ {S : Type 0} (rest : S → World → List RowEntry) (sound : S → Worl
     }
 
     -- and bring no more
-    pub renew_made : (takes : S → Meaning → List Act → Option RowEntry → S → Type 0) (seeks : S → Meaning → List Act → List ℕ → S → Type 0) → AddsNoneByCall (sources_bring (BringsByCalls begins takes seeks)) (blames refuses) a b (begun_sources (done ++ left)) (begun_sources (new ++ others))
+    pub renew_made : (takes : S → Meaning → List Act → Option RowEntry → S → Type 0) (seeks : S → Meaning → List Act → List ℕ → S → Type 0) → AddsNoneByCall (sources_offer (offers begins takes seeks)) (blames refuses) a b (begun_sources (done ++ left)) (begun_sources (new ++ others))
     renew_made takes seeks = (
       reads,
       renews.begun.1,
       (
         blamed_put refuses more a.meaning reads [] (done ++ left) (done ++ others) (new ++ others) x y (moved_out done left others x out) (moved_in done new others y within) renews.begun.2.1,
-        brought_put (BringsByCalls begins takes seeks) (λ s m d rs r k. brings_behind_others begins takes seeks s m d rs r k) a.meaning reads [] (done ++ left) (done ++ others) (new ++ others) x y (moved_out done left others x out) (moved_in done new others y within) less,
+        brought_put (offers begins takes seeks) (λ q s m d rs o k. offers_behind_others begins takes seeks q s m d rs o k) a.meaning reads [] (done ++ left) (done ++ others) (new ++ others) x y (moved_out done left others x out) (moved_in done new others y within) less,
       ),
     )
       where
         reads : List Act
         reads = renews.begun.0
 
-        less : (later : List Act) (r : RowEntry) → (x.row ≡ r) ⊎ BringsByCalls begins takes seeks source a.meaning later r → (x.row ≡ r) ⊎ BringsByCalls begins takes seeks x.source a.meaning (reads ++ later) r
-        less later r (inl is) = inl is
-        less later r (inr k) = inr (called_less begins takes seeks a.meaning x.source source reads (inl renews.begun.2.0) later r k)
+        less : (later : List Act) (o : Offer) → offers begins takes seeks (Some x.row) source a.meaning later o → offers begins takes seeks (Some x.row) x.source a.meaning (reads ++ later) o
+        less later o k = offers_begun begins takes seeks a.meaning x.source source reads renews.begun.2.0 (Some x.row) later o k
 
   pub renew_ready : (begins : S → Meaning → List Act → S → Type 0) (a b : Reach) (done new : List (Head S)) (x : Head S) (source : S) (m : Meaning) → IsPermutation (record { row = x.row; behind = x.behind; order = x.order; source = source } ∷ done) new → Renews rest sound refuses begins bound order_of a b x.source source → a.meaning ≡ m
       → AreReady refuses m done → AreReady refuses m new

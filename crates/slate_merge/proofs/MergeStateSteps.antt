@@ -1,6 +1,6 @@
 -- What the steps of its sources do to a merge iterator.
-use Rattle.std.proofs.Common.{◌≡◌, ◌≢◌, ◌⊎◌, inl, inr, ℕ, ◌≤◌, Bool, false, List, [], ◌∷◌, ◌++◌, Option, None, refl, sym, ap, subst, ◌∙◌, arith}
-use Rattle.std.specs.Prelude.{IsSome}
+use Rattle.std.proofs.Common.{◌≡◌, ◌≢◌, ◌⊎◌, inl, inr, ℕ, ◌≤◌, Bool, false, List, [], ◌∷◌, ◌++◌, Option, Some, None, refl, sym, ap, subst, ◌∙◌, arith}
+use Rattle.std.specs.Prelude.{IfSome, IsSome}
 use Rattle.std.specs.List.{AllByRecursion}
 use Rattle.std.specs.BinaryHeap.{heap_items, IsHeap}
 use Rattle.slate_types.specs.declared.error.SlateDBError.{SlateDBError}
@@ -19,18 +19,20 @@ use Rattle.slate_merge.specs.declared.head.Head.{Head}
 use Rattle.slate_merge.specs.declared.merge_iterator.MergeIterator.{MergeIterator}
 use Rattle.slate_merge.specs.declared.merge_iterator.MergeState.{MergeState}
 use Rattle.slate_merge.specs.declared.merge_iterator.MergeState.TheVariants.{New, Begun, Refused}
-use Rattle.slate_merge.specs.NoMoreRows.{AddsNoneByCall, HandsOut}
+use Rattle.slate_merge.specs.NoMoreRows.{AddsNoneByCall, HandsOut, NoMoreRows}
 use Rattle.slate_merge.specs.Heads.{head_cmp}
+use Rattle.slate_merge.specs.Calls.{BringsByCalls}
+use Rattle.slate_merge.specs.Offers.{IsAbove, Offer, Rises, offers}
 use Rattle.slate_merge.specs.Kept.{Copies, IsKept}
 use Rattle.slate_merge.specs.Merge.{shown_rows}
 use Rattle.slate_merge.specs.MergeLaws.{fresh_merge}
-use Rattle.slate_merge.specs.Merging.{AnyByRecursion, AreReady, IsMergingIn, begun_sources, blames, either_refusal, left_in, waiting_sources}
-use Rattle.slate_merge.specs.MergeBringing.{merge_brings, takes_front}
+use Rattle.slate_merge.specs.Merging.{AnyByRecursion, AreHeaped, AreReady, HasRow, IsMergingIn, begun_sources, blames, either_refusal, left_in, waiting_sources}
+use Rattle.slate_merge.specs.MergeBringing.{HasHead, IsHeapedIn, StandBehind, merge_brings, merge_offers, sources_offer, takes_front}
 use Rattle.slate_merge.specs.MergeSteps.{TakesMerged}
 use Rattle.slate_merge.specs.MergeStates.{IsUnrefused, CopiedIn, HasBegun, IsFrontIn, IsSoundIn, IsWaiting, Keeps, Stays, bound_in, left_of, refuses_in, rest_in}
 use Rattle.slate_merge.specs.MergeStateLaws.{refuses_whole}
 use Rattle.slate_merge.proofs.DecidedLaws.{shown_dropped}
-use Rattle.slate_merge.proofs.MergeBringings.{SourcesAdd, front_brought}
+use Rattle.slate_merge.proofs.MergeBringings.{SourcesAdd, front_brought, rows_less}
 
 empty_heap : (S : Type 0) → IsHeap {X = Head S} head_cmp []
 unfolding IsHeap
@@ -70,33 +72,46 @@ module _ {S : Type 0} (rest : S → World → List RowEntry) (sound : S → Worl
   sound_in o s w = IsSoundIn rest sound order_of o s w
 
   -- a step of the heads is one of the merge
-  module _ (brings : S → Meaning → List Act → RowEntry → Type 0) where
-    abbrev front_in : MergeState S → Meaning → List Act → Option RowEntry → MergeState S → Type 0
-    front_in x m reads answer y = IsFrontIn answer x × HandsOut (merge_brings brings x m) reads answer (merge_brings brings y m)
+  module _ (begins : S → Meaning → List Act → S → Type 0) (takes : S → Meaning → List Act → Option RowEntry → S → Type 0) (seeks : S → Meaning → List Act → List ℕ → S → Type 0) where
+    abbrev brings : S → Meaning → List Act → RowEntry → Type 0
+    brings = BringsByCalls begins takes seeks
+
+    abbrev offered : Option RowEntry → S → Meaning → List Act → Offer → Type 0
+    offered = offers begins takes seeks
+
+    abbrev front_in : IterationOrder → MergeState S → Meaning → List Act → Option RowEntry → MergeState S → Type 0
+    front_in o x m reads answer y =
+        IsFrontIn answer x × HandsOut (merge_brings brings x m) reads answer (merge_brings brings y m) × NoMoreRows (merge_offers offered x m) reads (merge_offers offered y m)
+        × IfSome answer (λ q. IsHeapedIn o x → (r : RowEntry) → HasHead y r → IsAbove q r → merge_offers offered x m reads (Rises r))
+
+    stand_in : (o : IterationOrder) (m : Meaning) (reads : List Act) (h k : List (Head S)) (answer : Option RowEntry) → IfSome answer (λ q. StandBehind offered q (begun_sources h) m reads k) →
+        IfSome answer (λ q. AreHeaped o h → (r : RowEntry) → HasRow k r → IsAbove q r → sources_offer offered (begun_sources h) m reads (Rises r))
+    stand_in o m reads h k None b = tt
+    stand_in o m reads h k (Some q) b = b o
 
     pub state_step : (o : IterationOrder) (dedup : Bool) (a b : Reach) (x z y : MergeState S) (answer : Option RowEntry) → x ≡ z → HasBegun z → HasBegun y
-        → Step (λ u w. shown_rows dedup (left_in rest o u w)) (λ u w. IsMergingIn rest sound order_of o u w) (blames refuses) (takes_front brings) a b (begun_sources (heads_in z)) answer (begun_sources (heads_in y))
-        → Step (rest_in rest o dedup) (sound_in o) (refuses_in refuses) front_in a b x answer y
+        → Step (λ u w. shown_rows dedup (left_in rest o u w)) (λ u w. IsMergingIn rest sound order_of o u w) (blames refuses) (takes_front offered) a b (begun_sources (heads_in z)) answer (begun_sources (heads_in y))
+        → Step (rest_in rest o dedup) (sound_in o) (refuses_in refuses) (front_in o) a b x answer y
     state_step o dedup a b x (Begun h) (Begun k) answer is p q s =
-        subst (λ (u : MergeState S). Step (rest_in rest o dedup) (sound_in o) (refuses_in refuses) front_in a b u answer (Begun k)) (sym is)
-        (record { rows = s.rows; still = s.still; checked = s.checked; taken = (s.taken.0, s.taken.1, ((s.taken.2.0.0, (front_brought brings refuses a.meaning s.taken.0 answer (heap_items h) s.taken.2.0.0, s.taken.2.0.1)), s.taken.2.1)) })
+        subst (λ (u : MergeState S). Step (rest_in rest o dedup) (sound_in o) (refuses_in refuses) (front_in o) a b u answer (Begun k)) (sym is)
+        (record { rows = s.rows; still = s.still; checked = s.checked; taken = (s.taken.0, s.taken.1, ((s.taken.2.0.0, (front_brought brings a.meaning s.taken.0 answer (heap_items h) s.taken.2.0.0, rows_less begins takes seeks (Begun h) (Begun k) a.meaning s.taken.0 s.taken.2.0.1), s.taken.2.0.1, stand_in o a.meaning s.taken.0 (heap_items h) (heap_items k) answer s.taken.2.0.2), s.taken.2.1)) })
     state_step o dedup a b x (Begun h) (New q) answer is p never s = absurd never
     state_step o dedup a b x (Begun h) (Refused q) answer is p never s = absurd never
     state_step o dedup a b x (New q) y answer is never p s = absurd never
     state_step o dedup a b x (Refused q) y answer is never p s = absurd never
 
     abbrev adds_in : Reach → Reach → MergeState S → MergeState S → Type 0
-    adds_in a b x y = AddsNoneByCall (merge_brings brings) (refuses_in refuses) a b x y
+    adds_in a b x y = AddsNoneByCall (merge_offers offered) (refuses_in refuses) a b x y
 
     -- what the sources don't add, the merge doesn't
-    pub begun_adds : (a b : Reach) (x z y : MergeState S) → x ≡ z → HasBegun z → HasBegun y → SourcesAdd brings refuses a b (begun_sources (heads_in z)) (begun_sources (heads_in y)) → adds_in a b x y
+    pub begun_adds : (a b : Reach) (x z y : MergeState S) → x ≡ z → HasBegun z → HasBegun y → SourcesAdd offered refuses a b (begun_sources (heads_in z)) (begun_sources (heads_in y)) → adds_in a b x y
     begun_adds a b x (Begun h) (Begun k) is p q m = subst (λ (u : MergeState S). adds_in a b u (Begun k)) (sym is) m
     begun_adds a b x (Begun h) (New k) is p never m = absurd never
     begun_adds a b x (Begun h) (Refused k) is p never m = absurd never
     begun_adds a b x (New h) y is never q m = absurd never
     begun_adds a b x (Refused h) y is never q m = absurd never
 
-    pub waiting_adds : (a b : Reach) (x z y : MergeState S) → x ≡ z → IsWaiting z → HasBegun y → SourcesAdd brings refuses a b (waiting_sources (waiting_in z)) (begun_sources (heads_in y)) → adds_in a b x y
+    pub waiting_adds : (a b : Reach) (x z y : MergeState S) → x ≡ z → IsWaiting z → HasBegun y → SourcesAdd offered refuses a b (waiting_sources (waiting_in z)) (begun_sources (heads_in y)) → adds_in a b x y
     waiting_adds a b x (New h) (Begun k) is p q m = subst (λ (u : MergeState S). adds_in a b u (Begun k)) (sym is) (m.0, m.1, (λ later at e r. inr (m.2.0 later at e r), m.2.1))
     waiting_adds a b x (New h) (New k) is p never m = absurd never
     waiting_adds a b x (New h) (Refused k) is p never m = absurd never

@@ -7,7 +7,7 @@ use Rattle.slate_types.specs.Outside.{Act, Meaning, Reach}
 use Rattle.slate_types.proofs.Calls.{call_none, call_both, no_more_both}
 use Rattle.slate_merge.specs.NoMoreRows.{AddsNone, AddsNoneByCall, HandsAway, HandsAwayByCall, NoMoreRows}
 
-pub no_rows_both : (before middle after : List Act → RowEntry → Type 0) (reads more : List Act) → NoMoreRows before reads middle → NoMoreRows middle more after → NoMoreRows before (reads ++ more) after
+pub no_rows_both : {R : Type 0} (before middle after : List Act → R → Type 0) (reads more : List Act) → NoMoreRows before reads middle → NoMoreRows middle more after → NoMoreRows before (reads ++ more) after
 no_rows_both before middle after reads more f g later r k = subst (λ (acts : List Act). before acts r) (sym (append_assoc reads more later)) (f (more ++ later) r (g later r k))
 
 pub some_weaker : (P Q : RowEntry → Type 0) (o : Option RowEntry) → ((r : RowEntry) → P r → Q r) → IfSome o P → IfSome o Q

@@ -15,8 +15,9 @@ use Rattle.slate_merge.specs.declared.folding.Folding.{Folding}
 use Rattle.slate_merge.specs.declared.operator_iterator.MergeOperatorIterator.{MergeOperatorIterator}
 use Rattle.slate_merge.specs.NoMoreRows.{NoMoreRows}
 use Rattle.slate_merge.specs.Folding.{folded}
-use Rattle.slate_merge.specs.Folds.{BlamesNext, RefusesBrought, brings_taken, refuses_folds}
+use Rattle.slate_merge.specs.Folds.{BlamesNext, RefusesOffered, refuses_folds}
 use Rattle.slate_merge.specs.Kept.{Copies}
+use Rattle.slate_merge.specs.Offers.{Offer}
 use Rattle.slate_merge.specs.OperatorIterators.{IsFolding, IsGoing, Keeps, KeepsIn, RefusesBy, SoundUnless, Stays, StaysIn, bound_unless, refuses_folding, rest_folding, rows_unless, sound_folding}
 use Rattle.slate_merge.specs.OperatorLaws.{folding_whole}
 use Rattle.slate_merge.specs.Peeking.{with_ahead}
@@ -77,21 +78,21 @@ less_by refusal old begun own more e none is less h = subst (λ (r : Option Slat
     by (inl k) = let never : true ≡ false = sym is ∙ k.0 in cc
     by (inr k) = inr (less k)
 
-module _ {S : Type 0} (refuses : S → Meaning → List Act → Option (List ℕ) → SlateDBError → Type 0) (brings : S → Meaning → List Act → RowEntry → Type 0) where
-  pub folding_less : (it y : MergeOperatorIterator S) (m : Meaning) (reads : List Act) → it.refusal ≡ None → y.refusal ≡ it.refusal → y.begun ≡ true → NoMore (refuses_folds {S = S} refuses brings (it.iterator, it.ahead, []) m) reads (refuses_folds {S = S} refuses brings (y.iterator, y.ahead, []) m) →
-      NoMore (refuses_folding refuses brings it m) reads (refuses_folding refuses brings y m)
+module _ {S : Type 0} (refuses : S → Meaning → List Act → Option (List ℕ) → SlateDBError → Type 0) (offers : Option RowEntry → S → Meaning → List Act → Offer → Type 0) where
+  pub folding_less : (it y : MergeOperatorIterator S) (m : Meaning) (reads : List Act) → it.refusal ≡ None → y.refusal ≡ it.refusal → y.begun ≡ true → NoMore (refuses_folds {S = S} refuses offers (it.iterator, it.ahead, []) m) reads (refuses_folds {S = S} refuses offers (y.iterator, y.ahead, []) m) →
+      NoMore (refuses_folding refuses offers it m) reads (refuses_folding refuses offers y m)
   folding_less it y m reads none same begun less later at e h =
-      less_by it.refusal it.begun y.begun (λ d. refuses_folds {S = S} refuses brings (y.iterator, y.ahead, []) m later at d) (λ d. refuses_folds {S = S} refuses brings (it.iterator, it.ahead, []) m (reads ++ later) at d) e none begun (less later at e)
-      (subst (λ (r : Option SlateDBError). RefusesBy r y.begun (λ d. refuses_folds {S = S} refuses brings (y.iterator, y.ahead, []) m later at d) e) same h)
+      less_by it.refusal it.begun y.begun (λ d. refuses_folds {S = S} refuses offers (y.iterator, y.ahead, []) m later at d) (λ d. refuses_folds {S = S} refuses offers (it.iterator, it.ahead, []) m (reads ++ later) at d) e none begun (less later at e)
+      (subst (λ (r : Option SlateDBError). RefusesBy r y.begun (λ d. refuses_folds {S = S} refuses offers (y.iterator, y.ahead, []) m later at d) e) same h)
 
   pub source_less : (it y : MergeOperatorIterator S) (m : Meaning) (reads : List Act) → it.refusal ≡ None → y.refusal ≡ it.refusal → y.begun ≡ true → NoMore (refuses it.iterator m) reads (refuses y.iterator m) →
-      NoMoreRows (brings_taken {S = S} brings (it.iterator, it.ahead, []) m) reads (brings_taken {S = S} brings (y.iterator, y.ahead, []) m) → NoMore (refuses_folding refuses brings it m) reads (refuses_folding refuses brings y m)
-  source_less it y m reads none same begun less rows = folding_less it y m reads none same begun (folds_less brings refuses m (it.iterator, it.ahead, []) (y.iterator, y.ahead, []) reads less rows)
+      NoMoreRows (offers it.ahead it.iterator m) reads (offers y.ahead y.iterator m) → NoMore (refuses_folding refuses offers it m) reads (refuses_folding refuses offers y m)
+  source_less it y m reads none same begun less rows = folding_less it y m reads none same begun (folds_less offers refuses m (it.iterator, it.ahead, []) (y.iterator, y.ahead, []) reads less rows)
 
-  pub folding_ready : (y : MergeOperatorIterator S) (m : Meaning) → y.refusal ≡ None → y.begun ≡ true → IsReady (refuses y.iterator m) → IsReady (refuses_folding refuses brings y m)
-  folding_ready y m none begun ready reads at h = by (subst (λ (r : Option SlateDBError). RefusesBy r y.begun (λ d. refuses_folds {S = S} refuses brings (y.iterator, y.ahead, []) m reads at d) IteratorNotInitialized) none h)
+  pub folding_ready : (y : MergeOperatorIterator S) (m : Meaning) → y.refusal ≡ None → y.begun ≡ true → IsReady (refuses y.iterator m) → IsReady (refuses_folding refuses offers y m)
+  folding_ready y m none begun ready reads at h = by (subst (λ (r : Option SlateDBError). RefusesBy r y.begun (λ d. refuses_folds {S = S} refuses offers (y.iterator, y.ahead, []) m reads at d) IteratorNotInitialized) none h)
     where
-      by : ((y.begun ≡ false) × (IteratorNotInitialized ≡ IteratorNotInitialized)) ⊎ refuses_folds {S = S} refuses brings (y.iterator, y.ahead, []) m reads at IteratorNotInitialized → ⊥
+      by : ((y.begun ≡ false) × (IteratorNotInitialized ≡ IteratorNotInitialized)) ⊎ refuses_folds {S = S} refuses offers (y.iterator, y.ahead, []) m reads at IteratorNotInitialized → ⊥
       by (inl k) = let never : true ≡ false = sym begun ∙ k.0 in cc
       by (inr (inl k)) = ready reads at k
       by (inr (inr (inl k))) = let clash = k.refuses.1 in cc
@@ -101,7 +102,7 @@ module _ {S : Type 0} (refuses : S → Meaning → List Act → Option (List ℕ
 
   module _ (takes : S → Meaning → List Act → Option RowEntry → S → Type 0) where
     abbrev pub Refused : Reach → Reach → MergeOperatorIterator S → Option (List ℕ) → SlateDBError → MergeOperatorIterator S → Type 0
-    Refused a b it at e y = Made a b (λ reads. (IsFault a b e ⊎ refuses_folding refuses brings it a.meaning reads at e) × Stays refuses takes it a.meaning reads at e y × NoMoreBut e (refuses_folding refuses brings it a.meaning) reads (refuses_folding refuses brings y a.meaning))
+    Refused a b it at e y = Made a b (λ reads. (IsFault a b e ⊎ refuses_folding refuses offers it a.meaning reads at e) × Stays refuses takes it a.meaning reads at e y × NoMoreBut e (refuses_folding refuses offers it a.meaning) reads (refuses_folding refuses offers y a.meaning))
 
     -- a kept refusal is answered again
     pub again_refused : (t : Reach) (it : MergeOperatorIterator S) (at : Option (List ℕ)) (kept e : SlateDBError) → it.refusal ≡ Some kept → Copies kept e → Refused t t it at e it
@@ -116,15 +117,15 @@ module _ {S : Type 0} (refuses : S → Meaning → List Act → Option (List ℕ
     )
       where
         own : SlateDBError → Type 0
-        own d = refuses_folds {S = S} refuses brings (it.iterator, it.ahead, []) t.meaning [] at d
+        own d = refuses_folds {S = S} refuses offers (it.iterator, it.ahead, []) t.meaning [] at d
 
-        blamed : Copies kept e → IsFault t t e ⊎ refuses_folding refuses brings it t.meaning [] at e
+        blamed : Copies kept e → IsFault t t e ⊎ refuses_folding refuses offers it t.meaning [] at e
         blamed (inr m) = inl (subst (IsCounted t.faults t.faults) (sym m) tt)
         blamed (inl same) = by (is_memory kept)
           where
-            by : (kept ≡ OutOfMemory) ⊎ (kept ≢ OutOfMemory) → IsFault t t e ⊎ refuses_folding refuses brings it t.meaning [] at e
+            by : (kept ≡ OutOfMemory) ⊎ (kept ≢ OutOfMemory) → IsFault t t e ⊎ refuses_folding refuses offers it t.meaning [] at e
             by (inl m) = inl (subst (IsCounted t.faults t.faults) (sym (same ∙ m)) tt)
-            by (inr other) = inr (subst (λ (r : Option SlateDBError). RefusesBy r it.begun (λ d. refuses_folds {S = S} refuses brings (it.iterator, it.ahead, []) t.meaning [] at d) e) (sym is) (other, same))
+            by (inr other) = inr (subst (λ (r : Option SlateDBError). RefusesBy r it.begun (λ d. refuses_folds {S = S} refuses offers (it.iterator, it.ahead, []) t.meaning [] at d) e) (sym is) (other, same))
 
     -- it wasn't begun
     pub new_refused : (t : Reach) (it : MergeOperatorIterator S) (at : Option (List ℕ)) → it.refusal ≡ None → it.begun ≡ false → Refused t t it at IteratorNotInitialized it
@@ -132,7 +133,7 @@ module _ {S : Type 0} (refuses : S → Meaning → List Act → Option (List ℕ
       [],
       call_none t,
       (
-        inr (subst (λ (r : Option SlateDBError). RefusesBy r it.begun (λ d. refuses_folds {S = S} refuses brings (it.iterator, it.ahead, []) t.meaning [] at d) IteratorNotInitialized) (sym none) (inl (new, refl))),
+        inr (subst (λ (r : Option SlateDBError). RefusesBy r it.begun (λ d. refuses_folds {S = S} refuses offers (it.iterator, it.ahead, []) t.meaning [] at d) IteratorNotInitialized) (sym none) (inl (new, refl))),
         subst (λ (r : Option SlateDBError). StaysIn r it.begun at IteratorNotInitialized ((no_reads ≡ []) × (it ≡ it)) (Keeps IteratorNotInitialized it × BlamesNext refuses takes it.folding.merge_different_expire_ts it.folding.snapshot_barrier_seq it.ahead t.meaning [] at IteratorNotInitialized it.iterator it.iterator)) (sym none) (inl (new, refl, (refl, refl))),
         λ later k d r. inl r,
       ),
@@ -145,7 +146,7 @@ module _ {S : Type 0} (refuses : S → Meaning → List Act → Option (List ℕ
 
     -- a refusal is kept
     pub keeps_refused : (a b : Reach) (it y : MergeOperatorIterator S) (z : S) (at : Option (List ℕ)) (e : SlateDBError) → it.refusal ≡ None → (it.begun ≡ false → at ≡ None) → Keeps e y → y.iterator ≡ z →
-        Made a b (λ reads. (IsFault a b e ⊎ (refuses it.iterator a.meaning reads at e ⊎ RefusesBrought (brings_taken {S = S} brings (it.iterator, it.ahead, []) a.meaning reads) a.meaning at e)) × BlamesNext refuses takes it.folding.merge_different_expire_ts it.folding.snapshot_barrier_seq it.ahead a.meaning reads at e it.iterator z) →
+        Made a b (λ reads. (IsFault a b e ⊎ (refuses it.iterator a.meaning reads at e ⊎ RefusesOffered {S = S} offers (it.iterator, it.ahead, []) a.meaning reads at e)) × BlamesNext refuses takes it.folding.merge_different_expire_ts it.folding.snapshot_barrier_seq it.ahead a.meaning reads at e it.iterator z) →
         Refused a b it at e y
     keeps_refused a b it y z at e none begun kept same (reads, call, why) = (
       reads,
@@ -154,20 +155,20 @@ module _ {S : Type 0} (refuses : S → Meaning → List Act → Option (List ℕ
         by why.0,
         subst (λ (r : Option SlateDBError). StaysIn r it.begun at e ((reads ≡ []) × (y ≡ it)) (Keeps e y × BlamesNext refuses takes it.folding.merge_different_expire_ts it.folding.snapshot_barrier_seq it.ahead a.meaning reads at e it.iterator y.iterator)) (sym none)
             (inr (begun, (kept, subst (λ (v : S). BlamesNext refuses takes it.folding.merge_different_expire_ts it.folding.snapshot_barrier_seq it.ahead a.meaning reads at e it.iterator v) (sym same) why.1))),
-        λ later k d r. inr (kept_alone e y.refusal y.begun (λ f. refuses_folds {S = S} refuses brings (y.iterator, y.ahead, []) a.meaning later k f) d kept r),
+        λ later k d r. inr (kept_alone e y.refusal y.begun (λ f. refuses_folds {S = S} refuses offers (y.iterator, y.ahead, []) a.meaning later k f) d kept r),
       ),
     )
       where
-        by : IsFault a b e ⊎ (refuses it.iterator a.meaning reads at e ⊎ RefusesBrought (brings_taken {S = S} brings (it.iterator, it.ahead, []) a.meaning reads) a.meaning at e) → IsFault a b e ⊎ refuses_folding refuses brings it a.meaning reads at e
+        by : IsFault a b e ⊎ (refuses it.iterator a.meaning reads at e ⊎ RefusesOffered {S = S} offers (it.iterator, it.ahead, []) a.meaning reads at e) → IsFault a b e ⊎ refuses_folding refuses offers it a.meaning reads at e
         by (inl k) = inl k
-        by (inr k) = inr (subst (λ (r : Option SlateDBError). RefusesBy r it.begun (λ d. refuses_folds {S = S} refuses brings (it.iterator, it.ahead, []) a.meaning reads at d) e) (sym none) (inr k))
+        by (inr k) = inr (subst (λ (r : Option SlateDBError). RefusesBy r it.begun (λ d. refuses_folds {S = S} refuses offers (it.iterator, it.ahead, []) a.meaning reads at d) e) (sym none) (inr k))
 
     -- what the source refuses
     pub source_refused : (a b : Reach) (it y : MergeOperatorIterator S) (at : Option (List ℕ)) (e : SlateDBError) → it.refusal ≡ None → (it.begun ≡ false → at ≡ None) → Keeps e y →
         Made a b (λ reads. IsFault a b e ⊎ refuses it.iterator a.meaning reads at e) → Refused a b it at e y
     source_refused a b it y at e none begun kept (reads, call, why) = keeps_refused a b it y y.iterator at e none begun kept refl (reads, call, by why)
       where
-        by : IsFault a b e ⊎ refuses it.iterator a.meaning reads at e → (IsFault a b e ⊎ (refuses it.iterator a.meaning reads at e ⊎ RefusesBrought (brings_taken {S = S} brings (it.iterator, it.ahead, []) a.meaning reads) a.meaning at e)) × BlamesNext refuses takes it.folding.merge_different_expire_ts it.folding.snapshot_barrier_seq it.ahead a.meaning reads at e it.iterator y.iterator
+        by : IsFault a b e ⊎ refuses it.iterator a.meaning reads at e → (IsFault a b e ⊎ (refuses it.iterator a.meaning reads at e ⊎ RefusesOffered {S = S} offers (it.iterator, it.ahead, []) a.meaning reads at e)) × BlamesNext refuses takes it.folding.merge_different_expire_ts it.folding.snapshot_barrier_seq it.ahead a.meaning reads at e it.iterator y.iterator
         by (inl k) = (inl k, fault_blames a b e k)
         by (inr k) = (inr (inl k), own_blames e k)
 
@@ -177,9 +178,9 @@ module _ {S : Type 0} (refuses : S → Meaning → List Act → Option (List ℕ
         (a b : Reach) (it y : MergeOperatorIterator S) (at : Option (List ℕ)) (e : SlateDBError) → Keeps e y → Refused a b it at e y → (w : World) → Sees w a b → sound_folding rest sound order it w → sound_folding rest sound order y w
     kept_still rest sound order whole a b it y at e kept (reads, call, why) w sees k = by y.refusal _ kept
       where
-        fine : IsFault a b e ⊎ refuses_folding refuses brings it a.meaning reads at e → ¬ IsDamage e
+        fine : IsFault a b e ⊎ refuses_folding refuses offers it a.meaning reads at e → ¬ IsDamage e
         fine (inl o) = undamaged a.faults b.faults e o
-        fine (inr r) = folding_whole rest sound order refuses whole brings it w reads at e k (seen w a b reads sees call) (subst (λ (m : Meaning). refuses_folding refuses brings it m reads at e) (sym sees.meaning) r)
+        fine (inr r) = folding_whole rest sound order refuses whole offers it w reads at e k (seen w a b reads sees call) (subst (λ (m : Meaning). refuses_folding refuses offers it m reads at e) (sym sees.meaning) r)
 
         by : (refusal : Option SlateDBError) (P : Type 0) → KeepsIn e refusal → SoundUnless refusal P
         by None P h = absurd h

@@ -16,7 +16,7 @@ use Rattle.slate_types.proofs.Calls.{call_both, no_more_both, sees_first, sees_l
 use Rattle.slate_types.proofs.Moves.{Moves}
 use Rattle.slate_types.proofs.Reaching.{fault_earlier}
 use Rattle.slate_types.proofs.Walked.{Walked, walked_none, walked_on}
-use Rattle.slate_merge.specs.Calls.{BringsByCalls}
+use Rattle.slate_merge.specs.Offers.{offers}
 use Rattle.slate_merge.specs.Folding.{AreLinked, FoldFalls, NoneRises, begins_linked, is_open, links, rises}
 use Rattle.slate_merge.specs.FoldedLaws.{and_right, unlinked}
 use Rattle.slate_merge.specs.Folds.{Blames, BlamesNext, EndsByRise, IsRise, MeetsRise, RefusesRise, Taken, refuses_folds, refuses_taken, rest_taken, sound_taken, takes_ahead}
@@ -98,12 +98,12 @@ module _ {S : Type 0} (rest : S → World → List RowEntry) (sound : S → Worl
 
   -- what came
   pub gathering_came : (a b : Reach) (x y : S) (first : RowEntry) (rows : List RowEntry) (more : Option RowEntry) → more ≡ None → Gathering rest sound refuses takes a b x y first rows → Came takes refuses a b x None y more
-  gathering_came a b x y first rows more none g = subst (λ (o : Option RowEntry). Came takes refuses a b x None y o) (sym none) (g.walked.made.0, g.walked.made.1, ((g.given, inl g.walked.made.2.1, tt), g.walked.made.2.0))
+  gathering_came a b x y first rows more none g = subst (λ (o : Option RowEntry). Came takes refuses a b x None y o) (sym none) (g.walked.made.0, g.walked.made.1, ((g.given, inl g.walked.made.2.1, tt, tt), g.walked.made.2.0))
 
   pub gathering_ahead : (a b c : Reach) (x y z : S) (first row : RowEntry) (rows : List RowEntry) → Gathering rest sound refuses takes a b x y first rows → Step rest sound refuses takes b c y (Some row) z → OnlyReads b c → Came takes refuses a c x None z (Some row)
   gathering_ahead a b c x y z first row rows g s reads =
       let on = walked_on rest sound refuses takes a b c x y z g.given row g.walked s reads in
-      (on.made.0, on.made.1, ((g.given ++ (row ∷ []), inl on.made.2.1, (Contains-append_right g.given (row ∷ []) row (0, omega arith, refl), tt)), on.made.2.0))
+      (on.made.0, on.made.1, ((g.given ++ (row ∷ []), inl on.made.2.1, (Contains-append_right g.given (row ∷ []) row (0, omega arith, refl), tt), (g.given, on.made.2.1)), on.made.2.0))
 
   pub gathering_spent : (a b c : Reach) (x y z : S) (first : RowEntry) (rows : List RowEntry) (more : Option RowEntry) → more ≡ None → Gathering rest sound refuses takes a b x y first rows → Step rest sound refuses takes b c y None z → OnlyReads b c → Came takes refuses a c x None z more
   gathering_spent a b c x y z first rows more none g s reads =
@@ -113,7 +113,7 @@ module _ {S : Type 0} (rest : S → World → List RowEntry) (sound : S → Worl
         m.0 ++ s.taken.0,
         call_both a b c m.0 s.taken.0 m.1 s.taken.1,
         (
-          (g.given, inr (y, m.0, s.taken.0, refl, m.2.1, subst (λ (p : Meaning). takes y p s.taken.0 None z) meaning s.taken.2.0), tt),
+          (g.given, inr (y, m.0, s.taken.0, refl, m.2.1, subst (λ (p : Meaning). takes y p s.taken.0 None z) meaning s.taken.2.0), tt, tt),
           no_more_both (refuses x a.meaning) (refuses y a.meaning) (refuses z a.meaning) m.0 s.taken.0 m.2.0 (subst (λ (p : Meaning). NoMore (refuses y p) s.taken.0 (refuses z p)) meaning s.taken.2.1),
         ),
       )
@@ -212,7 +212,7 @@ pub gathered_blames : {S : Type 0} (rest : S → World → List RowEntry) (sound
     (different : Bool) (barrier : Option ℕ) (a b c : Reach) (x y z : S) (ahead : Option RowEntry) (first : RowEntry) (e : SlateDBError) →
     Step (rest_taken rest) (sound_taken rest sound order_of) (refuses_taken refuses) (takes_ahead takes) a b (x, ahead, []) (Some first) (y, None, []) → IsLater a.faults b.faults → (a.meaning.combine ≡ None → ⊥) →
     Made b c (λ reads. IsFault b c e ⊎ (refuses y b.meaning reads None e ⊎ MeetsRise (λ u rs o v. takes u b.meaning rs o v) different barrier (Some first) reads y z e)) →
-    Made a c (λ reads. (IsFault a c e ⊎ refuses_folds {S = S} refuses (BringsByCalls begins takes seeks) (x, ahead, []) a.meaning reads None e)
+    Made a c (λ reads. (IsFault a c e ⊎ refuses_folds {S = S} refuses (offers begins takes seeks) (x, ahead, []) a.meaning reads None e)
     × BlamesNext refuses takes different barrier ahead a.meaning reads None e x z)
 gathered_blames {S} rest sound refuses order_of begins takes seeks different barrier a b c x y z ahead first e s later some made = (s.taken.0 ++ made.0, call_both a b c s.taken.0 made.0 s.taken.1 made.1, by made.2)
   where
@@ -220,7 +220,7 @@ gathered_blames {S} rest sound refuses order_of begins takes seeks different bar
     all = s.taken.0 ++ made.0
 
     by : IsFault b c e ⊎ (refuses y b.meaning made.0 None e ⊎ MeetsRise (λ u rs o v. takes u b.meaning rs o v) different barrier (Some first) made.0 y z e) →
-        (IsFault a c e ⊎ refuses_folds {S = S} refuses (BringsByCalls begins takes seeks) (x, ahead, []) a.meaning all None e)
+        (IsFault a c e ⊎ refuses_folds {S = S} refuses (offers begins takes seeks) (x, ahead, []) a.meaning all None e)
         × BlamesNext refuses takes different barrier ahead a.meaning all None e x z
     by (inl k) = let here = fault_earlier a b c e later k in (inl here, fault_blames a c e here)
     by (inr (inl k)) = let here = s.taken.2.1 made.0 None e (subst (λ (p : Meaning). refuses y p made.0 None e) s.taken.1.meaning k) in (inr (inl here), own_blames e here)

@@ -15,7 +15,7 @@ use Rattle.slate_types.specs.Steps.{Step}
 use Rattle.slate_types.specs.World.{World, Made}
 use Rattle.slate_merge.specs.declared.fold_group.Group.{Group}
 use Rattle.slate_merge.specs.declared.folding.Folding.{Folding}
-use Rattle.slate_merge.specs.Calls.{BringsByCalls}
+use Rattle.slate_merge.specs.Offers.{offers}
 use Rattle.slate_merge.specs.Folds.{BlamesNext, MeetsRise, Taken, hands_out, operable_taken, refuses_folds, rest_folds, sound_taken}
 
 abbrev pub group_rows : Group → List RowEntry
@@ -29,13 +29,13 @@ module _ {S : Type 0} (folding : Folding) where
       (begins : S → Meaning → List Act → S → Type 0) (takes : S → Meaning → List Act → Option RowEntry → S → Type 0) (seeks : S → Meaning → List Act → List ℕ → S → Type 0) (order : S → IterationOrder) where
     abbrev pub StepsFolding : Reach → Reach → Taken S → Option RowEntry → Taken S → Type 0
     StepsFolding before after x answer y =
-        Step (rest_folds folding.merge_different_expire_ts folding.snapshot_barrier_seq rest) (sound_taken rest sound order) (refuses_folds refuses (BringsByCalls begins takes seeks)) (hands_out takes folding.snapshot_barrier_seq)
+        Step (rest_folds folding.merge_different_expire_ts folding.snapshot_barrier_seq rest) (sound_taken rest sound order) (refuses_folds refuses (offers begins takes seeks)) (hands_out takes folding.snapshot_barrier_seq)
         before after x answer y
 
   module _ (refuses : S → Meaning → List Act → Option (List ℕ) → SlateDBError → Type 0) where
     abbrev pub FailsFolding : (S → Meaning → List Act → S → Type 0) → (S → Meaning → List Act → Option RowEntry → S → Type 0) → (S → Meaning → List Act → List ℕ → S → Type 0) → Reach → Reach → Taken S → SlateDBError → Taken S → Type 0
     FailsFolding begins takes seeks before after x e y =
-        Made before after (λ reads. (IsFault before after e ⊎ refuses_folds refuses (BringsByCalls begins takes seeks) x before.meaning reads None e)
+        Made before after (λ reads. (IsFault before after e ⊎ refuses_folds refuses (offers begins takes seeks) x before.meaning reads None e)
         × BlamesNext refuses takes folding.merge_different_expire_ts folding.snapshot_barrier_seq x.1 before.meaning reads None e x.0 y.0)
 
     abbrev pub stops_gathering : (S → Meaning → List Act → Option RowEntry → S → Type 0) → RowEntry → S → S → Meaning → List Act → Option (List ℕ) → SlateDBError → Type 0

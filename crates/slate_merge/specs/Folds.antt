@@ -7,13 +7,15 @@
 --     IsRise e      the error names two sequences, the second of which is greater
 --     RefusesRise m at e      a row is refused that has a greater sequence than the operand before it, which is folded
 --     BringsOperand brings m at e      an operand is refused, where there is no operator, and such a row is brought
---     BringsRise brings m at e      the same of a row that has a greater sequence than an operand of its key: both are brought
---     RefusesBrought brings m at e      one of the two
---     brings_taken brings      of such a state, the rows that it holds, and those that the source may hand out
---     refuses_folds refuses brings      what the source refuses, and an operand or a rise of the rows that come next
+--     BringsRise brings rises m at e      the same of a row that has a greater sequence than an operand of its key: the operand is brought,
+--                                         and the row rises
+--     RefusesBrought brings rises m at e      one of the two
+--     RefusesOffered offers x m reads at e      the same of what the source offers behind the row that was read ahead
+--     refuses_folds refuses offers      what the source refuses, and an operand or a rise of the rows that come next
 --     NoneOpen barrier rows      none of the rows is such an operand
 --     operable_taken different barrier rest      without an operator none of the rows of such a state is; and no row rises above the operand before it
---     folds_held takes      the source gave rows, and one that is ahead then was ahead before, or is one of these
+--     EndsBy takes x m reads row y      the source gave rows, and this one last
+--     folds_held takes      the source gave rows, and one that is ahead then was the last of these
 --     hands_out takes barrier      so it is; and without an operator nothing is folded: the answer is the row that was read ahead, or
 --                                  the source gave it, and it's no such operand
 --     MeetsOpen takes barrier ahead reads before after      such an operand comes next: it was read ahead, or the source gave it
@@ -23,7 +25,7 @@
 --     Blames e own opens rises      a missing operator is the source's refusal, or such an operand comes next; and a greater sequence
 --                                   is so too, or such a row comes
 --     BlamesNext refuses takes different barrier ahead m reads at e before after      the same of the rows that come next
-use Rattle.std.specs.Prelude.{◌≡◌, ◌≢◌, ◌⊎◌, ◌<◌, ℕ, Bool, true, false, List, [], ◌∷◌, ◌++◌, Contains, Option, Some, None, IfSome, bytes_eq}
+use Rattle.std.specs.Prelude.{◌≡◌, ◌≢◌, ◌⊎◌, ◌<◌, ℕ, Bool, true, false, List, [], ◌∷◌, ◌++◌, Option, Some, None, IfSome, bytes_eq}
 use Rattle.std.specs.List.{AllByRecursion}
 use Rattle.slate_types.specs.declared.error.SlateDBError.{SlateDBError}
 use Rattle.slate_types.specs.declared.error.SlateDBError.TheVariants.{InvalidSequenceOrder, MergeOperatorMissing}
@@ -37,6 +39,7 @@ use Rattle.slate_types.specs.Steps.{Takes}
 use Rattle.slate_types.specs.World.{World}
 use Rattle.slate_merge.specs.Folding.{AreLinked, NoneRises, folded, is_open, links, rises}
 use Rattle.slate_merge.specs.Handing.{AreAmong, Gives}
+use Rattle.slate_merge.specs.Offers.{Offer, Comes, Rises}
 use Rattle.slate_merge.specs.Peeking.{TakesAhead, with_ahead}
 
 abbrev pub Taken : Type 0 → Type 0
@@ -59,7 +62,8 @@ pub record BringsOperand (brings : RowEntry → Type 0) (m : Meaning) (at : Opti
   pub operand : is_operand row ≡ true
   pub brought : brings row
 
-pub record BringsRise (brings : RowEntry → Type 0) (m : Meaning) (at : Option (List ℕ)) (e : SlateDBError) : Type 0 where
+-- rises: one that stood out of turn
+pub record BringsRise (brings rises : RowEntry → Type 0) (m : Meaning) (at : Option (List ℕ)) (e : SlateDBError) : Type 0 where
   pub refuses : RefusesRise m at e
   pub current : RowEntry
   pub next : RowEntry
@@ -67,10 +71,10 @@ pub record BringsRise (brings : RowEntry → Type 0) (m : Meaning) (at : Option 
   pub same_key : bytes_eq current.key next.key ≡ true
   pub names : e ≡ InvalidSequenceOrder current.seq next.seq
   pub brought : brings current
-  pub brought_next : brings next
+  pub brought_next : rises next
 
-abbrev pub RefusesBrought : (RowEntry → Type 0) → Meaning → Option (List ℕ) → SlateDBError → Type 0
-RefusesBrought brings m at e = BringsOperand brings m at e ⊎ BringsRise brings m at e
+abbrev pub RefusesBrought : (RowEntry → Type 0) → (RowEntry → Type 0) → Meaning → Option (List ℕ) → SlateDBError → Type 0
+RefusesBrought brings rises m at e = BringsOperand brings m at e ⊎ BringsRise brings rises m at e
 
 abbrev pub Blames : SlateDBError → Type 0 → Type 0 → Type 0 → Type 0
 Blames e own opens rises =
@@ -105,20 +109,23 @@ module _ {S : Type 0} where
   abbrev pub rest_folds : Bool → Option ℕ → (S → World → List RowEntry) → Taken S → World → List RowEntry
   rest_folds different barrier rest x w = folded (operator_at w.meaning.combine) different barrier (rest_taken rest x w)
 
-  abbrev pub brings_taken : (S → Meaning → List Act → RowEntry → Type 0) → Taken S → Meaning → List Act → RowEntry → Type 0
-  brings_taken brings x m reads r = Contains (x.2 ++ with_ahead x.1 []) r ⊎ brings x.0 m reads r
+  abbrev pub RefusesOffered : (Option RowEntry → S → Meaning → List Act → Offer → Type 0) → Taken S → Meaning → List Act → Option (List ℕ) → SlateDBError → Type 0
+  RefusesOffered offers x m reads at e = RefusesBrought (λ r. offers x.1 x.0 m reads (Comes r)) (λ r. offers x.1 x.0 m reads (Rises r)) m at e
 
-  abbrev pub refuses_folds : (S → Meaning → List Act → Option (List ℕ) → SlateDBError → Type 0) → (S → Meaning → List Act → RowEntry → Type 0) → Taken S → Meaning → List Act → Option (List ℕ) → SlateDBError → Type 0
-  refuses_folds refuses brings x m reads at e = refuses x.0 m reads at e ⊎ RefusesBrought (brings_taken brings x m reads) m at e
+  abbrev pub refuses_folds : (S → Meaning → List Act → Option (List ℕ) → SlateDBError → Type 0) → (Option RowEntry → S → Meaning → List Act → Offer → Type 0) → Taken S → Meaning → List Act → Option (List ℕ) → SlateDBError → Type 0
+  refuses_folds refuses offers x m reads at e = refuses x.0 m reads at e ⊎ RefusesOffered offers x m reads at e
 
   abbrev pub operable_taken : Bool → Option ℕ → (S → World → List RowEntry) → Taken S → World → Type 0
   operable_taken different barrier rest x w =
       (w.meaning.combine ≡ None → NoneOpen barrier (rest_taken rest x w))
       × NoneRises different barrier (rest_taken rest x w)
 
+  abbrev pub EndsBy : (S → Meaning → List Act → Option RowEntry → S → Type 0) → S → Meaning → List Act → RowEntry → S → Type 0
+  EndsBy takes x m reads row y = (given : List RowEntry) × Takes (λ u rs a v. takes u m rs a v) x reads (given ++ (row ∷ [])) y
+
   abbrev pub folds_held : (S → Meaning → List Act → Option RowEntry → S → Type 0) → Taken S → Meaning → List Act → Taken S → Type 0
   folds_held takes x m reads y =
-      (given : List RowEntry) × Gives (λ u rs a v. takes u m rs a v) x.0 reads given y.0 × AreAmong (with_ahead y.1 []) (with_ahead x.1 given)
+      (given : List RowEntry) × Gives (λ u rs a v. takes u m rs a v) x.0 reads given y.0 × AreAmong (with_ahead y.1 []) given × IfSome y.1 (λ row. EndsBy takes x.0 m reads row y.0)
 
   abbrev pub hands_out : (S → Meaning → List Act → Option RowEntry → S → Type 0) → Option ℕ → Taken S → Meaning → List Act → Option RowEntry → Taken S → Type 0
   hands_out takes barrier x m reads answer y =

@@ -19,6 +19,7 @@ pub mod Kept
 pub mod MergeStates
 pub mod Calls
 pub mod CallLaws
+pub mod Offers
 pub mod MergeBringing
 pub mod SourceSteps
 pub mod MergeStateLaws

@@ -16,6 +16,8 @@
 --     IsBlamed refuses waiting heads e      a source refuses for it
 --     either_refusal refuses at s e      a source refuses for it in a seek to a key, or in a call without one
 --     IsFront answer heads, IsTop heads top      the answer is the row of the first head; it is the greatest head; or there is none
+--     AreHeaped order heads      they are a heap, each of this order
+--     HasRow heads r      the row is that of a head
 --     has_key key top, is_before key top      this head has the key, or stands before it
 --     waiting_sources waiting, begun_sources heads      sources that all wait, and such as have all begun
 --     left_in, IsMergingIn, blames      what sources are together as an iterator: their rest, whether it is sound, what they refuse
@@ -120,6 +122,13 @@ module _ {S : Type 0} where
   abbrev pub IsTop : List (Head S) → Option (Head S) → Type 0
   IsTop heads None = heads ≡ []
   IsTop heads (Some x) = (others : List (Head S)) × (heads ≡ x ∷ others) × (IsHeap head_cmp heads → IsUpperBound head_cmp x others)
+
+  pub record AreHeaped (order : IterationOrder) (heads : List (Head S)) : Type 0 where
+    pub heap : IsHeap head_cmp heads
+    pub ordered : AllByRecursion (λ h. h.order ≡ order) heads
+
+  abbrev pub HasRow : List (Head S) → RowEntry → Type 0
+  HasRow heads r = AnyByRecursion (λ h. h.row ≡ r) heads
 
   abbrev pub has_key : List ℕ → Option (Head S) → Bool
   has_key key None = false

@@ -12,20 +12,20 @@ use Rattle.slate_types.specs.Outside.{Act, Meaning, Reach}
 use Rattle.slate_types.specs.Refusing.{NoMore}
 use Rattle.slate_types.specs.World.{Made}
 
-abbrev pub NoMoreRows : (List Act → RowEntry → Type 0) → List Act → (List Act → RowEntry → Type 0) → Type 0
-NoMoreRows before reads after = (later : List Act) (r : RowEntry) → after later r → before (reads ++ later) r
+abbrev pub NoMoreRows : {R : Type 0} → (List Act → R → Type 0) → List Act → (List Act → R → Type 0) → Type 0
+NoMoreRows {R} before reads after = (later : List Act) (r : R) → after later r → before (reads ++ later) r
 
 abbrev pub HandsOut : (List Act → RowEntry → Type 0) → List Act → Option RowEntry → (List Act → RowEntry → Type 0) → Type 0
 HandsOut before reads answer after = IfSome answer (λ r. before reads r) × NoMoreRows before reads after
 
-abbrev pub AddsNone : {A : Type 0} → (A → Meaning → List Act → RowEntry → Type 0) → (A → Meaning → List Act → Option (List ℕ) → SlateDBError → Type 0) → Meaning → A → List Act → A → Type 0
-AddsNone {A} brings refuses m x reads y = NoMore (refuses x m) reads (refuses y m) × NoMoreRows (brings x m) reads (brings y m)
+abbrev pub AddsNone : {A R : Type 0} → (A → Meaning → List Act → R → Type 0) → (A → Meaning → List Act → Option (List ℕ) → SlateDBError → Type 0) → Meaning → A → List Act → A → Type 0
+AddsNone {A} {R} brings refuses m x reads y = NoMore (refuses x m) reads (refuses y m) × NoMoreRows (brings x m) reads (brings y m)
 
 abbrev pub HandsAway : {A : Type 0} → (A → Meaning → List Act → RowEntry → Type 0) → (A → Meaning → List Act → Option (List ℕ) → SlateDBError → Type 0) → Meaning → A → List Act → Option RowEntry → A → Type 0
 HandsAway {A} brings refuses m x reads answer y = HandsOut (brings x m) reads answer (brings y m) × NoMore (refuses x m) reads (refuses y m)
 
-abbrev pub AddsNoneByCall : {A : Type 0} → (A → Meaning → List Act → RowEntry → Type 0) → (A → Meaning → List Act → Option (List ℕ) → SlateDBError → Type 0) → Reach → Reach → A → A → Type 0
-AddsNoneByCall {A} brings refuses before after x y = Made before after (λ reads. AddsNone brings refuses before.meaning x reads y)
+abbrev pub AddsNoneByCall : {A R : Type 0} → (A → Meaning → List Act → R → Type 0) → (A → Meaning → List Act → Option (List ℕ) → SlateDBError → Type 0) → Reach → Reach → A → A → Type 0
+AddsNoneByCall {A} {R} brings refuses before after x y = Made before after (λ reads. AddsNone brings refuses before.meaning x reads y)
 
 abbrev pub HandsAwayByCall : {A : Type 0} → (A → Meaning → List Act → RowEntry → Type 0) → (A → Meaning → List Act → Option (List ℕ) → SlateDBError → Type 0) → Reach → Reach → A → Option RowEntry → A → Type 0
 HandsAwayByCall {A} brings refuses before after x answer y = Made before after (λ reads. HandsAway brings refuses before.meaning x reads answer y)

@@ -27,6 +27,7 @@ use Rattle.slate_merge.specs.declared.operator_iterator.MergeOperatorIterator.{M
 use Rattle.slate_merge.specs.Folding.{FoldFalls}
 use Rattle.slate_merge.specs.Folds.{BlamesNext, hands_out, operable_taken, refuses_folds, rest_folds, rest_taken, sound_taken}
 use Rattle.slate_merge.specs.Kept.{Copies}
+use Rattle.slate_merge.specs.Offers.{Offer}
 use Rattle.slate_merge.specs.Peeking.{ahead_bound}
 
 abbrev pub rows_unless : Option SlateDBError → List RowEntry → List RowEntry
@@ -64,8 +65,8 @@ module _ {S : Type 0} where
   abbrev pub bound_folding : (S → ℕ) → MergeOperatorIterator S → ℕ
   bound_folding bound it = bound_unless it.refusal (ahead_bound it.ahead + bound it.iterator)
 
-  abbrev pub refuses_folding : (S → Meaning → List Act → Option (List ℕ) → SlateDBError → Type 0) → (S → Meaning → List Act → RowEntry → Type 0) → MergeOperatorIterator S → Meaning → List Act → Option (List ℕ) → SlateDBError → Type 0
-  refuses_folding refuses brings it m reads at e = RefusesBy it.refusal it.begun (λ d. refuses_folds refuses brings (it.iterator, it.ahead, []) m reads at d) e
+  abbrev pub refuses_folding : (S → Meaning → List Act → Option (List ℕ) → SlateDBError → Type 0) → (Option RowEntry → S → Meaning → List Act → Offer → Type 0) → MergeOperatorIterator S → Meaning → List Act → Option (List ℕ) → SlateDBError → Type 0
+  refuses_folding refuses offers it m reads at e = RefusesBy it.refusal it.begun (λ d. refuses_folds refuses offers (it.iterator, it.ahead, []) m reads at d) e
 
   pub record IsFolding (iterator : S) (folding : Folding) (it : MergeOperatorIterator S) : Type 0 where
     pub rows : it.iterator ≡ iterator

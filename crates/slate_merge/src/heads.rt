@@ -2,6 +2,7 @@
 ghost use Rattle.std.specs.Prelude.{◌≡◌, ◌<◌, ◌≤◌, ◌-◌, ◌^◌, ◌&&◌, List, [], ◌∷◌, length, min, Option, None, Some, true, false, IfOk, IfErr, IsSome, OnOk};
 ghost use Rattle.std.specs.BinaryHeap.{heap_items, KeepsHeap};
 ghost use Rattle.slate_types.specs.declared.iter.IterationOrder.{IterationOrder};
+ghost use Rattle.slate_types.specs.declared.types.RowEntry.{RowEntry};
 ghost use Rattle.slate_types.specs.Iteration.{begins_before, drop_before};
 ghost use Rattle.slate_types.specs.Outside.{OnlyReads};
 ghost use Rattle.slate_types.specs.Rows.{is_base};
@@ -11,7 +12,7 @@ ghost use Rattle.slate_merge.specs.declared.head.Head.{Head};
 ghost use Rattle.slate_merge.specs.Merge.{begins_with, counted, past_key, row_bytes, shown_rows, with_key};
 ghost use Rattle.slate_merge.specs.Answering.{IsFaultOr};
 ghost use Rattle.slate_merge.specs.MergeSteps.{CountsKey, CountsTaken, Goes, Joins, JoinsAgain, Renews, TakesMerged};
-ghost use Rattle.slate_merge.specs.Merging.{AreReady, begun_sources, blames, has_key, is_before, IsTop, merging_bound, waiting_sources};
+ghost use Rattle.slate_merge.specs.Merging.{AreHeaped, AreReady, HasRow, begun_sources, blames, has_key, is_before, IsTop, merging_bound, waiting_sources};
 ghost use Rattle.slate_merge.specs.SourceSteps.{AreMerging, left_of_heads, MovesSources, SourcesAddNone, StepsHeads};
 
 use crate::head::Head;
@@ -57,6 +58,7 @@ pub fn take_first<E: Outside, I: RowEntryIterator<E>>(
     env: &mut E,
 ) -> Result<Option<RowEntry>, SlateDBError>
     ensures step { (order : IterationOrder) → IfOk result (λ answer. StepsHeads I.rest I.sound I.refuses I.begins I.takes I.seeks I.order order (λ rows. rows) (E.reach env.old) (E.reach env.new) (heap_items heads.old) answer (heap_items heads.new)) }
+    ensures heaped { (order : IterationOrder) → AreHeaped order (heap_items heads.old) → OnOk result (AreHeaped order (heap_items heads.new)) }
     ensures smaller { IfOk result (λ answer. IsSome answer → merging_bound I.bound [] (heap_items heads.new) < merging_bound I.bound [] (heap_items heads.old)) }
     ensures no_larger { OnOk result (merging_bound I.bound [] (heap_items heads.new) ≤ merging_bound I.bound [] (heap_items heads.old)) }
     ensures cause { IfErr result (λ e. IsFaultOr (blames I.refuses) (E.reach env.old) (E.reach env.new) (begun_sources (heap_items heads.old)) None e) }
@@ -124,6 +126,7 @@ pub fn drop_older<E: Outside, I: RowEntryIterator<E>>(
 ) -> Result<(), SlateDBError>
     ensures moved { (order : IterationOrder) → OnOk result (MovesSources I.rest I.sound I.refuses I.order order (past_key key.now) (E.reach env.old) (E.reach env.new) (begun_sources (heap_items heads.old)) (begun_sources (heap_items heads.new))) }
     ensures brought { OnOk result (SourcesAddNone I.refuses I.begins I.takes I.seeks (E.reach env.old) (E.reach env.new) (begun_sources (heap_items heads.old)) (begun_sources (heap_items heads.new))) }
+    ensures heaped { (order : IterationOrder) → AreHeaped order (heap_items heads.old) → OnOk result (AreHeaped order (heap_items heads.new)) }
     ensures done { (order : IterationOrder) (w : World) → AreMerging I.rest I.sound I.order order (heap_items heads.new) w → OnOk result (begins_with key.now (left_of_heads I.rest order (heap_items heads.new) w) ≡ false) }
     ensures count { (order : IterationOrder) (w : World) → Sees w (E.reach env.old) (E.reach env.new) → AreMerging I.rest I.sound I.order order (heap_items heads.old) w →
         OnOk result (processed.new ≡ counted processed.old (with_key key.now (left_of_heads I.rest order (heap_items heads.old) w))) }
@@ -155,6 +158,7 @@ pub fn seek_first<E: Outside, I: RowEntryIterator<E>>(
 ) -> Result<bool, SlateDBError>
     ensures moved { (order : IterationOrder) → OnOk result (MovesSources I.rest I.sound I.refuses I.order order (drop_before order key.now) (E.reach env.old) (E.reach env.new) (begun_sources (heap_items heads.old)) (begun_sources (heap_items heads.new))) }
     ensures brought { OnOk result (SourcesAddNone I.refuses I.begins I.takes I.seeks (E.reach env.old) (E.reach env.new) (begun_sources (heap_items heads.old)) (begun_sources (heap_items heads.new))) }
+    ensures heaped { (order : IterationOrder) → AreHeaped order (heap_items heads.old) → OnOk result (AreHeaped order (heap_items heads.new)) }
     ensures done { (order : IterationOrder) (w : World) → AreMerging I.rest I.sound I.order order (heap_items heads.new) w →
         IfOk result (λ sought. sought ≡ false → begins_before order key.now (left_of_heads I.rest order (heap_items heads.new) w) ≡ false) }
     ensures smaller { IfOk result (λ sought. sought ≡ true → merging_bound I.bound [] (heap_items heads.new) < merging_bound I.bound [] (heap_items heads.old)) }
@@ -193,6 +197,7 @@ pub fn seek_heads<E: Outside, I: RowEntryIterator<E>>(
 ) -> Result<(), SlateDBError>
     ensures moved { (order : IterationOrder) → OnOk result (MovesSources I.rest I.sound I.refuses I.order order (drop_before order key.now) (E.reach env.old) (E.reach env.new) (begun_sources (heap_items heads.old)) (begun_sources (heap_items heads.new))) }
     ensures brought { OnOk result (SourcesAddNone I.refuses I.begins I.takes I.seeks (E.reach env.old) (E.reach env.new) (begun_sources (heap_items heads.old)) (begun_sources (heap_items heads.new))) }
+    ensures heaped { (order : IterationOrder) → AreHeaped order (heap_items heads.old) → OnOk result (AreHeaped order (heap_items heads.new)) }
     ensures done { (order : IterationOrder) (w : World) → AreMerging I.rest I.sound I.order order (heap_items heads.new) w → OnOk result (begins_before order key.now (left_of_heads I.rest order (heap_items heads.new) w) ≡ false) }
     ensures no_larger { OnOk result (merging_bound I.bound [] (heap_items heads.new) ≤ merging_bound I.bound [] (heap_items heads.old)) }
     ensures cause { IfErr result (λ e. IsFaultOr (blames I.refuses) (E.reach env.old) (E.reach env.new) (begun_sources (heap_items heads.old)) (Some key.now) e) }
@@ -220,6 +225,7 @@ pub fn begin_source<E: Outside, I: RowEntryIterator<E>>(
         OnOk result (MovesSources I.rest I.sound I.refuses I.order order (λ rows. rows) (E.reach env.old) (E.reach env.new) (record { waiting = source ∷ waiting; heads = heap_items heads.old }) (record { waiting = waiting; heads = heap_items heads.new })) }
     ensures brought { (waiting : List I) →
         OnOk result (SourcesAddNone I.refuses I.begins I.takes I.seeks (E.reach env.old) (E.reach env.new) (record { waiting = source ∷ waiting; heads = heap_items heads.old }) (record { waiting = waiting; heads = heap_items heads.new })) }
+    ensures heaped { AreHeaped order (heap_items heads.old) → OnOk result (AreHeaped order (heap_items heads.new)) }
     ensures ready { AreReady I.refuses (E.reach env.old).meaning (heap_items heads.old) → OnOk result (AreReady I.refuses (E.reach env.old).meaning (heap_items heads.new)) }
     ensures no_larger { (waiting : List I) → OnOk result (merging_bound I.bound waiting (heap_items heads.new) ≤ merging_bound I.bound (source ∷ waiting) (heap_items heads.old)) }
     ensures cause { IfErr result (λ e. IsFaultOr I.refuses (E.reach env.old) (E.reach env.new) source None e) }
@@ -243,6 +249,7 @@ pub fn begin_all<E: Outside, I: RowEntryIterator<E>>(
 ) -> Result<BinaryHeap<Head<I>>, SlateDBError>
     ensures moved { IfOk result (λ heads. MovesSources I.rest I.sound I.refuses I.order order (λ rows. rows) (E.reach env.old) (E.reach env.new) (waiting_sources waiting.old.items) (begun_sources (heap_items heads))) }
     ensures brought { IfOk result (λ heads. SourcesAddNone I.refuses I.begins I.takes I.seeks (E.reach env.old) (E.reach env.new) (waiting_sources waiting.old.items) (begun_sources (heap_items heads))) }
+    ensures heaped { IfOk result (λ heads. AreHeaped order (heap_items heads)) }
     ensures ready { IfOk result (λ heads. AreReady I.refuses (E.reach env.old).meaning (heap_items heads)) }
     ensures no_larger { IfOk result (λ heads. merging_bound I.bound [] (heap_items heads) ≤ merging_bound I.bound waiting.old.items []) }
     ensures cause { IfErr result (λ e. IsFaultOr (blames I.refuses) (E.reach env.old) (E.reach env.new) (waiting_sources waiting.old.items) None e) }
@@ -302,6 +309,8 @@ pub fn begin_again<E: Outside, I: RowEntryIterator<E>>(
 ) -> Result<BinaryHeap<Head<I>>, SlateDBError>
     ensures moved { (order : IterationOrder) → IfOk result (λ done. MovesSources I.rest I.sound I.refuses I.order order (λ rows. rows) (E.reach env.old) (E.reach env.new) (begun_sources (heap_items heads.old)) (begun_sources (heap_items done))) }
     ensures brought { IfOk result (λ done. SourcesAddNone I.refuses I.begins I.takes I.seeks (E.reach env.old) (E.reach env.new) (begun_sources (heap_items heads.old)) (begun_sources (heap_items done))) }
+    ensures heaped { (order : IterationOrder) → AreHeaped order (heap_items heads.old) → IfOk result (λ done. AreHeaped order (heap_items done)) }
+    ensures same_rows { IfOk result (λ done. (r : RowEntry) → HasRow (heap_items done) r → HasRow (heap_items heads.old) r) }
     ensures ready { IfOk result (λ done. AreReady I.refuses (E.reach env.old).meaning (heap_items done)) }
     ensures no_larger { IfOk result (λ done. merging_bound I.bound [] (heap_items done) ≤ merging_bound I.bound [] (heap_items heads.old)) }
     ensures cause { IfErr result (λ e. IsFaultOr (blames I.refuses) (E.reach env.old) (E.reach env.new) (begun_sources (heap_items heads.old)) None e) }
@@ -326,6 +335,7 @@ pub fn take_row<E: Outside, I: RowEntryIterator<E>>(
     env: &mut E,
 ) -> Result<Option<RowEntry>, SlateDBError>
     ensures step { (order : IterationOrder) → IfOk result (λ answer. StepsHeads I.rest I.sound I.refuses I.begins I.takes I.seeks I.order order (shown_rows dedup) (E.reach env.old) (E.reach env.new) (heap_items heads.old) answer (heap_items heads.new)) }
+    ensures heaped { (order : IterationOrder) → AreHeaped order (heap_items heads.old) → OnOk result (AreHeaped order (heap_items heads.new)) }
     ensures count { (order : IterationOrder) (w : World) → Sees w (E.reach env.old) (E.reach env.new) → AreMerging I.rest I.sound I.order order (heap_items heads.old) w →
         OnOk result (TakesMerged dedup (left_of_heads I.rest order (heap_items heads.old) w) (left_of_heads I.rest order (heap_items heads.new) w) processed.old processed.new) }
     ensures counted { IfOk result (λ answer. CountsTaken dedup processed.old answer processed.new) }

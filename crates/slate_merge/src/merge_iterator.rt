@@ -1,5 +1,5 @@
 //! Many iterators as one.
-ghost use Rattle.std.specs.Prelude.{◌≡◌, ◌<◌, ◌≤◌, Bool, List, true, None, IfOk, IfErr, IsSome, OnOk};
+ghost use Rattle.std.specs.Prelude.{◌≡◌, ◌<◌, ◌≤◌, Bool, List, true, None, Err, IfOk, IfErr, IsSome, OnOk};
 ghost use Rattle.std.specs.BinaryHeap.{heap_items};
 ghost use Rattle.slate_types.specs.declared.error.SlateDBError.{SlateDBError};
 ghost use Rattle.slate_types.specs.declared.iter.IterationOrder.{IterationOrder};
@@ -9,11 +9,11 @@ ghost use Rattle.slate_types.specs.World.{World, Checks, Sees};
 ghost use Rattle.slate_types.proofs.Moves.{Moves};
 ghost use Rattle.slate_merge.specs.Answering.{AnswersBy, FailsBy, IsFaultOr};
 ghost use Rattle.slate_merge.specs.NoMoreRows.{AddsNoneByCall};
-ghost use Rattle.slate_merge.specs.Calls.{BringsByCalls};
-ghost use Rattle.slate_merge.specs.Merging.{AreReady};
+ghost use Rattle.slate_merge.specs.Offers.{offers};
+ghost use Rattle.slate_merge.specs.Merging.{AreHeaped, AreReady};
 ghost use Rattle.slate_merge.specs.MergeStateLaws.{refuses_more, refuses_whole, rest_rises};
-ghost use Rattle.slate_merge.specs.MergeBringing.{merge_brings, MergeBegins, MergeSeeks, MergeTakes};
-ghost use Rattle.slate_merge.specs.MergeStates.{bound_in, CopiedIn, IsMergeOf, IsSameMerge, IsSoundIn, IsSoundMerge, refuses_in, refuses_of_merge, rest_in, rest_of_merge, stays_of_merge, TakesLeft};
+ghost use Rattle.slate_merge.specs.MergeBringing.{merge_offers, IsHeapedIn, KeepsHeads, MergeBegins, MergeSeeks, MergeTakes};
+ghost use Rattle.slate_merge.specs.MergeStates.{bound_in, CopiedIn, IsMergeOf, IsSameMerge, IsSoundIn, IsSoundMerge, IsWaiting, refuses_in, refuses_of_merge, rest_in, rest_of_merge, stays_of_merge, TakesLeft};
 
 use crate::head::Head;
 use crate::heads::{begin_again, begin_all, seek_heads, take_row};
@@ -88,6 +88,7 @@ impl<I: Drop> MergeIterator<I> {
         ensures still { (w : World) → Sees w (E.reach env.old) (E.reach env.new) → IsSoundMerge I.rest I.sound I.order self.old w → IsSoundMerge I.rest I.sound I.order self.new w }
         ensures checked { (w : World) → IsSoundMerge I.rest I.sound I.order self.old w → OnOk result (Checks w (E.reach env.old) (E.reach env.new)) }
         ensures taken { IfOk result (λ answer. AnswersBy (λ x m reads y. MergeTakes I.begins I.takes I.seeks x m reads answer y) (refuses_of_merge I.refuses) (E.reach env.old) (E.reach env.new) self.old self.new) }
+        ensures unbegun { IsWaiting self.old.state → (result ≡ Err SlateDBError.IteratorNotInitialized) × (self.new ≡ self.old) × (env.new ≡ env.old) }
         ensures takes { (w : World) → Sees w (E.reach env.old) (E.reach env.new) → IsSoundMerge I.rest I.sound I.order self.old w → OnOk result (TakesLeft I.rest w self.old self.new) }
         ensures cause { IfErr result (λ e. FailsBy (refuses_of_merge I.refuses) stays_of_merge (E.reach env.old) (E.reach env.new) self.old None e self.new) }
         ensures smaller { IfOk result (λ answer. IsSome answer → bound_in I.bound self.new.state < bound_in I.bound self.old.state) }
@@ -137,7 +138,9 @@ fn begin_heads<E: Outside, I: RowEntryIterator<E>>(
     env: &mut E,
 ) -> Result<BinaryHeap<Head<I>>, SlateDBError>
     ensures moved { (dedup : Bool) → IfOk result (λ heads. Moves (rest_in I.rest order dedup) (IsSoundIn I.rest I.sound I.order order) (refuses_in I.refuses) (E.reach env.old) (E.reach env.new) state.old (MergeState.Begun heads)) }
-    ensures brought { IfOk result (λ heads. AddsNoneByCall (merge_brings (BringsByCalls I.begins I.takes I.seeks)) (refuses_in I.refuses) (E.reach env.old) (E.reach env.new) state.old (MergeState.Begun heads)) }
+    ensures brought { IfOk result (λ heads. AddsNoneByCall (merge_offers (offers I.begins I.takes I.seeks)) (refuses_in I.refuses) (E.reach env.old) (E.reach env.new) state.old (MergeState.Begun heads)) }
+    ensures heaped { IsHeapedIn order state.old → IfOk result (λ heads. AreHeaped order (heap_items heads)) }
+    ensures same_rows { IfOk result (λ heads. KeepsHeads state.old (MergeState.Begun heads)) }
     ensures ready { IfOk result (λ heads. AreReady I.refuses (E.reach env.old).meaning (heap_items heads)) }
     ensures no_larger { IfOk result (λ heads. bound_in I.bound (MergeState.Begun heads) ≤ bound_in I.bound state.old) }
     ensures cause { IfErr result (λ e. IsFaultOr (refuses_in I.refuses) (E.reach env.old) (E.reach env.new) state.old None e) }

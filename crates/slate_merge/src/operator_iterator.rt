@@ -6,7 +6,7 @@ ghost use Rattle.slate_types.specs.Outside.{OnlyReads};
 ghost use Rattle.slate_types.specs.Refusing.{IsReady, NoMore};
 ghost use Rattle.slate_types.specs.World.{World, Checks, Made, Sees};
 ghost use Rattle.slate_merge.specs.Answering.{AnswersBy, FailsBy};
-ghost use Rattle.slate_merge.specs.Calls.{BringsByCalls};
+ghost use Rattle.slate_merge.specs.Offers.{offers};
 ghost use Rattle.slate_merge.specs.OperatorIterators.{Begins, FallsAtFirst, IsFolding, IsGoing, IsOperable, IsOwn, Keeps, Seeks, Stays, Takes, bound_folding, refuses_folding, rest_folding, sound_folding};
 ghost use Rattle.slate_merge.specs.OperatorLaws.{folding_more, folding_rises, folding_whole};
 
@@ -90,8 +90,8 @@ impl<I: Drop> MergeOperatorIterator<I> {
         ensures rows { (w : World) → Sees w (E.reach env.old) (E.reach env.new) → sound_folding I.rest I.sound I.order self.old w → IfOk result (λ answer. TakesRow (rest_folding I.rest self.old w) answer (rest_folding I.rest self.new w)) }
         ensures still { (w : World) → Sees w (E.reach env.old) (E.reach env.new) → sound_folding I.rest I.sound I.order self.old w → sound_folding I.rest I.sound I.order self.new w }
         ensures checked { (w : World) → sound_folding I.rest I.sound I.order self.old w → OnOk result (Checks w (E.reach env.old) (E.reach env.new)) }
-        ensures taken { IfOk result (λ answer. AnswersBy (λ x m reads y. Takes I.takes x m reads answer y) (refuses_folding I.refuses (BringsByCalls I.begins I.takes I.seeks)) (E.reach env.old) (E.reach env.new) self.old self.new) }
-        ensures cause { IfErr result (λ e. FailsBy (refuses_folding I.refuses (BringsByCalls I.begins I.takes I.seeks)) (Stays I.refuses I.takes) (E.reach env.old) (E.reach env.new) self.old None e self.new) }
+        ensures taken { IfOk result (λ answer. AnswersBy (λ x m reads y. Takes I.takes x m reads answer y) (refuses_folding I.refuses (offers I.begins I.takes I.seeks)) (E.reach env.old) (E.reach env.new) self.old self.new) }
+        ensures cause { IfErr result (λ e. FailsBy (refuses_folding I.refuses (offers I.begins I.takes I.seeks)) (Stays I.refuses I.takes) (E.reach env.old) (E.reach env.new) self.old None e self.new) }
         ensures smaller { IfOk result (λ answer. IsSome answer → bound_folding I.bound self.new < bound_folding I.bound self.old) }
         ensures no_larger { bound_folding I.bound self.new ≤ bound_folding I.bound self.old }
         ensures order { I.order self.new.iterator ≡ I.order self.old.iterator }
@@ -138,7 +138,7 @@ impl<E: Operates, I: RowEntryIterator<E>> RowEntryIterator<E> for MergeOperatorI
 
     ghost bound = { λ it. bound_folding I.bound it };
 
-    ghost refuses = { λ it m reads at e. refuses_folding I.refuses (BringsByCalls I.begins I.takes I.seeks) it m reads at e };
+    ghost refuses = { λ it m reads at e. refuses_folding I.refuses (offers I.begins I.takes I.seeks) it m reads at e };
 
     ghost begins = { λ before m reads after. Begins I.begins before m reads after };
 
@@ -152,7 +152,7 @@ impl<E: Operates, I: RowEntryIterator<E>> RowEntryIterator<E> for MergeOperatorI
 
     ghost more = { λ it m done reads at e h. folding_more I.refuses I.more I.begins I.takes I.seeks it m done reads at e h };
 
-    ghost whole = { λ it w reads at e h k r. folding_whole I.rest I.sound I.order I.refuses I.whole (BringsByCalls I.begins I.takes I.seeks) it w reads at e h k r };
+    ghost whole = { λ it w reads at e h k r. folding_whole I.rest I.sound I.order I.refuses I.whole (offers I.begins I.takes I.seeks) it w reads at e h k r };
 
     fn iteration_order(&self) -> IterationOrder {
         self.iterator.iteration_order()
@@ -163,9 +163,9 @@ impl<E: Operates, I: RowEntryIterator<E>> RowEntryIterator<E> for MergeOperatorI
         ensures rows { (w : World) → Sees w (E.reach env.old) (E.reach env.new) → sound_folding I.rest I.sound I.order self.old w → OnOk result (rest_folding I.rest self.new w ≡ rest_folding I.rest self.old w) }
         ensures still { (w : World) → Sees w (E.reach env.old) (E.reach env.new) → sound_folding I.rest I.sound I.order self.old w → sound_folding I.rest I.sound I.order self.new w }
         ensures checked { (w : World) → sound_folding I.rest I.sound I.order self.old w → OnOk result (Checks w (E.reach env.old) (E.reach env.new)) }
-        ensures ready { OnOk result (IsReady (refuses_folding I.refuses (BringsByCalls I.begins I.takes I.seeks) self.new (E.reach env.old).meaning)) }
-        ensures begun { OnOk result (AnswersBy (Begins I.begins) (refuses_folding I.refuses (BringsByCalls I.begins I.takes I.seeks)) (E.reach env.old) (E.reach env.new) self.old self.new) }
-        ensures cause { IfErr result (λ e. FailsBy (refuses_folding I.refuses (BringsByCalls I.begins I.takes I.seeks)) (Stays I.refuses I.takes) (E.reach env.old) (E.reach env.new) self.old None e self.new) }
+        ensures ready { OnOk result (IsReady (refuses_folding I.refuses (offers I.begins I.takes I.seeks) self.new (E.reach env.old).meaning)) }
+        ensures begun { OnOk result (AnswersBy (Begins I.begins) (refuses_folding I.refuses (offers I.begins I.takes I.seeks)) (E.reach env.old) (E.reach env.new) self.old self.new) }
+        ensures cause { IfErr result (λ e. FailsBy (refuses_folding I.refuses (offers I.begins I.takes I.seeks)) (Stays I.refuses I.takes) (E.reach env.old) (E.reach env.new) self.old None e self.new) }
         ensures no_larger { bound_folding I.bound self.new ≤ bound_folding I.bound self.old }
         ensures order { I.order self.new.iterator ≡ I.order self.old.iterator }
         ensures reads { OnlyReads (E.reach env.old) (E.reach env.new) }
@@ -194,8 +194,8 @@ impl<E: Operates, I: RowEntryIterator<E>> RowEntryIterator<E> for MergeOperatorI
             OnOk result (rest_folding I.rest self.new w ≡ drop_before (I.order self.old.iterator) key.now (rest_folding I.rest self.old w)) }
         ensures still { (w : World) → Sees w (E.reach env.old) (E.reach env.new) → sound_folding I.rest I.sound I.order self.old w → sound_folding I.rest I.sound I.order self.new w }
         ensures checked { (w : World) → sound_folding I.rest I.sound I.order self.old w → OnOk result (Checks w (E.reach env.old) (E.reach env.new)) }
-        ensures sought { OnOk result (AnswersBy (λ x m reads y. Seeks I.seeks x m reads key.now y) (refuses_folding I.refuses (BringsByCalls I.begins I.takes I.seeks)) (E.reach env.old) (E.reach env.new) self.old self.new) }
-        ensures cause { IfErr result (λ e. FailsBy (refuses_folding I.refuses (BringsByCalls I.begins I.takes I.seeks)) (Stays I.refuses I.takes) (E.reach env.old) (E.reach env.new) self.old (Some key.now) e self.new) }
+        ensures sought { OnOk result (AnswersBy (λ x m reads y. Seeks I.seeks x m reads key.now y) (refuses_folding I.refuses (offers I.begins I.takes I.seeks)) (E.reach env.old) (E.reach env.new) self.old self.new) }
+        ensures cause { IfErr result (λ e. FailsBy (refuses_folding I.refuses (offers I.begins I.takes I.seeks)) (Stays I.refuses I.takes) (E.reach env.old) (E.reach env.new) self.old (Some key.now) e self.new) }
         ensures no_larger { bound_folding I.bound self.new ≤ bound_folding I.bound self.old }
         ensures order { I.order self.new.iterator ≡ I.order self.old.iterator }
         ensures reads { OnlyReads (E.reach env.old) (E.reach env.new) }

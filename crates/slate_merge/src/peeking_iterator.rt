@@ -75,25 +75,6 @@ impl<I: Drop> PeekingIterator<I> {
     {
         self.ahead.as_ref()
     }
-
-    /// The row that `next` gives. Of what becomes of the iterator its contract says nothing: where that matters, `read_ahead` and
-    /// then `ahead` is the way. It refuses what the source refuses.
-    pub fn peek<E: Outside>(
-        &mut self,
-        alloc: Global,
-        env: &mut E,
-    ) -> Result<Option<&RowEntry>, SlateDBError>
-    where
-        I: RowEntryIterator<E>,
-        ensures first { (w : World) → Sees w (E.reach env.old) (E.reach env.new) → IsSoundPeeked I.rest I.sound I.order self.old w → IfOk result (λ row. option_copied row ≡ head_of (rest_peeked I.rest self.old w)) }
-        ensures cause { IfErr result (λ e. IsFaultOr (refuses_peeked I.refuses) (E.reach env.old) (E.reach env.new) self.old None e) }
-        ensures reads { OnlyReads (E.reach env.old) (E.reach env.new) }
-    {
-        match self.read_ahead(alloc, env) {
-            Ok(()) => Ok(self.ahead.as_ref()),
-            Err(error) => Err(error),
-        }
-    }
 }
 
 impl<E: Outside, I: RowEntryIterator<E>> RowEntryIterator<E> for PeekingIterator<I> {

@@ -2,9 +2,13 @@
 --     segment_run_begins, segment_run_takes, segment_run_seeks      of an iterator over a run of a segment
 --     brings_segments, segments_begin, segments_take, segments_seek      of one over the runs of segments
 --     brings_source it m reads r      of a source of each kind
+--     rows_here it      the rows in memory that it has left, where it is of a batch or a memtable
+--     StayHere before after means      of one in memory: it stays so, and of its rows before and after this holds
 --     source_begins, source_takes, source_seeks      what its calls may read and answer, and what becomes of it then
-use Rattle.std.specs.Prelude.{ℕ, List, Contains, Option}
+use Rattle.std.specs.Prelude.{◌≡◌, ℕ, List, Contains, Option, Some, None, IfSome, IsSomeAnd}
+use Rattle.slate_types.specs.declared.iter.IterationOrder.{IterationOrder}
 use Rattle.slate_types.specs.declared.types.RowEntry.{RowEntry}
+use Rattle.slate_types.specs.Iteration.{TakesRow, drop_before}
 use Rattle.slate_types.specs.Outside.{Act, Meaning}
 use Rattle.slate_merge.specs.NoMoreRows.{HandsOut, NoMoreRows}
 use Rattle.slate_merge.specs.MergeBringing.{MergeBegins, MergeSeeks, MergeTakes, brings_merge}
@@ -50,11 +54,20 @@ brings_source (Segments it) m reads r = brings_segments it m reads r
 brings_source (Batch it) m reads r = Contains it.rows r
 brings_source (Memory it) m reads r = Contains it.rows r
 
-abbrev pub source_begins : ReadSource → Meaning → List Act → ReadSource → Type 0
-source_begins before m reads after = NoMoreRows (brings_source before m) reads (brings_source after m)
+abbrev pub rows_here : ReadSource → Option (List RowEntry)
+rows_here (Batch it) = Some it.rows
+rows_here (Memory it) = Some it.rows
+rows_here _ = None
 
+abbrev pub StayHere : ReadSource → ReadSource → (List RowEntry → List RowEntry → Type 0) → Type 0
+StayHere before after means = IfSome (rows_here before) (λ x. IsSomeAnd (rows_here after) (λ y. means x y))
+
+abbrev pub source_begins : ReadSource → Meaning → List Act → ReadSource → Type 0
+source_begins before m reads after = NoMoreRows (brings_source before m) reads (brings_source after m) × StayHere before after (λ x y. y ≡ x)
+
+-- rows in memory come as they stand
 abbrev pub source_takes : ReadSource → Meaning → List Act → Option RowEntry → ReadSource → Type 0
-source_takes before m reads answer after = HandsOut (brings_source before m) reads answer (brings_source after m)
+source_takes before m reads answer after = HandsOut (brings_source before m) reads answer (brings_source after m) × StayHere before after (λ x y. TakesRow x answer y)
 
 abbrev pub source_seeks : ReadSource → Meaning → List Act → List ℕ → ReadSource → Type 0
-source_seeks before m reads key after = NoMoreRows (brings_source before m) reads (brings_source after m)
+source_seeks before m reads key after = NoMoreRows (brings_source before m) reads (brings_source after m) × StayHere before after (λ x y. (order : IterationOrder) × (y ≡ drop_before order key x))

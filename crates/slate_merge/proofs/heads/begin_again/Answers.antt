@@ -2,12 +2,14 @@ use Rattle.std.proofs.Common.{◌≡◌, ◌≤◌, ◌∙◌, ◌++◌, sym, su
 use Rattle.std.specs.BinaryHeap.{heap_items}
 use Rattle.std.proofs.lemmas.List.Sorted.{length_permutation}
 use Rattle.slate_types.specs.declared.iter.IterationOrder.TheVariants.{Ascending}
+use Rattle.slate_types.specs.declared.types.RowEntry.{RowEntry}
 use Rattle.slate_types.proofs.Moves.{Moves, moves_none, moves_both}
 use Rattle.slate_types.proofs.Reaching.{reads_none, reads_then}
 use Rattle.slate_merge.specs.declared.head.Head.{Head}
-use Rattle.slate_merge.specs.Calls.{BringsByCalls}
-use Rattle.slate_merge.specs.Merging.{begun_sources, merging_bound}
+use Rattle.slate_merge.specs.Offers.{offers}
+use Rattle.slate_merge.specs.Merging.{HasRow, begun_sources, merging_bound}
 use Rattle.slate_merge.proofs.RenewLaws.{moved_out, renewed_bound, all_done}
+use Rattle.slate_merge.proofs.Heaps.{AreOrdered, ordered_again, rows_again}
 use Rattle.slate_merge.proofs.MergeBringings.{SourcesAdd, sources_both, sources_none}
 use Rattle.slate_merge.proofs.MergeLoops.{heads_left, AreSoundHeads, heads_blame, renew_made, renew_moves, renew_ready, again_moves}
 use Rattle.slate_merge.proofs.Goings.{then_fails, head_fails}
@@ -15,7 +17,7 @@ use Rattle.slate_merge.proofs.heads.begin_again.Goals as goal
 use Rattle.std.proofs.lemmas.List.{nil_from_length}
 
 pub heads-init : goal.heads-init
-heads-init g c = rw c.new-done.ensures.items (record { moves = λ o. moves_none _ _ _ _ _; brought = sources_none (BringsByCalls g.I.RowEntryIterator.begins g.I.RowEntryIterator.takes g.I.RowEntryIterator.seeks) g.I.RowEntryIterator.refuses (g.E.Outside.reach c.args.env.now) (begun_sources (heap_items c.args.heads.now)); heap = rw c.new-done.ensures.items at c.new-done.ensures.heap_order; ready = tt; no_larger = omega arith; reads = reads_none _ })
+heads-init g c = rw c.new-done.ensures.items (record { moves = λ o. moves_none _ _ _ _ _; brought = sources_none (offers g.I.RowEntryIterator.begins g.I.RowEntryIterator.takes g.I.RowEntryIterator.seeks) g.I.RowEntryIterator.refuses (g.E.Outside.reach c.args.env.now) (begun_sources (heap_items c.args.heads.now)); heap = rw c.new-done.ensures.items at c.new-done.ensures.heap_order; ordered = λ o h. h; same_rows = λ r has. has; ready = tt; no_larger = omega arith; reads = reads_none _ })
 
 pub heads-preserved : goal.heads-preserved
 heads-preserved g c =
@@ -33,8 +35,10 @@ heads-preserved g c =
     let y : Head g.row.I.Denot = record { row = x.row; behind = x.behind; order = x.order; source = s } in
     record {
       moves = λ o. moves_both (heads_left g.I.RowEntryIterator.rest g.I.RowEntryIterator.sound g.I.RowEntryIterator.refuses g.I.RowEntryIterator.bound g.I.RowEntryIterator.order o) (AreSoundHeads g.I.RowEntryIterator.rest g.I.RowEntryIterator.sound g.I.RowEntryIterator.refuses g.I.RowEntryIterator.bound g.I.RowEntryIterator.order o) (heads_blame g.I.RowEntryIterator.rest g.I.RowEntryIterator.sound g.I.RowEntryIterator.refuses g.I.RowEntryIterator.bound g.I.RowEntryIterator.order) (g.E.Outside.reach c.args.env.now) (g.E.Outside.reach c.heads.env) (g.E.Outside.reach c.begin_head.new.env) (heap_items c.args.heads.now) (done ++ left) (new ++ others) (inv.moves o) (renew_moves g.I.RowEntryIterator.rest g.I.RowEntryIterator.sound g.I.RowEntryIterator.refuses g.I.RowEntryIterator.bound g.I.RowEntryIterator.order g.I.RowEntryIterator.begins g.met.I.RowEntryIterator.more (g.E.Outside.reach c.heads.env) (g.E.Outside.reach c.begin_head.new.env) done left others new x s out within renews o);
-      brought = sources_both (BringsByCalls g.I.RowEntryIterator.begins g.I.RowEntryIterator.takes g.I.RowEntryIterator.seeks) g.I.RowEntryIterator.refuses (g.E.Outside.reach c.args.env.now) (g.E.Outside.reach c.heads.env) (g.E.Outside.reach c.begin_head.new.env) (begun_sources (heap_items c.args.heads.now)) (begun_sources (done ++ left)) (begun_sources (new ++ others)) inv.brought (renew_made g.I.RowEntryIterator.rest g.I.RowEntryIterator.sound g.I.RowEntryIterator.refuses g.I.RowEntryIterator.bound g.I.RowEntryIterator.order g.I.RowEntryIterator.begins g.met.I.RowEntryIterator.more (g.E.Outside.reach c.heads.env) (g.E.Outside.reach c.begin_head.new.env) done left others new x s out within renews g.I.RowEntryIterator.takes g.I.RowEntryIterator.seeks);
+      brought = sources_both (offers g.I.RowEntryIterator.begins g.I.RowEntryIterator.takes g.I.RowEntryIterator.seeks) g.I.RowEntryIterator.refuses (g.E.Outside.reach c.args.env.now) (g.E.Outside.reach c.heads.env) (g.E.Outside.reach c.begin_head.new.env) (begun_sources (heap_items c.args.heads.now)) (begun_sources (done ++ left)) (begun_sources (new ++ others)) inv.brought (renew_made g.I.RowEntryIterator.rest g.I.RowEntryIterator.sound g.I.RowEntryIterator.refuses g.I.RowEntryIterator.bound g.I.RowEntryIterator.order g.I.RowEntryIterator.begins g.met.I.RowEntryIterator.more (g.E.Outside.reach c.heads.env) (g.E.Outside.reach c.begin_head.new.env) done left others new x s out within renews g.I.RowEntryIterator.takes g.I.RowEntryIterator.seeks);
       heap = n.heap inv.heap;
+      ordered = λ o h. ordered_again o done left others new x s out within (inv.ordered o h);
+      same_rows = λ r has. inv.same_rows r (rows_again done left others new x s out within r has);
       ready = renew_ready g.I.RowEntryIterator.rest g.I.RowEntryIterator.sound g.I.RowEntryIterator.refuses g.I.RowEntryIterator.bound g.I.RowEntryIterator.order g.I.RowEntryIterator.begins (g.E.Outside.reach c.heads.env) (g.E.Outside.reach c.begin_head.new.env) done new x s (g.E.Outside.reach c.args.env.now).meaning within renews (inv.moves Ascending).made.1.meaning inv.ready;
       no_larger = (let less = renewed_bound g.I.RowEntryIterator.bound done left others new x y out within renews.no_larger [] in omega (arith, less, inv.no_larger));
       reads = reads_then (g.E.Outside.reach c.args.env.now) (g.E.Outside.reach c.heads.env) (g.E.Outside.reach c.begin_head.new.env) inv.reads n.reads;
@@ -70,7 +74,7 @@ returns-clause-brought g c =
     let done = heap_items c.heads.done in
     let left = heap_items c.heads.heads in
     let none : left ≡ [] = nil_from_length left (sym c.heads.heads.data.ok.0 ∙ c.in_default.ensures.none) in
-    subst (λ (l : List (Head g.row.I.Denot)). SourcesAdd (BringsByCalls g.I.RowEntryIterator.begins g.I.RowEntryIterator.takes g.I.RowEntryIterator.seeks) g.I.RowEntryIterator.refuses (g.E.Outside.reach c.args.env.now) (g.E.Outside.reach c.heads.env) (begun_sources (heap_items c.args.heads.now)) (begun_sources l)) (all_done done left none) c.heads.invariant.brought
+    subst (λ (l : List (Head g.row.I.Denot)). SourcesAdd (offers g.I.RowEntryIterator.begins g.I.RowEntryIterator.takes g.I.RowEntryIterator.seeks) g.I.RowEntryIterator.refuses (g.E.Outside.reach c.args.env.now) (g.E.Outside.reach c.heads.env) (begun_sources (heap_items c.args.heads.now)) (begun_sources l)) (all_done done left none) c.heads.invariant.brought
 
 pub returns-clause-no_larger : goal.returns-clause-no_larger
 returns-clause-no_larger g c =
@@ -78,3 +82,18 @@ returns-clause-no_larger g c =
     let left = heap_items c.heads.heads in
     let none : left ≡ [] = nil_from_length left (sym c.heads.heads.data.ok.0 ∙ c.in_default.ensures.none) in
     subst (λ (l : List (Head g.row.I.Denot)). merging_bound g.I.RowEntryIterator.bound [] l ≤ merging_bound g.I.RowEntryIterator.bound [] (heap_items c.args.heads.now)) (all_done done left none) c.heads.invariant.no_larger
+
+pub returns-clause-heaped : goal.returns-clause-heaped
+returns-clause-heaped g c = λ order before.
+    let inv = c.heads.invariant in
+    let done = heap_items c.heads.done in
+    let left = heap_items c.heads.heads in
+    let none : left ≡ [] = nil_from_length left (sym c.heads.heads.data.ok.0 ∙ c.in_default.ensures.none) in
+    record { heap = inv.heap; ordered = subst (λ (l : List (Head g.row.I.Denot)). AreOrdered order l) (all_done done left none) (inv.ordered order before.ordered) }
+
+pub returns-clause-same_rows : goal.returns-clause-same_rows
+returns-clause-same_rows g c =
+    let done = heap_items c.heads.done in
+    let left = heap_items c.heads.heads in
+    let none : left ≡ [] = nil_from_length left (sym c.heads.heads.data.ok.0 ∙ c.in_default.ensures.none) in
+    subst (λ (l : List (Head g.row.I.Denot)). (r : RowEntry) → HasRow l r → HasRow (heap_items c.args.heads.now) r) (all_done done left none) c.heads.invariant.same_rows

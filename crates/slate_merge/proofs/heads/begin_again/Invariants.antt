@@ -1,11 +1,13 @@
 use Rattle.std.proofs.Common.{◌≤◌, ◌++◌, [], length}
 use Rattle.std.specs.BinaryHeap.{heap_items, IsHeap}
 use Rattle.slate_types.specs.declared.iter.IterationOrder.{IterationOrder}
+use Rattle.slate_types.specs.declared.types.RowEntry.{RowEntry}
 use Rattle.slate_types.specs.Outside.{OnlyReads}
 use Rattle.slate_types.proofs.Moves.{Moves}
 use Rattle.slate_merge.specs.Heads.{head_cmp}
-use Rattle.slate_merge.specs.Calls.{BringsByCalls}
-use Rattle.slate_merge.specs.Merging.{AreReady, begun_sources, merging_bound}
+use Rattle.slate_merge.specs.Offers.{offers}
+use Rattle.slate_merge.specs.Merging.{AreReady, HasRow, begun_sources, merging_bound}
+use Rattle.slate_merge.proofs.Heaps.{AreOrdered}
 use Rattle.slate_merge.proofs.MergeBringings.{SourcesAdd}
 use Rattle.slate_merge.proofs.MergeLoops.{heads_left, AreSoundHeads, heads_blame}
 use Rattle.slate_merge.proofs.heads.begin_again.Given as goal
@@ -23,8 +25,10 @@ invariant-heads g l =
     let now = heap_items l.done ++ heap_items l.heads in
     record {
       moves : (o : IterationOrder) → Moves (heads_left rest sound refuses bound order_of o) (AreSoundHeads rest sound refuses bound order_of o) (heads_blame rest sound refuses bound order_of) a b before now;
-      brought : SourcesAdd (BringsByCalls g.I.RowEntryIterator.begins g.I.RowEntryIterator.takes g.I.RowEntryIterator.seeks) refuses a b (begun_sources before) (begun_sources now);
+      brought : SourcesAdd (offers g.I.RowEntryIterator.begins g.I.RowEntryIterator.takes g.I.RowEntryIterator.seeks) refuses a b (begun_sources before) (begun_sources now);
       heap : IsHeap head_cmp (heap_items l.done);
+      ordered : (o : IterationOrder) → AreOrdered o before → AreOrdered o now;
+      same_rows : (r : RowEntry) → HasRow now r → HasRow before r;
       ready : AreReady refuses a.meaning (heap_items l.done);
       no_larger : merging_bound bound [] now ≤ merging_bound bound [] before;
       reads : OnlyReads a b;

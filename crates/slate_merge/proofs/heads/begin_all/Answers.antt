@@ -3,7 +3,7 @@ use Rattle.std.specs.BinaryHeap.{heap_items}
 use Rattle.slate_types.specs.Outside.{Meaning}
 use Rattle.slate_types.proofs.Moves.{Moves, moves_none, moves_both}
 use Rattle.slate_types.proofs.Reaching.{reads_none, reads_then}
-use Rattle.slate_merge.specs.Calls.{BringsByCalls}
+use Rattle.slate_merge.specs.Offers.{offers}
 use Rattle.slate_merge.specs.Merging.{left_in, IsMergingIn, blames, waiting_sources, merging_bound, AreReady}
 use Rattle.slate_merge.proofs.Goings.{then_fails, source_fails}
 use Rattle.slate_merge.proofs.MergeBringings.{SourcesAdd, sources_both, sources_none}
@@ -11,7 +11,7 @@ use Rattle.slate_merge.proofs.heads.begin_all.Goals as goal
 use Rattle.std.proofs.lemmas.List.{nil_from_length}
 
 pub sources-init : goal.sources-init
-sources-init g c = rw c.new-heads.ensures.items (record { moves = moves_none _ _ _ _ _; brought = sources_none (BringsByCalls g.I.RowEntryIterator.begins g.I.RowEntryIterator.takes g.I.RowEntryIterator.seeks) g.I.RowEntryIterator.refuses (g.E.Outside.reach c.args.env.now) (waiting_sources c.args.waiting.now.items); ready = tt; no_larger = omega arith; reads = reads_none _ })
+sources-init g c = rw c.new-heads.ensures.items (record { moves = moves_none _ _ _ _ _; brought = sources_none (offers g.I.RowEntryIterator.begins g.I.RowEntryIterator.takes g.I.RowEntryIterator.seeks) g.I.RowEntryIterator.refuses (g.E.Outside.reach c.args.env.now) (waiting_sources c.args.waiting.now.items); heaped = record { heap = rw c.new-heads.ensures.items at c.new-heads.ensures.heap_order; ordered = tt }; ready = tt; no_larger = omega arith; reads = reads_none _ })
 
 pub sources-preserved : goal.sources-preserved
 sources-preserved g c =
@@ -27,12 +27,13 @@ sources-preserved g c =
     let behind : c.len-behind.result ≡ length others = c.len-behind.ensures ∙ c.pop_front.new.self.ok.0 in
     let here : Moves rest merging refuses (g.E.Outside.reach c.sources.env) (g.E.Outside.reach c.begin_source.new.env) (record { waiting = c.sources.waiting.items; heads = old }) (record { waiting = others; heads = new }) =
     subst (λ (l : List g.row.I.Denot). Moves rest merging refuses (g.E.Outside.reach c.sources.env) (g.E.Outside.reach c.begin_source.new.env) (record { waiting = l; heads = old }) (record { waiting = others; heads = new })) (sym popped) (n.moved others behind) in
-    let brings = BringsByCalls g.I.RowEntryIterator.begins g.I.RowEntryIterator.takes g.I.RowEntryIterator.seeks in
+    let brings = offers g.I.RowEntryIterator.begins g.I.RowEntryIterator.takes g.I.RowEntryIterator.seeks in
     let adds : SourcesAdd brings g.I.RowEntryIterator.refuses (g.E.Outside.reach c.sources.env) (g.E.Outside.reach c.begin_source.new.env) (record { waiting = c.sources.waiting.items; heads = old }) (record { waiting = others; heads = new }) =
     subst (λ (l : List g.row.I.Denot). SourcesAdd brings g.I.RowEntryIterator.refuses (g.E.Outside.reach c.sources.env) (g.E.Outside.reach c.begin_source.new.env) (record { waiting = l; heads = old }) (record { waiting = others; heads = new })) (sym popped) (n.brought others) in
     record {
       moves = moves_both rest merging refuses (g.E.Outside.reach c.args.env.now) (g.E.Outside.reach c.sources.env) (g.E.Outside.reach c.begin_source.new.env) (waiting_sources c.args.waiting.now.items) (record { waiting = c.sources.waiting.items; heads = old }) (record { waiting = others; heads = new }) inv.moves here;
       brought = sources_both brings g.I.RowEntryIterator.refuses (g.E.Outside.reach c.args.env.now) (g.E.Outside.reach c.sources.env) (g.E.Outside.reach c.begin_source.new.env) (waiting_sources c.args.waiting.now.items) (record { waiting = c.sources.waiting.items; heads = old }) (record { waiting = others; heads = new }) inv.brought adds;
+      heaped = n.heaped inv.heaped;
       ready = subst (λ (m : Meaning). AreReady g.I.RowEntryIterator.refuses m old → AreReady g.I.RowEntryIterator.refuses m new) inv.moves.made.1.meaning n.ready inv.ready;
       no_larger = (let less = n.no_larger others in
           let same : merging_bound g.I.RowEntryIterator.bound (c.in-Some.source ∷ others) old ≡ merging_bound g.I.RowEntryIterator.bound c.sources.waiting.items old = ap (λ (l : List g.row.I.Denot). merging_bound g.I.RowEntryIterator.bound l old) (sym popped) in
@@ -55,7 +56,7 @@ returns-in-Err-clause-reads g c = reads_then _ _ _ c.sources.invariant.reads c.i
 pub returns-clause-brought : goal.returns-clause-brought
 returns-clause-brought g c =
     let none : c.sources.waiting.items ≡ [] = nil_from_length c.sources.waiting.items (sym c.sources.waiting.ok.0 ∙ c.in_default.ensures.cases.0) in
-    subst (λ (l : List g.row.I.Denot). SourcesAdd (BringsByCalls g.I.RowEntryIterator.begins g.I.RowEntryIterator.takes g.I.RowEntryIterator.seeks) g.I.RowEntryIterator.refuses (g.E.Outside.reach c.args.env.now) (g.E.Outside.reach c.sources.env) (waiting_sources c.args.waiting.now.items) (record { waiting = l; heads = heap_items c.sources.heads })) none c.sources.invariant.brought
+    subst (λ (l : List g.row.I.Denot). SourcesAdd (offers g.I.RowEntryIterator.begins g.I.RowEntryIterator.takes g.I.RowEntryIterator.seeks) g.I.RowEntryIterator.refuses (g.E.Outside.reach c.args.env.now) (g.E.Outside.reach c.sources.env) (waiting_sources c.args.waiting.now.items) (record { waiting = l; heads = heap_items c.sources.heads })) none c.sources.invariant.brought
 
 pub returns-clause-moved : goal.returns-clause-moved
 returns-clause-moved g c =

@@ -2,8 +2,8 @@ use Rattle.std.proofs.Common.{◌≤◌, [], length}
 use Rattle.std.specs.BinaryHeap.{heap_items}
 use Rattle.slate_types.specs.Outside.{OnlyReads}
 use Rattle.slate_types.proofs.Moves.{Moves}
-use Rattle.slate_merge.specs.Calls.{BringsByCalls}
-use Rattle.slate_merge.specs.Merging.{left_in, IsMergingIn, blames, waiting_sources, merging_bound, AreReady}
+use Rattle.slate_merge.specs.Offers.{offers}
+use Rattle.slate_merge.specs.Merging.{left_in, IsMergingIn, blames, waiting_sources, merging_bound, AreHeaped, AreReady}
 use Rattle.slate_merge.proofs.MergeBringings.{SourcesAdd}
 use Rattle.slate_merge.proofs.heads.begin_all.Given as goal
 
@@ -15,7 +15,8 @@ invariant-sources g l =
     let b = g.E.Outside.reach l.env in
     record {
       moves : Moves (left_in rest l.order) (IsMergingIn rest g.I.RowEntryIterator.sound g.I.RowEntryIterator.order l.order) (blames refuses) a b (waiting_sources l.initial.waiting.items) (record { waiting = l.waiting.items; heads = heap_items l.heads });
-      brought : SourcesAdd (BringsByCalls g.I.RowEntryIterator.begins g.I.RowEntryIterator.takes g.I.RowEntryIterator.seeks) refuses a b (waiting_sources l.initial.waiting.items) (record { waiting = l.waiting.items; heads = heap_items l.heads });
+      brought : SourcesAdd (offers g.I.RowEntryIterator.begins g.I.RowEntryIterator.takes g.I.RowEntryIterator.seeks) refuses a b (waiting_sources l.initial.waiting.items) (record { waiting = l.waiting.items; heads = heap_items l.heads });
+      heaped : AreHeaped l.order (heap_items l.heads);
       ready : AreReady refuses a.meaning (heap_items l.heads);
       no_larger : merging_bound g.I.RowEntryIterator.bound l.waiting.items (heap_items l.heads) ≤ merging_bound g.I.RowEntryIterator.bound l.initial.waiting.items [];
       reads : OnlyReads a b;

@@ -1,6 +1,8 @@
-use Rattle.std.proofs.Common.{None}
+use Rattle.std.proofs.Common.{None, refl}
 use Rattle.std.specs.BinaryHeap.{heap_items}
 use Rattle.slate_merge.proofs.Goings.{then_fails, begin_moves, begin_ready, begin_bound, begun_made}
+use Rattle.slate_merge.specs.MergeSteps.{Goes}
+use Rattle.slate_merge.proofs.Heaps.{heaped_joins}
 use Rattle.slate_merge.proofs.heads.begin_source.Goals as goal
 
 pub returns-in-Ok-put_back-clause-moved : goal.returns-in-Ok-put_back-clause-moved
@@ -26,3 +28,7 @@ pub returns-in-Err-put_back-clause-cause : goal.returns-in-Err-put_back-clause-c
 returns-in-Err-put_back-clause-cause g c =
     let n = c.in-Ok.ensures in
     then_fails (g.I.RowEntryIterator.refuses c.args.source) (g.I.RowEntryIterator.refuses c.init.new.self) (g.E.Outside.reach c.args.env.now) (g.E.Outside.reach c.init.new.env) (g.E.Outside.reach c.put_back.new.env) None c.in-Err-put_back.error n.reads.later (n.begun.0, n.begun.1, n.begun.2.1) c.in-Err-put_back.ensures.cause
+
+pub returns-in-Ok-put_back-clause-heaped : goal.returns-in-Ok-put_back-clause-heaped
+returns-in-Ok-put_back-clause-heaped g c = λ h.
+    heaped_joins c.args.order (Goes g.I.RowEntryIterator.rest g.I.RowEntryIterator.sound g.I.RowEntryIterator.refuses g.I.RowEntryIterator.takes g.I.RowEntryIterator.bound g.I.RowEntryIterator.order (g.E.Outside.reach c.init.new.env) (g.E.Outside.reach c.put_back.new.env)) c.init.new.self c.args.behind c.args.order (heap_items c.args.heads.now) (heap_items c.put_back.new.heads) c.in-Ok-put_back.ensures.heap c.in-Ok-put_back.ensures.joins refl h

@@ -7,7 +7,7 @@ use Rattle.slate_types.proofs.Moves.{moves_none}
 use Rattle.slate_types.proofs.Reaching.{reads_none, reads_then}
 use Rattle.slate_merge.specs.Merge.{begins_with}
 use Rattle.slate_merge.specs.Merging.{left_in, IsMergingIn, blames, begun_sources}
-use Rattle.slate_merge.specs.Calls.{BringsByCalls}
+use Rattle.slate_merge.specs.Offers.{offers}
 use Rattle.slate_merge.specs.MergeBringing.{takes_front}
 use Rattle.slate_merge.proofs.SeekLaws.{top_begins, counted_end}
 use Rattle.slate_merge.proofs.Goings.{then_fails}
@@ -16,7 +16,7 @@ use Rattle.slate_merge.proofs.MergeLoops.{top_some, front_key, counts_none, coun
 use Rattle.slate_merge.proofs.heads.drop_older.Goals as goal
 
 pub older-init : goal.older-init
-older-init g c = record { moves = λ o. moves_none _ _ _ _ _; brought = sources_none (BringsByCalls g.I.RowEntryIterator.begins g.I.RowEntryIterator.takes g.I.RowEntryIterator.seeks) g.I.RowEntryIterator.refuses (g.E.Outside.reach c.args.env.now) (begun_sources (heap_items c.args.heads.now)); count = λ _ _ _ _. refl; counts = counts_none _ _; no_larger = omega arith; reads = reads_none _ }
+older-init g c = record { moves = λ o. moves_none _ _ _ _ _; brought = sources_none (offers g.I.RowEntryIterator.begins g.I.RowEntryIterator.takes g.I.RowEntryIterator.seeks) g.I.RowEntryIterator.refuses (g.E.Outside.reach c.args.env.now) (begun_sources (heap_items c.args.heads.now)); heaped = λ o h. h; count = λ _ _ _ _. refl; counts = counts_none _ _; no_larger = omega arith; reads = reads_none _ }
 
 pub older-preserved : goal.older-preserved
 older-preserved g c =
@@ -30,9 +30,10 @@ older-preserved g c =
     let begins : (o : IterationOrder) (w : World) → IsMergingIn g.I.RowEntryIterator.rest g.I.RowEntryIterator.sound g.I.RowEntryIterator.order o y w → begins_with c.args.key.now (left_in g.I.RowEntryIterator.rest o y w) ≡ true =
     λ o w m. sym (top_begins (λ s. g.I.RowEntryIterator.rest s w) (λ s. g.I.RowEntryIterator.sound s w × (g.I.RowEntryIterator.order s ≡ o)) o c.args.key.now (heap_items c.older.heads) top.0 m top.1) ∙ sym top.2 ∙ c.older-test.true in
     record {
-      moves = λ o. older_moves (left_in g.I.RowEntryIterator.rest o) (IsMergingIn g.I.RowEntryIterator.rest g.I.RowEntryIterator.sound g.I.RowEntryIterator.order o) (blames g.I.RowEntryIterator.refuses) (takes_front (BringsByCalls g.I.RowEntryIterator.begins g.I.RowEntryIterator.takes g.I.RowEntryIterator.seeks)) c.args.key.now (g.E.Outside.reach c.args.env.now) (g.E.Outside.reach c.older.env) (g.E.Outside.reach c.take_first.new.env) x y z c.in-Ok-Some.row (inv.moves o) (n.step o) (begins o);
-      count = λ o. older_count (left_in g.I.RowEntryIterator.rest o) (IsMergingIn g.I.RowEntryIterator.rest g.I.RowEntryIterator.sound g.I.RowEntryIterator.order o) (blames g.I.RowEntryIterator.refuses) (takes_front (BringsByCalls g.I.RowEntryIterator.begins g.I.RowEntryIterator.takes g.I.RowEntryIterator.seeks)) c.args.key.now (g.E.Outside.reach c.args.env.now) (g.E.Outside.reach c.older.env) (g.E.Outside.reach c.take_first.new.env) x y z c.in-Ok-Some.row _ _ _ (inv.moves o) (n.step o) (begins o) (inv.count o) more;
-      brought = sources_step (BringsByCalls g.I.RowEntryIterator.begins g.I.RowEntryIterator.takes g.I.RowEntryIterator.seeks) g.I.RowEntryIterator.refuses (g.E.Outside.reach c.args.env.now) (g.E.Outside.reach c.older.env) (g.E.Outside.reach c.take_first.new.env) x y z (Some c.in-Ok-Some.row) inv.brought (n.step Ascending).taken;
+      moves = λ o. older_moves (left_in g.I.RowEntryIterator.rest o) (IsMergingIn g.I.RowEntryIterator.rest g.I.RowEntryIterator.sound g.I.RowEntryIterator.order o) (blames g.I.RowEntryIterator.refuses) (takes_front (offers g.I.RowEntryIterator.begins g.I.RowEntryIterator.takes g.I.RowEntryIterator.seeks)) c.args.key.now (g.E.Outside.reach c.args.env.now) (g.E.Outside.reach c.older.env) (g.E.Outside.reach c.take_first.new.env) x y z c.in-Ok-Some.row (inv.moves o) (n.step o) (begins o);
+      count = λ o. older_count (left_in g.I.RowEntryIterator.rest o) (IsMergingIn g.I.RowEntryIterator.rest g.I.RowEntryIterator.sound g.I.RowEntryIterator.order o) (blames g.I.RowEntryIterator.refuses) (takes_front (offers g.I.RowEntryIterator.begins g.I.RowEntryIterator.takes g.I.RowEntryIterator.seeks)) c.args.key.now (g.E.Outside.reach c.args.env.now) (g.E.Outside.reach c.older.env) (g.E.Outside.reach c.take_first.new.env) x y z c.in-Ok-Some.row _ _ _ (inv.moves o) (n.step o) (begins o) (inv.count o) more;
+      brought = sources_step (offers g.I.RowEntryIterator.begins g.I.RowEntryIterator.takes g.I.RowEntryIterator.seeks) g.I.RowEntryIterator.refuses (g.E.Outside.reach c.args.env.now) (g.E.Outside.reach c.older.env) (g.E.Outside.reach c.take_first.new.env) x y z (Some c.in-Ok-Some.row) inv.brought (n.step Ascending).taken;
+      heaped = λ o h. n.heaped o (inv.heaped o h);
       counts = counts_more c.args.key.now _ _ _ c.in-Ok-Some.row inv.counts (front_key c.args.key.now (heap_items c.older.heads) top.0 c.in-Ok-Some.row top.1 (sym top.2 ∙ c.older-test.true) (n.step Ascending).taken.2.0.0) more;
       no_larger = omega (arith, n.no_larger, inv.no_larger);
       reads = reads_then _ _ _ inv.reads n.reads;
@@ -54,6 +55,7 @@ returns-in-Err g c =
     record {
       moved = λ _. tt;
       brought = tt;
+      heaped = λ _ _. tt;
       done = λ _ _ _. tt;
       count = λ _ _ _ _. tt;
       counted = tt;
@@ -72,6 +74,7 @@ returns g c =
     record {
       moved = inv.moves;
       brought = inv.brought;
+      heaped = inv.heaped;
       done = ended;
       count = λ o w s m. counted_end c.older.processed _ c.args.key.now (left_in g.I.RowEntryIterator.rest o y w) (ended o w ((inv.moves o).still w s m)) (inv.count o w s m);
       counted = inv.counts;

@@ -5,8 +5,8 @@ use Rattle.slate_types.specs.Outside.{OnlyReads}
 use Rattle.slate_types.specs.World.{World, Sees}
 use Rattle.slate_types.proofs.Moves.{Moves}
 use Rattle.slate_merge.specs.Merge.{past_key, with_key, counted}
-use Rattle.slate_merge.specs.Calls.{BringsByCalls}
-use Rattle.slate_merge.specs.Merging.{left_in, IsMergingIn, blames, begun_sources, merging_bound}
+use Rattle.slate_merge.specs.Offers.{offers}
+use Rattle.slate_merge.specs.Merging.{AreHeaped, left_in, IsMergingIn, blames, begun_sources, merging_bound}
 use Rattle.slate_merge.specs.MergeSteps.{CountsKey}
 use Rattle.slate_merge.proofs.MergeBringings.{SourcesAdd}
 use Rattle.slate_merge.proofs.heads.drop_older.Given as goal
@@ -21,7 +21,8 @@ invariant-older g l =
     let y = begun_sources (heap_items l.heads) in
     record {
       moves : (o : IterationOrder) → Moves (λ z w. past_key l.fn.key (left_in rest o z w)) (merging o) (blames g.I.RowEntryIterator.refuses) a b x y;
-      brought : SourcesAdd (BringsByCalls g.I.RowEntryIterator.begins g.I.RowEntryIterator.takes g.I.RowEntryIterator.seeks) g.I.RowEntryIterator.refuses a b x y;
+      brought : SourcesAdd (offers g.I.RowEntryIterator.begins g.I.RowEntryIterator.takes g.I.RowEntryIterator.seeks) g.I.RowEntryIterator.refuses a b x y;
+      heaped : (o : IterationOrder) → AreHeaped o (heap_items l.initial.heads) → AreHeaped o (heap_items l.heads);
       count : (o : IterationOrder) (w : World) → Sees w a b → merging o x w → counted l.processed (with_key l.fn.key (left_in rest o y w)) ≡ counted l.initial.processed (with_key l.fn.key (left_in rest o x w));
       counts : CountsKey l.fn.key l.initial.processed l.processed;
       no_larger : merging_bound g.I.RowEntryIterator.bound [] (heap_items l.heads) ≤ merging_bound g.I.RowEntryIterator.bound [] (heap_items l.initial.heads);

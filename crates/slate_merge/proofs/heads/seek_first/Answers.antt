@@ -2,6 +2,8 @@ use Rattle.std.proofs.Common.{◌≡◌, ◌∙◌, sym, arith, None, Some, []}
 use Rattle.std.specs.BinaryHeap.{heap_items}
 use Rattle.slate_merge.proofs.SeekLaws.{top_before, popped_before}
 use Rattle.slate_merge.proofs.Goings.{then_fails, head_fails, next_fails, seek_made, seek_moves, first_smaller}
+use Rattle.slate_merge.specs.MergeSteps.{Goes}
+use Rattle.slate_merge.proofs.Heaps.{heaped_on}
 use Rattle.slate_merge.proofs.heads.seek_first.Goals as goal
 
 pub returns-then-not-top_is_before-clause-done : goal.returns-then-not-top_is_before-clause-done
@@ -41,3 +43,7 @@ pub returns-in-Err-clause-cause : goal.returns-in-Err-clause-cause
 returns-in-Err-clause-cause g c =
     let n = c.in-Err.ensures in
     head_fails g.I.RowEntryIterator.rest g.I.RowEntryIterator.sound g.I.RowEntryIterator.refuses g.I.RowEntryIterator.begins g.I.RowEntryIterator.takes g.I.RowEntryIterator.seeks g.I.RowEntryIterator.bound g.I.RowEntryIterator.order (g.E.Outside.reach c.args.env.now) (g.E.Outside.reach c.seek.new.env) (Some c.args.key.now) c.in-Err.error [] (heap_items c.args.heads.now) (heap_items c.pop.new.self) c.in-Some.head c.in-Some.ensures.permutation (n.cause.0, n.cause.1, n.cause.2.0)
+
+pub returns-in-Ok-put_back-clause-heaped : goal.returns-in-Ok-put_back-clause-heaped
+returns-in-Ok-put_back-clause-heaped g c = λ order h.
+    heaped_on order (Goes g.I.RowEntryIterator.rest g.I.RowEntryIterator.sound g.I.RowEntryIterator.refuses g.I.RowEntryIterator.takes g.I.RowEntryIterator.bound g.I.RowEntryIterator.order (g.E.Outside.reach c.seek.new.env) (g.E.Outside.reach c.put_back.new.env)) c.seek.new.self (heap_items c.args.heads.now) (heap_items c.pop.new.self) (heap_items c.put_back.new.heads) c.in-Some.head c.in-Some.ensures.permutation (λ k. (c.in-Some.ensures.heap_order k).0) c.in-Ok-put_back.ensures.heap c.in-Ok-put_back.ensures.joins h

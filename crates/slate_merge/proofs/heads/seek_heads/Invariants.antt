@@ -4,8 +4,8 @@ use Rattle.slate_types.specs.declared.iter.IterationOrder.{IterationOrder}
 use Rattle.slate_types.specs.Iteration.{drop_before}
 use Rattle.slate_types.specs.Outside.{OnlyReads}
 use Rattle.slate_types.proofs.Moves.{Moves}
-use Rattle.slate_merge.specs.Calls.{BringsByCalls}
-use Rattle.slate_merge.specs.Merging.{left_in, IsMergingIn, blames, begun_sources, merging_bound}
+use Rattle.slate_merge.specs.Offers.{offers}
+use Rattle.slate_merge.specs.Merging.{AreHeaped, left_in, IsMergingIn, blames, begun_sources, merging_bound}
 use Rattle.slate_merge.proofs.MergeBringings.{SourcesAdd}
 use Rattle.slate_merge.proofs.heads.seek_heads.Given as goal
 
@@ -16,7 +16,8 @@ invariant-sources g l =
     let b = g.E.Outside.reach l.env in
     record {
       moves : (o : IterationOrder) → Moves (λ z w. drop_before o l.fn.key (left_in rest o z w)) (IsMergingIn rest g.I.RowEntryIterator.sound g.I.RowEntryIterator.order o) (blames g.I.RowEntryIterator.refuses) a b (begun_sources (heap_items l.initial.heads)) (begun_sources (heap_items l.heads));
-      brought : SourcesAdd (BringsByCalls g.I.RowEntryIterator.begins g.I.RowEntryIterator.takes g.I.RowEntryIterator.seeks) g.I.RowEntryIterator.refuses a b (begun_sources (heap_items l.initial.heads)) (begun_sources (heap_items l.heads));
+      brought : SourcesAdd (offers g.I.RowEntryIterator.begins g.I.RowEntryIterator.takes g.I.RowEntryIterator.seeks) g.I.RowEntryIterator.refuses a b (begun_sources (heap_items l.initial.heads)) (begun_sources (heap_items l.heads));
+      heaped : (o : IterationOrder) → AreHeaped o (heap_items l.initial.heads) → AreHeaped o (heap_items l.heads);
       no_larger : merging_bound g.I.RowEntryIterator.bound [] (heap_items l.heads) ≤ merging_bound g.I.RowEntryIterator.bound [] (heap_items l.initial.heads);
       reads : OnlyReads a b;
     }

@@ -2,6 +2,7 @@ use Rattle.std.proofs.Common.{refl, arith, None}
 use Rattle.slate_types.proofs.Reaching.{reads_none}
 use Rattle.slate_merge.specs.declared.merge_iterator.MergeState.TheVariants.{Begun}
 use Rattle.slate_merge.specs.MergeStates.{bound_in}
+use Rattle.slate_merge.proofs.MergeBringings.{rows_less}
 use Rattle.slate_merge.proofs.MergeStateSteps.{again_stays, copied_bound, fails_still, refused_stays, state_ready, unrefused_of}
 use Rattle.slate_merge.proofs.merge_iterator.MergeIteratorRowEntryIterator.init.Goals as goal
 
@@ -29,7 +30,7 @@ returns-in-Ok g c =
       still = λ w sees h. rw (b.state, b.merge.order) (m.still w sees h);
       checked = m.checked;
       ready = rw b.state (state_ready g.I.RowEntryIterator.refuses (g.E.Outside.reach c.args.env.now).meaning (Begun c.in-Ok.heads) tt n.ready);
-      begun = (k.0, k.1, ((unrefused_of c.args.self.now.state c.in_default.not-Refused, rw b.state tt, record { order = b.merge.order; dedup = b.merge.dedup }, b.processed, rw b.state k.2.1), rw b.state k.2.0));
+      begun = (k.0, k.1, ((unrefused_of c.args.self.now.state c.in_default.not-Refused, rw b.state tt, record { order = b.merge.order; dedup = b.merge.dedup }, b.processed, rw b.state (rows_less g.I.RowEntryIterator.begins g.I.RowEntryIterator.takes g.I.RowEntryIterator.seeks c.args.self.now.state (Begun c.in-Ok.heads) (g.E.Outside.reach c.args.env.now).meaning k.0 k.2.1), rw b.state k.2.1, λ h. rw (b.merge.order, b.state) (n.heaped h), rw b.state n.same_rows), rw b.state k.2.0));
       cause = tt;
       no_larger = rw b.state n.no_larger;
       order = b.merge.order;

@@ -3,7 +3,8 @@ use Rattle.std.specs.BinaryHeap.{heap_items}
 use Rattle.slate_types.proofs.Reaching.{reads_none}
 use Rattle.slate_merge.specs.declared.merge_iterator.MergeState.{MergeState}
 use Rattle.slate_merge.specs.declared.merge_iterator.MergeState.TheVariants.{Begun, Refused}
-use Rattle.slate_merge.specs.Calls.{BringsByCalls}
+use Rattle.slate_merge.specs.MergeBringing.{IsHeapedIn}
+use Rattle.slate_merge.proofs.MergeBringings.{rows_less}
 use Rattle.slate_merge.specs.Merging.{merging_bound}
 use Rattle.slate_merge.specs.MergeStates.{bound_in}
 use Rattle.slate_merge.proofs.MergeStateSteps.{again_stays, begun_adds, begun_fails, copied_bound, fails_still, not_waiting, refused_stays, state_seek, unbegun_stays}
@@ -37,13 +38,13 @@ pub returns-in-Ok : goal.returns-in-Ok
 returns-in-Ok g c =
     let n = c.in-Ok.ensures in
     let s = state_seek g.I.RowEntryIterator.rest g.I.RowEntryIterator.sound g.I.RowEntryIterator.refuses g.I.RowEntryIterator.order c.args.self.now.order c.args.self.now.dedup c.args.key.now (g.E.Outside.reach c.args.env.now) (g.E.Outside.reach c.seek_heads-answer.new.env) c.args.self.now.state (Begun c.in-Begun.heads) (Begun c.seek_heads-answer.new.heads) c.in-Begun.is tt tt (n.moved c.args.self.now.order) (n.done c.args.self.now.order) in
-    let k = begun_adds g.I.RowEntryIterator.rest g.I.RowEntryIterator.sound g.I.RowEntryIterator.refuses g.I.RowEntryIterator.order (BringsByCalls g.I.RowEntryIterator.begins g.I.RowEntryIterator.takes g.I.RowEntryIterator.seeks) (g.E.Outside.reach c.args.env.now) (g.E.Outside.reach c.seek_heads-answer.new.env) c.args.self.now.state (Begun c.in-Begun.heads) (Begun c.seek_heads-answer.new.heads) c.in-Begun.is tt tt n.brought in
+    let k = begun_adds g.I.RowEntryIterator.rest g.I.RowEntryIterator.sound g.I.RowEntryIterator.refuses g.I.RowEntryIterator.order g.I.RowEntryIterator.begins g.I.RowEntryIterator.takes g.I.RowEntryIterator.seeks (g.E.Outside.reach c.args.env.now) (g.E.Outside.reach c.seek_heads-answer.new.env) c.args.self.now.state (Begun c.in-Begun.heads) (Begun c.seek_heads-answer.new.heads) c.in-Begun.is tt tt n.brought in
     let bound = g.I.RowEntryIterator.bound in
     record {
       rows = s.rows;
       still = s.still;
       checked = s.checked;
-      sought = (k.0, k.1, ((rw c.in-Begun.is tt, tt, record { order = refl; dedup = refl }, refl, k.2.1), k.2.0));
+      sought = (k.0, k.1, ((rw c.in-Begun.is tt, tt, record { order = refl; dedup = refl }, refl, rows_less g.I.RowEntryIterator.begins g.I.RowEntryIterator.takes g.I.RowEntryIterator.seeks c.args.self.now.state (Begun c.seek_heads-answer.new.heads) (g.E.Outside.reach c.args.env.now).meaning k.0 k.2.1, k.2.1, λ h. n.heaped c.args.self.now.order (subst (λ (x : MergeState g.row.I.Denot). IsHeapedIn c.args.self.now.order x) c.in-Begun.is h)), k.2.0));
       cause = tt;
       no_larger = subst (λ (x : MergeState g.row.I.Denot). merging_bound bound [] (heap_items c.seek_heads-answer.new.heads) ≤ bound_in bound x) (sym c.in-Begun.is) n.no_larger;
       order = refl;

@@ -1,6 +1,6 @@
 use Rattle.std.proofs.Common.{◌∙◌, ap, refl, arith, None}
 use Rattle.slate_types.proofs.Reaching.{reads_none}
-use Rattle.slate_merge.specs.Calls.{BringsByCalls}
+use Rattle.slate_merge.specs.Offers.{offers}
 use Rattle.slate_merge.proofs.Operators.{again_refused, by_begun, folding_less, keeps_refused, kept_no_larger, kept_still, new_refused, some_going, sound_of, sound_unless, unless_no_larger, unless_smaller, unless_takes}
 use Rattle.slate_merge.proofs.operator_iterator.MergeOperatorIterator.next_row.Goals as goal
 
@@ -10,7 +10,7 @@ returns-in-Some g c = record {
   still = λ w sees h. h;
   checked = λ w h. tt;
   taken = tt;
-  cause = again_refused g.I.RowEntryIterator.refuses (BringsByCalls g.I.RowEntryIterator.begins g.I.RowEntryIterator.takes g.I.RowEntryIterator.seeks) g.I.RowEntryIterator.takes _ c.args.self.now None c.in-Some.refusal c.copy_of.result c.in-Some.is c.copy_of.ensures;
+  cause = again_refused g.I.RowEntryIterator.refuses (offers g.I.RowEntryIterator.begins g.I.RowEntryIterator.takes g.I.RowEntryIterator.seeks) g.I.RowEntryIterator.takes _ c.args.self.now None c.in-Some.refusal c.copy_of.result c.in-Some.is c.copy_of.ensures;
   smaller = tt;
   no_larger = omega arith;
   order = refl;
@@ -27,7 +27,7 @@ returns-then-not-self g c = record {
   still = λ w sees h. h;
   checked = λ w h. tt;
   taken = tt;
-  cause = new_refused g.I.RowEntryIterator.refuses (BringsByCalls g.I.RowEntryIterator.begins g.I.RowEntryIterator.takes g.I.RowEntryIterator.seeks) g.I.RowEntryIterator.takes _ c.args.self.now None c.in_default.is c.if-not-self.true;
+  cause = new_refused g.I.RowEntryIterator.refuses (offers g.I.RowEntryIterator.begins g.I.RowEntryIterator.takes g.I.RowEntryIterator.seeks) g.I.RowEntryIterator.takes _ c.args.self.now None c.in_default.is c.if-not-self.true;
   smaller = tt;
   no_larger = omega arith;
   order = refl;
@@ -49,7 +49,7 @@ returns-in-Ok g c =
       rows = λ w sees h. unless_takes it.refusal _ _ c.in-Ok.answer none (s.rows w sees (sound_of it.refusal _ none h));
       still = λ w sees h. sound_unless it.refusal _ none (s.still w sees (sound_of it.refusal _ none h));
       checked = λ w h. s.checked w (sound_of it.refusal _ none h);
-      taken = (s.taken.0, s.taken.1, (((c.if-not-self.false, none), (c.if-not-self.false, none), refl, s.taken.2.0), folding_less g.I.RowEntryIterator.refuses (BringsByCalls g.I.RowEntryIterator.begins g.I.RowEntryIterator.takes g.I.RowEntryIterator.seeks) it y (g.E.Outside.reach c.args.env.now).meaning s.taken.0 none refl c.if-not-self.false s.taken.2.1));
+      taken = (s.taken.0, s.taken.1, (((c.if-not-self.false, none), (c.if-not-self.false, none), refl, s.taken.2.0), folding_less g.I.RowEntryIterator.refuses (offers g.I.RowEntryIterator.begins g.I.RowEntryIterator.takes g.I.RowEntryIterator.seeks) it y (g.E.Outside.reach c.args.env.now).meaning s.taken.0 none refl c.if-not-self.false s.taken.2.1));
       cause = tt;
       smaller = λ some. unless_smaller it.refusal _ _ none (n.smaller some);
       no_larger = unless_no_larger it.refusal _ _ none n.no_larger;
@@ -66,10 +66,10 @@ returns-in-Err g c =
     let it = c.args.self.now in
     let n = c.in-Err.ensures in
     let r = c.refuse.ensures in
-    let refused = keeps_refused g.I.RowEntryIterator.refuses (BringsByCalls g.I.RowEntryIterator.begins g.I.RowEntryIterator.takes g.I.RowEntryIterator.seeks) g.I.RowEntryIterator.takes (g.E.Outside.reach c.args.env.now) (g.E.Outside.reach c.next.new.env) it c.refuse.new.self c.next.new.iterator None c.in-Err.error c.in_default.is (λ new. refl) r.keeps r.iterator n.cause in
+    let refused = keeps_refused g.I.RowEntryIterator.refuses (offers g.I.RowEntryIterator.begins g.I.RowEntryIterator.takes g.I.RowEntryIterator.seeks) g.I.RowEntryIterator.takes (g.E.Outside.reach c.args.env.now) (g.E.Outside.reach c.next.new.env) it c.refuse.new.self c.next.new.iterator None c.in-Err.error c.in_default.is (λ new. refl) r.keeps r.iterator n.cause in
     record {
       rows = λ w sees h. tt;
-      still = kept_still g.I.RowEntryIterator.refuses (BringsByCalls g.I.RowEntryIterator.begins g.I.RowEntryIterator.takes g.I.RowEntryIterator.seeks) g.I.RowEntryIterator.takes g.I.RowEntryIterator.rest g.I.RowEntryIterator.sound g.I.RowEntryIterator.order g.met.I.RowEntryIterator.whole (g.E.Outside.reach c.args.env.now) (g.E.Outside.reach c.next.new.env) it c.refuse.new.self None c.in-Err.error r.keeps refused;
+      still = kept_still g.I.RowEntryIterator.refuses (offers g.I.RowEntryIterator.begins g.I.RowEntryIterator.takes g.I.RowEntryIterator.seeks) g.I.RowEntryIterator.takes g.I.RowEntryIterator.rest g.I.RowEntryIterator.sound g.I.RowEntryIterator.order g.met.I.RowEntryIterator.whole (g.E.Outside.reach c.args.env.now) (g.E.Outside.reach c.next.new.env) it c.refuse.new.self None c.in-Err.error r.keeps refused;
       checked = λ w h. tt;
       taken = tt;
       cause = rw r.same refused;

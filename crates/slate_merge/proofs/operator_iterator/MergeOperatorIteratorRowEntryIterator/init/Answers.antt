@@ -1,4 +1,4 @@
-use Rattle.std.proofs.Common.{◌≡◌, ◌∙◌, true, List, ap, inl, refl, arith, None, subst, sym}
+use Rattle.std.proofs.Common.{◌≡◌, ◌∙◌, true, List, ap, refl, arith, None, subst, sym}
 use Rattle.slate_types.specs.declared.iter.IterationOrder.{IterationOrder}
 use Rattle.slate_types.specs.declared.types.RowEntry.{RowEntry}
 use Rattle.slate_types.specs.Fold.{operator_at}
@@ -7,9 +7,8 @@ use Rattle.slate_types.proofs.Reaching.{reads_none}
 use Rattle.slate_merge.specs.Folding.{NoneRises, folded}
 use Rattle.slate_merge.specs.Folds.{NoneOpen}
 use Rattle.slate_merge.specs.Peeking.{with_ahead}
-use Rattle.slate_merge.specs.Calls.{BringsByCalls}
-use Rattle.slate_merge.proofs.Calling.{called_less}
-use Rattle.slate_merge.proofs.FoldBringings.{ahead_stays}
+use Rattle.slate_merge.specs.Offers.{offers}
+use Rattle.slate_merge.proofs.Offerings.{offers_begun}
 use Rattle.slate_merge.proofs.Operators.{again_refused, folding_ready, kept_no_larger, kept_still, sound_of, sound_unless, source_less, source_refused, unless_no_larger, unless_rows}
 use Rattle.slate_merge.proofs.operator_iterator.MergeOperatorIteratorRowEntryIterator.init.Goals as goal
 
@@ -20,7 +19,7 @@ returns-in-Some g c = record {
   checked = λ w h. tt;
   ready = tt;
   begun = tt;
-  cause = again_refused g.I.RowEntryIterator.refuses (BringsByCalls g.I.RowEntryIterator.begins g.I.RowEntryIterator.takes g.I.RowEntryIterator.seeks) g.I.RowEntryIterator.takes _ c.args.self.now None c.in-Some.refusal c.copy_of.result c.in-Some.is c.copy_of.ensures;
+  cause = again_refused g.I.RowEntryIterator.refuses (offers g.I.RowEntryIterator.begins g.I.RowEntryIterator.takes g.I.RowEntryIterator.seeks) g.I.RowEntryIterator.takes _ c.args.self.now None c.in-Some.refusal c.copy_of.result c.in-Some.is c.copy_of.ensures;
   no_larger = omega arith;
   order = refl;
   reads = reads_none _;
@@ -38,14 +37,14 @@ returns-in-Ok g c =
       rows = λ w sees h. unless_rows it.refusal _ _ none (ap (λ (l : List RowEntry). folded (operator_at w.meaning.combine) it.folding.merge_different_expire_ts it.folding.snapshot_barrier_seq (with_ahead it.ahead l)) (n.rows w sees (sound_of it.refusal _ none h).0));
       still = λ w sees h. (let k = sound_of it.refusal _ none h in sound_unless it.refusal _ none (n.still w sees k.0, subst (λ (o : IterationOrder). IsInOrder o (with_ahead it.ahead (g.I.RowEntryIterator.rest c.init.new.self w))) (sym n.order) (subst (λ (l : List RowEntry). IsInOrder (g.I.RowEntryIterator.order it.iterator) (with_ahead it.ahead l)) (sym (n.rows w sees k.0)) k.1)));
       checked = λ w h. n.checked w (sound_of it.refusal _ none h).0;
-      ready = folding_ready g.I.RowEntryIterator.refuses (BringsByCalls g.I.RowEntryIterator.begins g.I.RowEntryIterator.takes g.I.RowEntryIterator.seeks) y (g.E.Outside.reach c.args.env.now).meaning none refl n.ready;
+      ready = folding_ready g.I.RowEntryIterator.refuses (offers g.I.RowEntryIterator.begins g.I.RowEntryIterator.takes g.I.RowEntryIterator.seeks) y (g.E.Outside.reach c.args.env.now).meaning none refl n.ready;
       begun = (
         n.begun.0,
         n.begun.1,
         (
           (none, (refl, none), refl, refl, n.begun.2.0),
-          source_less g.I.RowEntryIterator.refuses (BringsByCalls g.I.RowEntryIterator.begins g.I.RowEntryIterator.takes g.I.RowEntryIterator.seeks) it y (g.E.Outside.reach c.args.env.now).meaning n.begun.0 none refl refl n.begun.2.1
-              (ahead_stays (BringsByCalls g.I.RowEntryIterator.begins g.I.RowEntryIterator.takes g.I.RowEntryIterator.seeks) (g.E.Outside.reach c.args.env.now).meaning it.iterator c.init.new.self it.ahead n.begun.0 (called_less g.I.RowEntryIterator.begins g.I.RowEntryIterator.takes g.I.RowEntryIterator.seeks (g.E.Outside.reach c.args.env.now).meaning it.iterator c.init.new.self n.begun.0 (inl n.begun.2.0))),
+          source_less g.I.RowEntryIterator.refuses (offers g.I.RowEntryIterator.begins g.I.RowEntryIterator.takes g.I.RowEntryIterator.seeks) it y (g.E.Outside.reach c.args.env.now).meaning n.begun.0 none refl refl n.begun.2.1
+              (λ later o k. offers_begun g.I.RowEntryIterator.begins g.I.RowEntryIterator.takes g.I.RowEntryIterator.seeks (g.E.Outside.reach c.args.env.now).meaning it.iterator c.init.new.self n.begun.0 n.begun.2.0 it.ahead later o k),
         ),
       );
       cause = tt;
@@ -62,10 +61,10 @@ returns-in-Err g c =
     let n = c.in-Err.ensures in
     let r = c.refuse.ensures in
     let none = c.in_default.is in
-    let refused = source_refused g.I.RowEntryIterator.refuses (BringsByCalls g.I.RowEntryIterator.begins g.I.RowEntryIterator.takes g.I.RowEntryIterator.seeks) g.I.RowEntryIterator.takes (g.E.Outside.reach c.args.env.now) (g.E.Outside.reach c.init.new.env) it c.refuse.new.self None c.in-Err.error none (λ new. refl) r.keeps (n.cause.0, n.cause.1, n.cause.2.0) in
+    let refused = source_refused g.I.RowEntryIterator.refuses (offers g.I.RowEntryIterator.begins g.I.RowEntryIterator.takes g.I.RowEntryIterator.seeks) g.I.RowEntryIterator.takes (g.E.Outside.reach c.args.env.now) (g.E.Outside.reach c.init.new.env) it c.refuse.new.self None c.in-Err.error none (λ new. refl) r.keeps (n.cause.0, n.cause.1, n.cause.2.0) in
     record {
       rows = λ w sees h. tt;
-      still = kept_still g.I.RowEntryIterator.refuses (BringsByCalls g.I.RowEntryIterator.begins g.I.RowEntryIterator.takes g.I.RowEntryIterator.seeks) g.I.RowEntryIterator.takes g.I.RowEntryIterator.rest g.I.RowEntryIterator.sound g.I.RowEntryIterator.order g.met.I.RowEntryIterator.whole (g.E.Outside.reach c.args.env.now) (g.E.Outside.reach c.init.new.env) it c.refuse.new.self None c.in-Err.error r.keeps refused;
+      still = kept_still g.I.RowEntryIterator.refuses (offers g.I.RowEntryIterator.begins g.I.RowEntryIterator.takes g.I.RowEntryIterator.seeks) g.I.RowEntryIterator.takes g.I.RowEntryIterator.rest g.I.RowEntryIterator.sound g.I.RowEntryIterator.order g.met.I.RowEntryIterator.whole (g.E.Outside.reach c.args.env.now) (g.E.Outside.reach c.init.new.env) it c.refuse.new.self None c.in-Err.error r.keeps refused;
       checked = λ w h. tt;
       ready = tt;
       begun = tt;

@@ -11,9 +11,8 @@ use Rattle.slate_merge.specs.Peeking.{with_ahead}
 use Rattle.slate_merge.proofs.Peeks.{kept_rows, sought_rows}
 use Rattle.slate_merge.proofs.Operables.{none_open_dropped}
 use Rattle.slate_merge.proofs.Risings.{none_rises_dropped}
-use Rattle.slate_merge.specs.Calls.{BringsByCalls}
-use Rattle.slate_merge.proofs.Calling.{called_less}
-use Rattle.slate_merge.proofs.FoldBringings.{ahead_goes}
+use Rattle.slate_merge.specs.Offers.{offers}
+use Rattle.slate_merge.proofs.Offerings.{offers_gone}
 use Rattle.slate_merge.proofs.Operators.{again_refused, by_begun, kept_no_larger, kept_still, new_refused, sound_of, sound_unless, source_less, source_refused, unless_drops, unless_no_larger}
 use Rattle.slate_merge.proofs.operator_iterator.MergeOperatorIteratorRowEntryIterator.seek.Goals as goal
 
@@ -23,7 +22,7 @@ returns-in-Some g c = record {
   still = λ w sees h. h;
   checked = λ w h. tt;
   sought = tt;
-  cause = again_refused g.I.RowEntryIterator.refuses (BringsByCalls g.I.RowEntryIterator.begins g.I.RowEntryIterator.takes g.I.RowEntryIterator.seeks) g.I.RowEntryIterator.takes _ c.args.self.now (Some c.args.key.now) c.in-Some.refusal c.copy_of.result c.in-Some.is c.copy_of.ensures;
+  cause = again_refused g.I.RowEntryIterator.refuses (offers g.I.RowEntryIterator.begins g.I.RowEntryIterator.takes g.I.RowEntryIterator.seeks) g.I.RowEntryIterator.takes _ c.args.self.now (Some c.args.key.now) c.in-Some.refusal c.copy_of.result c.in-Some.is c.copy_of.ensures;
   no_larger = omega arith;
   order = refl;
   reads = reads_none _;
@@ -37,7 +36,7 @@ returns-then-not-self g c = record {
   still = λ w sees h. h;
   checked = λ w h. tt;
   sought = tt;
-  cause = new_refused g.I.RowEntryIterator.refuses (BringsByCalls g.I.RowEntryIterator.begins g.I.RowEntryIterator.takes g.I.RowEntryIterator.seeks) g.I.RowEntryIterator.takes _ c.args.self.now (Some c.args.key.now) c.in_default.is c.if-not-self.true;
+  cause = new_refused g.I.RowEntryIterator.refuses (offers g.I.RowEntryIterator.begins g.I.RowEntryIterator.takes g.I.RowEntryIterator.seeks) g.I.RowEntryIterator.takes _ c.args.self.now (Some c.args.key.now) c.in_default.is c.if-not-self.true;
   no_larger = omega arith;
   order = refl;
   reads = reads_none _;
@@ -87,8 +86,8 @@ returns-in-Ok g c =
         n.sought.1,
         (
           ((c.if-not-self.false, none), (c.if-not-self.false, none), refl, inr (after, n.sought.2.0)),
-          source_less g.I.RowEntryIterator.refuses (BringsByCalls g.I.RowEntryIterator.begins g.I.RowEntryIterator.takes g.I.RowEntryIterator.seeks) it y (g.E.Outside.reach c.args.env.now).meaning n.sought.0 none refl c.if-not-self.false n.sought.2.1
-              (ahead_goes (BringsByCalls g.I.RowEntryIterator.begins g.I.RowEntryIterator.takes g.I.RowEntryIterator.seeks) (g.E.Outside.reach c.args.env.now).meaning it.iterator c.seek.new.self it.ahead c.take.new.self n.sought.0 after (called_less g.I.RowEntryIterator.begins g.I.RowEntryIterator.takes g.I.RowEntryIterator.seeks (g.E.Outside.reach c.args.env.now).meaning it.iterator c.seek.new.self n.sought.0 (inr (inr (c.args.key.now, n.sought.2.0))))),
+          source_less g.I.RowEntryIterator.refuses (offers g.I.RowEntryIterator.begins g.I.RowEntryIterator.takes g.I.RowEntryIterator.seeks) it y (g.E.Outside.reach c.args.env.now).meaning n.sought.0 none refl c.if-not-self.false n.sought.2.1
+              (λ later o k. offers_gone g.I.RowEntryIterator.begins g.I.RowEntryIterator.takes g.I.RowEntryIterator.seeks (g.E.Outside.reach c.args.env.now).meaning it.iterator c.seek.new.self n.sought.0 (inr (inr (c.args.key.now, n.sought.2.0))) it.ahead c.take.new.self after later o k),
         ),
       );
       cause = tt;
@@ -107,10 +106,10 @@ returns-in-Err g c =
     let it = c.args.self.now in
     let n = c.in-Err.ensures in
     let r = c.refuse.ensures in
-    let refused = source_refused g.I.RowEntryIterator.refuses (BringsByCalls g.I.RowEntryIterator.begins g.I.RowEntryIterator.takes g.I.RowEntryIterator.seeks) g.I.RowEntryIterator.takes (g.E.Outside.reach c.args.env.now) (g.E.Outside.reach c.seek.new.env) it c.refuse.new.self (Some c.args.key.now) c.in-Err.error c.in_default.is (λ new. by_begun new c.if-not-self.false) r.keeps (n.cause.0, n.cause.1, n.cause.2.0) in
+    let refused = source_refused g.I.RowEntryIterator.refuses (offers g.I.RowEntryIterator.begins g.I.RowEntryIterator.takes g.I.RowEntryIterator.seeks) g.I.RowEntryIterator.takes (g.E.Outside.reach c.args.env.now) (g.E.Outside.reach c.seek.new.env) it c.refuse.new.self (Some c.args.key.now) c.in-Err.error c.in_default.is (λ new. by_begun new c.if-not-self.false) r.keeps (n.cause.0, n.cause.1, n.cause.2.0) in
     record {
       rows = λ w sees h. tt;
-      still = kept_still g.I.RowEntryIterator.refuses (BringsByCalls g.I.RowEntryIterator.begins g.I.RowEntryIterator.takes g.I.RowEntryIterator.seeks) g.I.RowEntryIterator.takes g.I.RowEntryIterator.rest g.I.RowEntryIterator.sound g.I.RowEntryIterator.order g.met.I.RowEntryIterator.whole (g.E.Outside.reach c.args.env.now) (g.E.Outside.reach c.seek.new.env) it c.refuse.new.self (Some c.args.key.now) c.in-Err.error r.keeps refused;
+      still = kept_still g.I.RowEntryIterator.refuses (offers g.I.RowEntryIterator.begins g.I.RowEntryIterator.takes g.I.RowEntryIterator.seeks) g.I.RowEntryIterator.takes g.I.RowEntryIterator.rest g.I.RowEntryIterator.sound g.I.RowEntryIterator.order g.met.I.RowEntryIterator.whole (g.E.Outside.reach c.args.env.now) (g.E.Outside.reach c.seek.new.env) it c.refuse.new.self (Some c.args.key.now) c.in-Err.error r.keeps refused;
       checked = λ w h. tt;
       sought = tt;
       cause = rw r.same refused;

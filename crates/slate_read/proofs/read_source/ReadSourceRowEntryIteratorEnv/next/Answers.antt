@@ -7,7 +7,7 @@ returns-in-Internal g c = record {
   rows = rw c.in-Internal.is c.next-in-Internal.ensures.rows;
   still = rw c.in-Internal.is c.next-in-Internal.ensures.still;
   checked = rw c.in-Internal.is c.next-in-Internal.ensures.checked;
-  taken = rw c.in-Internal.is (IfOk-weaker c.next-in-Internal.result _ _ (λ answer k. (k.0, k.1, (k.2.0.3, k.2.1))) c.next-in-Internal.ensures.taken);
+  taken = rw c.in-Internal.is (IfOk-weaker c.next-in-Internal.result _ _ (λ answer k. (k.0, k.1, ((k.2.0.3, tt), k.2.1))) c.next-in-Internal.ensures.taken);
   cause = rw c.in-Internal.is (IfErr-weaker c.next-in-Internal.result _ _ (λ e k. (k.0, k.1, (k.2.0, tt, k.2.2))) c.next-in-Internal.ensures.cause);
   smaller = rw c.in-Internal.is c.next-in-Internal.ensures.smaller;
   no_larger = rw c.in-Internal.is c.next-in-Internal.ensures.no_larger;
@@ -20,7 +20,7 @@ returns-in-Table g c = record {
   rows = rw c.in-Table.is c.next-in-Table.ensures.rows;
   still = rw c.in-Table.is c.next-in-Table.ensures.still;
   checked = rw c.in-Table.is c.next-in-Table.ensures.checked;
-  taken = rw c.in-Table.is (IfOk-weaker c.next-in-Table.result _ _ (λ answer k. (k.0, k.1, (k.2.0.3, k.2.1))) c.next-in-Table.ensures.taken);
+  taken = rw c.in-Table.is (IfOk-weaker c.next-in-Table.result _ _ (λ answer k. (k.0, k.1, ((k.2.0.3, tt), k.2.1))) c.next-in-Table.ensures.taken);
   cause = rw c.in-Table.is (IfErr-weaker c.next-in-Table.result _ _ (λ e k. (k.0, k.1, (k.2.0, tt, k.2.2))) c.next-in-Table.ensures.cause);
   smaller = rw c.in-Table.is c.next-in-Table.ensures.smaller;
   no_larger = rw c.in-Table.is c.next-in-Table.ensures.no_larger;
@@ -33,7 +33,7 @@ returns-in-Run g c = record {
   rows = rw c.in-Run.is c.next-in-Run.ensures.rows;
   still = rw c.in-Run.is c.next-in-Run.ensures.still;
   checked = rw c.in-Run.is c.next-in-Run.ensures.checked;
-  taken = rw c.in-Run.is (IfOk-weaker c.next-in-Run.result _ _ (λ answer k. (k.0, k.1, (k.2.0.3, k.2.1))) c.next-in-Run.ensures.taken);
+  taken = rw c.in-Run.is (IfOk-weaker c.next-in-Run.result _ _ (λ answer k. (k.0, k.1, ((k.2.0.3, tt), k.2.1))) c.next-in-Run.ensures.taken);
   cause = rw c.in-Run.is (IfErr-weaker c.next-in-Run.result _ _ (λ e k. (k.0, k.1, (k.2.0, tt, k.2.2))) c.next-in-Run.ensures.cause);
   smaller = rw c.in-Run.is c.next-in-Run.ensures.smaller;
   no_larger = rw c.in-Run.is c.next-in-Run.ensures.no_larger;
@@ -46,7 +46,7 @@ returns-in-Segments g c = record {
   rows = rw c.in-Segments.is c.next-in-Segments.ensures.rows;
   still = rw c.in-Segments.is c.next-in-Segments.ensures.still;
   checked = rw c.in-Segments.is c.next-in-Segments.ensures.checked;
-  taken = rw c.in-Segments.is (IfOk-weaker c.next-in-Segments.result _ _ (λ answer k. (k.0, k.1, (k.2.0.1, k.2.1))) c.next-in-Segments.ensures.taken);
+  taken = rw c.in-Segments.is (IfOk-weaker c.next-in-Segments.result _ _ (λ answer k. (k.0, k.1, ((k.2.0.1, tt), k.2.1))) c.next-in-Segments.ensures.taken);
   cause = rw c.in-Segments.is (IfErr-weaker c.next-in-Segments.result _ _ (λ e k. (k.0, k.1, (k.2.0, tt, k.2.2))) c.next-in-Segments.ensures.cause);
   smaller = rw c.in-Segments.is c.next-in-Segments.ensures.smaller;
   no_larger = rw c.in-Segments.is c.next-in-Segments.ensures.no_larger;
@@ -61,10 +61,10 @@ pub returns-in-Memory-clause-checked : goal.returns-in-Memory-clause-checked
 returns-in-Memory-clause-checked g c = rw c.in-Memory.is c.next-in-Memory.ensures.checked
 
 pub returns-in-Empty-clause-taken : goal.returns-in-Empty-clause-taken
-returns-in-Empty-clause-taken g c = rw c.in-Empty.is (IfOk-weaker c.next.result _ _ (λ answer k. (k.0, k.1, (nothing_handed k.0 answer k.2.0.1, k.2.1))) c.next.ensures.taken)
+returns-in-Empty-clause-taken g c = rw c.in-Empty.is (IfOk-weaker c.next.result _ _ (λ answer k. (k.0, k.1, ((nothing_handed k.0 answer k.2.0.1, tt), k.2.1))) c.next.ensures.taken)
 
 pub returns-in-Batch-clause-taken : goal.returns-in-Batch-clause-taken
-returns-in-Batch-clause-taken g c = rw c.in-Batch.is (IfOk-weaker c.next-in-Batch.result _ _ (λ answer k. (k.0, k.1, (list_handed c.in-Batch.rows c.next-in-Batch.new.self k.0 answer k.2.0, k.2.1))) c.next-in-Batch.ensures.taken)
+returns-in-Batch-clause-taken g c = rw c.in-Batch.is (IfOk-weaker c.next-in-Batch.result _ _ (λ answer k. (k.0, k.1, ((list_handed c.in-Batch.rows c.next-in-Batch.new.self k.0 answer k.2.0, k.2.0), k.2.1))) c.next-in-Batch.ensures.taken)
 
 pub returns-in-Memory-clause-taken : goal.returns-in-Memory-clause-taken
-returns-in-Memory-clause-taken g c = rw c.in-Memory.is (IfOk-weaker c.next-in-Memory.result _ _ (λ answer k. (k.0, k.1, (list_handed c.in-Memory.rows c.next-in-Memory.new.self k.0 answer k.2.0, k.2.1))) c.next-in-Memory.ensures.taken)
+returns-in-Memory-clause-taken g c = rw c.in-Memory.is (IfOk-weaker c.next-in-Memory.result _ _ (λ answer k. (k.0, k.1, ((list_handed c.in-Memory.rows c.next-in-Memory.new.self k.0 answer k.2.0, k.2.0), k.2.1))) c.next-in-Memory.ensures.taken)
