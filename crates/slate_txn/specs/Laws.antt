@@ -75,7 +75,7 @@ abbrev pub ScansGoOn : Type 0
 ScansGoOn = (r : Rules) (cs : List Commit) (n : ℕ) (ts more : List TranscriptStep) →
     scans_left r cs n (ts ++ more) ≡ scans_after r cs n (own_of ts) (scans_left r cs n ts) more
 
--- Later commits leave alone what scans have left.
+-- Later commits leave it alone.
 abbrev pub ScansLeftStay : Type 0
 ScansLeftStay = (r : Rules) (cs later : List Commit) (n : ℕ) (ts : List TranscriptStep) → AllByRecursion (λ c. n < c.seq) later →
     scans_left r (cs ++ later) n ts ≡ scans_left r cs n ts
