@@ -5,7 +5,7 @@ use Rattle.std.specs.Prelude.{ℕ, ℤ, nat_lt, if◌then◌else◌, List, filte
 use Rattle.slate_mem.specs.Batch.{Ops, batch_keys}
 use Rattle.slate_txn.specs.declared.event.Event.{Event}
 use Rattle.slate_txn.specs.declared.event.Event.TheVariants as events
-use Rattle.slate_queue.specs.declared.feed.FeedEntry.{FeedEntry}
+use Rattle.slate_queue.specs.declared.entries.FeedEntry.{FeedEntry}
 
 abbrev pub entry_if : ℕ → ℕ → ℤ → Ops → Option FeedEntry
 entry_if after n now ops = if nat_lt after n then Some (record { seq = n; now = now; keys = batch_keys ops }) else None
