@@ -95,6 +95,8 @@ mod ScanOpenings
 mod ScanRefusals
 mod ScanBringings
 mod OpenNotes
+pub mod Opened
+pub mod OpenIds
 mod Readers
 mod ScanMerges
 pub mod RowDamage
