@@ -1,5 +1,5 @@
 //! The core: the journal of a store, what is open in it, and the rows in memory.
-ghost use Rattle.std.specs.Prelude.{◌≡◌, ℕ, ◌≢◌, ◌⊎◌, ◌+◌, ◌-◌, ◌^◌, ◌≤◌, ◌<◌, ◌∷◌, List, [], ◌++◌, length, IfOk, IfErr, OnOk, OnErr, IsOk, Err, IsOkUnless, IsSome, is_some, Option, None, Some, true, map, option_map};
+ghost use Rattle.std.specs.Prelude.{◌≡◌, ℕ, ◌≢◌, ◌⊎◌, ◌+◌, ◌-◌, ◌^◌, ◌≤◌, ◌<◌, ◌∷◌, List, [], ◌++◌, length, IfOk, IfErr, OnOk, OnErr, IsOk, Err, IsOkUnless, IsSome, is_some, Option, None, Some, true, false, map, option_map};
 ghost use Rattle.std.specs.List.{AllByRecursion};
 ghost use Rattle.slate_types.specs.Config.{IsValid};
 ghost use Rattle.slate_types.specs.declared.error.SlateDBError.{SlateDBError};
@@ -41,7 +41,7 @@ ghost use Rattle.slate_db.specs.Log.{LIMIT, AreFine, ends_of};
 ghost use Rattle.slate_txn.specs.Conflict.{conflict};
 ghost use Rattle.slate_txn.specs.HandedOver.{IsConflict};
 ghost use Rattle.slate_db.specs.Committed.{IsCommitted, IsEnded};
-ghost use Rattle.slate_db.specs.Opened.{StayOpen, StayOpenBut};
+ghost use Rattle.slate_db.specs.Opened.{HasSnapshot, HasTransaction, StayOpen, StayOpenBut};
 ghost use Rattle.slate_db.specs.Operated.{operated};
 ghost use Rattle.slate_db.specs.Vouched.{IsVouchedFor};
 ghost use Rattle.slate_db.specs.Written.{IsWritten};
@@ -174,6 +174,9 @@ impl Core {
         ensures same { OnErr result (self.new ≡ self.old) }
         ensures limit { NoPlace 2 self.old → result ≡ Err (SlateDBError.LimitReached LIMIT) }
         ensures cause { IfErr result (λ e. (e ≡ SlateDBError.OutOfMemory) ⊎ ((e ≡ SlateDBError.LimitReached LIMIT) × (NoPlace 2 self.old))) }
+        ensures open { IfOk result (λ a. HasTransaction self.new a.0) }
+        ensures fresh { IfOk result (λ a. is_open self.old.state a.0 ≡ false) }
+        ensures stay { StayOpen self.old self.new }
     {
         self.log.place(2)?;
         let (id, start) = self.manager.new_transaction()?;
@@ -197,6 +200,9 @@ impl Core {
         ensures same { OnErr result (self.new ≡ self.old) }
         ensures limit { NoPlace 2 self.old → result ≡ Err (SlateDBError.LimitReached LIMIT) }
         ensures cause { IfErr result (λ e. (e ≡ SlateDBError.OutOfMemory) ⊎ ((e ≡ SlateDBError.LimitReached LIMIT) × NoPlace 2 self.old)) }
+        ensures open { IfOk result (λ a. HasSnapshot self.new a.0) }
+        ensures fresh { IfOk result (λ a. is_open self.old.state a.0 ≡ false) }
+        ensures stay { StayOpen self.old self.new }
     {
         self.log.place(2)?;
         let (id, seq) = self.snapshots.new_snapshot(Some(self.log.last()))?;
