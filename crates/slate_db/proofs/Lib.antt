@@ -96,6 +96,8 @@ mod ScanRefusals
 mod ScanBringings
 mod ScanRises
 mod OpenNotes
+pub mod Opened
+pub mod OpenIds
 mod Readers
 mod ScanMerges
 pub mod RowDamage

@@ -36,7 +36,7 @@ step_scan r s id order range from found fine =
     (λ i. scan r s id order (cond (fine i) None (Some range)) (ScanStep.Rows 0 ∷ []) (found i))
     ∙ ap (λ b. (noted s id (steps.Scan order range ∷ (cond b (steps.Next from.scans None ∷ []) [] ++ [])), RowsAre (handed (cond b (steps.Next from.scans None ∷ []) [] ++ [])))) (none_below (length (rows_seen r s.commits from.at from.ops order range)))
 
-found_noted : {X : Type 0} (id : List ℕ) (f : X → X) (ps : List (List ℕ × X)) (x : X) → find_named id ps ≡ Some x → find_named id (update_named id f ps) ≡ Some (f x)
+pub found_noted : {X : Type 0} (id : List ℕ) (f : X → X) (ps : List (List ℕ × X)) (x : X) → find_named id ps ≡ Some x → find_named id (update_named id f ps) ≡ Some (f x)
 found_noted id f [] x h = cc
 found_noted id f (p ∷ ps) x h = by (bytes_eq p.0 id) refl h (found_noted id f ps x)
   where

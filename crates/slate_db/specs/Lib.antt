@@ -22,6 +22,7 @@ pub mod StoredParts
 pub mod Written
 pub mod Committed
 pub mod Operated
+pub mod Opened
 pub mod Lookup
 pub mod LogView
 pub mod LayersView

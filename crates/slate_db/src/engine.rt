@@ -1,5 +1,5 @@
 //! The core: the journal of a store, what is open in it, and the rows in memory.
-ghost use Rattle.std.specs.Prelude.{◌≡◌, ℕ, ◌≢◌, ◌⊎◌, ◌+◌, ◌-◌, ◌^◌, ◌≤◌, ◌<◌, ◌∷◌, List, [], ◌++◌, length, IfOk, IfErr, OnOk, OnErr, IsOk, Err, IsOkUnless, IsSome, Option, None, Some, true, map, option_map};
+ghost use Rattle.std.specs.Prelude.{◌≡◌, ℕ, ◌≢◌, ◌⊎◌, ◌+◌, ◌-◌, ◌^◌, ◌≤◌, ◌<◌, ◌∷◌, List, [], ◌++◌, length, IfOk, IfErr, OnOk, OnErr, IsOk, Err, IsOkUnless, IsSome, is_some, Option, None, Some, true, false, map, option_map};
 ghost use Rattle.std.specs.List.{AllByRecursion};
 ghost use Rattle.slate_types.specs.Config.{IsValid};
 ghost use Rattle.slate_types.specs.declared.error.SlateDBError.{SlateDBError};
@@ -41,6 +41,7 @@ ghost use Rattle.slate_db.specs.Log.{LIMIT, AreFine, ends_of};
 ghost use Rattle.slate_txn.specs.Conflict.{conflict};
 ghost use Rattle.slate_txn.specs.HandedOver.{IsConflict};
 ghost use Rattle.slate_db.specs.Committed.{IsCommitted, IsEnded};
+ghost use Rattle.slate_db.specs.Opened.{HasSnapshot, HasTransaction, StayOpen, StayOpenBut};
 ghost use Rattle.slate_db.specs.Operated.{operated};
 ghost use Rattle.slate_db.specs.Vouched.{IsVouchedFor};
 ghost use Rattle.slate_db.specs.Written.{IsWritten};
@@ -125,6 +126,20 @@ impl Core {
         self.transactions.is_open(id) || self.snapshots.is_live(id)
     }
 
+    /// Whether the id is that of an open transaction, as calls need it that write in one, commit it or roll it back.
+    pub fn is_transaction(&self, id: &Uuid) -> bool
+        ensures { result ≡ is_some (find_named id.now self.now.state.txns) }
+    {
+        self.transactions.is_open(id)
+    }
+
+    /// Whether the id is that of an open snapshot, as `release` needs it.
+    pub fn is_snapshot(&self, id: &Uuid) -> bool
+        ensures { result ≡ is_some (find_named id.now self.now.state.snapshots) }
+    {
+        self.snapshots.is_live(id)
+    }
+
     /// The sequence that a reader with this id sees up to: that at which an open transaction began, or that of an open snapshot.
     fn start_of(&self, id: &Uuid) -> Option<u64>
         ensures { result ≡ option_map (λ from. from.at) (reader self.now.state id.now) }
@@ -159,6 +174,9 @@ impl Core {
         ensures same { OnErr result (self.new ≡ self.old) }
         ensures limit { NoPlace 2 self.old → result ≡ Err (SlateDBError.LimitReached LIMIT) }
         ensures cause { IfErr result (λ e. (e ≡ SlateDBError.OutOfMemory) ⊎ ((e ≡ SlateDBError.LimitReached LIMIT) × (NoPlace 2 self.old))) }
+        ensures open { IfOk result (λ a. HasTransaction self.new a.0) }
+        ensures fresh { IfOk result (λ a. is_open self.old.state a.0 ≡ false) }
+        ensures stay { StayOpen self.old self.new }
     {
         self.log.place(2)?;
         let (id, start) = self.manager.new_transaction()?;
@@ -182,6 +200,9 @@ impl Core {
         ensures same { OnErr result (self.new ≡ self.old) }
         ensures limit { NoPlace 2 self.old → result ≡ Err (SlateDBError.LimitReached LIMIT) }
         ensures cause { IfErr result (λ e. (e ≡ SlateDBError.OutOfMemory) ⊎ ((e ≡ SlateDBError.LimitReached LIMIT) × NoPlace 2 self.old)) }
+        ensures open { IfOk result (λ a. HasSnapshot self.new a.0) }
+        ensures fresh { IfOk result (λ a. is_open self.old.state a.0 ≡ false) }
+        ensures stay { StayOpen self.old self.new }
     {
         self.log.place(2)?;
         let (id, seq) = self.snapshots.new_snapshot(Some(self.log.last()))?;
@@ -200,6 +221,7 @@ impl Core {
         ensures vouched { (m : Meaning) (other : List ℕ) → IsVouchedFor m self.old other → IsVouchedFor m self.new other }
         ensures segmented { (g : Segments) → IsSegmented g self.old → IsSegmented g self.new }
         ensures kept { (m : Meaning) → IsKept m self.old → IsKept m self.new }
+        ensures stay { StayOpenBut id.now self.old self.new }
     {
         self.snapshots.drop_snapshot(id);
         self.log.push_release(*id);
@@ -213,6 +235,7 @@ impl Core {
         ensures others { (m : Meaning) (other : List ℕ) → other ≢ id.now → IsVouchedFor m self.old other → IsVouchedFor m self.new other }
         ensures segmented { (g : Segments) → IsSegmented g self.old → IsSegmented g self.new }
         ensures kept { (m : Meaning) → IsKept m self.old → IsKept m self.new }
+        ensures stay { StayOpenBut id.now self.old self.new }
     {
         self.transactions.end(id);
         self.manager.drop_txn(id);
@@ -232,6 +255,7 @@ impl Core {
         ensures same { OnErr result (self.new ≡ self.old) }
         ensures limit { self.old.active ≢ [] → NoPlace 1 self.old → result ≡ Err (SlateDBError.LimitReached LIMIT) }
         ensures cause { IfErr result (λ e. (e ≡ SlateDBError.OutOfMemory) ⊎ ((e ≡ SlateDBError.LimitReached LIMIT) × (NoPlace 1 self.old))) }
+        ensures stay { StayOpen self.old self.new }
     {
         if self.layers.active().is_empty() {
             return Ok(self.log.last());
@@ -458,6 +482,7 @@ impl Core {
         ensures kept { (m : Meaning) → IsKept m self.old → IsKept m self.new }
         ensures vouched { (m : Meaning) (other : List ℕ) → IsVouchedFor m self.old other → IsVouchedFor m self.new other }
         ensures same { OnErr result (self.new ≡ self.old) }
+        ensures stay { StayOpen self.old self.new }
     {
         self.transactions.put(self.alloc, id, key, value, options)
     }
@@ -474,6 +499,7 @@ impl Core {
         ensures kept { (m : Meaning) → IsKept m self.old → IsKept m self.new }
         ensures vouched { (m : Meaning) (other : List ℕ) → IsVouchedFor m self.old other → IsVouchedFor m self.new other }
         ensures same { OnErr result (self.new ≡ self.old) }
+        ensures stay { StayOpen self.old self.new }
     {
         self.transactions.delete(self.alloc, id, key)
     }
@@ -512,6 +538,7 @@ impl Core {
         ensures vouched { (m : Meaning) (other : List ℕ) → IsVouchedFor m self.old other → IsVouchedFor m self.new other }
         ensures same { OnErr result (self.new ≡ self.old) }
         ensures outside { env.new ≡ env.old }
+        ensures stay { StayOpen self.old self.new }
     {
         if env.operator.is_none() {
             return Err(SlateDBError::MergeOperatorMissing);
@@ -528,6 +555,7 @@ impl Core {
         ensures vouched { (m : Meaning) (other : List ℕ) → IsVouchedFor m self.old other → IsVouchedFor m self.new other }
         ensures kept { (m : Meaning) → IsKept m self.old → IsKept m self.new }
         ensures same { OnErr result (self.new ≡ self.old) }
+        ensures stay { StayOpen self.old self.new }
     {
         self.transactions.mark_read(self.alloc, id, keys)
     }
@@ -541,6 +569,7 @@ impl Core {
         ensures vouched { (m : Meaning) (other : List ℕ) → IsVouchedFor m self.old other → IsVouchedFor m self.new other }
         ensures kept { (m : Meaning) → IsKept m self.old → IsKept m self.new }
         ensures same { OnErr result (self.new ≡ self.old) }
+        ensures stay { StayOpen self.old self.new }
     {
         self.transactions.unmark_write(self.alloc, id, keys)
     }

@@ -37,6 +37,7 @@ ghost use Rattle.slate_db.specs.Sound.{IsKept};
 ghost use Rattle.slate_db.specs.ScanFilters.{scan_query};
 ghost use Rattle.slate_db.specs.Scans.{AnswersAgain, HasLeft, IsFor, IsOpenScan, IsOpeningError, IsRefusedByScan, IsRefusedScan, IsScanOf, IsUnrefused, IsWorldOf, Keeps, Leaves, LeavesIn, ScanRefuses, id_of, number_of, scan_of};
 ghost use Rattle.slate_read.specs.SstOptions.{CanFetch};
+ghost use Rattle.slate_db.specs.Opened.{StayOpen};
 ghost use Rattle.slate_db.specs.Vouched.{IsVouchedFor};
 
 use crate::engine::Core;
@@ -244,6 +245,7 @@ impl Core {
         ensures same { OnErr result (self.new ≡ self.old) }
         ensures kept { (m : Meaning) → IsKept m self.old → IsKept m self.new }
         ensures settings { self.new.settings ≡ self.old.settings }
+        ensures stay { StayOpen self.old self.new }
     {
         let Some(at) = self.start_of(id) else {
             unreachable!()
@@ -358,6 +360,8 @@ impl Core {
         ensures kept { (m : Meaning) → IsKept m self.old → IsKept m self.new }
         ensures settings { self.new.settings ≡ self.old.settings }
         ensures reads { let reach = ⟦<EnvOf<S, M, T> as Outside>⟧.reach in OnlyReads (reach env.old) (reach env.new) }
+        ensures stay { StayOpen self.old self.new }
+        ensures opens { IfOk result (IsOpenScan self.new) }
     {
         let Some(begin) = self.start_of(id) else {
             unreachable!()
@@ -403,6 +407,8 @@ impl Core {
         ensures kept { (m : Meaning) → IsKept m self.old → IsKept m self.new }
         ensures settings { self.new.settings ≡ self.old.settings }
         ensures reads { let reach = ⟦<EnvOf<S, M, T> as Outside>⟧.reach in OnlyReads (reach env.old) (reach env.new) }
+        ensures stay { StayOpen self.old self.new }
+        ensures opened { IsOpenScan self.new it.new }
     {
         let answer = match it.rows.next(env) {
             Ok(answer) => answer,
@@ -443,6 +449,8 @@ impl Core {
         ensures kept { (m : Meaning) → IsKept m self.old → IsKept m self.new }
         ensures settings { self.new.settings ≡ self.old.settings }
         ensures reads { let reach = ⟦<EnvOf<S, M, T> as Outside>⟧.reach in OnlyReads (reach env.old) (reach env.new) }
+        ensures stay { StayOpen self.old self.new }
+        ensures opened { IsOpenScan self.new it.new }
     {
         if let Err(error) = it.rows.seek(key, env) {
             return Err(error);

@@ -1,4 +1,4 @@
-use Rattle.std.proofs.Common.{refl, ◌≡◌, ℕ, List, None, ◌+◌, ◌++◌, ◌∷◌, [], ◌≤◌, ap, sym, subst, ◌∙◌, Greater}
+use Rattle.std.proofs.Common.{refl, false, ◌≡◌, ℕ, List, None, ◌+◌, ◌++◌, ◌∷◌, [], ◌≤◌, ap, sym, subst, ◌∙◌, Greater}
 use Rattle.std.specs.List.{AllByRecursion}
 use Rattle.slate_types.specs.Keys.{key_cmp}
 use Rattle.slate_txn.specs.declared.line.Line.TheVariants as lines
@@ -6,6 +6,7 @@ use Rattle.slate_txn.specs.Ids.{id_of}
 use Rattle.slate_txn.specs.Managers.{untracked}
 use Rattle.slate_txn.specs.Named.{find_named}
 use Rattle.slate_txn.specs.Reply.{Begun}
+use Rattle.slate_txn.specs.State.{begun, is_open}
 use Rattle.slate_txn.specs.Step.{step}
 use Rattle.slate_db.specs.declared.engine.Core.TheInside.{Inside}
 use Rattle.slate_db.specs.Log.{IsLog}
@@ -17,10 +18,11 @@ use Rattle.slate_db.specs.Sound.{IsKept}
 use Rattle.slate_db.specs.Vouched.{IsVouchedFor}
 use Rattle.slate_db.proofs.Calls.{begun_is}
 use Rattle.slate_db.proofs.Managing.{back_named, managed_back}
+use Rattle.slate_db.proofs.Opened.{has_named, stay_begun, stay_same, unopened}
 use Rattle.slate_db.proofs.Segmenting.{segmented_as}
 use Rattle.slate_db.proofs.Steps.{step_begin}
 use Rattle.slate_db.proofs.Vouches.{others_begin, vouched_begin}
-use Rattle.slate_db.proofs.Wholes.{after_begin, whole_begin, whole_manager, kept_begin, past_begun, fresh_begun, within_newest}
+use Rattle.slate_db.proofs.Wholes.{after_begin, whole_begin, whole_manager, kept_begin, past_begun, fresh_begun, unshown_begun, within_newest}
 use Rattle.slate_db.proofs.engine.Core.begin.Goals as goal
 
 pub enter-requires-clause-past : goal.enter-requires-clause-past
@@ -111,3 +113,28 @@ returns-clause-others c m k h =
     let becomes = begun_is s c.enter.new.log c.enter.new.transactions c.new_transaction.new.self c.args.level c.in_ok-id.id c.in_ok-id.start id start c.in_default.ensures.log c.in_default.ensures.opened in
     subst (λ (s : Inside). IsVouchedFor m (view_of s) k) becomes
     (others_begin m (view_of s) (id_of (s.log.ids + 1)) k c.args.level s.log.last c.enter.new.log.spare (subst (λ (v : CoreModel). IsVouchedFor m v k) (sym c.self.view_is) h))
+
+pub returns-clause-open : goal.returns-clause-open
+returns-clause-open c =
+    let s = c.self.inside in
+    let id = c.in_ok-id.ensures.id ∙ ap (λ n. id_of (n + 1)) c.self.invariant.tied.manager.counted in
+    has_named _ s.transactions c.in_ok-id.id (begun c.args.level c.in_ok-id.start)
+    (subst (λ (i : List ℕ). find_named i s.transactions ≡ None) (sym id) (fresh_begun (view_of s) (unseen_of s) c.self.invariant)) c.in_default.ensures.opened
+
+pub returns-clause-fresh : goal.returns-clause-fresh
+returns-clause-fresh c =
+    let s = c.self.inside in
+    let id = c.in_ok-id.ensures.id ∙ ap (λ n. id_of (n + 1)) c.self.invariant.tied.manager.counted in
+    subst (λ (v : CoreModel). is_open v.state c.in_ok-id.id ≡ false) c.self.view_is
+    (subst (λ (i : List ℕ). is_open (view_of s).state i ≡ false) (sym id)
+    (unopened (view_of s).state _ (fresh_begun (view_of s) (unseen_of s) c.self.invariant) (unshown_begun (view_of s) (unseen_of s) c.self.invariant)))
+
+pub returns-clause-stay : goal.returns-clause-stay
+returns-clause-stay c =
+    let s = c.self.inside in
+    let id = c.in_ok-id.ensures.id ∙ ap (λ n. id_of (n + 1)) c.self.invariant.tied.manager.counted in
+    stay_begun c.args.self.now _ c.in_ok-id.id (begun c.args.level c.in_ok-id.start)
+    (subst (λ (v : CoreModel). find_named c.in_ok-id.id v.state.snapshots ≡ None) c.self.view_is
+    (subst (λ (i : List ℕ). find_named i (view_of s).state.snapshots ≡ None) (sym id) (unshown_begun (view_of s) (unseen_of s) c.self.invariant)))
+    (c.in_default.ensures.opened ∙ ap (λ (v : CoreModel). v.state.txns ++ ((c.in_ok-id.id, begun c.args.level c.in_ok-id.start) ∷ [])) c.self.view_is)
+    (ap (λ (v : CoreModel). v.state.snapshots) c.self.view_is)

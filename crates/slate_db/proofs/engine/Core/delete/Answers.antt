@@ -7,6 +7,7 @@ use Rattle.slate_txn.specs.Step.{with_op, with_marks, with_unmarks}
 use Rattle.slate_txn.specs.Reply.{Done}
 use Rattle.slate_db.specs.Model.{CoreModel}
 use Rattle.slate_db.proofs.Changes.{own_none, whole_either, kept_either, operated_is, same_is, step_operated, step_refused_op, step_changed, refused_map}
+use Rattle.slate_db.proofs.Opened.{scans_op, stay_either}
 use Rattle.slate_db.proofs.Vouches.{own_vouched, vouched_either}
 use Rattle.slate_db.proofs.Wholes.{own_operated}
 use Rattle.slate_db.proofs.engine.Core.delete.Goals as goal
@@ -28,4 +29,5 @@ returns c = record {
   kept = λ m k. kept_either c.delete.result m c.self.inside c.args.self.now c.delete.new.self c.args.id.now (with_op c.args.key.now ops.Delete) c.self.view_is c.delete.ensures.taken c.delete.ensures.same (λ none. own_none c.delete.result c.args.key.now ops.Delete refl) k;
   same = on_err_weaker c.delete.result (λ e. same_is c.self.inside c.args.self.now c.delete.new.self c.self.view_is e) c.delete.ensures.same;
   vouched = λ m k h. vouched_either c.delete.result m c.args.self.now _ c.args.id.now k (with_op c.args.key.now ops.Delete) (own_vouched c.args.key.now ops.Delete) (on_ok_weaker c.delete.result (λ taken. operated_is c.self.inside c.args.self.now c.delete.new.self c.args.id.now (with_op c.args.key.now ops.Delete) c.self.view_is taken) c.delete.ensures.taken) (on_err_weaker c.delete.result (λ e. same_is c.self.inside c.args.self.now c.delete.new.self c.self.view_is e) c.delete.ensures.same) h;
+  stay = stay_either c.delete.result c.args.self.now _ c.args.id.now (with_op c.args.key.now ops.Delete) (scans_op c.args.key.now ops.Delete) (on_ok_weaker c.delete.result (λ taken. operated_is c.self.inside c.args.self.now c.delete.new.self c.args.id.now (with_op c.args.key.now ops.Delete) c.self.view_is taken) c.delete.ensures.taken) (on_err_weaker c.delete.result (λ e. same_is c.self.inside c.args.self.now c.delete.new.self c.self.view_is e) c.delete.ensures.same);
 }

@@ -15,6 +15,7 @@ use Rattle.slate_db.specs.Sound.{IsKept}
 use Rattle.slate_db.specs.Vouched.{IsVouchedFor}
 use Rattle.slate_db.proofs.Calls.{frozen_is, layers_frozen_of, past_place, placed, room_to_freeze, unseen_freeze}
 use Rattle.slate_db.proofs.Logs.{has_place}
+use Rattle.slate_db.proofs.Opened.{stay_same, stay_state}
 use Rattle.slate_db.proofs.Quiet.{quiet_frozen}
 use Rattle.slate_db.proofs.Wholes.{after_freeze, whole_freeze, kept_freeze}
 use Rattle.slate_db.proofs.engine.Core.freeze.Goals as goal
@@ -28,6 +29,7 @@ returns-then-is_empty c =
       quiet = subst (λ (v : CoreModel). IsQuiet v.events) c.self.view_is (c.self.invariant.tied.quiet (sym c.active.ensures ∙ c.is_empty.ensures.0 c.if-is_empty.true));
       idle = λ is. refl;
       vouched = λ m other h. h;
+      stay = stay_same c.args.self.now _ refl;
       kept = λ m k. k;
       same = tt;
       limit = λ some past. absurd (some none);
@@ -65,6 +67,7 @@ returns c =
       );
       quiet = subst (λ (l : LogModel). IsQuiet l.events) (sym log) (quiet_frozen c.self.inside.log.events);
       idle = λ none. refl;
+      stay = stay_state c.args.self.now _ (ap (λ (v : CoreModel). v.state) (sym (ap view_of becomes) ∙ ap (λ (v : CoreModel). after_freeze v c.push_freeze.new.self.spare) c.self.view_is));
       vouched = λ m other. subst (λ (v : CoreModel). IsVouchedFor m c.args.self.now other → IsVouchedFor m v other) (sym (sym (ap view_of becomes) ∙ ap (λ (v : CoreModel). after_freeze v c.push_freeze.new.self.spare) c.self.view_is)) (λ h. h);
       kept = (λ m k.
           subst (λ (s : Inside). IsKept m (view_of s)) becomes
@@ -89,6 +92,7 @@ returns-in_err-reserve_freeze c =
       idle = λ none. let t : true ≡ false = sym (c.is_empty.ensures.1 (c.active.ensures ∙ ap (λ (v : CoreModel). v.active) c.self.view_is ∙ none)) ∙ c.if-is_empty.false in cc;
       vouched = IfOk-from_err c.from_residual-in_err-reserve_freeze.result _ c.from_residual-in_err-reserve_freeze.ensures.0;
       kept = IfOk-from_err c.from_residual-in_err-reserve_freeze.result _ c.from_residual-in_err-reserve_freeze.ensures.0;
+      stay = stay_same c.args.self.now _ (unseen_freeze c.self.inside c.reserve_freeze.new.self c.reserve_freeze.ensures.value ∙ c.self.view_is);
       same = rw p.1 (unseen_freeze c.self.inside c.reserve_freeze.new.self c.reserve_freeze.ensures.value ∙ c.self.view_is);
       limit = λ some. placed (view_of c.self.inside) c.args.self.now (unseen_of c.self.inside) 1 c.self.view_is c.self.invariant c.in_ok-place.ensures.place;
       cause = rw (p.1, p.2) (inl refl);
@@ -109,6 +113,7 @@ returns-in_err-reserve c =
       idle = λ none. let t : true ≡ false = sym (c.is_empty.ensures.1 (c.active.ensures ∙ ap (λ (v : CoreModel). v.active) c.self.view_is ∙ none)) ∙ c.if-is_empty.false in cc;
       vouched = IfOk-from_err c.from_residual-in_err-reserve.result _ c.from_residual-in_err-reserve.ensures.0;
       kept = IfOk-from_err c.from_residual-in_err-reserve.result _ c.from_residual-in_err-reserve.ensures.0;
+      stay = stay_same c.args.self.now _ (ap (λ (l : LogModel). view_of (record c.self.inside { log = l; layers = c.reserve_freeze.new.self })) c.in_err-reserve.ensures.same ∙ unseen_freeze c.self.inside c.reserve_freeze.new.self c.reserve_freeze.ensures.value ∙ c.self.view_is);
       same = rw p.1 (ap (λ (l : LogModel). view_of (record c.self.inside { log = l; layers = c.reserve_freeze.new.self })) c.in_err-reserve.ensures.same ∙ unseen_freeze c.self.inside c.reserve_freeze.new.self c.reserve_freeze.ensures.value ∙ c.self.view_is);
       limit = λ some. placed (view_of c.self.inside) c.args.self.now (unseen_of c.self.inside) 1 c.self.view_is c.self.invariant c.in_ok-place.ensures.place;
       cause = rw (p.1, p.2) (inl refl);
@@ -125,6 +130,7 @@ returns-in_err-place c =
       idle = λ none. let t : true ≡ false = sym (c.is_empty.ensures.1 (c.active.ensures ∙ ap (λ (v : CoreModel). v.active) c.self.view_is ∙ none)) ∙ c.if-is_empty.false in cc;
       vouched = IfOk-from_err c.from_residual.result _ c.from_residual.ensures.0;
       kept = IfOk-from_err c.from_residual.result _ c.from_residual.ensures.0;
+      stay = stay_same c.args.self.now _ refl;
       same = rw p.1 refl;
       limit = λ some past. p.1 ∙ ap Err (p.2 ∙ limit.0);
       cause = rw (p.1, p.2) (inr (limit.0, past_place (view_of c.self.inside) c.args.self.now (unseen_of c.self.inside) 1 c.self.view_is c.self.invariant limit.1));

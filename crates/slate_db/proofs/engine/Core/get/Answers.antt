@@ -32,6 +32,7 @@ use Rattle.slate_txn.proofs.NamedLaws.{IsNamed, open_is}
 use Rattle.slate_db.proofs.Behind.{asks_none}
 use Rattle.slate_db.proofs.Checks.{checks_err}
 use Rattle.slate_db.proofs.Notes.{step_get}
+use Rattle.slate_db.proofs.Opened.{stay_noted, stay_same}
 use Rattle.slate_db.proofs.Operands.{own_updated}
 use Rattle.slate_db.proofs.Readers.{floor_at, own_at, start_at, vouched_get}
 use Rattle.slate_db.proofs.Wholes.{after_note, whole_note}
@@ -65,6 +66,7 @@ returns-in_err-key g c =
       folded = λ t found some lawful short. IfOk-from_err c.from_residual.result _ c.from_residual.ensures.0;
       missing = λ t found lacks some. IfOk-from_err c.from_residual.result _ c.from_residual.ensures.0;
       same = rw p.1 refl;
+      stay = stay_same c.args.self.now _ refl;
       vouched = λ is k h. h;
       kept = λ m k. k;
       settings = refl;
@@ -84,6 +86,7 @@ returns-in-Err g c =
       folded = λ t found some lawful short. tt;
       missing = λ t found lacks some. tt;
       same = refl;
+      stay = stay_same c.args.self.now _ refl;
       vouched = λ is k h. h;
       kept = λ m k. k;
       settings = refl;
@@ -107,6 +110,7 @@ returns-in-Err-note_get g c =
       folded = λ t found some lawful short. tt;
       missing = λ t found lacks some. tt;
       same = ap view_of (unnoted c.self.inside c.note_get.new.self c.in-Err-note_get.ensures.err) ∙ c.self.view_is;
+      stay = stay_same c.args.self.now _ (ap view_of (unnoted c.self.inside c.note_get.new.self c.in-Err-note_get.ensures.err) ∙ c.self.view_is);
       vouched = λ is k h. let m = (reach_of g.S.Store g.M.MergeOperator g.T.BlockTransformer c.args.env.now).meaning in subst (λ (v : CoreModel). IsVouchedFor m v k) (sym (ap view_of (unnoted c.self.inside c.note_get.new.self c.in-Err-note_get.ensures.err) ∙ c.self.view_is)) h;
       kept = (λ m kept_m.
           subst (λ (s : Inside). IsKept m (view_of s)) (sym (unnoted c.self.inside c.note_get.new.self c.in-Err-note_get.ensures.err))
@@ -202,6 +206,7 @@ returns g c =
           ∙ ap (λ (k : List ℕ). fold_rows (combine_of m k) (map (own_row k) (kept t.ops k))) key);
       missing = λ t found lacks some. c.in-Ok.ensures.missing t found lacks (ap (λ (k : List ℕ). keeps_merge k t.ops) c.in_ok-key.ensures ∙ some);
       same = tt;
+      stay = stay_noted c.args.self.now _ c.args.id.now (noted_step g c) (noted_is g c);
       vouched = (λ is k h.
           let m = (reach_of g.S.Store g.M.MergeOperator g.T.BlockTransformer c.args.env.now).meaning in
           subst (λ (v : CoreModel). IsVouchedFor m v k) (sym (noted_is g c))

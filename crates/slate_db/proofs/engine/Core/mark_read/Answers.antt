@@ -1,10 +1,11 @@
-use Rattle.std.proofs.Common.{◌≡◌, List, ℕ, Some, refl, sym, ap, ◌∙◌}
+use Rattle.std.proofs.Common.{arith, ◌≡◌, List, ℕ, Some, refl, sym, ap, ◌∙◌}
 use Rattle.slate_mem.specs.declared.WriteOp.TheVariants as ops
 use Rattle.slate_mem.specs.Refusals.{op_refusal}
 use Rattle.slate_txn.specs.Step.{with_op, with_marks, with_unmarks}
 use Rattle.slate_txn.specs.Reply.{Done}
 use Rattle.slate_db.specs.Model.{CoreModel}
 use Rattle.slate_db.proofs.Changes.{own_kept, whole_either, kept_either, operated_is, same_is, step_operated, step_refused_op, step_changed, refused_map}
+use Rattle.slate_db.proofs.Opened.{stay_either}
 use Rattle.slate_db.proofs.Vouches.{vouched_either}
 use Rattle.slate_db.proofs.engine.Core.mark_read.Goals as goal
 use Rattle.slate_types.proofs.Exits.{on_ok_weaker, on_err_weaker, on_ok_both}
@@ -20,4 +21,5 @@ returns c = record {
   kept = λ m k. kept_either c.mark_read.result m c.self.inside c.args.self.now c.mark_read.new.self c.args.id.now (with_marks c.args.keys.now) c.self.view_is c.mark_read.ensures.marked c.mark_read.ensures.same (λ none. own_kept c.mark_read.result) k;
   same = on_err_weaker c.mark_read.result (λ e. same_is c.self.inside c.args.self.now c.mark_read.new.self c.self.view_is e) c.mark_read.ensures.same;
   vouched = λ m k h. vouched_either c.mark_read.result m c.args.self.now _ c.args.id.now k (with_marks c.args.keys.now) (λ r cs t v. v) (on_ok_weaker c.mark_read.result (λ taken. operated_is c.self.inside c.args.self.now c.mark_read.new.self c.args.id.now (with_marks c.args.keys.now) c.self.view_is taken) c.mark_read.ensures.marked) (on_err_weaker c.mark_read.result (λ e. same_is c.self.inside c.args.self.now c.mark_read.new.self c.self.view_is e) c.mark_read.ensures.same) h;
+  stay = stay_either c.mark_read.result c.args.self.now _ c.args.id.now (with_marks c.args.keys.now) (λ t. omega arith) (on_ok_weaker c.mark_read.result (λ taken. operated_is c.self.inside c.args.self.now c.mark_read.new.self c.args.id.now (with_marks c.args.keys.now) c.self.view_is taken) c.mark_read.ensures.marked) (on_err_weaker c.mark_read.result (λ e. same_is c.self.inside c.args.self.now c.mark_read.new.self c.self.view_is e) c.mark_read.ensures.same);
 }

@@ -9,6 +9,7 @@ use Rattle.slate_db.specs.Model.{CoreModel}
 use Rattle.slate_db.specs.Operated.{operated}
 use Rattle.slate_db.specs.View.{view_of}
 use Rattle.slate_db.proofs.Changes.{whole_either, kept_either, operated_is, same_is, some_combine, step_merged, step_refused_merge, refused_map}
+use Rattle.slate_db.proofs.Opened.{scans_op, stay_either}
 use Rattle.slate_db.proofs.Vouches.{own_vouched, vouched_either}
 use Rattle.slate_db.proofs.Wholes.{own_operated}
 use Rattle.slate_db.proofs.engine.Core.merge.Goals as goal
@@ -39,5 +40,6 @@ returns g c =
       kept = λ k. kept_either c.merge.result _ c.self.inside c.args.self.now c.merge.new.self c.args.id.now (with_op c.args.key.now (ops.Merge c.args.value.now c.args.options.now)) c.self.view_is c.merge.ensures.taken c.merge.ensures.same (λ none. there g.M.MergeOperator.combine c.args.env.now.operator c.if-is_none.ensures none) k;
       vouched = λ m k h. vouched_either c.merge.result m c.args.self.now _ c.args.id.now k (with_op c.args.key.now (ops.Merge c.args.value.now c.args.options.now)) (own_vouched c.args.key.now (ops.Merge c.args.value.now c.args.options.now)) (on_ok_weaker c.merge.result becomes c.merge.ensures.taken) (on_err_weaker c.merge.result (λ e. same_is c.self.inside c.args.self.now c.merge.new.self c.self.view_is e) c.merge.ensures.same) h;
       same = on_err_weaker c.merge.result (λ e. same_is c.self.inside c.args.self.now c.merge.new.self c.self.view_is e) c.merge.ensures.same;
+      stay = stay_either c.merge.result c.args.self.now _ c.args.id.now (with_op c.args.key.now (ops.Merge c.args.value.now c.args.options.now)) (scans_op c.args.key.now (ops.Merge c.args.value.now c.args.options.now)) (on_ok_weaker c.merge.result becomes c.merge.ensures.taken) (on_err_weaker c.merge.result (λ e. same_is c.self.inside c.args.self.now c.merge.new.self c.self.view_is e) c.merge.ensures.same);
       outside = refl;
     }

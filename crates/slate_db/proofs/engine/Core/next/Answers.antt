@@ -15,6 +15,7 @@ use Rattle.slate_db.specs.View.{view_of, unseen_of, IsWholeInside}
 use Rattle.slate_db.specs.Sound.{IsKept}
 use Rattle.slate_db.specs.Vouched.{IsVouchedFor}
 use Rattle.slate_db.proofs.Keeps.{kept_event}
+use Rattle.slate_db.proofs.Opened.{stay_noted, stay_same}
 use Rattle.slate_db.proofs.Operands.{own_updated}
 use Rattle.slate_db.proofs.ScanNotes.{next_left, vouched_next}
 use Rattle.slate_db.proofs.ScanStates.{answered_once}
@@ -48,6 +49,8 @@ returns-in-Err g c =
       left = λ m rows h. tt;
       vouched = λ w rows h sees left. tt;
       same = refl;
+      stay = stay_same c.args.self.now _ refl;
+      opened = c.requires;
       kept = λ m k. k;
       settings = refl;
       reads = n.reads;
@@ -71,6 +74,8 @@ returns-in-Err-note_next g c =
       left = λ m rows h. tt;
       vouched = λ w rows h sees left. tt;
       same = ap view_of unmoved ∙ c.self.view_is;
+      stay = stay_same c.args.self.now _ (ap view_of unmoved ∙ c.self.view_is);
+      opened = (stay_same c.args.self.now _ (ap view_of unmoved ∙ c.self.view_is) c.args.it.now.id).scans c.args.it.now.scan c.requires;
       kept = λ m k. subst (λ (s : Inside). IsKept m (view_of s)) (sym unmoved) (subst (λ (v : CoreModel). IsKept m v) (sym c.self.view_is) k);
       settings = ap (λ (v : CoreModel). v.settings) c.self.view_is;
       reads = n.reads;
@@ -108,6 +113,8 @@ returns g c =
           (next_left p c.args.self.now it (record it { rows = c.next.new.self }) c.in-Ok.answer rows refl refl n.order h);
       vouched = λ w rows h sees left other k. subst (λ (v : CoreModel). IsVouchedFor m v other) (sym (noted_is g c)) (vouched_next m c.args.self.now it other c.in-Ok.answer rows left (n.rows w rows h sees).0 k);
       same = tt;
+      stay = stay_noted c.args.self.now _ c.args.it.now.id (noted_step g c) (noted_is g c);
+      opened = (stay_noted c.args.self.now _ c.args.it.now.id (noted_step g c) (noted_is g c) c.args.it.now.id).scans c.args.it.now.scan c.requires;
       kept = λ p k.
           subst (λ (s : Inside). IsKept p (view_of s)) (becomes g c)
           (kept_event p (view_of c.self.inside) (noted (view_of c.self.inside).state it.id (noted_step g c ∷ [])) c.self.inside.log.events c.self.inside.log.spare refl refl refl

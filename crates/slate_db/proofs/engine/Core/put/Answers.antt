@@ -7,6 +7,7 @@ use Rattle.slate_txn.specs.Step.{with_op, with_marks, with_unmarks}
 use Rattle.slate_txn.specs.Reply.{Done}
 use Rattle.slate_db.specs.Model.{CoreModel}
 use Rattle.slate_db.proofs.Changes.{own_none, whole_either, kept_either, operated_is, same_is, step_operated, step_refused_op, step_changed, refused_map}
+use Rattle.slate_db.proofs.Opened.{scans_op, stay_either}
 use Rattle.slate_db.proofs.Vouches.{own_vouched, vouched_either}
 use Rattle.slate_db.proofs.Wholes.{own_operated}
 use Rattle.slate_db.proofs.engine.Core.put.Goals as goal
@@ -28,4 +29,5 @@ returns c = record {
   kept = λ m k. kept_either c.put.result m c.self.inside c.args.self.now c.put.new.self c.args.id.now (with_op c.args.key.now (ops.Put c.args.value.now c.args.options.now)) c.self.view_is c.put.ensures.taken c.put.ensures.same (λ none. own_none c.put.result c.args.key.now (ops.Put c.args.value.now c.args.options.now) refl) k;
   same = on_err_weaker c.put.result (λ e. same_is c.self.inside c.args.self.now c.put.new.self c.self.view_is e) c.put.ensures.same;
   vouched = λ m k h. vouched_either c.put.result m c.args.self.now _ c.args.id.now k (with_op c.args.key.now (ops.Put c.args.value.now c.args.options.now)) (own_vouched c.args.key.now (ops.Put c.args.value.now c.args.options.now)) (on_ok_weaker c.put.result (λ taken. operated_is c.self.inside c.args.self.now c.put.new.self c.args.id.now (with_op c.args.key.now (ops.Put c.args.value.now c.args.options.now)) c.self.view_is taken) c.put.ensures.taken) (on_err_weaker c.put.result (λ e. same_is c.self.inside c.args.self.now c.put.new.self c.self.view_is e) c.put.ensures.same) h;
+  stay = stay_either c.put.result c.args.self.now _ c.args.id.now (with_op c.args.key.now (ops.Put c.args.value.now c.args.options.now)) (scans_op c.args.key.now (ops.Put c.args.value.now c.args.options.now)) (on_ok_weaker c.put.result (λ taken. operated_is c.self.inside c.args.self.now c.put.new.self c.args.id.now (with_op c.args.key.now (ops.Put c.args.value.now c.args.options.now)) c.self.view_is taken) c.put.ensures.taken) (on_err_weaker c.put.result (λ e. same_is c.self.inside c.args.self.now c.put.new.self c.self.view_is e) c.put.ensures.same);
 }

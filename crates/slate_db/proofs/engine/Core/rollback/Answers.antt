@@ -1,7 +1,7 @@
 use Rattle.std.proofs.Common.{refl, ap, sym, subst, ◌∙◌}
 use Rattle.std.specs.Prelude.{IsSome}
 use Rattle.slate_txn.specs.declared.line.Line.TheVariants as lines
-use Rattle.slate_txn.specs.Named.{find_named}
+use Rattle.slate_txn.specs.Named.{find_named, without}
 use Rattle.slate_txn.specs.Reply.{Done}
 use Rattle.slate_txn.specs.Step.{step}
 use Rattle.slate_db.specs.declared.engine.Core.TheInside.{Inside}
@@ -14,6 +14,7 @@ use Rattle.slate_db.specs.Sound.{IsKept}
 use Rattle.slate_db.specs.Vouched.{IsVouchedFor}
 use Rattle.slate_db.proofs.Calls.{ended_is, event_ended}
 use Rattle.slate_db.proofs.Managing.{managed_ended}
+use Rattle.slate_db.proofs.Opened.{stay_ended}
 use Rattle.slate_db.proofs.Segmenting.{segmented_as}
 use Rattle.slate_db.proofs.Steps.{step_end}
 use Rattle.slate_db.proofs.Vouches.{others_end}
@@ -39,6 +40,9 @@ returns c =
           ∙ step_end m (view_of c.self.inside) (unseen_of c.self.inside) c.args.id.now c.push_end.new.self.spare (subst (λ (v : CoreModel). IsSome (find_named c.args.id.now v.state.txns)) (sym c.self.view_is) c.requires) c.self.invariant
           ∙ (λ i. ((view_of (becomes i)).state, Done)));
       event = event_ended c.self.inside c.args.self.now c.push_end.new.self c.end.new.self c.args.id.now c.self.view_is c.push_end.ensures.value;
+      stay = stay_ended c.args.self.now _ c.args.id.now
+          (c.end.ensures ∙ ap (λ (v : CoreModel). without c.args.id.now v.state.txns) c.self.view_is)
+          (ap (λ (v : CoreModel). v.state.snapshots) c.self.view_is);
       others = (λ m k apart h.
           subst (λ (s : Inside). IsVouchedFor m (view_of s) k) becomes
           (others_end m (view_of c.self.inside) c.args.id.now k c.push_end.new.self.spare apart (subst (λ (v : CoreModel). IsVouchedFor m v k) (sym c.self.view_is) h)));

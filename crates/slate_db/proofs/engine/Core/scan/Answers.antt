@@ -28,6 +28,7 @@ use Rattle.slate_db.specs.View.{view_of, unseen_of, IsWholeInside}
 use Rattle.slate_db.specs.Vouched.{IsVouchedFor}
 use Rattle.slate_db.proofs.Keeps.{kept_event}
 use Rattle.slate_db.proofs.OpenNotes.{step_scan, vouched_scan}
+use Rattle.slate_db.proofs.Opened.{opened_scan, stay_noted, stay_same}
 use Rattle.slate_db.proofs.Operands.{own_updated}
 use Rattle.slate_db.proofs.ScanMerges.{LeavesSeen, answered_as, opening_as, readable_as}
 use Rattle.slate_db.proofs.Readers.{floor_at, own_at, scan_left, scans_of, start_at}
@@ -57,6 +58,8 @@ returns-in_err-how g c =
       cause = err_exit c.from_residual.result _ c.from_residual.ensures.1 _ (inl (subst (IsFault (reach_of g.S.Store g.M.MergeOperator g.T.BlockTransformer c.args.env.now) (reach_of g.S.Store g.M.MergeOperator g.T.BlockTransformer c.args.env.now)) (sym c.in_err-how.ensures.cause) tt));
       vouched = rw p.1 tt;
       same = rw p.1 refl;
+      stay = stay_same c.args.self.now _ refl;
+      opens = IfOk-from_err c.from_residual.result _ c.from_residual.ensures.0;
       kept = λ m k. k;
       settings = refl;
       reads = reads_none _;
@@ -83,6 +86,8 @@ returns-in_err-rows g c =
           (opening_as (λ p. (goal.FilterPolicy-dyn g (p.vtable, p.value)).meaning p.value) c.as_slice.result.now c.args.laws.now.policies.items c.as_slice.ensures.value c.args.range c.in_ok-how.how.prefix c.args.prefix c.in_ok-how.ensures.prefix c.in_ok-how.how.filter_context c.args.options.now.filter_context c.in_ok-how.ensures.context (reach_of g.S.Store g.M.MergeOperator g.T.BlockTransformer c.args.env.now) (reach_of g.S.Store g.M.MergeOperator g.T.BlockTransformer c.opened.new.env) c.args.self.now c.in_err-rows.field-0.0 c.in_err-rows.ensures.cause);
       vouched = rw p.1 tt;
       same = rw p.1 refl;
+      stay = stay_same c.args.self.now _ refl;
+      opens = IfOk-from_err c.from_residual-in_err-rows.result _ c.from_residual-in_err-rows.ensures.0;
       kept = λ m k. k;
       settings = refl;
       reads = c.opened.ensures.reads;
@@ -104,6 +109,8 @@ returns-in-Err g c = record {
   cause = inl (subst (IsCounted _ _) (sym c.from.ensures) tt);
   vouched = tt;
   same = ap view_of (unnoted c.self.inside c.note_scan.new.self c.in-Err.ensures.err) ∙ c.self.view_is;
+  stay = stay_same c.args.self.now _ (ap view_of (unnoted c.self.inside c.note_scan.new.self c.in-Err.ensures.err) ∙ c.self.view_is);
+  opens = tt;
   kept = (λ m kept_m.
       subst (λ (s : Inside). IsKept m (view_of s)) (sym (unnoted c.self.inside c.note_scan.new.self c.in-Err.ensures.err))
       (subst (λ (v : CoreModel). IsKept m v) (sym c.self.view_is) kept_m));
@@ -171,6 +178,8 @@ returns g c =
       cause = tt;
       vouched = λ k other h. subst (λ (v : CoreModel). IsVouchedFor k v other) (sym (noted_is g c)) (vouched_scan k old id other order range h);
       same = tt;
+      stay = stay_noted old _ id (opening g c) (noted_is g c);
+      opens = opened_scan old _ id order range (open_is (reader old.state id) c.requires.open).value c.in-Ok.scan (open_is (reader old.state id) c.requires.open).is (number_is g c (open_is (reader old.state id) c.requires.open).value (open_is (reader old.state id) c.requires.open).is) (noted_is g c);
       kept = (λ k kept_k.
           subst (λ (i : Inside). IsKept k (view_of i)) (becomes g c)
           (kept_event k (view_of s) (noted (view_of s).state id (opening g c ∷ [])) s.log.events s.log.spare refl refl refl

@@ -1,10 +1,11 @@
-use Rattle.std.proofs.Common.{◌≡◌, ℕ, ◌+◌, ◌++◌, ◌∷◌, [], refl, ap, sym, subst, ◌∙◌, inl, inr, arith, Err}
+use Rattle.std.proofs.Common.{◌≡◌, ℕ, List, false, ◌+◌, ◌++◌, ◌∷◌, [], refl, ap, sym, subst, ◌∙◌, inl, inr, arith, Err}
 use Rattle.std.specs.List.{AllByRecursion}
 use Rattle.std.proofs.lemmas.Result.{IfOk-from_err, err_from_is_err_and}
 use Rattle.slate_txn.specs.declared.line.Line.TheVariants as lines
 use Rattle.slate_txn.specs.Ids.{snapshot_id, IsSnapshotOf}
 use Rattle.slate_txn.specs.Managers.{Snapshots}
 use Rattle.slate_txn.specs.Reply.{SnapshotAt}
+use Rattle.slate_txn.specs.State.{is_open}
 use Rattle.slate_txn.specs.Step.{step}
 use Rattle.slate_db.specs.declared.engine.Core.TheInside.{Inside}
 use Rattle.slate_db.specs.Log.{IsLog, LogModel}
@@ -16,9 +17,10 @@ use Rattle.slate_db.specs.Sound.{IsKept}
 use Rattle.slate_db.specs.Vouched.{IsVouchedFor}
 use Rattle.slate_db.proofs.Calls.{event_shown, only_short, past_place, placed, shown_is, shown_more}
 use Rattle.slate_db.proofs.Managing.{back_shown, shown_back}
+use Rattle.slate_db.proofs.Opened.{has_named, stay_same, stay_shown, unopened}
 use Rattle.slate_db.proofs.Segmenting.{segmented_as}
 use Rattle.slate_db.proofs.Steps.{step_snapshot}
-use Rattle.slate_db.proofs.Wholes.{kept_snapshot, whole_snapshot}
+use Rattle.slate_db.proofs.Wholes.{fresh_shown, kept_snapshot, unbegun_shown, whole_snapshot}
 use Rattle.slate_db.proofs.engine.Core.snapshot.Goals as goal
 
 pub push_snapshot-requires-clause-next : goal.push_snapshot-requires-clause-next
@@ -63,6 +65,12 @@ returns c =
       kept = (λ m k.
           subst (λ (s : Inside). IsKept m (view_of s)) becomes
           (kept_snapshot m (view_of c.self.inside) c.self.inside.log.last (snapshot_id (c.self.inside.log.snapshot_ids + 1)) c.push_snapshot.new.self.spare (subst (λ (v : CoreModel). IsKept m v) (sym c.self.view_is) k)));
+      «open» = has_named _ c.self.inside.snapshots.active c.in_ok-id.id c.in_ok-id.seq c.in_ok-id.ensures.fresh (ap (λ (n : Snapshots). n.active) c.in_ok-id.ensures.opened.1);
+      fresh = subst (λ (v : CoreModel). is_open v.state c.in_ok-id.id ≡ false) c.self.view_is (subst (λ (i : List ℕ). is_open (view_of c.self.inside).state i ≡ false) (sym id)
+          (unopened (view_of c.self.inside).state _ (unbegun_shown (view_of c.self.inside) (unseen_of c.self.inside) c.self.invariant) (fresh_shown (view_of c.self.inside) (unseen_of c.self.inside) c.self.invariant)));
+      stay = stay_shown c.args.self.now _ c.in_ok-id.id c.in_ok-id.seq
+          (ap (λ (v : CoreModel). v.state.txns) c.self.view_is)
+          (ap (λ (n : Snapshots). n.active) c.in_ok-id.ensures.opened.1 ∙ ap (λ (v : CoreModel). v.state.snapshots ++ ((c.in_ok-id.id, c.in_ok-id.seq) ∷ [])) c.self.view_is);
       same = tt;
       limit = placed (view_of c.self.inside) c.args.self.now (unseen_of c.self.inside) 2 c.self.view_is c.self.invariant c.in_ok-place.ensures.place;
       cause = tt;
@@ -71,12 +79,12 @@ returns c =
 -- ---- refusals: nothing is opened
 
 -- the snapshots and the log as before
-unopened : (s : Inside) (l : LogModel) (n : Snapshots) → l ≡ s.log → n ≡ s.snapshots → record s { log = l; snapshots = n } ≡ s
-unopened s l n log shown = λ i. record s { log = log i; snapshots = shown i }
+unopened_parts : (s : Inside) (l : LogModel) (n : Snapshots) → l ≡ s.log → n ≡ s.snapshots → record s { log = l; snapshots = n } ≡ s
+unopened_parts s l n log shown = λ i. record s { log = log i; snapshots = shown i }
 
 pub invariant_of-self-in-Err : goal.invariant_of-self-in-Err
 invariant_of-self-in-Err c =
-    subst IsWholeInside (sym (unopened c.self.inside c.push_snapshot.new.self c.take_back.new.self c.in-Err.ensures.same
+    subst IsWholeInside (sym (unopened_parts c.self.inside c.push_snapshot.new.self c.take_back.new.self c.in-Err.ensures.same
     (shown_back c.self.inside.snapshots c.new_snapshot.new.self c.take_back.new.self c.in_ok-id.id c.in_ok-id.seq c.in_ok-id.ensures.opened.1 c.in_ok-id.ensures.fresh c.take_back.ensures))) c.self.invariant
 
 pub returns-in-Err : goal.returns-in-Err
@@ -87,7 +95,11 @@ returns-in-Err c =
       vouched = tt;
       segmented = tt;
       kept = tt;
-      same = (ap view_of (unopened c.self.inside c.push_snapshot.new.self c.take_back.new.self c.in-Err.ensures.same
+      «open» = tt;
+      fresh = tt;
+      stay = stay_same c.args.self.now _ (ap view_of (unopened_parts c.self.inside c.push_snapshot.new.self c.take_back.new.self c.in-Err.ensures.same
+          (shown_back c.self.inside.snapshots c.new_snapshot.new.self c.take_back.new.self c.in_ok-id.id c.in_ok-id.seq c.in_ok-id.ensures.opened.1 c.in_ok-id.ensures.fresh c.take_back.ensures)) ∙ c.self.view_is);
+      same = (ap view_of (unopened_parts c.self.inside c.push_snapshot.new.self c.take_back.new.self c.in-Err.ensures.same
           (shown_back c.self.inside.snapshots c.new_snapshot.new.self c.take_back.new.self c.in_ok-id.id c.in_ok-id.seq c.in_ok-id.ensures.opened.1 c.in_ok-id.ensures.fresh c.take_back.ensures)) ∙ c.self.view_is);
       limit = placed (view_of c.self.inside) c.args.self.now (unseen_of c.self.inside) 2 c.self.view_is c.self.invariant c.in_ok-place.ensures.place;
       cause = inl c.from.ensures;
@@ -105,6 +117,9 @@ returns-in_err-id c =
       vouched = IfOk-from_err c.from_residual-in_err-id.result _ c.from_residual-in_err-id.ensures.0;
       segmented = IfOk-from_err c.from_residual-in_err-id.result _ c.from_residual-in_err-id.ensures.0;
       kept = IfOk-from_err c.from_residual-in_err-id.result _ c.from_residual-in_err-id.ensures.0;
+      «open» = IfOk-from_err c.from_residual-in_err-id.result _ c.from_residual-in_err-id.ensures.0;
+      fresh = IfOk-from_err c.from_residual-in_err-id.result _ c.from_residual-in_err-id.ensures.0;
+      stay = stay_same c.args.self.now _ (ap (λ (n : Snapshots). view_of (record c.self.inside { snapshots = n })) c.in_err-id.ensures.same ∙ c.self.view_is);
       same = rw p.1 (ap (λ (n : Snapshots). view_of (record c.self.inside { snapshots = n })) c.in_err-id.ensures.same ∙ c.self.view_is);
       limit = placed (view_of c.self.inside) c.args.self.now (unseen_of c.self.inside) 2 c.self.view_is c.self.invariant c.in_ok-place.ensures.place;
       cause = rw (p.1, p.2) (inl (only_short (view_of c.self.inside) (unseen_of c.self.inside) _ c.self.invariant c.in_err-id.ensures.cause));
@@ -120,6 +135,9 @@ returns-in_err-place c =
       vouched = IfOk-from_err c.from_residual.result _ c.from_residual.ensures.0;
       segmented = IfOk-from_err c.from_residual.result _ c.from_residual.ensures.0;
       kept = IfOk-from_err c.from_residual.result _ c.from_residual.ensures.0;
+      «open» = IfOk-from_err c.from_residual.result _ c.from_residual.ensures.0;
+      fresh = IfOk-from_err c.from_residual.result _ c.from_residual.ensures.0;
+      stay = stay_same c.args.self.now _ refl;
       same = rw p.1 refl;
       limit = λ past. p.1 ∙ ap Err (p.2 ∙ limit.0);
       cause = rw (p.1, p.2) (inr (limit.0, past_place (view_of c.self.inside) c.args.self.now (unseen_of c.self.inside) 2 c.self.view_is c.self.invariant limit.1));
