@@ -1,4 +1,0 @@
-pub mod History
-pub mod Changes
-pub mod Stands
-pub mod Journals
