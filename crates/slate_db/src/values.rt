@@ -8,7 +8,7 @@ ghost use Rattle.slate_types.specs.Outside.{IsFault, OnlyReads};
 ghost use Rattle.slate_types.specs.Refusing.{IsDamage, NoMore};
 ghost use Rattle.slate_types.specs.Rows.{key_value};
 ghost use Rattle.slate_types.specs.World.{World, Checks, Made, Sees};
-ghost use Rattle.slate_merge.specs.Calls.{BringsByCalls};
+ghost use Rattle.slate_merge.specs.Offers.{offers};
 ghost use Rattle.slate_merge.specs.OperatorIterators.{IsGoing, IsOperable, refuses_folding, rest_folding, sound_folding};
 ghost use Rattle.slate_txn.specs.Alone.{first_left};
 ghost use Rattle.slate_db.specs.Values.{HasValues, has_value};
@@ -44,10 +44,10 @@ pub(crate) fn next_value<E: Operates, I: RowEntryIterator<E>>(
     ensures going { OnOk result (IsGoing rows.old × IsGoing rows.new × (rows.new.folding ≡ rows.old.folding)) }
     ensures checked { (w : World) → sound_folding I.rest I.sound I.order rows.old w → OnOk result (Checks w (E.reach env.old) (E.reach env.new)) }
     ensures sources { OnOk result (Made (E.reach env.old) (E.reach env.new) (λ reads. NoMore (I.refuses rows.old.iterator (E.reach env.old).meaning) reads (I.refuses rows.new.iterator (E.reach env.old).meaning))) }
-    ensures later { OnOk result (Made (E.reach env.old) (E.reach env.new) (λ reads. NoMore (refuses_folding I.refuses (BringsByCalls I.begins I.takes I.seeks) rows.old (E.reach env.old).meaning) reads (refuses_folding I.refuses (BringsByCalls I.begins I.takes I.seeks) rows.new (E.reach env.old).meaning))) }
+    ensures later { OnOk result (Made (E.reach env.old) (E.reach env.new) (λ reads. NoMore (refuses_folding I.refuses (offers I.begins I.takes I.seeks) rows.old (E.reach env.old).meaning) reads (refuses_folding I.refuses (offers I.begins I.takes I.seeks) rows.new (E.reach env.old).meaning))) }
     ensures undamaged { (w : World) → Sees w (E.reach env.old) (E.reach env.new) → IsGoing rows.old → sound_folding I.rest I.sound I.order rows.old w → IsOperable I.rest rows.old w →
         IfErr result (λ e. IsFault (E.reach env.old) (E.reach env.new) e ⊎ Made (E.reach env.old) (E.reach env.new) (λ reads. I.refuses rows.old.iterator (E.reach env.old).meaning reads None e × ¬ IsDamage e)) }
-    ensures cause { IfErr result (λ e. Made (E.reach env.old) (E.reach env.new) (λ reads. IsFault (E.reach env.old) (E.reach env.new) e ⊎ refuses_folding I.refuses (BringsByCalls I.begins I.takes I.seeks) rows.old (E.reach env.old).meaning reads None e)) }
+    ensures cause { IfErr result (λ e. Made (E.reach env.old) (E.reach env.new) (λ reads. IsFault (E.reach env.old) (E.reach env.new) e ⊎ refuses_folding I.refuses (offers I.begins I.takes I.seeks) rows.old (E.reach env.old).meaning reads None e)) }
     ensures order { I.order rows.new.iterator ≡ I.order rows.old.iterator }
     ensures reads { OnlyReads (E.reach env.old) (E.reach env.new) }
 {
@@ -73,10 +73,10 @@ pub(crate) fn seek_values<E: Operates, I: RowEntryIterator<E>>(
     ensures going { OnOk result (IsGoing rows.old × IsGoing rows.new × (rows.new.folding ≡ rows.old.folding)) }
     ensures checked { (w : World) → sound_folding I.rest I.sound I.order rows.old w → OnOk result (Checks w (E.reach env.old) (E.reach env.new)) }
     ensures sources { OnOk result (Made (E.reach env.old) (E.reach env.new) (λ reads. NoMore (I.refuses rows.old.iterator (E.reach env.old).meaning) reads (I.refuses rows.new.iterator (E.reach env.old).meaning))) }
-    ensures later { OnOk result (Made (E.reach env.old) (E.reach env.new) (λ reads. NoMore (refuses_folding I.refuses (BringsByCalls I.begins I.takes I.seeks) rows.old (E.reach env.old).meaning) reads (refuses_folding I.refuses (BringsByCalls I.begins I.takes I.seeks) rows.new (E.reach env.old).meaning))) }
+    ensures later { OnOk result (Made (E.reach env.old) (E.reach env.new) (λ reads. NoMore (refuses_folding I.refuses (offers I.begins I.takes I.seeks) rows.old (E.reach env.old).meaning) reads (refuses_folding I.refuses (offers I.begins I.takes I.seeks) rows.new (E.reach env.old).meaning))) }
     ensures undamaged { (w : World) → Sees w (E.reach env.old) (E.reach env.new) → IsGoing rows.old → sound_folding I.rest I.sound I.order rows.old w →
         IfErr result (λ e. IsFault (E.reach env.old) (E.reach env.new) e ⊎ Made (E.reach env.old) (E.reach env.new) (λ reads. I.refuses rows.old.iterator (E.reach env.old).meaning reads (Some key.now) e × ¬ IsDamage e)) }
-    ensures cause { IfErr result (λ e. Made (E.reach env.old) (E.reach env.new) (λ reads. IsFault (E.reach env.old) (E.reach env.new) e ⊎ refuses_folding I.refuses (BringsByCalls I.begins I.takes I.seeks) rows.old (E.reach env.old).meaning reads (Some key.now) e)) }
+    ensures cause { IfErr result (λ e. Made (E.reach env.old) (E.reach env.new) (λ reads. IsFault (E.reach env.old) (E.reach env.new) e ⊎ refuses_folding I.refuses (offers I.begins I.takes I.seeks) rows.old (E.reach env.old).meaning reads (Some key.now) e)) }
     ensures order { I.order rows.new.iterator ≡ I.order rows.old.iterator }
     ensures reads { OnlyReads (E.reach env.old) (E.reach env.new) }
 {

@@ -4,7 +4,7 @@ use Rattle.slate_types.specs.declared.types.KeyValue.{KeyValue}
 use Rattle.slate_types.specs.Rows.{key_value}
 use Rattle.slate_types.specs.Steps.{Step}
 use Rattle.slate_types.proofs.Reaching.{reads_none, reads_then}
-use Rattle.slate_merge.specs.Calls.{BringsByCalls}
+use Rattle.slate_merge.specs.Offers.{offers}
 use Rattle.slate_merge.specs.OperatorIterators.{IsOperable, Takes, refuses_folding, rest_folding, sound_folding}
 use Rattle.slate_db.specs.Values.{has_value}
 use Rattle.slate_db.proofs.Foldings.{whole_going}
@@ -59,7 +59,7 @@ returns-in_err-row g c =
           let then = first _ _ _ _ _ _ _ _ _ c.next_row.new.self i.sources n.cause.0 n.cause.1 w sees in
           rw (p.1, p.2) (passed_undamaged _ _ (λ x. it.refuses x.iterator) _ _ _ _ _ _ c.next_row.new.self i.sources None e i.reads.later w sees
           (whole_going it.rest it.sound it.order c.args.rows.now w it.refuses g.met.I.RowEntryIterator.whole going h None e) (n.own w now (i.goes going) (i.passed.still w then h) (i.passed.keeps w then h k))));
-      cause = rw (p.1, p.2) (passed_fails _ _ (refuses_folding it.refuses (BringsByCalls it.begins it.takes it.seeks)) _ _ _ _ _ _ c.next_row.new.self i.passed None e i.reads.later (n.cause.0, n.cause.1, n.cause.2.0));
+      cause = rw (p.1, p.2) (passed_fails _ _ (refuses_folding it.refuses (offers it.begins it.takes it.seeks)) _ _ _ _ _ _ c.next_row.new.self i.passed None e i.reads.later (n.cause.0, n.cause.1, n.cause.2.0));
       order = n.order ∙ i.order;
       reads = reads_then _ _ _ i.reads n.reads;
     }
@@ -70,7 +70,7 @@ returns-in-Some-value_of g c =
     let n = rw c.in-Some.is at c.in_ok-row.ensures in
     let row = c.in-Some.row in
     let it = g.I.RowEntryIterator in
-    let s : Step (rest_folding it.rest) (sound_folding it.rest it.sound it.order) (refuses_folding it.refuses (BringsByCalls it.begins it.takes it.seeks)) (λ x m reads answer y. Takes it.takes x m reads answer y) _ _ c.loop-row.rows (Some row) c.next_row.new.self = record { rows = n.rows; still = n.still; checked = n.checked; taken = n.taken } in
+    let s : Step (rest_folding it.rest) (sound_folding it.rest it.sound it.order) (refuses_folding it.refuses (offers it.begins it.takes it.seeks)) (λ x m reads answer y. Takes it.takes x m reads answer y) _ _ c.loop-row.rows (Some row) c.next_row.new.self = record { rows = n.rows; still = n.still; checked = n.checked; taken = n.taken } in
     let u : Step (rest_folding it.rest) (sound_folding it.rest it.sound it.order) (λ x. it.refuses x.iterator) (λ x m reads answer y. Unit {0}) _ _ c.loop-row.rows (Some row) c.next_row.new.self = record { rows = n.rows; still = n.still; checked = n.checked; taken = (n.sources.0, n.sources.1, (tt, n.sources.2)) } in
     let v = some_value (has_value row) (key_value row) c.in-Some-value_of.value (sym c.in-Some-value_of.is ∙ c.value_of.ensures) in
     let t = n.taken.2.0 in
@@ -95,7 +95,7 @@ returns g c =
     let i = c.loop-row.invariant in
     let n = rw c.in_default.is at c.in_ok-row.ensures in
     let it = g.I.RowEntryIterator in
-    let s : Step (rest_folding it.rest) (sound_folding it.rest it.sound it.order) (refuses_folding it.refuses (BringsByCalls it.begins it.takes it.seeks)) (λ x m reads answer y. Takes it.takes x m reads answer y) _ _ c.loop-row.rows None c.next_row.new.self = record { rows = n.rows; still = n.still; checked = n.checked; taken = n.taken } in
+    let s : Step (rest_folding it.rest) (sound_folding it.rest it.sound it.order) (refuses_folding it.refuses (offers it.begins it.takes it.seeks)) (λ x m reads answer y. Takes it.takes x m reads answer y) _ _ c.loop-row.rows None c.next_row.new.self = record { rows = n.rows; still = n.still; checked = n.checked; taken = n.taken } in
     let u : Step (rest_folding it.rest) (sound_folding it.rest it.sound it.order) (λ x. it.refuses x.iterator) (λ x m reads answer y. Unit {0}) _ _ c.loop-row.rows None c.next_row.new.self = record { rows = n.rows; still = n.still; checked = n.checked; taken = (n.sources.0, n.sources.1, (tt, n.sources.2)) } in
     let t = n.taken.2.0 in
     record {

@@ -1,6 +1,6 @@
 use Rattle.std.proofs.Common.{◌≡◌}
 use Rattle.slate_types.specs.Outside.{OnlyReads}
-use Rattle.slate_merge.specs.Calls.{BringsByCalls}
+use Rattle.slate_merge.specs.Offers.{offers}
 use Rattle.slate_merge.specs.OperatorIterators.{IsGoing, IsOperable, bound_folding, refuses_folding, rest_folding, sound_folding}
 use Rattle.slate_db.proofs.Passing.{Passed}
 use Rattle.slate_db.proofs.values.next_value.Given as goal
@@ -11,7 +11,7 @@ invariant-loop-row g l =
     let a = g.E.Outside.reach l.initial.env in
     let b = g.E.Outside.reach l.env in
     record {
-      passed : Passed (rest_folding i.rest) (sound_folding i.rest i.sound i.order) (refuses_folding i.refuses (BringsByCalls i.begins i.takes i.seeks)) (IsOperable i.rest) a b l.initial.rows l.rows;
+      passed : Passed (rest_folding i.rest) (sound_folding i.rest i.sound i.order) (refuses_folding i.refuses (offers i.begins i.takes i.seeks)) (IsOperable i.rest) a b l.initial.rows l.rows;
       sources : Passed (rest_folding i.rest) (sound_folding i.rest i.sound i.order) (λ it. i.refuses it.iterator) (IsOperable i.rest) a b l.initial.rows l.rows;
       goes : IsGoing l.initial.rows → IsGoing l.rows;
       went : IsGoing l.rows → IsGoing l.initial.rows;

@@ -1,6 +1,6 @@
 use Rattle.std.proofs.Common.{Some}
 use Rattle.std.proofs.lemmas.Result.{IfErr-weaker, on_ok_weaker}
-use Rattle.slate_merge.specs.Calls.{BringsByCalls}
+use Rattle.slate_merge.specs.Offers.{offers}
 use Rattle.slate_merge.specs.OperatorIterators.{rest_folding}
 use Rattle.slate_merge.specs.OperatorLaws.{folding_rises}
 use Rattle.slate_db.proofs.Foldings.{seek_undamaged}
@@ -22,7 +22,7 @@ pub returns-clause-undamaged : goal.returns-clause-undamaged
 returns-clause-undamaged g c = λ w sees going sound.
     let i = g.I.RowEntryIterator in
     IfErr-weaker c.seek.result _ _
-    (λ e k. seek_undamaged i.rest i.sound i.order i.refuses (BringsByCalls i.begins i.takes i.seeks) g.met.I.RowEntryIterator.whole c.args.rows.now w (g.E.Outside.reach c.args.env.now) (g.E.Outside.reach c.seek.new.env) c.args.key.now e sees going sound (k.0, k.1, k.2.0))
+    (λ e k. seek_undamaged i.rest i.sound i.order i.refuses (offers i.begins i.takes i.seeks) g.met.I.RowEntryIterator.whole c.args.rows.now w (g.E.Outside.reach c.args.env.now) (g.E.Outside.reach c.seek.new.env) c.args.key.now e sees going sound (k.0, k.1, k.2.0))
     c.seek.ensures.cause
 
 pub returns-clause-later : goal.returns-clause-later
