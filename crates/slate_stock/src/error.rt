@@ -1,6 +1,9 @@
 //! Why an order is refused.
+ghost use Rattle.std.specs.Prelude.{◌≡◌};
+
 use bytes::Bytes;
 use slate_types::SlateDBError;
+use std::alloc::AllocError;
 
 /// Why an order is refused, in the order of tests; `ForeignCommit` is an audit's alone.
 #[derive(Drop)]
@@ -19,6 +22,17 @@ pub enum StockError {
     NotEnough { key: Bytes, has: u64, needs: u64 },
     /// The database refuses.
     Db(SlateDBError),
-    /// The first commit or plain_order write of a journal that is no order's.
+    /// The first commit or plain write of a journal that is no order's.
     ForeignCommit { seq: u64 },
+}
+
+impl From<AllocError> for StockError {
+    ghost use Rattle.slate_stock.specs.declared.error.StockError.{StockError};
+    ghost use Rattle.slate_types.specs.declared.error.SlateDBError.{SlateDBError};
+
+    ghost from_gives = { λ _ e. e ≡ StockError.Db SlateDBError.OutOfMemory };
+
+    fn from(_error: AllocError) -> StockError {
+        StockError::Db(SlateDBError::OutOfMemory)
+    }
 }

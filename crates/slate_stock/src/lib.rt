@@ -8,6 +8,7 @@ pub mod amount;
 pub mod error;
 pub mod keys;
 pub mod laws;
+pub mod moves;
 pub mod name;
 pub mod order;
 
