@@ -1,0 +1,6 @@
+pub mod Stored
+pub mod Jobs
+pub mod Commits
+pub mod Deeds
+pub mod Feed
+pub mod Laws
