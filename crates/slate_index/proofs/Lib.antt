@@ -1,0 +1,4 @@
+pub mod Telling
+pub mod Following
+pub mod CommitLaws
+pub mod JournalLaws

@@ -1,0 +1,5 @@
+use Rattle.slate_index.proofs.Telling.{tell}
+use Rattle.slate_index.proofs.laws.entries.Goals as goal
+
+pub returns : goal.returns
+returns c = record { tell = tell }

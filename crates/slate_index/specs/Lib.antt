@@ -1,0 +1,7 @@
+pub mod Names
+pub mod Entries
+pub mod Parts
+pub mod Changes
+pub mod Commits
+pub mod Journals
+pub mod Laws

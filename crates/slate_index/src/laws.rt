@@ -1,0 +1,14 @@
+//! The laws of the definitions. Each is proved of all values, and no call does anything.
+ghost use Rattle.slate_index.specs.Laws.{EntriesAreThoseOfRecords, EntriesTell, RecordsHaveNames};
+
+/// An entry's key tells the index's number, the field and the record's id.
+pub fn entries()
+    ensures tell { EntriesTell }
+{}
+
+/// Of audited journals. Where their transcripts are vouched, the keys that begin with x are just the entries of the records, at each
+/// sequence, and each record's id is a name.
+pub fn audited()
+    ensures entries { EntriesAreThoseOfRecords }
+    ensures names { RecordsHaveNames }
+{}

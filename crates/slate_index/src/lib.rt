@@ -1,0 +1,19 @@
+//! Secondary indexes: records, and for each field that an index has of a record an entry, which is found by the field.
+//!
+//! The definitions stand in `specs/`: `Entries` says which entries a record has, `Changes` which commits are a change's and what a
+//! change leaves, and `Journals` which journals are the crate's. `laws` has what follows of these: the entries of a store are those
+//! of its records.
+#![tactic(auto)]
+
+pub mod comma;
+pub mod entries;
+pub mod error;
+pub mod fields;
+pub mod keys;
+pub mod laws;
+pub mod name;
+
+pub use comma::Comma;
+pub use error::IndexError;
+pub use fields::Fields;
+pub use name::Name;
