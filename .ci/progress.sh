@@ -38,7 +38,7 @@ show_progress() {
     local line
     while IFS= read -r line; do
         case $line in
-        'rt: '*': begins with '*) ;;
+        'rt: '*': begins with '* | 'rt: must-fail '*': refused, as it must be'*) ;;
         'rt: '*) tell_time "${line#rt: }" ;;
         *' passed, '*' failed' | *': error'*) printf '%s\n' "$line" ;;
         esac
