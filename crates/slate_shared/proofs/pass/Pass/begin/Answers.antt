@@ -1,0 +1,41 @@
+use Rattle.std.proofs.Common.{rules, ◌≡◌, ⊎_elim, inl, inr, [], ◌∷◌, ◌++◌, sym, ap, ◌∙◌, subst}
+use Rattle.slate_txn.specs.declared.event.Event.TheVariants.{Begin}
+use mathlib.Core.List.{IsPrefix}
+use Rattle.slate_txn.specs.State.{begun}
+use Rattle.slate_shared.proofs.Moves.{offshoots, may_event, view_after}
+use Rattle.slate_shared.proofs.Seats.{begun_seat}
+use Rattle.slate_shared.proofs.pass.Pass.begin.Goals as goal
+
+pub split_seat-seat-requires : goal.split_seat-seat-requires
+split_seat-seat-requires g c = (search rules, search rules, offshoots _ _)
+
+pub add-requires-clause-event : goal.add-requires-clause-event
+add-requires-clause-event g c =
+    let t = c.take-locked.ensures in
+    let v = c.split_seat-seat.result.me.0 in
+    may_event _ v _ c.take-locked.result _ (Begin c.in-Ok.opened.0 c.args.level c.in-Ok.opened.1) t.seat.1 (ap (λ h. h.events) c.in-Ok.ensures.ok.0) c.in-Ok.ensures.fresh (ap (λ m. m.0.txn) c.split_seat-seat.ensures.4)
+
+pub returns-clause-begun : goal.returns-clause-begun
+returns-clause-begun g c =
+    let t = c.take-locked.ensures in
+    let v = c.split_seat-seat.result.me.0 in
+    let e = Begin c.in-Ok.opened.0 c.args.level c.in-Ok.opened.1 in
+    let now = view_after _ _ v _ c.take-locked.result _ _ e t.seat.1 (ap (λ h. h.events) c.in-Ok.ensures.ok.0) c.add.ensures.view in
+    let before : v.seen ≡ c.args.self.now.seen = ap (λ m. m.0.seen) c.split_seat-seat.ensures.4 ∙ ap (λ p. p.seen) c.self.view_is in
+    let y = c.take-locked.result.events in
+    let at : c.in-Ok.opened.1 ≡ c.new-own.result.begin = sym (ap (λ o. o.begin) c.new-own.ensures) in
+    (search rules, c.new-own.ensures ∙ ap (λ n. begun c.args.level n) at, (y, subst (λ l. IsPrefix l y) before t.journal.0, ap (λ w. w.seen) now ∙ ap (λ n. y ++ Begin c.in-Ok.opened.0 c.args.level n ∷ []) at, sym at ∙ c.in-Ok.ensures.ok.1))
+
+pub invariant_of-result : goal.invariant_of-result
+invariant_of-result g c =
+    let t = c.take-locked.ensures in
+    let s = c.split_seat-seat.ensures.4 in
+    begun_seat _ _ c.split_seat-seat.result.me.0 _ c.take-locked.result _ _ c.in-Ok.opened.0 c.args.level c.in-Ok.opened.1 c.new-own.result t.seat.1 (ap (λ h. h.events) c.in-Ok.ensures.ok.0) c.add.ensures.view (ap (λ h. h.flight) c.in-Ok.ensures.ok.0)
+    (ap (λ m. m.0.parts) s) (ap (λ m. m.0.own) s) (ap (λ m. m.0.flight) s) c.new-own.ensures
+
+pub returns-in-Err-clause-cause : goal.returns-in-Err-clause-cause
+returns-in-Err-clause-cause g c =
+    let t = c.take-locked.ensures in
+    let y = c.take-locked.result.events in
+    let before : c.split_seat-seat.result.me.0.seen ≡ c.args.self.now.seen = ap (λ m. m.0.seen) c.split_seat-seat.ensures.4 ∙ ap (λ p. p.seen) c.self.view_is in
+    ⊎_elim (λ h. inl h) (λ h. inr (h.0, (y, subst (λ l. IsPrefix l y) before t.journal.0, h.1))) c.in-Err.ensures.cause

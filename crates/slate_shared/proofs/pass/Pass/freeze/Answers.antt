@@ -1,0 +1,17 @@
+use Rattle.std.proofs.Common.{rules, ◌≡◌, inr, [], ◌∷◌, ◌++◌, sym, ap, ◌∙◌, subst}
+use mathlib.Core.List.{IsPrefix}
+use Rattle.slate_txn.specs.declared.event.Event.TheVariants.{Freeze}
+use Rattle.slate_txn.specs.Places.{IsQuiet}
+use Rattle.slate_shared.proofs.Moves.{view_after}
+use Rattle.slate_shared.proofs.pass.Pass.freeze.Goals as goal
+
+pub returns-in-Ok-default-true-clause-frozen : goal.returns-in-Ok-default-true-clause-frozen
+returns-in-Ok-default-true-clause-frozen g c =
+    let t = c.take-locked.ensures in
+    let y = c.take-locked.result in
+    let v = c.self.inside.seat.me.0 in
+    let grown : c.freeze.new.self.events ≡ y.events ++ Freeze ∷ [] = search rules in
+    let now = view_after _ _ v _ y _ _ Freeze t.seat.1 grown c.add.ensures.view in
+    let seen : c.add.new.place.me.0.seen ≡ y.events ++ Freeze ∷ [] = ap (λ w. w.seen) now in
+    let before : v.seen ≡ c.args.self.now.seen = ap (λ p. p.seen) c.self.view_is in
+    (subst IsQuiet (grown ∙ sym seen) c.in-Ok-default-true.ensures.quiet, (y.events, subst (λ l. IsPrefix l y.events) before t.journal.0, inr seen, search rules))

@@ -1,0 +1,4 @@
+pub mod LockedModel
+pub mod Shared
+pub mod Passes
+pub mod Locked
