@@ -76,6 +76,7 @@ pub mod OwnRows
 pub mod Changes
 pub mod CommitWholes
 mod Commits
+mod Unasked
 pub mod Vouches
 mod ByKeys
 mod KeyRows

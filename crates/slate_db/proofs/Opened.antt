@@ -6,15 +6,18 @@ use Rattle.std.proofs.lemmas.Slice.Eq.{bytes_eq-Decides}
 use Rattle.slate_types.specs.declared.bytes_range.BytesRange.{BytesRange}
 use Rattle.slate_types.specs.declared.iter.IterationOrder.{IterationOrder}
 use Rattle.slate_mem.specs.declared.WriteOp.{WriteOp}
+use Rattle.slate_mem.specs.Batch.{Ops}
 use Rattle.slate_txn.specs.declared.event.TranscriptStep.{TranscriptStep}
 use Rattle.slate_txn.specs.declared.event.TranscriptStep.TheVariants as steps
 use Rattle.slate_txn.specs.Named.{find_named, update_named, without}
 use Rattle.slate_txn.specs.State.{State, Tx, is_open}
 use Rattle.slate_txn.specs.Step.{Reader, is_scan, reader, reader_or_snapshot, tx_reader, with_op}
 use Rattle.slate_txn.proofs.OwnLaws.{count_more}
+use Rattle.slate_db.specs.Committed.{IsCommitted, IsEnded}
 use Rattle.slate_db.specs.Model.{CoreModel, IsSame}
 use Rattle.slate_db.specs.Opened.{HasScan, HasSnapshot, HasTransaction, StayOpen, StayOpenBut, StaysOpen}
 use Rattle.slate_db.specs.Operated.{operated}
+use Rattle.slate_db.specs.Written.{IsWritten}
 use Rattle.slate_db.proofs.OpenNotes.{found_noted}
 use Rattle.slate_db.proofs.Wholes.{after_note}
 
@@ -274,3 +277,16 @@ stay_released old new ended txns shown id apart = stays_by old new id (ap (find_
 -- a new id
 pub unopened : (s : State) (id : List ℕ) → find_named id s.txns ≡ None → find_named id s.snapshots ≡ None → is_open s id ≡ false
 unopened s id none hidden = λ i. is_some (none i) || is_some (hidden i)
+
+-- ---- writes and commits
+
+pub stay_written : (old new : CoreModel) (n : Option ℕ) (now : ℤ) (ops : Ops) → IsWritten old new n now ops → StayOpen old new
+stay_written old new None now ops is = stay_same old new is.1
+stay_written old new (Some n) now ops is = stay_as old new (ap (λ (c : CoreModel). c.state.txns) is) (ap (λ (c : CoreModel). c.state.snapshots) is)
+
+pub stay_committed : (old new : CoreModel) (id : List ℕ) (n : Option ℕ) (now : ℤ) (t : Tx) → IsCommitted old new id n now t → StayOpenBut id old new
+stay_committed old new id None now t is = stay_ended old new id (ap (λ (c : CoreModel). c.state.txns) is.1) (ap (λ (c : CoreModel). c.state.snapshots) is.1)
+stay_committed old new id (Some n) now t is = stay_ended old new id (ap (λ (c : CoreModel). c.state.txns) is) (ap (λ (c : CoreModel). c.state.snapshots) is)
+
+pub stay_but_ended : (old new : CoreModel) (id : List ℕ) → IsEnded old new id → StayOpenBut id old new
+stay_but_ended old new id is = stay_ended old new id (ap (λ (c : CoreModel). c.state.txns) is) (ap (λ (c : CoreModel). c.state.snapshots) is)

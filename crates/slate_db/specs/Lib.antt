@@ -20,6 +20,7 @@ pub mod FlushLaws
 pub mod SegmentRuns
 pub mod StoredParts
 pub mod Written
+pub mod Unasked
 pub mod Committed
 pub mod Operated
 pub mod Opened

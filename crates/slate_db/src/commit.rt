@@ -1,5 +1,5 @@
 //! A commit of a transaction, up to its event.
-ghost use Rattle.std.specs.Prelude.{◌≡◌, ◌≢◌, ◌⊎◌, ◌+◌, ◌<◌, ◌≤◌, ◌++◌, [], ℕ, List, None, Some, Err, option_map, unwrap_or, IfErr, IfOk, OnOk, OnErr};
+ghost use Rattle.std.specs.Prelude.{◌≡◌, ◌≢◌, ◌⊎◌, ◌+◌, ◌<◌, ◌≤◌, ◌++◌, [], ℕ, List, None, Some, Err, option_map, unwrap_or, false, IfErr, IfOk, OnOk, OnErr};
 ghost use Rattle.std.specs.List.{AllByRecursion};
 ghost use Rattle.slate_types.specs.declared.error.SlateDBError.{SlateDBError};
 ghost use Rattle.slate_types.specs.Faults.{faults_of};
@@ -12,6 +12,7 @@ ghost use Rattle.slate_mem.specs.Table.{put_rows};
 ghost use Rattle.slate_txn.specs.Managers.{StandsFor, IsCommitOf, with_commit, writes_at};
 ghost use Rattle.slate_txn.specs.Named.{find_named, without};
 ghost use Rattle.slate_mem.specs.Batch.{kept_ops};
+ghost use Rattle.slate_mem.specs.BatchModel.{holds_merge};
 ghost use Rattle.slate_txn.specs.Conflict.{conflict, tracked_writes};
 ghost use Rattle.slate_txn.specs.HandedOver.{Grown, IsConflict};
 ghost use Rattle.slate_txn.specs.Replay.{commit_made};
@@ -23,6 +24,7 @@ ghost use Rattle.slate_db.specs.Managed.{IsManaged};
 ghost use Rattle.slate_db.specs.Layers.{AreLayers, in_memory};
 ghost use Rattle.slate_db.specs.Log.{AreFine};
 ghost use Rattle.slate_db.specs.Meaning.{segments_by};
+ghost use Rattle.slate_db.specs.Unasked.{IsUnasked};
 
 use crate::layers::Layers;
 use crate::put::put_own;
@@ -85,6 +87,8 @@ pub(crate) fn make<M: MergeOperator, X: PrefixExtractor>(
     ensures later { faults_of M.faults operator.old ≤ faults_of M.faults operator.new }
     ensures cause { (cs : List Commit) → StandsFor manager.old cs → IfErr result (λ e. (e ≡ SlateDBError.OutOfMemory) ⊎ (IsConflict (conflict cs owned) e ⊎ IsFull last (conflict cs owned) owned.ops e)
         ⊎ IsTestRefusal (option_map M.combine operator.old) (segments_by X.lengths extractor.now) segments.old default_millis now last (conflict cs owned) owned.ops e ⊎ IsCallback (faults_of M.faults operator.old) (faults_of M.faults operator.new) e) }
+    ensures unasked { (cs : List Commit) → StandsFor manager.old cs → IsUnasked (conflict cs owned) last owned.ops (test_refusal (option_map M.combine operator.old) (segments_by X.lengths extractor.now) segments.old default_millis now owned.ops) → operator.new ≡ operator.old }
+    ensures plain { holds_merge owned.ops ≡ false → operator.new ≡ operator.old }
 {
     let tested = owned.test(alloc, manager, id)?;
     if tested.batch.is_empty() {
@@ -182,6 +186,8 @@ pub(crate) fn put_commit<M: MergeOperator, X: PrefixExtractor>(
     ensures same_operator { option_map M.combine operator.new ≡ option_map M.combine operator.old }
     ensures later { faults_of M.faults operator.old ≤ faults_of M.faults operator.new }
     ensures cause { IfErr result (λ e. (e ≡ SlateDBError.OutOfMemory) ⊎ (batch_refusal (option_map M.combine operator.old) (segments_by X.lengths extractor.now) segments.old default_millis now batch.now ≡ Some e) ⊎ IsCallback (faults_of M.faults operator.old) (faults_of M.faults operator.new) e) }
+    ensures unasked { (e : SlateDBError) → batch_refusal (option_map M.combine operator.old) (segments_by X.lengths extractor.now) segments.old default_millis now batch.now ≡ Some e → operator.new ≡ operator.old }
+    ensures plain { batch.now.held_merge ≡ false → operator.new ≡ operator.old }
 {
     let seq = last + 1;
     let prefixes = test_batch(

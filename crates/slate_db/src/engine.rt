@@ -18,7 +18,7 @@ ghost use Rattle.slate_mem.specs.declared.WriteOp.{WriteOp};
 ghost use Rattle.slate_mem.specs.Batch.{Ops, kept};
 ghost use Rattle.slate_mem.specs.KeyTests.{Segments};
 ghost use Rattle.slate_mem.specs.Refusals.{op_refusal};
-ghost use Rattle.slate_mem.specs.BatchModel.{IsBatchOf};
+ghost use Rattle.slate_mem.specs.BatchModel.{IsBatchOf, holds_merge};
 ghost use Rattle.slate_txn.specs.Places.{IsQuiet};
 ghost use Rattle.slate_txn.specs.Reply.{Done, Refused, Begun, SnapshotAt, Committed, Written, Frozen, Flushed};
 ghost use Rattle.slate_txn.specs.Settings.{settings_of};
@@ -43,6 +43,7 @@ ghost use Rattle.slate_txn.specs.HandedOver.{IsConflict};
 ghost use Rattle.slate_db.specs.Committed.{IsCommitted, IsEnded};
 ghost use Rattle.slate_db.specs.Opened.{HasSnapshot, HasTransaction, StayOpen, StayOpenBut};
 ghost use Rattle.slate_db.specs.Operated.{operated};
+ghost use Rattle.slate_db.specs.Unasked.{IsUnaskedCommit, IsUnaskedWrite};
 ghost use Rattle.slate_db.specs.Vouched.{IsVouchedFor};
 ghost use Rattle.slate_db.specs.Written.{IsWritten};
 
@@ -322,6 +323,12 @@ impl Core {
         ensures outside { env.new ≡ record env.old { operator = env.new.operator } }
         ensures call { let reach = ⟦<EnvOf<S, M, T> as Outside>⟧.reach in IsCall (reach env.old) (reach env.new) [] }
         ensures reads { let reach = ⟦<EnvOf<S, M, T> as Outside>⟧.reach in OnlyReads (reach env.old) (reach env.new) }
+        ensures stay { StayOpen self.old self.new }
+        ensures unasked { let reach = ⟦<EnvOf<S, M, T> as Outside>⟧.reach in
+            let m = (reach env.old).meaning in
+            let g = segments_by X.lengths laws.now.segments in
+            IsUnaskedWrite m.combine g self.old now batch → env.new ≡ env.old }
+        ensures plain { batch.held_merge ≡ false → env.new ≡ env.old }
     {
         if batch.is_empty() {
             return Ok(None);
@@ -628,6 +635,12 @@ impl Core {
         ensures outside { env.new ≡ record env.old { operator = env.new.operator } }
         ensures call { let reach = ⟦<EnvOf<S, M, T> as Outside>⟧.reach in IsCall (reach env.old) (reach env.new) [] }
         ensures reads { let reach = ⟦<EnvOf<S, M, T> as Outside>⟧.reach in OnlyReads (reach env.old) (reach env.new) }
+        ensures stay { StayOpenBut id.now self.old self.new }
+        ensures unasked { let reach = ⟦<EnvOf<S, M, T> as Outside>⟧.reach in
+            let m = (reach env.old).meaning in
+            let g = segments_by X.lengths laws.now.segments in
+            (t : Tx) → find_named id.now self.old.state.txns ≡ Some t → IsUnaskedCommit m.combine g self.old now t → env.new ≡ env.old }
+        ensures plain { (t : Tx) → find_named id.now self.old.state.txns ≡ Some t → holds_merge t.ops ≡ false → env.new ≡ env.old }
     {
         let Some(owned) = self.transactions.take(id) else {
             unreachable!()

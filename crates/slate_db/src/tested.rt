@@ -1,9 +1,9 @@
 //! The tests of a batch that is to become a commit, and its rows.
-ghost use Rattle.std.specs.Prelude.{◌≡◌, ◌⊎◌, ◌≤◌, is_some, option_map, Some, None, Err, IfErr, IfOk, OnOk};
+ghost use Rattle.std.specs.Prelude.{◌≡◌, ◌⊎◌, ◌≤◌, ℕ, List, false, is_some, option_map, Some, None, Err, IfErr, IfOk, OnOk, IsOkUnless};
 ghost use Rattle.std.specs.List.{AllByRecursion};
 ghost use Rattle.slate_types.specs.declared.error.SlateDBError.{SlateDBError};
 ghost use Rattle.slate_types.specs.Faults.{faults_of};
-ghost use Rattle.slate_types.specs.Fold.{operator_at};
+ghost use Rattle.slate_types.specs.Fold.{Combine, operator_at};
 ghost use Rattle.slate_types.specs.Keys.{keys_set};
 ghost use Rattle.slate_mem.specs.CommitRows.{commit_rows};
 ghost use Rattle.slate_mem.specs.KeyTests.{merges_refusal, prefixes};
@@ -16,7 +16,7 @@ ghost use Rattle.slate_db.specs.Meaning.{segments_by};
 use crate::segments::SegmentPrefixes;
 use bytes::Bytes;
 use slate_mem::WriteBatch;
-use slate_types::{MergeOperator, PrefixExtractor, RowEntry, SlateDBError};
+use slate_types::{MergeOperator, NoOperator, PrefixExtractor, RowEntry, SlateDBError};
 use std::alloc::Global;
 use std::collections::BTreeSet;
 
@@ -48,7 +48,7 @@ pub(crate) fn test_batch<M: MergeOperator, X: PrefixExtractor>(
 }
 
 /// The rows of a batch whose merges no test refuses, as the commit `seq` of the moment `now`. Refuses by `Callback`, only where the
-/// operator's count of faults rose, and by `OutOfMemory`.
+/// operator's count of faults rose, and by `OutOfMemory`. A batch that never took a merge asks no operator.
 pub(crate) fn rows_of_batch<M: MergeOperator>(
     alloc: Global,
     batch: &WriteBatch,
@@ -62,8 +62,29 @@ pub(crate) fn rows_of_batch<M: MergeOperator>(
     ensures fit { AreFine batch.now.ops → IfOk result (λ rows. AllByRecursion FitsMemory rows.items) }
     ensures same { option_map M.combine operator.new ≡ option_map M.combine operator.old }
     ensures later { faults_of M.faults operator.old ≤ faults_of M.faults operator.new }
+    ensures plain { batch.now.held_merge ≡ false → operator.new ≡ operator.old }
     ensures cause { IfErr result (λ e. (e ≡ SlateDBError.OutOfMemory) ⊎ IsCallback (faults_of M.faults operator.old) (faults_of M.faults operator.new) e) }
 {
+    if !batch.has_merge_ops() {
+        return plain_rows(alloc, batch, seq, now, default_millis);
+    }
     let (rows, _bytes) = batch.fold_entries(alloc, seq, now, default_millis, operator)?;
+    Ok(rows)
+}
+
+/// The rows of a batch that never took a merge, as the commit `seq` of the moment `now`. No operator is asked.
+fn plain_rows(
+    alloc: Global,
+    batch: &WriteBatch,
+    seq: u64,
+    now: i64,
+    default_millis: Option<u64>,
+) -> Result<Vec<RowEntry>, SlateDBError>
+    requires { batch.now.held_merge ≡ false }
+    ensures rows { IfOk result (λ rows. (c : List ℕ → Combine) → rows.items ≡ commit_rows c default_millis seq now batch.now.ops) }
+    ensures cause { IsOkUnless result SlateDBError.OutOfMemory }
+{
+    let mut nobody: Option<NoOperator> = None;
+    let (rows, _bytes) = batch.fold_entries(alloc, seq, now, default_millis, &mut nobody)?;
     Ok(rows)
 }

@@ -18,6 +18,7 @@ use Rattle.slate_db.proofs.Managing.{managed_dropped, managed_committed}
 use Rattle.slate_db.proofs.Plain.{empty_kept}
 use Rattle.slate_types.specs.declared.error.SlateDBError.TheVariants.{OutOfMemory}
 use Rattle.slate_db.proofs.Tests.{first_moved, free_or_short, met_or_short, none_number, none_some, test_as}
+use Rattle.slate_db.proofs.Unasked.{asked_put}
 use Rattle.slate_db.proofs.commit.make.Goals as goal
 
 pub returns-then-is_empty-clause-next : goal.returns-then-is_empty-clause-next
@@ -123,3 +124,27 @@ returns-in-Err-clause-met g c cs stands n is = none_number n (sym (c.in_ok-teste
 
 pub returns-in-Err-clause-full : goal.returns-in-Err-clause-full
 returns-in-Err-clause-full g c cs stands free some last = absurd (omega (arith, last, c.if-last-ge18446744073709551614.false))
+
+-- ---- whether the operator was asked
+
+pub returns-in-Ok-clause-unasked : goal.returns-in-Ok-clause-unasked
+returns-in-Ok-clause-unasked g c cs stands is =
+    asked_put (conflict cs c.args.owned) c.args.last c.args.owned.ops _ (c.in_ok-tested.ensures.free cs stands c.requires.held)
+    (λ none. let t : true ≡ false = sym (c.is_empty.ensures.1 (c.in_ok-tested.ensures.commits.batch.0 ∙ ap kept_ops none)) ∙ c.if-is_empty.false in cc)
+    (λ full. omega (arith, full, c.if-last-ge18446744073709551614.false))
+    (λ e refused. c.put_commit-put.ensures.unasked e
+    (test_as (option_map g.M.MergeOperator.combine c.args.operator.now) (segments_by g.X.PrefixExtractor.lengths c.args.extractor.now) c.args.segments.now c.args.default_millis _ c.args.now c.args.owned.ops c.in_ok-tested.tested.batch (to_z-of_z w64 c.args.now c.ranges.now) c.in_ok-tested.ensures.commits.batch ∙ refused)) is
+
+pub returns-in-Err-clause-unasked : goal.returns-in-Err-clause-unasked
+returns-in-Err-clause-unasked g c cs stands is =
+    asked_put (conflict cs c.args.owned) c.args.last c.args.owned.ops _ (c.in_ok-tested.ensures.free cs stands c.requires.held)
+    (λ none. let t : true ≡ false = sym (c.is_empty.ensures.1 (c.in_ok-tested.ensures.commits.batch.0 ∙ ap kept_ops none)) ∙ c.if-is_empty.false in cc)
+    (λ full. omega (arith, full, c.if-last-ge18446744073709551614.false))
+    (λ e refused. c.put_commit-put.ensures.unasked e
+    (test_as (option_map g.M.MergeOperator.combine c.args.operator.now) (segments_by g.X.PrefixExtractor.lengths c.args.extractor.now) c.args.segments.now c.args.default_millis _ c.args.now c.args.owned.ops c.in_ok-tested.tested.batch (to_z-of_z w64 c.args.now c.ranges.now) c.in_ok-tested.ensures.commits.batch ∙ refused)) is
+
+pub returns-in-Ok-clause-plain : goal.returns-in-Ok-clause-plain
+returns-in-Ok-clause-plain g c none = c.put_commit-put.ensures.plain (c.in_ok-tested.ensures.commits.batch.1 ∙ none)
+
+pub returns-in-Err-clause-plain : goal.returns-in-Err-clause-plain
+returns-in-Err-clause-plain g c none = c.put_commit-put.ensures.plain (c.in_ok-tested.ensures.commits.batch.1 ∙ none)

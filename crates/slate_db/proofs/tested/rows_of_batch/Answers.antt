@@ -1,5 +1,6 @@
 use Rattle.std.proofs.Common.{option_map, sym, subst}
 use Rattle.std.specs.List.{AllByRecursion}
+use Rattle.std.proofs.lemmas.Result.{IfOk-weaker}
 use Rattle.slate_types.specs.Fold.{operator_at}
 use Rattle.slate_db.specs.Layers.{FitsMemory}
 use Rattle.slate_db.proofs.MemoryRows.{commit_fits}
@@ -12,3 +13,9 @@ fold_entries-requires g c = tested_some c.args.operator.now c.args.batch.now.hel
 pub returns-clause-fit : goal.returns-clause-fit
 returns-clause-fit g c fine = subst (AllByRecursion FitsMemory) (sym c.in_ok-rows.ensures.rows)
     (commit_fits (operator_at (option_map g.M.MergeOperator.combine c.args.operator.now)) c.args.default_millis c.args.seq _ c.args.batch.now.ops (operator_short g.M.MergeOperator.combine g.met.M.MergeOperator.short c.args.operator.now) fine)
+
+-- whatever is done with operands, of which there are none
+pub returns-then-not-has_merge_ops-clause-fit : goal.returns-then-not-has_merge_ops-clause-fit
+returns-then-not-has_merge_ops-clause-fit g c fine =
+    IfOk-weaker c.plain_rows.result _ _ (λ rows is. subst (AllByRecursion FitsMemory) (sym (is (operator_at (option_map g.M.MergeOperator.combine c.args.operator.now))))
+    (commit_fits (operator_at (option_map g.M.MergeOperator.combine c.args.operator.now)) c.args.default_millis c.args.seq _ c.args.batch.now.ops (operator_short g.M.MergeOperator.combine g.met.M.MergeOperator.short c.args.operator.now) fine)) c.plain_rows.ensures.rows

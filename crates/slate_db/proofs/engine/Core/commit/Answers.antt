@@ -6,6 +6,7 @@ use Rattle.slate_store.specs.Reach.{reach_of}
 use Rattle.slate_types.specs.declared.error.SlateDBError.{SlateDBError}
 use Rattle.slate_types.specs.declared.error.SlateDBError.TheVariants.{OutOfMemory, SequenceExhausted, TransactionConflict}
 use Rattle.slate_types.specs.Fold.{Combine}
+use Rattle.slate_mem.specs.BatchModel.{holds_merge}
 use Rattle.slate_mem.specs.KeyTests.{Segments}
 use Rattle.slate_types.specs.Outside.{IsFault, Meaning, Reach}
 use Rattle.slate_txn.specs.declared.event.Event.TheVariants as events
@@ -30,10 +31,12 @@ use Rattle.slate_db.specs.Vouched.{IsVouchedFor}
 use Rattle.slate_db.specs.View.{view_of, unseen_of, IsWholeInside}
 use Rattle.slate_db.proofs.Asks.{asked_call, asked_reads, callback_fault, short_fault}
 use Rattle.slate_db.proofs.Commits.{Commits, conflict_of_parts, not_full, IsRefused, HasCause, HasKnownCause, RowsAfter, core_after, has_cause, may_commit, committed_is, managed_made, put_as, whole_made, kept_made, load_made, event_made, segmented_made, step_made, refused_is, cause_is, load_ended, refused_parts_are, same_txn, test_of}
+use Rattle.slate_db.proofs.Opened.{stay_but_ended, stay_committed}
 use Rattle.slate_db.proofs.Operands.{combine_is}
 use Rattle.slate_db.proofs.Managing.{find_as, managed_dropped}
 use Rattle.slate_db.proofs.Tests.{first_moved, none_number, none_some, test_refusal_as}
 use Rattle.slate_db.proofs.Vouches.{below_next, others_commit, others_end}
+use Rattle.slate_db.proofs.Unasked.{unasked_of}
 use Rattle.slate_db.proofs.Keeps.{kept_recorded}
 use Rattle.slate_db.proofs.Segmenting.{segmented_as}
 use Rattle.slate_db.proofs.Wholes.{named_in_journal, whole_end, whole_recorded, kept_end}
@@ -300,3 +303,39 @@ returns-in-Err-clause-exhausted g c t named free some full =
     first_moved c.in-Err.error SequenceExhausted OutOfMemory _ _ refl refl
     (c.in-Err.ensures.full c.self.inside.log.commits c.self.invariant.tied.manager.stands (conflict_of_parts (view_of c.self.inside) c.args.self.now c.args.id.now c.in-Some.owned t _ c.self.view_is (sym c.in-Some.ensures.taken) named free) (λ none. some (ap (λ (u : Tx). u.ops) (sym (same_txn (view_of c.self.inside) c.args.self.now c.args.id.now c.in-Some.owned t c.self.view_is (sym c.in-Some.ensures.taken) named)) ∙ none))
     (c.last-last.ensures ∙ c.self.invariant.log.last ∙ ap (λ (v : CoreModel). last_of v.settings.start_seq v.state.commits) c.self.view_is ∙ full))
+
+-- ---- what is open, and whether the operator was asked
+
+pub returns-in-Ok-clause-stay : goal.returns-in-Ok-clause-stay
+returns-in-Ok-clause-stay g c =
+    stay_committed c.args.self.now (view_of (core g c)) c.args.id.now c.in-Ok.made.seq c.args.now c.in-Some.owned
+    (subst (λ (v : CoreModel). IsCommitted v (view_of (core g c)) c.args.id.now c.in-Ok.made.seq c.args.now c.in-Some.owned) c.self.view_is
+    (subst (λ (s : Inside). IsCommitted (view_of c.self.inside) (view_of s) c.args.id.now c.in-Ok.made.seq c.args.now c.in-Some.owned) (becomes g c)
+    (event_made (asked g c) (by g c) (view_of c.self.inside) c.self.inside.log.last c.args.id.now c.in-Ok.made.seq c.args.now c.in-Some.owned c.push_commit.new.self.spare (made g c).next)))
+
+pub returns-in-Err-clause-stay : goal.returns-in-Err-clause-stay
+returns-in-Err-clause-stay g c = stay_but_ended c.args.self.now (view_of (left g c)) c.args.id.now (returns-in-Err-clause-ended g c)
+
+pub returns-in-Ok-clause-plain : goal.returns-in-Ok-clause-plain
+returns-in-Ok-clause-plain g c t named none =
+    ap (λ o. record c.args.env.now { operator = o })
+    (c.make-made.ensures.plain (ap (λ (u : Tx). holds_merge u.ops) (same_txn (view_of c.self.inside) c.args.self.now c.args.id.now c.in-Some.owned t c.self.view_is (sym c.in-Some.ensures.taken) named) ∙ none))
+
+pub returns-in-Err-clause-plain : goal.returns-in-Err-clause-plain
+returns-in-Err-clause-plain g c t named none =
+    ap (λ o. record c.args.env.now { operator = o })
+    (c.make-made.ensures.plain (ap (λ (u : Tx). holds_merge u.ops) (same_txn (view_of c.self.inside) c.args.self.now c.args.id.now c.in-Some.owned t c.self.view_is (sym c.in-Some.ensures.taken) named) ∙ none))
+
+pub returns-in-Ok-clause-unasked : goal.returns-in-Ok-clause-unasked
+returns-in-Ok-clause-unasked g c t named is =
+    ap (λ o. record c.args.env.now { operator = o })
+    (c.make-made.ensures.unasked c.self.inside.log.commits c.self.invariant.tied.manager.stands
+    (unasked_of (option_map g.M.MergeOperator.combine c.args.env.now.operator) (meaning g c).combine (by g c) (view_of c.self.inside) c.args.self.now (unseen_of c.self.inside) c.args.id.now c.last-last.result _ c.args.now c.in-Some.owned t
+    (sym (combine_is g.M.MergeOperator.combine c.args.env.now.operator)) (to_z-of_z w64 c.args.now c.ranges.now) c.last-last.ensures c.self.view_is c.self.invariant (sym c.in-Some.ensures.taken) named is))
+
+pub returns-in-Err-clause-unasked : goal.returns-in-Err-clause-unasked
+returns-in-Err-clause-unasked g c t named is =
+    ap (λ o. record c.args.env.now { operator = o })
+    (c.make-made.ensures.unasked c.self.inside.log.commits c.self.invariant.tied.manager.stands
+    (unasked_of (option_map g.M.MergeOperator.combine c.args.env.now.operator) (before g c).meaning.combine (with g c) (view_of c.self.inside) c.args.self.now (unseen_of c.self.inside) c.args.id.now c.last-last.result _ c.args.now c.in-Some.owned t
+    (sym (combine_is g.M.MergeOperator.combine c.args.env.now.operator)) (to_z-of_z w64 c.args.now c.ranges.now) c.last-last.ensures c.self.view_is c.self.invariant (sym c.in-Some.ensures.taken) named is))

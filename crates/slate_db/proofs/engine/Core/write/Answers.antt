@@ -25,7 +25,7 @@ use Rattle.slate_db.specs.Sound.{IsKept}
 use Rattle.slate_db.specs.Vouched.{IsVouchedFor}
 use Rattle.slate_db.specs.Layers.{AreLayers, LayersModel, FitsMemory, AreRising}
 use Rattle.slate_db.specs.Log.{IsLog, LogModel, IsWhollyKept, with_write}
-use Rattle.slate_db.specs.Written.{after_write}
+use Rattle.slate_db.specs.Written.{IsWritten, after_write}
 use Rattle.slate_types.specs.Outside.{Meaning}
 use Rattle.slate_types.proofs.Reaching.{reads_none}
 use Rattle.slate_store.specs.Reach.{reach_of}
@@ -36,12 +36,14 @@ use Rattle.slate_db.proofs.Calls.{none_left, past_place, placed, room_in_log, wr
 use Rattle.slate_db.proofs.Loads.{write_load}
 use Rattle.slate_db.proofs.Managing.{managed_written}
 use Rattle.slate_db.proofs.MemoryRows.{commit_within, puts_all, rise_more}
+use Rattle.slate_db.proofs.Opened.{stay_room, stay_same, stay_written}
 use Rattle.slate_db.proofs.Operands.{combine_is}
 use Rattle.slate_db.proofs.Plain.{step_nothing, step_exhausted, some_ops}
 use Rattle.slate_db.proofs.Puts.{some_more, versions_more, active_within}
 use Rattle.slate_db.proofs.Logs.{has_place}
 use Rattle.slate_db.proofs.TakenBack.{commit_seqs, older_rows}
 use Rattle.slate_db.proofs.Tests.{batch_refusal_as, first_moved, none_some, refusal_asked, refusal_known, step_test_refused, step_tested, tested_merges, tested_plain}
+use Rattle.slate_db.proofs.Unasked.{asked}
 use Rattle.slate_db.proofs.Vouches.{below_next, vouched_write}
 use Rattle.slate_db.proofs.Wholes.{whole_recorded, whole_write}
 use Rattle.slate_db.proofs.Writes.{kept_write}
@@ -64,6 +66,9 @@ returns-then-is_empty g c =
       same = tt;
       idle = λ none. refl;
       first = λ some below e is. absurd (some (c.is_empty.ensures.0 c.if-is_empty.true));
+      stay = stay_same c.args.self.now _ refl;
+      unasked = λ h. refl;
+      plain = λ h. refl;
       outside = refl;
       call = call_none _;
       reads = reads_none _;
@@ -95,6 +100,9 @@ returns-then-last-ge18446744073709551614 g c =
       exhausted = λ some full. refl;
       limit = λ some below fine past. let last = subst (λ n. n < 2 ^ 64 - 2) (sym (c.self.invariant.log.last ∙ ap (λ (v : CoreModel). last_of v.settings.start_seq v.state.commits) c.self.view_is)) below in absurd (omega (arith, last, c.last.ensures));
       first = λ some below e is. let last = subst (λ n. n < 2 ^ 64 - 2) (sym (c.self.invariant.log.last ∙ ap (λ (v : CoreModel). last_of v.settings.start_seq v.state.commits) c.self.view_is)) below in absurd (omega (arith, last, c.last.ensures));
+      stay = stay_same c.args.self.now _ refl;
+      unasked = λ h. refl;
+      plain = λ h. refl;
       outside = refl;
       call = call_none _;
       reads = reads_none _;
@@ -193,6 +201,9 @@ returns g c =
     let below : n < 2 ^ 64 - 2 = omega (arith, c.last.ensures) in
     let tested : batch_refusal m.combine by c.self.inside.segments c.self.inside.default_millis c.args.now c.args.batch ≡ None =
     sym (batch_refusal_as (option_map g.M.MergeOperator.combine c.args.env.now.operator) m.combine by c.self.inside.segments c.self.inside.default_millis _ c.args.now c.args.batch (sym (combine_is g.M.MergeOperator.combine c.args.env.now.operator)) (to_z-of_z w64 c.args.now c.ranges.now)) ∙ c.in_ok-prefixes.ensures.tested in
+    let event : IsWritten c.args.self.now (view_of (record c.self.inside { log = c.push_write.new.self; layers = c.put_batch.new.layers; manager = c.put_batch.new.manager; segments = c.put_batch.new.segments })) (Some (c.last-seq.result + 1)) c.args.now c.args.batch.ops =
+    sym (ap view_of becomes) ∙ ap (λ (v : CoreModel). record (after_write v (n + 1) c.args.now c.args.batch.ops (put_rows c.self.inside.layers.active (commit_rows f c.self.inside.default_millis (n + 1) c.args.now c.args.batch.ops)) c.push_write.new.self.spare) { segments = c.put_batch.new.segments }) c.self.view_is
+    ∙ (let s = sym seq in let rows = sym (ap (λ (y : LayersModel). y.active) layers) in λ i. record (after_write c.args.self.now (s i) c.args.now c.args.batch.ops (rows i) c.push_write.new.self.spare) { segments = c.put_batch.new.segments }) in
     record {
       step = (λ z ops of fine.
           sym (ap (λ (v : CoreModel). step (rules_in v.settings m by) (at c.args.now v.state) (lines.Write ops)) c.self.view_is)
@@ -205,8 +216,7 @@ returns g c =
           c.self.inside.default_millis c.args.now c.args.batch.held_merge (record { seq = n + 1; now = c.args.now; ops = c.args.batch.ops; tracked = batch_keys c.args.batch.ops }) recorded refl tested
           (subst (λ (v : CoreModel). IsSegmented by v) (sym c.self.view_is) z)));
       segmented_refused = tt;
-      event = sym (ap view_of becomes) ∙ ap (λ (v : CoreModel). record (after_write v (n + 1) c.args.now c.args.batch.ops (put_rows c.self.inside.layers.active (commit_rows f c.self.inside.default_millis (n + 1) c.args.now c.args.batch.ops)) c.push_write.new.self.spare) { segments = c.put_batch.new.segments }) c.self.view_is
-          ∙ (let s = sym seq in let rows = sym (ap (λ (y : LayersModel). y.active) layers) in λ i. record (after_write c.args.self.now (s i) c.args.now c.args.batch.ops (rows i) c.push_write.new.self.spare) { segments = c.put_batch.new.segments });
+      event = event;
       vouched = (λ m k h.
           subst (λ (s : Inside). IsVouchedFor m (view_of s) k) becomes
           (vouched_write m (view_of c.self.inside) k (n + 1) c.args.now c.args.batch.ops written c.push_write.new.self.spare (below_next (view_of c.self.inside) (unseen_of c.self.inside) c.self.invariant)
@@ -230,6 +240,11 @@ returns g c =
       limit = λ some below fine. placed (view_of c.self.inside) c.args.self.now (unseen_of c.self.inside) 1 c.self.view_is c.self.invariant c.in_ok-place.ensures.place;
       first = λ some below e is. none_some e (sym (refusal_known (option_map g.M.MergeOperator.combine c.args.env.now.operator) (reach_of g.S.Store g.M.MergeOperator g.T.BlockTransformer c.args.env.now).meaning.combine (segments_by g.X.PrefixExtractor.lengths c.args.laws.now.segments) (view_of c.self.inside) c.args.self.now _ c.args.now c.args.batch _ (sym (combine_is g.M.MergeOperator.combine c.args.env.now.operator)) c.self.view_is (to_z-of_z w64 c.args.now c.ranges.now) c.in_ok-prefixes.ensures.tested) ∙ is);
       cause = tt;
+      stay = stay_written c.args.self.now _ (Some (c.last-seq.result + 1)) c.args.now c.args.batch.ops event;
+      unasked = λ h. asked (view_of c.self.inside) c.args.self.now (unseen_of c.self.inside) (reach_of g.S.Store g.M.MergeOperator g.T.BlockTransformer c.args.env.now).meaning.combine (segments_by g.X.PrefixExtractor.lengths c.args.laws.now.segments) c.args.now c.args.batch c.self.view_is c.self.invariant below
+          (λ none. true≢false (sym (c.is_empty.ensures.1 none) ∙ c.if-is_empty.false)) c.in_ok-place.ensures.place
+          (sym (batch_refusal_as (option_map g.M.MergeOperator.combine c.args.env.now.operator) (reach_of g.S.Store g.M.MergeOperator g.T.BlockTransformer c.args.env.now).meaning.combine (segments_by g.X.PrefixExtractor.lengths c.args.laws.now.segments) c.self.inside.segments c.self.inside.default_millis _ c.args.now c.args.batch (sym (combine_is g.M.MergeOperator.combine c.args.env.now.operator)) (to_z-of_z w64 c.args.now c.ranges.now)) ∙ c.in_ok-prefixes.ensures.tested) h;
+      plain = λ h. ap (λ o. record c.args.env.now { operator = o }) (c.rows_of_batch.ensures.plain h);
       outside = refl;
       call = asked_call g.S.Store g.M.MergeOperator g.T.BlockTransformer c.args.env.now c.rows_of_batch.new.operator c.rows_of_batch.ensures.same;
       reads = asked_reads g.S.Store g.M.MergeOperator g.T.BlockTransformer c.args.env.now c.rows_of_batch.new.operator c.rows_of_batch.ensures.same c.rows_of_batch.ensures.later;
@@ -279,6 +294,9 @@ returns-in_err-prefixes g c =
       limit = λ some below fine past. or_short (λ short. p.1 ∙ ap Err (p.2 ∙ short)) (λ test. none_some c.in_err-prefixes.field-0.0 (sym fine ∙ refusal_known (option_map g.M.MergeOperator.combine c.args.env.now.operator) (reach_of g.S.Store g.M.MergeOperator g.T.BlockTransformer c.args.env.now).meaning.combine (segments_by g.X.PrefixExtractor.lengths c.args.laws.now.segments) (view_of c.self.inside) c.args.self.now _ c.args.now c.args.batch _ (sym (combine_is g.M.MergeOperator.combine c.args.env.now.operator)) c.self.view_is (to_z-of_z w64 c.args.now c.ranges.now) test)) c.in_err-prefixes.ensures.cause;
       first = λ some lower e is. first_moved c.in_err-prefixes.field-0.0 e errors.OutOfMemory _ c.from_residual.result refl (p.1 ∙ ap Err p.2) (c.in_err-prefixes.ensures.first e (refusal_asked (option_map g.M.MergeOperator.combine c.args.env.now.operator) (reach_of g.S.Store g.M.MergeOperator g.T.BlockTransformer c.args.env.now).meaning.combine (segments_by g.X.PrefixExtractor.lengths c.args.laws.now.segments) (view_of c.self.inside) c.args.self.now _ c.args.now c.args.batch _ (sym (combine_is g.M.MergeOperator.combine c.args.env.now.operator)) c.self.view_is (to_z-of_z w64 c.args.now c.ranges.now) is));
       cause = rw (p.1, p.2) (cause_test (short_fault (reach_of g.S.Store g.M.MergeOperator g.T.BlockTransformer c.args.env.now) (reach_of g.S.Store g.M.MergeOperator g.T.BlockTransformer c.args.env.now) c.in_err-prefixes.field-0.0) (λ test. refusal_known (option_map g.M.MergeOperator.combine c.args.env.now.operator) (reach_of g.S.Store g.M.MergeOperator g.T.BlockTransformer c.args.env.now).meaning.combine (segments_by g.X.PrefixExtractor.lengths c.args.laws.now.segments) (view_of c.self.inside) c.args.self.now _ c.args.now c.args.batch _ (sym (combine_is g.M.MergeOperator.combine c.args.env.now.operator)) c.self.view_is (to_z-of_z w64 c.args.now c.ranges.now) test) c.in_err-prefixes.ensures.cause);
+      stay = stay_same c.args.self.now _ refl;
+      unasked = λ h. refl;
+      plain = λ h. refl;
       outside = refl;
       call = call_none _;
       reads = reads_none _;
@@ -305,6 +323,9 @@ returns-in_err-place g c =
       limit = λ some below fine past. inl (p.1 ∙ ap Err (p.2 ∙ limit.0));
       first = λ some lower e is. none_some e (sym (refusal_known (option_map g.M.MergeOperator.combine c.args.env.now.operator) (reach_of g.S.Store g.M.MergeOperator g.T.BlockTransformer c.args.env.now).meaning.combine (segments_by g.X.PrefixExtractor.lengths c.args.laws.now.segments) (view_of c.self.inside) c.args.self.now _ c.args.now c.args.batch _ (sym (combine_is g.M.MergeOperator.combine c.args.env.now.operator)) c.self.view_is (to_z-of_z w64 c.args.now c.ranges.now) c.in_ok-prefixes.ensures.tested) ∙ is);
       cause = rw (p.1, p.2) (inr (inr (inl (limit.0, past_place (view_of c.self.inside) c.args.self.now (unseen_of c.self.inside) 1 c.self.view_is c.self.invariant limit.1))));
+      stay = stay_same c.args.self.now _ refl;
+      unasked = λ h. refl;
+      plain = λ h. refl;
       outside = refl;
       call = call_none _;
       reads = reads_none _;
@@ -330,6 +351,9 @@ returns-in_err-reserve g c =
       limit = λ some below fine. placed (view_of c.self.inside) c.args.self.now (unseen_of c.self.inside) 1 c.self.view_is c.self.invariant c.in_ok-place.ensures.place;
       first = λ some lower e is. none_some e (sym (refusal_known (option_map g.M.MergeOperator.combine c.args.env.now.operator) (reach_of g.S.Store g.M.MergeOperator g.T.BlockTransformer c.args.env.now).meaning.combine (segments_by g.X.PrefixExtractor.lengths c.args.laws.now.segments) (view_of c.self.inside) c.args.self.now _ c.args.now c.args.batch _ (sym (combine_is g.M.MergeOperator.combine c.args.env.now.operator)) c.self.view_is (to_z-of_z w64 c.args.now c.ranges.now) c.in_ok-prefixes.ensures.tested) ∙ is);
       cause = rw (p.1, p.2) (inl tt);
+      stay = stay_room c.args.self.now _ (subst (λ (v : CoreModel). IsSame v (view_of (record c.self.inside { log = c.reserve.new.self }))) c.self.view_is (room_made c.self.inside c.reserve.new.self c.reserve.ensures.value));
+      unasked = λ h. refl;
+      plain = λ h. refl;
       outside = refl;
       call = call_none _;
       reads = reads_none _;
@@ -355,6 +379,11 @@ returns-in_err-rows g c =
       limit = λ some below fine. placed (view_of c.self.inside) c.args.self.now (unseen_of c.self.inside) 1 c.self.view_is c.self.invariant c.in_ok-place.ensures.place;
       first = λ some lower e is. none_some e (sym (refusal_known (option_map g.M.MergeOperator.combine c.args.env.now.operator) (reach_of g.S.Store g.M.MergeOperator g.T.BlockTransformer c.args.env.now).meaning.combine (segments_by g.X.PrefixExtractor.lengths c.args.laws.now.segments) (view_of c.self.inside) c.args.self.now _ c.args.now c.args.batch _ (sym (combine_is g.M.MergeOperator.combine c.args.env.now.operator)) c.self.view_is (to_z-of_z w64 c.args.now c.ranges.now) c.in_ok-prefixes.ensures.tested) ∙ is);
       cause = rw (p.1, p.2) (inl (either (short_fault (reach_of g.S.Store g.M.MergeOperator g.T.BlockTransformer c.args.env.now) (reach_of g.S.Store g.M.MergeOperator g.T.BlockTransformer (record c.args.env.now { operator = c.rows_of_batch.new.operator })) c.in_err-rows.field-0.0) (callback_fault (reach_of g.S.Store g.M.MergeOperator g.T.BlockTransformer c.args.env.now) (reach_of g.S.Store g.M.MergeOperator g.T.BlockTransformer (record c.args.env.now { operator = c.rows_of_batch.new.operator })) c.in_err-rows.field-0.0) c.in_err-rows.ensures.cause));
+      stay = stay_room c.args.self.now _ (subst (λ (v : CoreModel). IsSame v (view_of (record c.self.inside { log = c.reserve.new.self }))) c.self.view_is (room_made c.self.inside c.reserve.new.self c.reserve.ensures.value));
+      unasked = λ h. asked (view_of c.self.inside) c.args.self.now (unseen_of c.self.inside) (reach_of g.S.Store g.M.MergeOperator g.T.BlockTransformer c.args.env.now).meaning.combine (segments_by g.X.PrefixExtractor.lengths c.args.laws.now.segments) c.args.now c.args.batch c.self.view_is c.self.invariant below
+          (λ none. true≢false (sym (c.is_empty.ensures.1 none) ∙ c.if-is_empty.false)) c.in_ok-place.ensures.place
+          (sym (batch_refusal_as (option_map g.M.MergeOperator.combine c.args.env.now.operator) (reach_of g.S.Store g.M.MergeOperator g.T.BlockTransformer c.args.env.now).meaning.combine (segments_by g.X.PrefixExtractor.lengths c.args.laws.now.segments) c.self.inside.segments c.self.inside.default_millis _ c.args.now c.args.batch (sym (combine_is g.M.MergeOperator.combine c.args.env.now.operator)) (to_z-of_z w64 c.args.now c.ranges.now)) ∙ c.in_ok-prefixes.ensures.tested) h;
+      plain = λ h. ap (λ o. record c.args.env.now { operator = o }) (c.rows_of_batch.ensures.plain h);
       outside = refl;
       call = asked_call g.S.Store g.M.MergeOperator g.T.BlockTransformer c.args.env.now c.rows_of_batch.new.operator c.rows_of_batch.ensures.same;
       reads = asked_reads g.S.Store g.M.MergeOperator g.T.BlockTransformer c.args.env.now c.rows_of_batch.new.operator c.rows_of_batch.ensures.same c.rows_of_batch.ensures.later;
@@ -380,6 +409,11 @@ returns-in_err-ops g c =
       limit = λ some below fine. placed (view_of c.self.inside) c.args.self.now (unseen_of c.self.inside) 1 c.self.view_is c.self.invariant c.in_ok-place.ensures.place;
       first = λ some lower e is. none_some e (sym (refusal_known (option_map g.M.MergeOperator.combine c.args.env.now.operator) (reach_of g.S.Store g.M.MergeOperator g.T.BlockTransformer c.args.env.now).meaning.combine (segments_by g.X.PrefixExtractor.lengths c.args.laws.now.segments) (view_of c.self.inside) c.args.self.now _ c.args.now c.args.batch _ (sym (combine_is g.M.MergeOperator.combine c.args.env.now.operator)) c.self.view_is (to_z-of_z w64 c.args.now c.ranges.now) c.in_ok-prefixes.ensures.tested) ∙ is);
       cause = rw (p.1, p.2) (inl (short_fault (reach_of g.S.Store g.M.MergeOperator g.T.BlockTransformer c.args.env.now) (reach_of g.S.Store g.M.MergeOperator g.T.BlockTransformer (record c.args.env.now { operator = c.rows_of_batch.new.operator })) c.in_err-ops.field-0.0 c.in_err-ops.ensures.cause));
+      stay = stay_room c.args.self.now _ (subst (λ (v : CoreModel). IsSame v (view_of (record c.self.inside { log = c.reserve.new.self }))) c.self.view_is (room_made c.self.inside c.reserve.new.self c.reserve.ensures.value));
+      unasked = λ h. asked (view_of c.self.inside) c.args.self.now (unseen_of c.self.inside) (reach_of g.S.Store g.M.MergeOperator g.T.BlockTransformer c.args.env.now).meaning.combine (segments_by g.X.PrefixExtractor.lengths c.args.laws.now.segments) c.args.now c.args.batch c.self.view_is c.self.invariant below
+          (λ none. true≢false (sym (c.is_empty.ensures.1 none) ∙ c.if-is_empty.false)) c.in_ok-place.ensures.place
+          (sym (batch_refusal_as (option_map g.M.MergeOperator.combine c.args.env.now.operator) (reach_of g.S.Store g.M.MergeOperator g.T.BlockTransformer c.args.env.now).meaning.combine (segments_by g.X.PrefixExtractor.lengths c.args.laws.now.segments) c.self.inside.segments c.self.inside.default_millis _ c.args.now c.args.batch (sym (combine_is g.M.MergeOperator.combine c.args.env.now.operator)) (to_z-of_z w64 c.args.now c.ranges.now)) ∙ c.in_ok-prefixes.ensures.tested) h;
+      plain = λ h. ap (λ o. record c.args.env.now { operator = o }) (c.rows_of_batch.ensures.plain h);
       outside = refl;
       call = asked_call g.S.Store g.M.MergeOperator g.T.BlockTransformer c.args.env.now c.rows_of_batch.new.operator c.rows_of_batch.ensures.same;
       reads = asked_reads g.S.Store g.M.MergeOperator g.T.BlockTransformer c.args.env.now c.rows_of_batch.new.operator c.rows_of_batch.ensures.same c.rows_of_batch.ensures.later;
@@ -405,6 +439,11 @@ returns-in_err-keys g c =
       limit = λ some below fine. placed (view_of c.self.inside) c.args.self.now (unseen_of c.self.inside) 1 c.self.view_is c.self.invariant c.in_ok-place.ensures.place;
       first = λ some lower e is. none_some e (sym (refusal_known (option_map g.M.MergeOperator.combine c.args.env.now.operator) (reach_of g.S.Store g.M.MergeOperator g.T.BlockTransformer c.args.env.now).meaning.combine (segments_by g.X.PrefixExtractor.lengths c.args.laws.now.segments) (view_of c.self.inside) c.args.self.now _ c.args.now c.args.batch _ (sym (combine_is g.M.MergeOperator.combine c.args.env.now.operator)) c.self.view_is (to_z-of_z w64 c.args.now c.ranges.now) c.in_ok-prefixes.ensures.tested) ∙ is);
       cause = rw (p.1, p.2) (inl (short_fault (reach_of g.S.Store g.M.MergeOperator g.T.BlockTransformer c.args.env.now) (reach_of g.S.Store g.M.MergeOperator g.T.BlockTransformer (record c.args.env.now { operator = c.rows_of_batch.new.operator })) c.in_err-keys.field-0.0 c.in_err-keys.ensures.cause));
+      stay = stay_room c.args.self.now _ (subst (λ (v : CoreModel). IsSame v (view_of (record c.self.inside { log = c.reserve.new.self }))) c.self.view_is (room_made c.self.inside c.reserve.new.self c.reserve.ensures.value));
+      unasked = λ h. asked (view_of c.self.inside) c.args.self.now (unseen_of c.self.inside) (reach_of g.S.Store g.M.MergeOperator g.T.BlockTransformer c.args.env.now).meaning.combine (segments_by g.X.PrefixExtractor.lengths c.args.laws.now.segments) c.args.now c.args.batch c.self.view_is c.self.invariant below
+          (λ none. true≢false (sym (c.is_empty.ensures.1 none) ∙ c.if-is_empty.false)) c.in_ok-place.ensures.place
+          (sym (batch_refusal_as (option_map g.M.MergeOperator.combine c.args.env.now.operator) (reach_of g.S.Store g.M.MergeOperator g.T.BlockTransformer c.args.env.now).meaning.combine (segments_by g.X.PrefixExtractor.lengths c.args.laws.now.segments) c.self.inside.segments c.self.inside.default_millis _ c.args.now c.args.batch (sym (combine_is g.M.MergeOperator.combine c.args.env.now.operator)) (to_z-of_z w64 c.args.now c.ranges.now)) ∙ c.in_ok-prefixes.ensures.tested) h;
+      plain = λ h. ap (λ o. record c.args.env.now { operator = o }) (c.rows_of_batch.ensures.plain h);
       outside = refl;
       call = asked_call g.S.Store g.M.MergeOperator g.T.BlockTransformer c.args.env.now c.rows_of_batch.new.operator c.rows_of_batch.ensures.same;
       reads = asked_reads g.S.Store g.M.MergeOperator g.T.BlockTransformer c.args.env.now c.rows_of_batch.new.operator c.rows_of_batch.ensures.same c.rows_of_batch.ensures.later;
@@ -430,6 +469,11 @@ returns-in_err-put_batch g c =
       limit = λ some below fine. placed (view_of c.self.inside) c.args.self.now (unseen_of c.self.inside) 1 c.self.view_is c.self.invariant c.in_ok-place.ensures.place;
       first = λ some lower e is. none_some e (sym (refusal_known (option_map g.M.MergeOperator.combine c.args.env.now.operator) (reach_of g.S.Store g.M.MergeOperator g.T.BlockTransformer c.args.env.now).meaning.combine (segments_by g.X.PrefixExtractor.lengths c.args.laws.now.segments) (view_of c.self.inside) c.args.self.now _ c.args.now c.args.batch _ (sym (combine_is g.M.MergeOperator.combine c.args.env.now.operator)) c.self.view_is (to_z-of_z w64 c.args.now c.ranges.now) c.in_ok-prefixes.ensures.tested) ∙ is);
       cause = rw (p.1, p.2) (inl (short_fault (reach_of g.S.Store g.M.MergeOperator g.T.BlockTransformer c.args.env.now) (reach_of g.S.Store g.M.MergeOperator g.T.BlockTransformer (record c.args.env.now { operator = c.rows_of_batch.new.operator })) c.in_err-put_batch.field-0.0 c.in_err-put_batch.ensures.cause));
+      stay = stay_room c.args.self.now _ ((let y = c.in_err-put_batch.ensures.same_layers in let ps = c.in_err-put_batch.ensures.same_segments in λ i. view_of (record c.self.inside { log = c.reserve.new.self; layers = y i; segments = ps i })) ∙ subst (λ (v : CoreModel). IsSame v (view_of (record c.self.inside { log = c.reserve.new.self }))) c.self.view_is (room_made c.self.inside c.reserve.new.self c.reserve.ensures.value));
+      unasked = λ h. asked (view_of c.self.inside) c.args.self.now (unseen_of c.self.inside) (reach_of g.S.Store g.M.MergeOperator g.T.BlockTransformer c.args.env.now).meaning.combine (segments_by g.X.PrefixExtractor.lengths c.args.laws.now.segments) c.args.now c.args.batch c.self.view_is c.self.invariant below
+          (λ none. true≢false (sym (c.is_empty.ensures.1 none) ∙ c.if-is_empty.false)) c.in_ok-place.ensures.place
+          (sym (batch_refusal_as (option_map g.M.MergeOperator.combine c.args.env.now.operator) (reach_of g.S.Store g.M.MergeOperator g.T.BlockTransformer c.args.env.now).meaning.combine (segments_by g.X.PrefixExtractor.lengths c.args.laws.now.segments) c.self.inside.segments c.self.inside.default_millis _ c.args.now c.args.batch (sym (combine_is g.M.MergeOperator.combine c.args.env.now.operator)) (to_z-of_z w64 c.args.now c.ranges.now)) ∙ c.in_ok-prefixes.ensures.tested) h;
+      plain = λ h. ap (λ o. record c.args.env.now { operator = o }) (c.rows_of_batch.ensures.plain h);
       outside = refl;
       call = asked_call g.S.Store g.M.MergeOperator g.T.BlockTransformer c.args.env.now c.rows_of_batch.new.operator c.rows_of_batch.ensures.same;
       reads = asked_reads g.S.Store g.M.MergeOperator g.T.BlockTransformer c.args.env.now c.rows_of_batch.new.operator c.rows_of_batch.ensures.same c.rows_of_batch.ensures.later;
