@@ -47,6 +47,7 @@ pub mod PathsApart
 mod Puttings
 mod RunSoFar
 pub mod Filtered
+mod HeldOn
 mod Tables
 mod UnderOwn
 mod RunReads

@@ -1,10 +1,11 @@
 -- What is open stays open.
 use Rattle.std.proofs.Common.{◌≡◌, ◌≢◌, ℕ, ◌+◌, ◌<◌, ◌≤◌, ◌||◌, inl, inr, ℤ, Bool, true, false, cond, is_some, bytes_eq, List, [], ◌∷◌, ◌++◌, Option, Some, None, refl, sym, ap, subst, ◌∙◌, arith}
-use Rattle.std.specs.Prelude.{IsSome, Result, Ok, Err, OnOk, OnErr, count_by}
+use Rattle.std.specs.Prelude.{IsSome, Result, Ok, Err, IfOk, OnOk, OnErr, count_by}
 use Rattle.std.proofs.lemmas.Option.{same_Some}
 use Rattle.std.proofs.lemmas.Slice.Eq.{bytes_eq-Decides}
 use Rattle.slate_types.specs.declared.bytes_range.BytesRange.{BytesRange}
 use Rattle.slate_types.specs.declared.iter.IterationOrder.{IterationOrder}
+use Rattle.slate_types.specs.Outside.{Objects}
 use Rattle.slate_mem.specs.declared.WriteOp.{WriteOp}
 use Rattle.slate_mem.specs.Batch.{Ops}
 use Rattle.slate_txn.specs.declared.event.TranscriptStep.{TranscriptStep}
@@ -14,6 +15,9 @@ use Rattle.slate_txn.specs.State.{State, Tx, is_open}
 use Rattle.slate_txn.specs.Step.{Reader, is_scan, reader, reader_or_snapshot, tx_reader, with_op}
 use Rattle.slate_txn.proofs.OwnLaws.{count_more}
 use Rattle.slate_db.specs.Committed.{IsCommitted, IsEnded}
+use Rattle.slate_db.specs.Flushed.{IsFlushed, Layout, idle, stored}
+use Rattle.slate_db.specs.Frozen.{IsFrozen}
+use Rattle.slate_db.specs.Meaning.{Meaning}
 use Rattle.slate_db.specs.Model.{CoreModel, IsSame}
 use Rattle.slate_db.specs.Opened.{HasScan, HasSnapshot, HasTransaction, StayOpen, StayOpenBut, StaysOpen}
 use Rattle.slate_db.specs.Operated.{operated}
@@ -278,7 +282,7 @@ stay_released old new ended txns shown id apart = stays_by old new id (ap (find_
 pub unopened : (s : State) (id : List ℕ) → find_named id s.txns ≡ None → find_named id s.snapshots ≡ None → is_open s id ≡ false
 unopened s id none hidden = λ i. is_some (none i) || is_some (hidden i)
 
--- ---- writes and commits
+-- ---- writes, commits and flushes
 
 pub stay_written : (old new : CoreModel) (n : Option ℕ) (now : ℤ) (ops : Ops) → IsWritten old new n now ops → StayOpen old new
 stay_written old new None now ops is = stay_same old new is.1
@@ -290,3 +294,15 @@ stay_committed old new id (Some n) now t is = stay_ended old new id (ap (λ (c :
 
 pub stay_but_ended : (old new : CoreModel) (id : List ℕ) → IsEnded old new id → StayOpenBut id old new
 stay_but_ended old new id is = stay_ended old new id (ap (λ (c : CoreModel). c.state.txns) is) (ap (λ (c : CoreModel). c.state.snapshots) is)
+
+pub stay_frozen : (old new : CoreModel) → IsFrozen old new → StayOpen old new
+stay_frozen old new (inl (none, is)) = stay_same old new is
+stay_frozen old new (inr (some, is)) = stay_state old new (ap (λ (c : CoreModel). c.state) is)
+
+stay_flushed : (m : Meaning) (layout : Layout) (old new : CoreModel) (n : ℕ) (before after : Option Objects) → IsFlushed m layout old new n before after → StayOpen old new
+stay_flushed m layout old new n before after (idle empty is same) = stay_as old new (ap (λ (c : CoreModel). c.state.txns) is) (ap (λ (c : CoreModel). c.state.snapshots) is)
+stay_flushed m layout old new n before after (stored ts is made takes) = stay_as old new (ap (λ (c : CoreModel). c.state.txns) is) (ap (λ (c : CoreModel). c.state.snapshots) is)
+
+pub stay_installed : {E : Type 0} (r : Result ℕ E) (m : Meaning) (layout : Layout) (old between new : CoreModel) (before after : Option Objects) → IsFrozen old between → IfOk r (λ n. IsFlushed m layout between new n before after) → OnErr r (IsSame between new) → StayOpen old new
+stay_installed (Ok n) m layout old between new before after frozen ok err = stay_on old between new (stay_frozen old between frozen) (stay_flushed m layout between new n before after ok)
+stay_installed (Err e) m layout old between new before after frozen ok err = stay_on old between new (stay_frozen old between frozen) (stay_room between new err)

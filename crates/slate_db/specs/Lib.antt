@@ -33,6 +33,7 @@ pub mod Parts
 pub mod Answered
 pub mod Shown
 pub mod Readable
+pub mod HeldOn
 pub mod Vouched
 pub mod Scanned
 pub mod ScanLaws

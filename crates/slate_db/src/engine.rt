@@ -29,6 +29,7 @@ ghost use Rattle.slate_db.specs.Answered.{AddsActs, AddsTables};
 ghost use Rattle.slate_db.specs.Meaning.{Meaning, IsLawfulMeaning, rules_in, segments_by};
 ghost use Rattle.slate_db.specs.Frozen.{IsFrozen};
 ghost use Rattle.slate_db.specs.Flushed.{Flushes, IsFlushError, MayPut, NoPlace, NoPlaceToFlush, TooLarge, WantsOperator, events_of_flush, layout_of};
+ghost use Rattle.slate_db.specs.HeldOn.{FiltersOn, HoldsOn, TellsOn};
 ghost use Rattle.slate_db.specs.Load.{load, weight};
 ghost use Rattle.slate_db.specs.Installs.{Replays, installed, tables_of};
 ghost use Rattle.slate_db.specs.BatchTests.{IsTestRefusal, batch_refusal};
@@ -416,6 +417,10 @@ impl Core {
         ensures limit { NoPlaceToFlush self.old → result ≡ Err (SlateDBError.LimitReached LIMIT) }
         ensures cause { let reach = ⟦<EnvOf<S, M, T> as Outside>⟧.reach in IfErr result (IsFlushError (layout_of laws.now.options (map (λ p. meaning p) laws.now.policies.items) (segments_by X.lengths laws.now.segments)) (reach env.old) (reach env.new) self.old) }
         ensures puts { let reach = ⟦<EnvOf<S, M, T> as Outside>⟧.reach in Puts (reach env.old) (reach env.new) }
+        ensures stay { StayOpen self.old self.new }
+        ensures held { let reach = ⟦<EnvOf<S, M, T> as Outside>⟧.reach in HoldsOn (reach env.old) (reach env.new) self.old self.new }
+        ensures told { let reach = ⟦<EnvOf<S, M, T> as Outside>⟧.reach in OnOk result (TellsOn (reach env.old) (reach env.new) self.old self.new) }
+        ensures filtered { let reach = ⟦<EnvOf<S, M, T> as Outside>⟧.reach in FiltersOn (map (λ p. meaning p) laws.now.policies.items) (reach env.old).meaning self.old self.new }
     {
         self.place_for_flush()?;
         self.freeze()?;
@@ -461,6 +466,8 @@ impl Core {
             let m = (reach env.old).meaning in
             IfErr result (λ e. IsFault (reach env.old) (reach env.new) e ⊎ TooLarge m (layout_of laws.now.options (map (λ p. meaning p) laws.now.policies.items) (segments_by X.lengths laws.now.segments)) self.old e ⊎ WantsOperator m (memory self.old) e) }
         ensures puts { let reach = ⟦<EnvOf<S, M, T> as Outside>⟧.reach in Puts (reach env.old) (reach env.new) }
+        ensures held { let reach = ⟦<EnvOf<S, M, T> as Outside>⟧.reach in HoldsOn (reach env.old) (reach env.new) self.old self.new }
+        ensures told { let reach = ⟦<EnvOf<S, M, T> as Outside>⟧.reach in OnOk result (TellsOn (reach env.old) (reach env.new) self.old self.new) }
     {
         let barrier = self.barrier();
         self.log.reserve()?;

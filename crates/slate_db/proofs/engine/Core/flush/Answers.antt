@@ -15,6 +15,7 @@ use Rattle.slate_db.specs.Frozen.{IsFrozen}
 use Rattle.slate_db.specs.Flushed.{IsFlushError, Layout, TooLarge, WantsOperator, idle, layout_of}
 use Rattle.slate_db.specs.Meaning.{segments_by}
 use Rattle.slate_db.specs.Model.{CoreModel, memory}
+use Rattle.slate_db.specs.Readable.{AreFiltered}
 use Rattle.slate_db.specs.Sound.{IsKept}
 use Rattle.slate_db.specs.Log.{LIMIT, LogModel, IsLog, with_flush}
 use Rattle.slate_db.specs.View.{view_of, unseen_of, IsWholeInside}
@@ -22,6 +23,8 @@ use Rattle.slate_db.specs.Vouched.{IsVouchedFor}
 use Rattle.slate_db.proofs.Flushes.{kept_flushed, step_flush, frozen_settings, steps_after, steps_in, place_cause, freeze_cause, frozen_idle, none_frozen, installed_after, cause_after, too_large_before, wants_before, among_frozen, kept_behind, none_idle, never_missing, place_left, some_frozen, frozen_at_fault, no_fault, settled, all_taken, quiet_after}
 use Rattle.slate_db.proofs.Adding.{adds_same}
 use Rattle.slate_db.proofs.Built.{may_keep}
+use Rattle.slate_db.proofs.HeldOn.{filtered_still, filters_either, held_behind, held_still, tells_behind, tells_still}
+use Rattle.slate_db.proofs.Opened.{stay_as, stay_installed, stay_on, stay_same}
 use Rattle.slate_db.specs.Segmented.{IsSegmented}
 use Rattle.slate_db.proofs.SegmentRuns.{adds_runs, none_added}
 use Rattle.slate_db.proofs.Segmenting.{segmented_as, segmented_flushed, segmented_frozen}
@@ -77,6 +80,10 @@ returns-in_err-place_for_flush g c =
           no_fault LIMIT c.from_residual.result _ (p.1 ∙ ap Err p.2) (λ x. x) (inr c.in_err-place_for_flush.ensures.limit.0) h);
       full = λ h. refl;
       full_objects = λ h. refl;
+      stay = stay_same c.args.self.now _ refl;
+      held = held_still c.args.self.now.events _ _ _ refl refl;
+      told = IfOk-from_err c.from_residual.result _ c.from_residual.ensures.0;
+      filtered = λ h. h;
       vouched = IfOk-from_err c.from_residual.result _ c.from_residual.ensures.0;
       runs = λ k z. IfOk-from_err c.from_residual.result _ c.from_residual.ensures.0;
       segmented = λ h z. z;
@@ -110,6 +117,10 @@ returns-in_err-freeze g c =
           no_fault LIMIT c.from_residual-in_err-freeze.result _ (p.1 ∙ ap Err p.2) (λ x. x.0) c.in_err-freeze.ensures.cause h);
       full = λ h. c.in_err-freeze.ensures.same;
       full_objects = λ h. refl;
+      stay = stay_same c.args.self.now _ c.in_err-freeze.ensures.same;
+      held = held_still c.args.self.now.events _ _ _ (ap (λ (v : CoreModel). tables_of v.events) c.in_err-freeze.ensures.same) refl;
+      told = IfOk-from_err c.from_residual-in_err-freeze.result _ c.from_residual-in_err-freeze.ensures.0;
+      filtered = filtered_still (reach_of g.S.Store g.M.MergeOperator g.T.BlockTransformer c.args.env.now).meaning.encode (map (λ p. (goal.FilterPolicy-dyn g (p.vtable, p.value)).meaning p.value) c.args.laws.now.policies.items) c.args.self.now c.freeze.new.self c.in_err-freeze.ensures.same;
       vouched = IfOk-from_err c.from_residual-in_err-freeze.result _ c.from_residual-in_err-freeze.ensures.0;
       runs = λ k z. IfOk-from_err c.from_residual-in_err-freeze.result _ c.from_residual-in_err-freeze.ensures.0;
       segmented = λ h z. subst (λ (v : CoreModel). IsSegmented h v) (sym c.in_err-freeze.ensures.same) z;
@@ -193,6 +204,23 @@ pub returns-then-is_empty-clause-vouched : goal.returns-then-is_empty-clause-vou
 returns-then-is_empty-clause-vouched g c m other h =
     subst (λ (v : CoreModel). IsVouchedFor m v other) (sym (noted c.self.inside c.freeze.new.self c.note_flush.new.self c.self.view_is c.note_flush.ensures.value)) (c.in_ok-freeze.ensures.vouched m other h)
 
+pub returns-then-is_empty-clause-stay : goal.returns-then-is_empty-clause-stay
+returns-then-is_empty-clause-stay g c =
+    let is = noted c.self.inside c.freeze.new.self c.note_flush.new.self c.self.view_is c.note_flush.ensures.value in
+    stay_on c.args.self.now c.freeze.new.self _ c.freeze.ensures.stay (stay_as c.freeze.new.self _ (ap (λ (v : CoreModel). v.state.txns) is) (ap (λ (v : CoreModel). v.state.snapshots) is))
+
+pub returns-then-is_empty-clause-held : goal.returns-then-is_empty-clause-held
+returns-then-is_empty-clause-held g c = held_still c.args.self.now.events _ _ _
+    (ap (λ (l : LogModel). tables_of l.events) c.note_flush.ensures.value ∙ ap (λ (v : CoreModel). tables_of v.events) c.self.view_is ∙ frozen_tables c.args.self.now c.freeze.new.self c.in_ok-freeze.ensures.event) refl
+
+pub returns-then-is_empty-clause-told : goal.returns-then-is_empty-clause-told
+returns-then-is_empty-clause-told g c = tells_still c.args.self.now.events c.note_flush.new.self.events (g.S.Store.acts c.args.env.now.store.now) (g.S.Store.acts c.args.env.now.store.now)
+    (ap (λ (l : LogModel). tables_of l.events) c.note_flush.ensures.value ∙ ap (λ (v : CoreModel). tables_of v.events) c.self.view_is ∙ frozen_tables c.args.self.now c.freeze.new.self c.in_ok-freeze.ensures.event) refl
+
+pub returns-then-is_empty-clause-filtered : goal.returns-then-is_empty-clause-filtered
+returns-then-is_empty-clause-filtered g c h = subst (AreFiltered _ _)
+    (sym (ap (λ (l : LogModel). tables_of l.events) c.note_flush.ensures.value ∙ ap (λ (v : CoreModel). tables_of v.events) c.self.view_is ∙ frozen_tables c.args.self.now c.freeze.new.self c.in_ok-freeze.ensures.event)) h
+
 pub returns-then-is_empty-clause-puts : goal.returns-then-is_empty-clause-puts
 returns-then-is_empty-clause-puts g c = puts_none _
 
@@ -243,6 +271,10 @@ returns g c =
       frozen = frozen_at_fault c.install.result c.args.self.now c.freeze.new.self c.install.new.self c.in_ok-freeze.ensures.event c.install.ensures.same;
       full = λ h. absurd (omega (arith, c.in_ok-place_for_flush.ensures.place, h));
       full_objects = λ h. absurd (omega (arith, c.in_ok-place_for_flush.ensures.place, h));
+      held = held_behind c.args.self.now.events c.freeze.new.self.events c.install.new.self.events (g.S.Store.objects c.args.env.now.store.now) (g.S.Store.objects c.install.new.env.store.now) (frozen_tables c.args.self.now c.freeze.new.self c.in_ok-freeze.ensures.event) c.install.ensures.held;
+      told = tells_behind c.install.result c.args.self.now.events c.freeze.new.self.events c.install.new.self.events (g.S.Store.acts c.args.env.now.store.now) (g.S.Store.acts c.install.new.env.store.now) (frozen_tables c.args.self.now c.freeze.new.self c.in_ok-freeze.ensures.event) c.install.ensures.told;
+      filtered = filters_either c.install.result layout before after c.args.self.now c.freeze.new.self c.install.new.self c.in_ok-freeze.ensures.event c.install.ensures.installed c.install.ensures.same;
+      stay = stay_installed c.install.result before.meaning layout c.args.self.now c.freeze.new.self c.install.new.self before.objects after.objects c.in_ok-freeze.ensures.event c.install.ensures.installed c.install.ensures.same;
       vouched = vouched_flushed c.install.result c.args.self.now c.install.new.self steps same;
       runs = (λ k z.
           adds_runs c.install.result before.meaning layout c.args.self.now c.freeze.new.self c.install.new.self (g.S.Store.objects c.args.env.now.store.now) (g.S.Store.objects c.install.new.env.store.now) c.in_ok-freeze.ensures.event c.install.ensures.newest c.install.ensures.installed k.0 z);

@@ -16,12 +16,14 @@ use Rattle.slate_db.specs.Log.{IsLog, LogModel, with_install}
 use Rattle.slate_db.specs.Model.{CoreModel, IsSame, memory}
 use Rattle.slate_db.specs.Sound.{IsKept}
 use Rattle.slate_db.specs.View.{view_of, unseen_of, IsWholeInside}
+use Rattle.slate_db.specs.Whole.{IsWhole}
 use Rattle.slate_db.proofs.Adding.{adds_same}
 use Rattle.slate_db.proofs.Installs.{kept_install, can_flush, tables_of_parts, moved}
 use Rattle.slate_db.proofs.Built.{may_keep}
 use Rattle.slate_db.proofs.Keeps.{kept_same}
 use Rattle.slate_db.proofs.FlushLoads.{too_large_is}
 use Rattle.slate_db.proofs.Flushes.{among_idle, other_causes, wants_idle}
+use Rattle.slate_db.proofs.HeldOn.{held_flushed, held_refused, held_still, tells_flushed}
 use Rattle.slate_db.proofs.Logs.{has_place}
 use Rattle.slate_db.proofs.Puttings.{adds_installed}
 use Rattle.slate_db.proofs.RunSoFar.{put_may}
@@ -67,17 +69,23 @@ returns g c =
     moved (λ n b layers. AreTablesOfFlush m (layout_of c.args.laws.now.options (map (λ p. (goal.FilterPolicy-dyn g (p.vtable, p.value)).meaning p.value) c.args.laws.now.policies.items) (segments_by g.X.PrefixExtractor.lengths c.args.laws.now.segments)) n b layers c.in_ok-put.put.0)
     c.next_install-number.result (length (runs_of (view_of c.self.inside).events) + 1) c.barrier-barrier.result (least_start c.self.inside.log.last (view_of c.self.inside).state) (map (λ t. t.rows) c.frozen.result.now) (view_of c.self.inside).frozen
     (c.next_install-number.ensures ∙ ap (λ (l : LogModel). l.installs + 1) c.reserve.ensures.value ∙ ap (λ n. n + 1) c.self.invariant.log.installs) (c.barrier-barrier.ensures ∙ sym (ap start c.self.view_is) ∙ ap (λ n. least_start n (view_of c.self.inside).state) (sym c.self.invariant.log.last)) c.frozen.ensures c.in_ok-put.ensures.stored.made in
+    let installed : IsFlushed m (layout_of c.args.laws.now.options (map (λ p. (goal.FilterPolicy-dyn g (p.vtable, p.value)).meaning p.value) c.args.laws.now.policies.items) (segments_by g.X.PrefixExtractor.lengths c.args.laws.now.segments)) c.args.self.now (view_of (record c.self.inside { log = c.push_install.new.self; layers = c.install.new.self })) c.last.result (g.S.Store.objects c.args.env.now.store.now) (g.S.Store.objects c.stored.new.env.store.now) =
+    (
+    subst (λ (n : ℕ). IsFlushed m (layout_of c.args.laws.now.options (map (λ p. (goal.FilterPolicy-dyn g (p.vtable, p.value)).meaning p.value) c.args.laws.now.policies.items) (segments_by g.X.PrefixExtractor.lengths c.args.laws.now.segments)) c.args.self.now (view_of (record c.self.inside { log = c.push_install.new.self; layers = c.install.new.self })) n (g.S.Store.objects c.args.env.now.store.now) (g.S.Store.objects c.stored.new.env.store.now)) (sym (c.last.ensures ∙ ap (λ (l : LogModel). l.last) log))
+    (stored c.in_ok-put.put.0
+    (sym (ap view_of becomes) ∙ ap (λ (v : CoreModel). after_install v c.self.inside.log.last c.in_ok-put.put.0 c.push_install.new.self.spare) c.self.view_is)
+    (subst (λ (v : CoreModel). AreTablesOfFlush m (layout_of c.args.laws.now.options (map (λ p. (goal.FilterPolicy-dyn g (p.vtable, p.value)).meaning p.value) c.args.laws.now.policies.items) (segments_by g.X.PrefixExtractor.lengths c.args.laws.now.segments)) (length (runs_of v.events) + 1) (least_start c.self.inside.log.last v.state) v.frozen c.in_ok-put.put.0) c.self.view_is made)
+    c.in_ok-put.ensures.stored.taken)) in
+    let acts : AddsTables (tables_of c.args.self.now.events) (tables_of c.push_install.new.self.events) (g.S.Store.acts c.args.env.now.store.now) (g.S.Store.acts c.stored.new.env.store.now) =
+    (subst (λ (v : CoreModel). AddsTables (tables_of v.events) (tables_of c.push_install.new.self.events) (g.S.Store.acts c.args.env.now.store.now) (g.S.Store.acts c.stored.new.env.store.now)) c.self.view_is
+    (adds_installed c.self.inside.log.events c.push_install.new.self.events c.self.inside.log.last c.in_ok-put.put.0 (g.S.Store.acts c.args.env.now.store.now) (g.S.Store.acts c.stored.new.env.store.now)
+    (ap (λ (l : LogModel). l.events) log) c.in_ok-put.ensures.acts)) in
     record {
       newest = c.last.ensures ∙ ap (λ (l : LogModel). l.last) log ∙ c.self.invariant.log.last ∙ ap (λ (v : CoreModel). last_of v.settings.start_seq v.state.commits) c.self.view_is;
-      installed = (
-          subst (λ (n : ℕ). IsFlushed m (layout_of c.args.laws.now.options (map (λ p. (goal.FilterPolicy-dyn g (p.vtable, p.value)).meaning p.value) c.args.laws.now.policies.items) (segments_by g.X.PrefixExtractor.lengths c.args.laws.now.segments)) c.args.self.now (view_of (record c.self.inside { log = c.push_install.new.self; layers = c.install.new.self })) n (g.S.Store.objects c.args.env.now.store.now) (g.S.Store.objects c.stored.new.env.store.now)) (sym (c.last.ensures ∙ ap (λ (l : LogModel). l.last) log))
-          (stored c.in_ok-put.put.0
-          (sym (ap view_of becomes) ∙ ap (λ (v : CoreModel). after_install v c.self.inside.log.last c.in_ok-put.put.0 c.push_install.new.self.spare) c.self.view_is)
-          (subst (λ (v : CoreModel). AreTablesOfFlush m (layout_of c.args.laws.now.options (map (λ p. (goal.FilterPolicy-dyn g (p.vtable, p.value)).meaning p.value) c.args.laws.now.policies.items) (segments_by g.X.PrefixExtractor.lengths c.args.laws.now.segments)) (length (runs_of v.events) + 1) (least_start c.self.inside.log.last v.state) v.frozen c.in_ok-put.put.0) c.self.view_is made)
-          c.in_ok-put.ensures.stored.taken));
-      acts = (subst (λ (v : CoreModel). AddsTables (tables_of v.events) (tables_of c.push_install.new.self.events) (g.S.Store.acts c.args.env.now.store.now) (g.S.Store.acts c.stored.new.env.store.now)) c.self.view_is
-          (adds_installed c.self.inside.log.events c.push_install.new.self.events c.self.inside.log.last c.in_ok-put.put.0 (g.S.Store.acts c.args.env.now.store.now) (g.S.Store.acts c.stored.new.env.store.now)
-          (ap (λ (l : LogModel). l.events) log) c.in_ok-put.ensures.acts));
+      installed = installed;
+      acts = acts;
+      held = held_flushed m (layout_of c.args.laws.now.options (map (λ p. (goal.FilterPolicy-dyn g (p.vtable, p.value)).meaning p.value) c.args.laws.now.policies.items) (segments_by g.X.PrefixExtractor.lengths c.args.laws.now.segments)) c.args.self.now (view_of (record c.self.inside { log = c.push_install.new.self; layers = c.install.new.self })) (unseen_of c.self.inside) c.last.result _ _ (subst (λ (v : CoreModel). IsWhole v (unseen_of c.self.inside)) c.self.view_is c.self.invariant) installed;
+      told = tells_flushed m (layout_of c.args.laws.now.options (map (λ p. (goal.FilterPolicy-dyn g (p.vtable, p.value)).meaning p.value) c.args.laws.now.policies.items) (segments_by g.X.PrefixExtractor.lengths c.args.laws.now.segments)) c.args.self.now (view_of (record c.self.inside { log = c.push_install.new.self; layers = c.install.new.self })) (unseen_of c.self.inside) c.last.result _ _ _ _ (subst (λ (v : CoreModel). IsWhole v (unseen_of c.self.inside)) c.self.view_is c.self.invariant) installed acts;
       adds = c.stored.ensures.adds;
       same = tt;
       refused = tt;
@@ -119,19 +127,22 @@ pub returns-in_err-put : goal.returns-in_err-put
 returns-in_err-put g c =
     let p = err_from_is_err_and c.from_residual-in_err-put.result c.from_residual-in_err-put.ensures.1 in
     let m = (reach_of g.S.Store g.M.MergeOperator g.T.BlockTransformer c.args.env.now).meaning in
+    let same = (subst (λ (v : CoreModel). IsSame v (view_of (record c.self.inside { log = c.reserve.new.self }))) c.self.view_is (same_room c.self.inside c.reserve.new.self c.reserve.ensures.value)) in
+    let may = (let enc = (reach_of g.S.Store g.M.MergeOperator g.T.BlockTransformer c.args.env.now).meaning in
+    let barrier = c.barrier-barrier.ensures ∙ sym (ap start c.self.view_is) in
+    (subst (λ (v : CoreModel). MayFlush enc (layout_of c.args.laws.now.options (map (λ p. (goal.FilterPolicy-dyn g (p.vtable, p.value)).meaning p.value) c.args.laws.now.policies.items) (segments_by g.X.PrefixExtractor.lengths c.args.laws.now.segments)) v (g.S.Store.objects c.args.env.now.store.now) (g.S.Store.objects c.stored.new.env.store.now)) c.self.view_is
+    (moved (λ n b layers. MayTakeTables (AreSomeOfFlush enc (layout_of c.args.laws.now.options (map (λ p. (goal.FilterPolicy-dyn g (p.vtable, p.value)).meaning p.value) c.args.laws.now.policies.items) (segments_by g.X.PrefixExtractor.lengths c.args.laws.now.segments)) n b layers) (g.S.Store.objects c.args.env.now.store.now) (g.S.Store.objects c.stored.new.env.store.now))
+    c.next_install-number.result (length (runs_of (view_of c.self.inside).events) + 1) c.barrier-barrier.result (start (view_of c.self.inside)) (map (λ t. t.rows) c.frozen.result.now) (view_of c.self.inside).frozen
+    (c.next_install-number.ensures ∙ ap (λ (l : LogModel). l.installs + 1) c.reserve.ensures.value ∙ ap (λ n. n + 1) c.self.invariant.log.installs) barrier c.frozen.ensures c.in_err-put.ensures.refused))) in
     record {
       newest = IfOk-from_err c.from_residual-in_err-put.result _ c.from_residual-in_err-put.ensures.0;
       installed = IfOk-from_err c.from_residual-in_err-put.result _ c.from_residual-in_err-put.ensures.0;
       acts = IfOk-from_err c.from_residual-in_err-put.result _ c.from_residual-in_err-put.ensures.0;
       adds = c.stored.ensures.adds;
-      same = rw p.1 (subst (λ (v : CoreModel). IsSame v (view_of (record c.self.inside { log = c.reserve.new.self }))) c.self.view_is (same_room c.self.inside c.reserve.new.self c.reserve.ensures.value));
-      refused = (let enc = (reach_of g.S.Store g.M.MergeOperator g.T.BlockTransformer c.args.env.now).meaning in
-          let barrier = c.barrier-barrier.ensures ∙ sym (ap start c.self.view_is) in
-          rw p.1
-          (subst (λ (v : CoreModel). MayFlush enc (layout_of c.args.laws.now.options (map (λ p. (goal.FilterPolicy-dyn g (p.vtable, p.value)).meaning p.value) c.args.laws.now.policies.items) (segments_by g.X.PrefixExtractor.lengths c.args.laws.now.segments)) v (g.S.Store.objects c.args.env.now.store.now) (g.S.Store.objects c.stored.new.env.store.now)) c.self.view_is
-          (moved (λ n b layers. MayTakeTables (AreSomeOfFlush enc (layout_of c.args.laws.now.options (map (λ p. (goal.FilterPolicy-dyn g (p.vtable, p.value)).meaning p.value) c.args.laws.now.policies.items) (segments_by g.X.PrefixExtractor.lengths c.args.laws.now.segments)) n b layers) (g.S.Store.objects c.args.env.now.store.now) (g.S.Store.objects c.stored.new.env.store.now))
-          c.next_install-number.result (length (runs_of (view_of c.self.inside).events) + 1) c.barrier-barrier.result (start (view_of c.self.inside)) (map (λ t. t.rows) c.frozen.result.now) (view_of c.self.inside).frozen
-          (c.next_install-number.ensures ∙ ap (λ (l : LogModel). l.installs + 1) c.reserve.ensures.value ∙ ap (λ n. n + 1) c.self.invariant.log.installs) barrier c.frozen.ensures c.in_err-put.ensures.refused)));
+      same = rw p.1 same;
+      refused = rw p.1 may;
+      held = held_refused m (layout_of c.args.laws.now.options (map (λ p. (goal.FilterPolicy-dyn g (p.vtable, p.value)).meaning p.value) c.args.laws.now.policies.items) (segments_by g.X.PrefixExtractor.lengths c.args.laws.now.segments)) c.args.self.now (view_of (record c.self.inside { log = c.reserve.new.self })) (unseen_of c.self.inside) _ _ (subst (λ (v : CoreModel). IsWhole v (unseen_of c.self.inside)) c.self.view_is c.self.invariant) same may;
+      told = IfOk-from_err c.from_residual-in_err-put.result _ c.from_residual-in_err-put.ensures.0;
       kept = (λ k.
           kept_same m (view_of c.self.inside) (view_of (record c.self.inside { log = c.reserve.new.self })) (same_room c.self.inside c.reserve.new.self c.reserve.ensures.value) (subst (λ (v : CoreModel). IsKept m v) (sym c.self.view_is) k));
       kept_refused = rw p.1 (λ m k. kept_same m (view_of c.self.inside) (view_of (record c.self.inside { log = c.reserve.new.self })) (same_room c.self.inside c.reserve.new.self c.reserve.ensures.value) (subst (λ (v : CoreModel). IsKept m v) (sym c.self.view_is) k));
@@ -154,19 +165,22 @@ pub returns-in_err-install : goal.returns-in_err-install
 returns-in_err-install g c =
     let p = err_from_is_err_and c.from_residual-in_err-install.result c.from_residual-in_err-install.ensures.1 in
     let m = (reach_of g.S.Store g.M.MergeOperator g.T.BlockTransformer c.args.env.now).meaning in
+    let same = (subst (λ (v : CoreModel). IsSame v (view_of (record c.self.inside { log = c.reserve.new.self; layers = c.install.new.self }))) c.self.view_is (same_layers c.self.inside c.reserve.new.self c.install.new.self c.reserve.ensures.value c.in_err-install.ensures.same)) in
+    let may = (let enc = (reach_of g.S.Store g.M.MergeOperator g.T.BlockTransformer c.args.env.now).meaning in
+    let barrier = c.barrier-barrier.ensures ∙ sym (ap start c.self.view_is) in
+    (subst (λ (v : CoreModel). MayFlush enc (layout_of c.args.laws.now.options (map (λ p. (goal.FilterPolicy-dyn g (p.vtable, p.value)).meaning p.value) c.args.laws.now.policies.items) (segments_by g.X.PrefixExtractor.lengths c.args.laws.now.segments)) v (g.S.Store.objects c.args.env.now.store.now) (g.S.Store.objects c.stored.new.env.store.now)) c.self.view_is
+    (moved (λ n b layers. MayTakeTables (AreSomeOfFlush enc (layout_of c.args.laws.now.options (map (λ p. (goal.FilterPolicy-dyn g (p.vtable, p.value)).meaning p.value) c.args.laws.now.policies.items) (segments_by g.X.PrefixExtractor.lengths c.args.laws.now.segments)) n b layers) (g.S.Store.objects c.args.env.now.store.now) (g.S.Store.objects c.stored.new.env.store.now))
+    c.next_install-number.result (length (runs_of (view_of c.self.inside).events) + 1) c.barrier-barrier.result (start (view_of c.self.inside)) (map (λ t. t.rows) c.frozen.result.now) (view_of c.self.inside).frozen
+    (c.next_install-number.ensures ∙ ap (λ (l : LogModel). l.installs + 1) c.reserve.ensures.value ∙ ap (λ n. n + 1) c.self.invariant.log.installs) barrier c.frozen.ensures (put_may _ _ _ _ _ c.in_ok-put.put.0 c.in_ok-put.put.1.items _ _ c.in_ok-put.ensures.stored)))) in
     record {
       newest = IfOk-from_err c.from_residual-in_err-install.result _ c.from_residual-in_err-install.ensures.0;
       installed = IfOk-from_err c.from_residual-in_err-install.result _ c.from_residual-in_err-install.ensures.0;
       acts = IfOk-from_err c.from_residual-in_err-install.result _ c.from_residual-in_err-install.ensures.0;
       adds = c.stored.ensures.adds;
-      same = rw p.1 (subst (λ (v : CoreModel). IsSame v (view_of (record c.self.inside { log = c.reserve.new.self; layers = c.install.new.self }))) c.self.view_is (same_layers c.self.inside c.reserve.new.self c.install.new.self c.reserve.ensures.value c.in_err-install.ensures.same));
-      refused = (let enc = (reach_of g.S.Store g.M.MergeOperator g.T.BlockTransformer c.args.env.now).meaning in
-          let barrier = c.barrier-barrier.ensures ∙ sym (ap start c.self.view_is) in
-          rw p.1
-          (subst (λ (v : CoreModel). MayFlush enc (layout_of c.args.laws.now.options (map (λ p. (goal.FilterPolicy-dyn g (p.vtable, p.value)).meaning p.value) c.args.laws.now.policies.items) (segments_by g.X.PrefixExtractor.lengths c.args.laws.now.segments)) v (g.S.Store.objects c.args.env.now.store.now) (g.S.Store.objects c.stored.new.env.store.now)) c.self.view_is
-          (moved (λ n b layers. MayTakeTables (AreSomeOfFlush enc (layout_of c.args.laws.now.options (map (λ p. (goal.FilterPolicy-dyn g (p.vtable, p.value)).meaning p.value) c.args.laws.now.policies.items) (segments_by g.X.PrefixExtractor.lengths c.args.laws.now.segments)) n b layers) (g.S.Store.objects c.args.env.now.store.now) (g.S.Store.objects c.stored.new.env.store.now))
-          c.next_install-number.result (length (runs_of (view_of c.self.inside).events) + 1) c.barrier-barrier.result (start (view_of c.self.inside)) (map (λ t. t.rows) c.frozen.result.now) (view_of c.self.inside).frozen
-          (c.next_install-number.ensures ∙ ap (λ (l : LogModel). l.installs + 1) c.reserve.ensures.value ∙ ap (λ n. n + 1) c.self.invariant.log.installs) barrier c.frozen.ensures (put_may _ _ _ _ _ c.in_ok-put.put.0 c.in_ok-put.put.1.items _ _ c.in_ok-put.ensures.stored))));
+      same = rw p.1 same;
+      refused = rw p.1 may;
+      held = held_refused m (layout_of c.args.laws.now.options (map (λ p. (goal.FilterPolicy-dyn g (p.vtable, p.value)).meaning p.value) c.args.laws.now.policies.items) (segments_by g.X.PrefixExtractor.lengths c.args.laws.now.segments)) c.args.self.now (view_of (record c.self.inside { log = c.reserve.new.self; layers = c.install.new.self })) (unseen_of c.self.inside) _ _ (subst (λ (v : CoreModel). IsWhole v (unseen_of c.self.inside)) c.self.view_is c.self.invariant) same may;
+      told = IfOk-from_err c.from_residual-in_err-install.result _ c.from_residual-in_err-install.ensures.0;
       kept = (λ k.
           kept_same m (view_of c.self.inside) (view_of (record c.self.inside { log = c.reserve.new.self; layers = c.install.new.self })) (same_layers c.self.inside c.reserve.new.self c.install.new.self c.reserve.ensures.value c.in_err-install.ensures.same) (subst (λ (v : CoreModel). IsKept m v) (sym c.self.view_is) k));
       kept_refused = rw p.1 (λ m k. kept_same m (view_of c.self.inside) (view_of (record c.self.inside { log = c.reserve.new.self; layers = c.install.new.self })) (same_layers c.self.inside c.reserve.new.self c.install.new.self c.reserve.ensures.value c.in_err-install.ensures.same) (subst (λ (v : CoreModel). IsKept m v) (sym c.self.view_is) k));
@@ -185,6 +199,8 @@ returns-in_err-reserve g c =
       acts = IfOk-from_err c.from_residual.result _ c.from_residual.ensures.0;
       adds = adds_same _ _ refl;
       same = rw p.1 (subst (λ (v : CoreModel). IsSame v (view_of (record c.self.inside { log = c.reserve.new.self }))) c.self.view_is (same_room c.self.inside c.reserve.new.self c.reserve.ensures.value));
+      held = held_still c.args.self.now.events _ _ _ (ap (λ (l : LogModel). tables_of l.events) c.reserve.ensures.value ∙ ap (λ (v : CoreModel). tables_of v.events) c.self.view_is) refl;
+      told = IfOk-from_err c.from_residual.result _ c.from_residual.ensures.0;
       refused = rw p.1 (may_keep _ _ _ refl);
       kept = (λ k.
           kept_same m (view_of c.self.inside) (view_of (record c.self.inside { log = c.reserve.new.self })) (same_room c.self.inside c.reserve.new.self c.reserve.ensures.value) (subst (λ (v : CoreModel). IsKept m v) (sym c.self.view_is) k));
