@@ -48,6 +48,7 @@ mod Puttings
 mod RunSoFar
 pub mod Filtered
 mod HeldOn
+pub mod Settled
 mod Tables
 mod UnderOwn
 mod RunReads

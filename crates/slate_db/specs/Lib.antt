@@ -34,6 +34,7 @@ pub mod Answered
 pub mod Shown
 pub mod Readable
 pub mod HeldOn
+pub mod Settled
 pub mod Vouched
 pub mod Scanned
 pub mod ScanLaws

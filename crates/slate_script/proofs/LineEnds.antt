@@ -13,10 +13,11 @@ use Rattle.slate_db.specs.Sound.{IsKept}
 use Rattle.slate_db.specs.Parts.{IsTableError}
 use Rattle.slate_db.specs.Readable.{IsReadError, IsRefusedBy}
 use Rattle.slate_db.specs.Shown.{Asking}
+use Rattle.slate_db.specs.Settled.{IsSettled}
 use Rattle.slate_language.specs.Parse.{parse}
 use Rattle.slate_language.specs.Replies.{is_silent}
 use Rattle.slate_script.specs.Run.{is_line, IsPartError, IsPartCause}
-use Rattle.slate_script.specs.Session.{SessionModel, IsLimit, IsSettled, StoresNothing}
+use Rattle.slate_script.specs.Session.{SessionModel, IsLimit, StoresNothing}
 use Rattle.slate_script.proofs.Running.{not_damage}
 use Rattle.slate_script.proofs.SessionParts.{get_cause, get_shown}
 use Rattle.slate_script.proofs.SessionStores.{stays_settled}
@@ -36,8 +37,8 @@ pub keeps_settings : {V E : Type 0} (m : Meaning) (seg : Segments) (result : Res
 keeps_settings m seg (Ok v) e new stores = stores.settings
 keeps_settings m seg (Err x) e new stores = tt
 
-pub keeps_settled : {V E : Type 0} (result : Result V E) (policies : List Policy) (m : Meaning) (seg : Segments) (objects after : Option Objects) (e new : SessionModel) → after ≡ objects → OnOk result (StoresNothing m seg e new) → IsSettled policies m seg objects e → OnOk result (IsSettled policies m seg after new)
-keeps_settled (Ok v) policies m seg objects after e new same stores settled = subst (λ o. IsSettled policies m seg o new) (sym same) (stays_settled policies m seg objects e new stores settled)
+pub keeps_settled : {V E : Type 0} (result : Result V E) (policies : List Policy) (m : Meaning) (seg : Segments) (objects after : Option Objects) (e new : SessionModel) → after ≡ objects → OnOk result (StoresNothing m seg e new) → IsSettled policies m seg objects e.core → OnOk result (IsSettled policies m seg after new.core)
+keeps_settled (Ok v) policies m seg objects after e new same stores settled = subst (λ o. IsSettled policies m seg o new.core) (sym same) (stays_settled policies m seg objects e new stores settled)
 keeps_settled (Err x) policies m seg objects after e new same stores settled = tt
 
 -- ---- which errors

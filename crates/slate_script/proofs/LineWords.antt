@@ -15,13 +15,13 @@ use Rattle.slate_db.specs.Checked.{OrSlips}
 use Rattle.slate_db.specs.Flushed.{Layout}
 use Rattle.slate_db.specs.Parts.{IsTableError}
 use Rattle.slate_db.specs.Sound.{IsKept}
+use Rattle.slate_db.specs.Settled.{IsSettled, IsSettledIn}
 use Rattle.slate_language.specs.declared.reply.Answer.{Answer}
 use Rattle.slate_script.specs.Calls.Line.{Answers, AnswersByRead, AnswersWithin, AnswersByWrite}
-use Rattle.slate_script.specs.Session.{SessionModel, StepsAs, Grows, IsLimit, IsSettled, IsSettledIn, StoresNothing}
+use Rattle.slate_script.specs.Session.{SessionModel, StepsAs, Grows, IsLimit, StoresNothing}
 use Rattle.slate_script.specs.Told.{IsRefusedAt, IsUntrue, asking_for}
 use Rattle.slate_script.proofs.LineEnds.{keeps_core, keeps_settings, keeps_settled, limit_between, memory_or_limit, no_damage, no_error, or_damage, or_limit, stores_at}
 use Rattle.slate_script.proofs.Running.{not_damage}
-use Rattle.slate_script.proofs.SessionParts.{settled_answered, settled_readable, true_answered}
 use Rattle.slate_script.proofs.SessionScans.{scan_limit}
 use Rattle.slate_script.proofs.Slips.{adds_reads, always_holds}
 use Rattle.slate_script.proofs.TablesAlone.{stays_where}
@@ -33,12 +33,12 @@ of_line {layout = layout} {before = before} {after = after} {old = old} {new = n
 
 -- a line that stores nothing, and puts nothing
 quiet : (layout : Layout) (line : Line) (before after : Reach) (old new : SessionModel) (result : Result Answer SlateDBError) →
-    (IsSettledIn layout.policies layout.segments before old → StepsAs before.meaning layout.segments old new line result) →
-    ((os : Objects) → IsSettled layout.policies before.meaning layout.segments (Some os) old → OrSlips os before after (StepsAs before.meaning layout.segments old new line result)) →
+    (IsSettledIn layout.policies layout.segments before old.core → StepsAs before.meaning layout.segments old new line result) →
+    ((os : Objects) → IsSettled layout.policies before.meaning layout.segments (Some os) old.core → OrSlips os before after (StepsAs before.meaning layout.segments old new line result)) →
     OnOk result (StoresNothing before.meaning layout.segments old new) → OnOk result (Grows line old new) →
     IfErr result (λ e. IsFault before after e ⊎ IsLimit old e ⊎ IsTableError e) →
-    (IsSettledIn layout.policies layout.segments before old → IfErr result (λ e. IsFault before after e ⊎ IsLimit old e)) →
-    ((os : Objects) → IsSettled layout.policies before.meaning layout.segments (Some os) old → IfErr result (λ e. IsTableError e → IsUntrue os before.acts after.acts)) →
+    (IsSettledIn layout.policies layout.segments before old.core → IfErr result (λ e. IsFault before after e ⊎ IsLimit old e)) →
+    ((os : Objects) → IsSettled layout.policies before.meaning layout.segments (Some os) old.core → IfErr result (λ e. IsTableError e → IsUntrue os before.acts after.acts)) →
     IfErr result (λ e. IsTableError e → Made before after (λ reads. IsRefusedAt layout.policies line before.meaning old.core reads e)) → OnlyReads before after →
     Answers layout line before after old new result
 quiet layout line before after old new result step checked stores grows cause undamaged untrue shown reads = record {
@@ -70,7 +70,7 @@ within_answers layout line reach old new result a =
     (λ os settled. no_damage _ result reach.faults reach.faults old cause) (no_error _ result reach.faults reach.faults old cause) (reads_none reach)
 
 -- given: had of a settled session
-pub write_answers : {given : Type 0} (layout : Layout) (line : Line) (before after : Reach) (old new : SessionModel) (result : Result Answer SlateDBError) → ((objects : Option Objects) → IsSettled layout.policies before.meaning layout.segments objects old → given) →
+pub write_answers : {given : Type 0} (layout : Layout) (line : Line) (before after : Reach) (old new : SessionModel) (result : Result Answer SlateDBError) → ((objects : Option Objects) → IsSettled layout.policies before.meaning layout.segments objects old.core → given) →
     AnswersByWrite given layout.segments line before after old new result → Answers layout line before after old new result
 write_answers layout line before after old new result given a =
     quiet layout line before after old new result (λ settled. a.step (given before.objects settled)) (λ os settled. always_holds _ os before after (a.step (given (Some os) settled)))
@@ -94,10 +94,10 @@ read_shown policies line (Err x) before after e (inr made) = λ error. made
 
 pub read_answers : (layout : Layout) (line : Line) (before after : Reach) (old new : SessionModel) (result : Result Answer SlateDBError) → AnswersByRead layout.policies line before after old new result → Answers layout line before after old new result
 read_answers layout line before after old new result a =
-    quiet layout line before after old new result (λ settled. a.step (settled_answered layout.policies before after old settled) layout.segments) (λ os settled. a.checked os (settled_readable layout.policies before.meaning os old settled) layout.segments)
+    quiet layout line before after old new result (λ settled. a.step (settled_answered layout.policies before after old.core settled) layout.segments) (λ os settled. a.checked os (settled_readable layout.policies before.meaning os old.core settled) layout.segments)
     (stores_at result before.meaning layout.segments old new a.stores) a.grows (read_cause layout.policies line result before after old a.cause)
-    (λ settled. or_limit result before.faults after.faults old (a.undamaged (settled_answered layout.policies before after old settled)))
-    (λ os settled. untrue_get result os before.acts after.acts before.faults after.faults a.reads.acts (λ answers. a.undamaged (true_answered layout.policies before after os old settled (inr answers))))
+    (λ settled. or_limit result before.faults after.faults old (a.undamaged (settled_answered layout.policies before after old.core settled)))
+    (λ os settled. untrue_get result os before.acts after.acts before.faults after.faults a.reads.acts (λ answers. a.undamaged (true_answered layout.policies before after os old.core settled (inr answers))))
     (read_shown layout.policies line result before after old a.cause) a.reads
 
 -- sound: which error it is, where what is kept of the rows holds

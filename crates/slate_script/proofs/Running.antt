@@ -16,25 +16,26 @@ use Rattle.slate_db.specs.Parts.{IsTableError}
 use Rattle.slate_db.specs.Readable.{AreFiltered}
 use Rattle.slate_db.specs.Segmented.{IsSegmented}
 use Rattle.slate_db.specs.Sound.{IsKept}
+use Rattle.slate_db.specs.Settled.{HasTables, IsSettled}
 use Rattle.slate_language.specs.Parse.{parse}
 use Rattle.slate_script.specs.Run.{run_rules, Premises}
-use Rattle.slate_script.specs.Session.{SessionModel, HasTables, IsSettled, IsRunning, has_moment}
+use Rattle.slate_script.specs.Session.{SessionModel, IsRunning, has_moment}
 use Rattle.slate_language.specs.Grammar.{IsLine}
 use Rattle.slate_language.proofs.ParseOnly.{parse_only}
 
-pub is_settled : {policies : List Policy} {m : Meaning} {seg : Segments} {r : Rules} {parts : Meaning} {objects : Option Objects} {e : SessionModel} → IsRunning policies m seg r parts objects e → IsSettled policies parts seg objects e
-is_settled {policies = policies} {seg = seg} {objects = objects} {e = e} h = subst (λ (x : Meaning). IsSettled policies x seg objects e) (sym h.meaning) h.settled
+pub is_settled : {policies : List Policy} {m : Meaning} {seg : Segments} {r : Rules} {parts : Meaning} {objects : Option Objects} {e : SessionModel} → IsRunning policies m seg r parts objects e → IsSettled policies parts seg objects e.core
+is_settled {policies = policies} {seg = seg} {objects = objects} {e = e} h = subst (λ (x : Meaning). IsSettled policies x seg objects e.core) (sym h.meaning) h.settled
 
 pub its_rules : {policies : List Policy} {m : Meaning} {seg : Segments} {r : Rules} {parts : Meaning} {objects : Option Objects} {e : SessionModel} → IsRunning policies m seg r parts objects e → rules_in e.core.settings parts seg ≡ r
 its_rules {seg = seg} {e = e} h = ap (λ x. rules_in e.core.settings x seg) h.meaning ∙ h.rules
 
 -- a line later
 pub runs_on : {policies : List Policy} {m : Meaning} {seg : Segments} {r : Rules} {parts now : Meaning} {objects after : Option Objects} {e new : SessionModel} → IsRunning policies m seg r parts objects e → now ≡ parts → new.core.settings ≡ e.core.settings →
-    IsSettled policies parts seg after new → IsRunning policies m seg r now after new
+    IsSettled policies parts seg after new.core → IsRunning policies m seg r now after new
 runs_on {policies = policies} {m = m} {seg = seg} {after = after} {new = new} h same settings settled = record {
   meaning = same ∙ h.meaning;
   rules = ap (λ x. rules_in x m seg) settings ∙ h.rules;
-  settled = subst (λ (x : Meaning). IsSettled policies x seg after new) h.meaning settled;
+  settled = subst (λ (x : Meaning). IsSettled policies x seg after new.core) h.meaning settled;
 }
 
 -- ---- the beginning

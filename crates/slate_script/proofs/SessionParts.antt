@@ -1,17 +1,15 @@
 -- What a call of the core says of the parts, in the words of a run.
-use Rattle.std.proofs.Common.{◌≡◌, ℕ, List, [], ◌∷◌, suc, ◌≤◌, ◌<◌, ◌+◌, ◌-◌, ◌^◌, ◌⊎◌, inl, inr, Option, Some, None, Result, Ok, Err, refl, sym, ◌∙◌, arith}
+use Rattle.std.proofs.Common.{◌≡◌, ℕ, List, [], ◌∷◌, suc, ◌≤◌, ◌<◌, ◌+◌, ◌-◌, ◌^◌, ◌⊎◌, inl, inr, Result, Ok, Err, sym, ◌∙◌, arith}
 use Rattle.std.specs.Prelude.{◌≢◌}
 use Rattle.std.proofs.Math.Nat.{lt_of_not-le}
 use Rattle.slate_types.specs.declared.error.SlateDBError.{SlateDBError}
 use Rattle.slate_types.specs.declared.error.SlateDBError.TheVariants.{MergeOperatorMissing}
-use Rattle.slate_types.specs.Outside.{Meaning, Objects, IsFault, Reach}
+use Rattle.slate_types.specs.Outside.{Objects, IsFault, Reach}
 use Rattle.slate_filter.specs.Policy.{Policy}
 use Rattle.slate_table.specs.TableBuilding.{max_blocks}
-use Rattle.slate_mem.specs.KeyTests.{Segments}
 use Rattle.slate_db.specs.Answered.{AnswersFrom}
 use Rattle.slate_db.specs.Checked.{ChecksFrom, OrSlips}
 use Rattle.slate_db.specs.Flushed.{IsFlushError, Layout, events_of_flush}
-use Rattle.slate_db.specs.Installs.{HoldsTables}
 use Rattle.slate_types.specs.World.{Made}
 use Rattle.slate_db.specs.Readable.{IsAnswered, IsReadable, IsReadError, IsRefusedBy}
 use Rattle.slate_db.specs.Model.{CoreModel, Rows}
@@ -21,7 +19,7 @@ use Rattle.slate_script.proofs.Running.{not_damage}
 use Rattle.slate_script.proofs.Slips.{holds_as}
 use Rattle.slate_db.specs.Parts.{IsTableError}
 use Rattle.slate_db.specs.Log.{LIMIT}
-use Rattle.slate_script.specs.Session.{SessionModel, IsLimit, IsSettled, IsSettledIn, held_load}
+use Rattle.slate_script.specs.Session.{SessionModel, IsLimit, held_load}
 
 two_at_most : (active : Rows) (layers : List Rows) → events_of_flush active layers ≤ 2
 two_at_most [] [] = omega arith
@@ -56,20 +54,7 @@ pub get_shown : (by : Asking) (before after : Reach) (c : CoreModel) (e : SlateD
 get_shown by before after c e (inl fault) error = absurd (not_damage {X = Unit {0}} before.faults after.faults e (inl fault) error)
 get_shown by before after c e (inr made) error = made
 
--- ---- what a settled session reads
-
-pub settled_readable : (policies : List Policy) (m : Meaning) {seg : Segments} (os : Objects) (e : SessionModel) → IsSettled policies m seg (Some os) e → IsReadable policies m os e.core
-settled_readable policies m os e settled = record { lawful = settled.lawful; lawful_policies = settled.lawful_policies; filtered = settled.filtered; kept = settled.kept; holds = settled.tables.holds }
-
-pub true_answered : (policies : List Policy) {seg : Segments} (before after : Reach) (os : Objects) (e : SessionModel) → IsSettled policies before.meaning seg (Some os) e → AnswersFrom os before after → IsAnswered policies before after e.core
-true_answered policies before after os e settled answers = record { os = os; readable = settled_readable policies before.meaning os e settled; answers = answers }
-
-pub settled_answered : (policies : List Policy) {seg : Segments} (before after : Reach) (e : SessionModel) → IsSettledIn policies seg before e → IsAnswered policies before after e.core
-settled_answered policies before after e settled = by before.objects refl settled.tables.holds
-  where
-    by : (objects : Option Objects) → before.objects ≡ objects → HoldsTables objects e.core.events → IsAnswered policies before after e.core
-    by None is held = absurd held
-    by (Some os) is held = record { os = os; readable = record { lawful = settled.lawful; lawful_policies = settled.lawful_policies; filtered = settled.filtered; kept = settled.kept; holds = held }; answers = inl is }
+-- ---- what a session reads
 
 -- what holds where each read was answered by the objects holds, or a section slipped
 pub checked_reads : (P : Type 0) (policies : List Policy) (os : Objects) (before after : Reach) (c : CoreModel) → IsReadable policies before.meaning os c → (IsAnswered policies before after c → P) → ChecksFrom os before after → OrSlips os before after P

@@ -20,7 +20,8 @@ use Rattle.slate_db.specs.Readable.{AreFiltered}
 use Rattle.slate_db.specs.Log.{LIMIT}
 use Rattle.slate_db.specs.Segmented.{IsSegmented}
 use Rattle.slate_db.specs.Sound.{IsKept}
-use Rattle.slate_script.specs.Session.{SessionModel, HasTables, IsSettled, StoresNothing}
+use Rattle.slate_db.specs.Settled.{HasTables, IsSettled}
+use Rattle.slate_script.specs.Session.{SessionModel, StoresNothing}
 use Rattle.slate_db.proofs.Runs.{are_placed}
 use Rattle.slate_db.proofs.RunsOf.{runs_more, runs_same, tables_are}
 use Rattle.slate_db.proofs.Logs.{numbered_more, tables_more, tables_same}
@@ -119,7 +120,7 @@ flushed_filtered m layout old mid new n before after frozen flushed h = by flush
         (filtered_both m.encode layout.policies (tables_of mid.events) ts here (built_filtered m.encode layout _ 0 made.parts ts made.built))
 
 pub flush_settled : (m : Meaning) (seg : Segments) (layout : Layout) (objects after : Option Objects) (e : SessionModel) (mid core : CoreModel) (n : ℕ) → IsFrozen e.core mid → IsFlushed m layout mid core n objects after → length e.core.events ≤ LIMIT →
-    (IsKept m e.core → IsKept m core) → (IsSegmented seg e.core → IsSegmented seg core) → IsSettled layout.policies m seg objects e → IsSettled layout.policies m seg after (record e { core = core })
+    (IsKept m e.core → IsKept m core) → (IsSegmented seg e.core → IsSegmented seg core) → IsSettled layout.policies m seg objects e.core → IsSettled layout.policies m seg after core
 flush_settled m seg layout objects after e mid core n frozen flushed room kept segmented h = record {
   lawful_policies = h.lawful_policies;
   lawful = h.lawful;
@@ -133,7 +134,7 @@ flush_settled m seg layout objects after e mid core n frozen flushed room kept s
 pub tables_still : {m : Meaning} {seg : Segments} (e new : SessionModel) → StoresNothing m seg e new → tables_of new.core.events ≡ tables_of e.core.events
 tables_still e new s = same_tables new.core.events e.core.events s.runs
 
-pub stays_settled : (policies : List Policy) (m : Meaning) (seg : Segments) (objects : Option Objects) (e new : SessionModel) → StoresNothing m seg e new → IsSettled policies m seg objects e → IsSettled policies m seg objects new
+pub stays_settled : (policies : List Policy) (m : Meaning) (seg : Segments) (objects : Option Objects) (e new : SessionModel) → StoresNothing m seg e new → IsSettled policies m seg objects e.core → IsSettled policies m seg objects new.core
 stays_settled policies m seg objects e new s h = record {
   lawful_policies = h.lawful_policies;
   lawful = h.lawful;

@@ -12,8 +12,9 @@ use Rattle.slate_table.specs.Parts.{Encode}
 use Rattle.slate_store.specs.Lying.{after_act, after_acts}
 use Rattle.slate_db.specs.Answered.{AddsActs}
 use Rattle.slate_db.specs.Checked.{OrSlips, AnySlips, SlipsFrom}
+use Rattle.slate_db.specs.Settled.{IsSettled}
 use Rattle.slate_db.proofs.Checks.{slipped_front, slips_first, slips_last}
-use Rattle.slate_script.specs.Session.{SessionModel, IsSettled}
+use Rattle.slate_script.specs.Session.{SessionModel}
 use Rattle.slate_script.specs.Told.{Follows}
 
 -- ---- acts
@@ -69,7 +70,7 @@ slips_between P Q os a b c first last checked later = λ known began. by known b
 
 -- a line behind others: it is asked of the objects as those left them
 pub slips_on : (P Q R : Type 0) (policies : List Policy) (seg : Segments) (e : SessionModel) (a b c : Reach) → b.meaning ≡ a.meaning → Follows policies a.meaning seg [] e a.acts b.acts → AddsActs b.acts c.acts → OrSlips [] a b P →
-    ((os : Objects) → IsSettled policies a.meaning seg (Some os) e → OrSlips os b c Q) → (P → Q → R) → OrSlips [] a c R
+    ((os : Objects) → IsSettled policies a.meaning seg (Some os) e.core → OrSlips os b c Q) → (P → Q → R) → OrSlips [] a c R
 slips_on P Q R policies seg e a b c same follows adds checked line both = λ known began. by known began (checked known began)
   where
     behind : (known acts : List Act) → a.acts ≡ Some known → b.acts ≡ Some (known ++ acts) → P → Q ⊎ SlipsFrom b.meaning.encode (after_acts [] acts) b.acts c.acts → R ⊎ SlipsFrom a.meaning.encode [] a.acts c.acts

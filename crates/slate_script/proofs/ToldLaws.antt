@@ -25,7 +25,8 @@ use Rattle.slate_db.specs.Parts.{IsTableError}
 use Rattle.slate_db.specs.Segmented.{IsSegmented}
 use Rattle.slate_db.specs.Sound.{IsKept}
 use Rattle.slate_db.specs.Log.{LIMIT}
-use Rattle.slate_script.specs.Session.{SessionModel, IsSettled, StoresNothing}
+use Rattle.slate_db.specs.Settled.{IsSettled}
+use Rattle.slate_script.specs.Session.{SessionModel, StoresNothing}
 use Rattle.slate_script.specs.Told.{ArePut, AreTrue, Follows, IsRefusedAt, IsShownAtEnd, IsShownBy, IsUntrue, PutsTables}
 use Rattle.slate_store.specs.Lying.{after_act, after_acts}
 use Rattle.slate_db.proofs.Logs.{tables_more}
@@ -57,18 +58,18 @@ true_behind os (a ∷ acts) more h = true_behind (after_act os a) acts more h.1
 
 -- ---- one line
 
-pub follows_itself : (policies : List Policy) (m : Meaning) (seg : Segments) (os : Objects) (e : SessionModel) (acts : Option (List Act)) → IsSettled policies m seg (Some os) e → Follows policies m seg os e acts acts
+pub follows_itself : (policies : List Policy) (m : Meaning) (seg : Segments) (os : Objects) (e : SessionModel) (acts : Option (List Act)) → IsSettled policies m seg (Some os) e.core → Follows policies m seg os e acts acts
 follows_itself policies m seg os e acts settled known is = ([], is ∙ ap (λ (l : List Act). Some l) (sym (append-nil known)), settled)
 
-pub follows_still : {V E : Type 0} (result : Result V E) (policies : List Policy) (m : Meaning) (seg : Segments) (os : Objects) (e new : SessionModel) (acts : Option (List Act)) → OnOk result (StoresNothing m seg e new) → IsSettled policies m seg (Some os) e → OnOk result (Follows policies m seg os new acts acts)
+pub follows_still : {V E : Type 0} (result : Result V E) (policies : List Policy) (m : Meaning) (seg : Segments) (os : Objects) (e new : SessionModel) (acts : Option (List Act)) → OnOk result (StoresNothing m seg e new) → IsSettled policies m seg (Some os) e.core → OnOk result (Follows policies m seg os new acts acts)
 follows_still (Ok v) policies m seg os e new acts stores settled = follows_itself policies m seg os new acts (stays_settled policies m seg (Some os) e new stores settled)
 follows_still (Err x) policies m seg os e new acts stores settled = tt
 
-pub follows_reads : {V E : Type 0} (result : Result V E) (policies : List Policy) (m : Meaning) (seg : Segments) (os : Objects) (e new : SessionModel) (before after : Option (List Act)) → AddsReads before after → OnOk result (StoresNothing m seg e new) → IsSettled policies m seg (Some os) e →
+pub follows_reads : {V E : Type 0} (result : Result V E) (policies : List Policy) (m : Meaning) (seg : Segments) (os : Objects) (e new : SessionModel) (before after : Option (List Act)) → AddsReads before after → OnOk result (StoresNothing m seg e new) → IsSettled policies m seg (Some os) e.core →
     OnOk result (Follows policies m seg os new before after)
 follows_reads (Ok v) policies m seg os e new before after adds stores settled = λ known is.
     let r = adds known is in
-    (r.0, r.1, subst (λ (x : Objects). IsSettled policies m seg (Some x) new) (sym (reads_keep os r.0 r.2)) (stays_settled policies m seg (Some os) e new stores settled))
+    (r.0, r.1, subst (λ (x : Objects). IsSettled policies m seg (Some x) new.core) (sym (reads_keep os r.0 r.2)) (stays_settled policies m seg (Some os) e new stores settled))
 follows_reads (Err x) policies m seg os e new before after adds stores settled = tt
 
 -- the puts of tables, as acts
@@ -96,7 +97,7 @@ puts_are (t ∷ ts) before = (
     more (u ∷ us) t = ap (λ (acts : List Act). Act.put (path_of root u.0.0) u.1 ∷ acts) (more us t)
 
 pub follows_flush : (m : Meaning) (seg : Segments) (layout : Layout) (os : Objects) (objects left : Option Objects) (e : SessionModel) (mid core : CoreModel) (n : ℕ) (before after : Option (List Act)) → IsFrozen e.core mid → IsFlushed m layout mid core n objects left →
-    AddsTables (tables_of e.core.events) (tables_of core.events) before after → length e.core.events ≤ LIMIT → (IsKept m e.core → IsKept m core) → (IsSegmented seg e.core → IsSegmented seg core) → IsSettled layout.policies m seg (Some os) e → Follows layout.policies m seg os (record e { core = core }) before after
+    AddsTables (tables_of e.core.events) (tables_of core.events) before after → length e.core.events ≤ LIMIT → (IsKept m e.core → IsKept m core) → (IsSegmented seg e.core → IsSegmented seg core) → IsSettled layout.policies m seg (Some os) e.core → Follows layout.policies m seg os (record e { core = core }) before after
 follows_flush m seg layout os objects left e mid core n before after frozen flushed (us, grown, acts) room kept segmented settled known told = by flushed
   where
     new : SessionModel
@@ -105,14 +106,14 @@ follows_flush m seg layout os objects left e mid core n before after frozen flus
     same : tables_of mid.events ≡ tables_of e.core.events
     same = same_tables mid.events e.core.events (leaves_frozen e.core mid frozen).runs
 
-    settles : (ts : List (Ulid × List ℕ)) → us ≡ ts → IsSettled layout.policies m seg (Some (with_tables os ts)) new → (more : List Act) × (after ≡ Some (known ++ more)) × IsSettled layout.policies m seg (Some (after_acts os more)) new
+    settles : (ts : List (Ulid × List ℕ)) → us ≡ ts → IsSettled layout.policies m seg (Some (with_tables os ts)) new.core → (more : List Act) × (after ≡ Some (known ++ more)) × IsSettled layout.policies m seg (Some (after_acts os more)) new.core
     settles ts it s = (
       put_acts us,
       puts_told us before after known acts told,
-      subst (λ (x : Objects). IsSettled layout.policies m seg (Some x) new) (sym (puts_objects os us ∙ ap (with_tables os) it)) s,
+      subst (λ (x : Objects). IsSettled layout.policies m seg (Some x) new.core) (sym (puts_objects os us ∙ ap (with_tables os) it)) s,
     )
 
-    by : IsFlushed m layout mid core n objects left → (more : List Act) × (after ≡ Some (known ++ more)) × IsSettled layout.policies m seg (Some (after_acts os more)) new
+    by : IsFlushed m layout mid core n objects left → (more : List Act) × (after ≡ Some (known ++ more)) × IsSettled layout.policies m seg (Some (after_acts os more)) new.core
     by (idle none is untouched) =
         settles [] (append_cancel_left (tables_of e.core.events) us [] (sym grown ∙ ap (λ (c : CoreModel). tables_of c.events) is ∙ same ∙ sym (append-nil (tables_of e.core.events))))
         (flush_settled m seg layout (Some os) (Some os) e mid core n frozen (idle none is refl) room kept segmented settled)
@@ -130,13 +131,13 @@ untrue_get (Err e) os before after a b adds truthful = λ damage known is.
 
 -- ---- one line after others
 
-pub follows_on : (policies : List Policy) (m : Meaning) (seg : Segments) (e new : SessionModel) (first middle last : Option (List Act)) → Follows policies m seg [] e first middle → ((os : Objects) → IsSettled policies m seg (Some os) e → Follows policies m seg os new middle last) → Follows policies m seg [] new first last
+pub follows_on : (policies : List Policy) (m : Meaning) (seg : Segments) (e new : SessionModel) (first middle last : Option (List Act)) → Follows policies m seg [] e first middle → ((os : Objects) → IsSettled policies m seg (Some os) e.core → Follows policies m seg os new middle last) → Follows policies m seg [] new first last
 follows_on policies m seg e new first middle last f g known is =
     let a = f known is in
     let b = g (after_acts [] a.0) a.2 (known ++ a.0) a.1 in
-    (a.0 ++ b.0, b.1 ∙ ap (λ (l : List Act). Some l) (append_assoc known a.0 b.0), subst (λ (os : Objects). IsSettled policies m seg (Some os) new) (sym (after_both [] a.0 b.0)) b.2)
+    (a.0 ++ b.0, b.1 ∙ ap (λ (l : List Act). Some l) (append_assoc known a.0 b.0), subst (λ (os : Objects). IsSettled policies m seg (Some os) new.core) (sym (after_both [] a.0 b.0)) b.2)
 
-pub untrue_on : (policies : List Policy) (m : Meaning) (seg : Segments) (e : SessionModel) (first middle last : Option (List Act)) → Follows policies m seg [] e first middle → ((os : Objects) → IsSettled policies m seg (Some os) e → IsUntrue os middle last) → IsUntrue [] first last
+pub untrue_on : (policies : List Policy) (m : Meaning) (seg : Segments) (e : SessionModel) (first middle last : Option (List Act)) → Follows policies m seg [] e first middle → ((os : Objects) → IsSettled policies m seg (Some os) e.core → IsUntrue os middle last) → IsUntrue [] first last
 untrue_on policies m seg e first middle last f g known is =
     let a = f known is in
     let b = g (after_acts [] a.0) a.2 (known ++ a.0) a.1 in

@@ -9,12 +9,9 @@
 --     StandsFor e s      the session answers as the model does in the state s
 --     IsStep e stepped a      an answer is the model's, as it is shown, and what the session becomes is the model's too
 --     StepsAs m seg before after line result      so is the answer to the line, for what the parts and the segments mean
---     HasTables objects es      the store holds the journal's tables, and no two lie at one path
 --     IsTableUpTo m layout n o      an object is a table that a flush put, and there were no more flushes than these
 --     HasTablesAlone m layout objects runs      the store holds nothing but the tables of these installs, and for each key its rows by sequence are theirs
---     IsSettled policies m seg objects e      policies and parts are lawful, what is kept of the rows and of the segments holds, so does this, and the tables have the filters of the policies
---     IsSettledIn policies seg reach e      the same of what a call reaches
---     IsRunning policies m seg r parts objects e      the same for rules of a run, whose parts mean what they did
+--     IsRunning policies m seg r parts objects e      its core is settled, for rules of a run, whose parts mean what they did
 --     own_load txns, held_load e      how many own operations open transactions have; the same with the rows in memory
 --     line_load line, Grows line old new      how many operations a line has; no more than so do its events, its rows and its own operations grow
 --     IsFull e, IsLimit e error      the journal or memory has passed what no script fills; a limit was reached, so one of them has
@@ -28,12 +25,10 @@ use Rattle.std.specs.Option.{option_or}
 use Rattle.slate_types.specs.declared.error.SlateDBError.{SlateDBError}
 use Rattle.slate_types.specs.declared.error.SlateDBError.TheVariants.{TransactionConflict, EmptyKey, KeyTooLong, ValueTooLong, SequenceExhausted, MergeOperatorMissing, IncompatibleMergeTtls, EmptySegmentPrefix, InvalidSegmentPrefix, LimitReached}
 use Rattle.slate_types.specs.declared.types.Ulid.{Ulid}
-use Rattle.slate_types.specs.Outside.{Objects, Reach}
+use Rattle.slate_types.specs.Outside.{Objects}
 use Rattle.slate_filter.specs.Policy.{Policy}
 use Rattle.slate_mem.specs.KeyTests.{Segments}
-use Rattle.slate_table.specs.Filtered.{AreLawful}
 use Rattle.slate_table.specs.Stored.{HoldRows, by_seq}
-use Rattle.slate_txn.specs.declared.event.Event.{Event}
 use Rattle.slate_txn.specs.declared.line.Line.{Line}
 use Rattle.slate_txn.specs.declared.line.Line.TheVariants as lines
 use Rattle.slate_txn.specs.Named.{find_named, StandOnce}
@@ -42,12 +37,12 @@ use Rattle.slate_txn.specs.State.{Rules, Tx, State}
 use Rattle.slate_txn.specs.Step.{Reader, reader, step}
 use Rattle.slate_db.specs.Flushed.{Layout}
 use Rattle.slate_db.specs.Load.{load, weight}
-use Rattle.slate_db.specs.Installs.{HoldsTables, NumberedFrom, runs_of, tables_of}
-use Rattle.slate_db.specs.Meaning.{Meaning, IsLawfulMeaning, rules_in}
+use Rattle.slate_db.specs.Installs.{runs_of}
+use Rattle.slate_db.specs.Meaning.{Meaning, rules_in}
 use Rattle.slate_db.specs.Model.{CoreModel, Rows, versions_in}
 use Rattle.slate_types.specs.Rows.{of_key}
-use Rattle.slate_db.specs.Readable.{AreFiltered}
 use Rattle.slate_db.specs.Segmented.{IsSegmented}
+use Rattle.slate_db.specs.Settled.{IsSettled}
 use Rattle.slate_db.specs.Sound.{IsKept, AreTables}
 use Rattle.slate_db.specs.Layers.{AreRising}
 use Rattle.slate_db.specs.Log.{LIMIT}
@@ -109,12 +104,6 @@ IsStep e stepped a = StandsFor e stepped.0 × (reply_of a ≡ as_shown stepped.1
 abbrev pub StepsAs : Meaning → Segments → SessionModel → SessionModel → Line → Result Answer SlateDBError → Type 0
 StepsAs m seg before after line result = (s : State) → StandsFor before s → IfOk result (IsStep after (step (rules_in before.core.settings m seg) s line))
 
--- objects: what the store tells; flushes are numbered, and the tables of each have places
-pub record HasTables (objects : Option Objects) (es : List Event) : Type 0 where
-  pub holds : HoldsTables objects es
-  pub numbered : NumberedFrom 1 (runs_of es)
-  pub few : length (runs_of es) ≤ length es
-
 abbrev pub IsTableUpTo : Meaning → Layout → ℕ → List ℕ × List ℕ → Type 0
 IsTableUpTo m layout n o = (t : IsTableObject m layout o) × (t.number ≤ n)
 
@@ -128,17 +117,6 @@ pub record HasTablesAlone (m : Meaning) (layout : Layout) (objects : Option Obje
   pub rows : Rows
   pub held : HoldRows m.encode os rows
   pub sorted : (k : List ℕ) → AreRising (versions_in k layers) → by_seq (of_key k rows) ≡ versions_in k layers
-
-pub record IsSettled (policies : List Policy) (m : Meaning) (seg : Segments) (objects : Option Objects) (e : SessionModel) : Type 0 where
-  pub lawful_policies : AreLawful policies
-  pub lawful : IsLawfulMeaning m
-  pub kept : IsKept m e.core
-  pub segmented : IsSegmented seg e.core
-  pub tables : HasTables objects e.core.events
-  pub filtered : AreFiltered m.encode policies (tables_of e.core.events)
-
-abbrev pub IsSettledIn : List Policy → Segments → Reach → SessionModel → Type 0
-IsSettledIn policies seg reach e = IsSettled policies reach.meaning seg reach.objects e
 
 -- ---- how much a session holds
 
@@ -199,7 +177,7 @@ pub record StoresNothing (m : Meaning) (seg : Segments) (old new : SessionModel)
 pub record IsRunning (policies : List Policy) (m : Meaning) (seg : Segments) (r : Rules) (parts : Meaning) (objects : Option Objects) (e : SessionModel) : Type 0 where
   pub meaning : parts ≡ m
   pub rules : rules_in e.core.settings m seg ≡ r
-  pub settled : IsSettled policies m seg objects e
+  pub settled : IsSettled policies m seg objects e.core
 
 -- the moment of a line that sets it is one
 abbrev pub has_moment : Line → Bool

@@ -31,7 +31,8 @@ use Rattle.slate_db.specs.Readable.{IsRefusedBy}
 use Rattle.slate_db.specs.Scans.{IsRefusedInScan}
 use Rattle.slate_db.specs.Shown.{Asking}
 use Rattle.slate_db.specs.Sound.{IsKept}
-use Rattle.slate_script.specs.Session.{SessionModel, IsSettled}
+use Rattle.slate_db.specs.Settled.{IsSettled}
+use Rattle.slate_script.specs.Session.{SessionModel}
 
 abbrev pub AreTrue : Objects → List Act → Type 0
 AreTrue os [] = Unit {0}
@@ -42,7 +43,7 @@ abbrev pub IsUntrue : Objects → Option (List Act) → Option (List Act) → Ty
 IsUntrue os before after = (known : List Act) → before ≡ Some known → (more : List Act) × (after ≡ Some (known ++ more)) × (AreTrue os more → ⊥)
 
 abbrev pub Follows : List Policy → Meaning → Segments → Objects → SessionModel → Option (List Act) → Option (List Act) → Type 0
-Follows policies m seg os e before after = (known : List Act) → before ≡ Some known → (more : List Act) × (after ≡ Some (known ++ more)) × IsSettled policies m seg (Some (after_acts os more)) e
+Follows policies m seg os e before after = (known : List Act) → before ≡ Some known → (more : List Act) × (after ≡ Some (known ++ more)) × IsSettled policies m seg (Some (after_acts os more)) e.core
 
 abbrev pub ArePut : List Act → List (Ulid × List ℕ) → Type 0
 ArePut acts ts = AllByRecursion (λ t. Contains acts (Act.put (path_of root t.0.0) t.1)) ts

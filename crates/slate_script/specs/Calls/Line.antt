@@ -24,9 +24,10 @@ use Rattle.slate_db.specs.Meaning.{Meaning}
 use Rattle.slate_db.specs.Parts.{IsTableError}
 use Rattle.slate_db.specs.Readable.{IsAnswered, IsReadable}
 use Rattle.slate_db.specs.Sound.{IsKept}
+use Rattle.slate_db.specs.Settled.{IsSettled, IsSettledIn}
 use Rattle.slate_language.specs.declared.reply.Answer.{Answer}
 use Rattle.slate_script.specs.Scanning.{ScansAs}
-use Rattle.slate_script.specs.Session.{SessionModel, StepsAs, HasTablesAlone, Grows, IsSettled, IsSettledIn, IsLimit, StoresNothing}
+use Rattle.slate_script.specs.Session.{SessionModel, StepsAs, HasTablesAlone, Grows, IsLimit, StoresNothing}
 use Rattle.slate_script.specs.Told.{Follows, IsRefusedAt, IsUntrue, PutsTables}
 
 -- for parts of each meaning, and each segments
@@ -62,7 +63,7 @@ pub record AnswersByWrite (given : Type 0) (seg : Segments) (line : Line) (befor
 
 pub record AnswersHonest (layout : Layout) (line : Line) (before after : Reach) (old new : SessionModel) (result : Result Answer SlateDBError) : Type 0 where
   pub step : StepsAs before.meaning layout.segments old new line result
-  pub kept : OnOk result (IsSettled layout.policies before.meaning layout.segments after.objects new)
+  pub kept : OnOk result (IsSettled layout.policies before.meaning layout.segments after.objects new.core)
   pub alone : HasTablesAlone before.meaning layout before.objects (runs_of old.core.events) → OnOk result (HasTablesAlone before.meaning layout after.objects (runs_of new.core.events))
   pub undamaged : IfErr result (λ e. IsFault before after e ⊎ IsLimit old e)
 
@@ -78,8 +79,8 @@ pub record AnswersSound (layout : Layout) (line : Line) (before after : Reach) (
 
 -- layout: has the policies and the segments
 pub record Answers (layout : Layout) (line : Line) (before after : Reach) (old new : SessionModel) (result : Result Answer SlateDBError) : Type 0 where
-  pub honest : IsSettledIn layout.policies layout.segments before old → AnswersHonest layout line before after old new result
-  pub told : (os : Objects) → IsSettled layout.policies before.meaning layout.segments (Some os) old → AnswersTold layout line os before after old new result
+  pub honest : IsSettledIn layout.policies layout.segments before old.core → AnswersHonest layout line before after old new result
+  pub told : (os : Objects) → IsSettled layout.policies before.meaning layout.segments (Some os) old.core → AnswersTold layout line os before after old new result
   pub sound : IsKept before.meaning old.core → AnswersSound layout line before after old new result
   pub settings : OnOk result (new.core.settings ≡ old.core.settings)
   pub grows : OnOk result (Grows line old new)

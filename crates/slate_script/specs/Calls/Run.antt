@@ -23,12 +23,13 @@ use Rattle.slate_db.specs.Load.{weight}
 use Rattle.slate_db.specs.Meaning.{Meaning}
 use Rattle.slate_db.specs.Parts.{IsTableError}
 use Rattle.slate_db.specs.Sound.{IsKept}
+use Rattle.slate_db.specs.Settled.{IsSettled}
 use Rattle.slate_language.specs.declared.tally.Tally.{Tally}
 use Rattle.slate_language.specs.Generate.{summary}
 use Rattle.slate_language.specs.Replies.{after_lines, meanings, IsWellFormed}
 use Rattle.slate_language.specs.Tally.{tallied}
 use Rattle.slate_script.specs.Run.{is_line, AnswersLine, HasCause, HasRead, HasSaid, HasTold, IsOutside, IsPartCause, IsPartError, NoneRose, Premises}
-use Rattle.slate_script.specs.Session.{HasTablesAlone, IsLimit, IsRunning, IsSettled, SessionModel, held_load}
+use Rattle.slate_script.specs.Session.{HasTablesAlone, IsLimit, IsRunning, SessionModel, held_load}
 use Rattle.slate_script.specs.StoredState.{IsStoredState}
 use Rattle.slate_script.specs.Terms.{AreLawfulTerms, Streams, Terms, layout_by, rules_by}
 use Rattle.slate_script.specs.Told.{Follows, IsShownAtEnd, IsShownBy, IsUntrue, PutsTables}
@@ -114,7 +115,7 @@ pub record RepliesLine {T : Type 0} (layout : Layout) (number : ℕ) (line : Lis
       RepliesHonest layout m r line before after old new from to first tally result
   pub checked : (m : Meaning) (r : Rules) (os : Objects) → IsRunning layout.policies m layout.segments r before.meaning (Some os) old →
       OrSlips os before after (AnswersLine r line old new from.taken to.taken first tally result)
-  pub told : (os : Objects) → IsSettled layout.policies before.meaning layout.segments (Some os) old → RepliesTold layout os before after new result
+  pub told : (os : Objects) → IsSettled layout.policies before.meaning layout.segments (Some os) old.core → RepliesTold layout os before after new result
   pub sound : IsKept before.meaning old.core → RepliesSound layout before after old new result
   pub settings : OnOk result (new.core.settings ≡ old.core.settings)
   pub grows : OnOk result ((weight new.core ≤ weight old.core + 2) × (held_load new ≤ held_load old + length line))

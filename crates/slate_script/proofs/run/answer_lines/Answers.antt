@@ -12,10 +12,11 @@ use Rattle.slate_db.specs.Flushed.{layout_of}
 use Rattle.slate_db.specs.Installs.{tables_of}
 use Rattle.slate_db.specs.Meaning.{Meaning, rules_in, segments_by}
 use Rattle.slate_db.specs.Sound.{IsKept}
+use Rattle.slate_db.specs.Settled.{IsSettled}
 use Rattle.slate_language.specs.Replies.{after_lines, meanings}
 use Rattle.slate_language.specs.Tally.{tallied}
 use Rattle.slate_script.specs.Run.{run_rules, AnswersLine, HasSaid, Premises, IsPartError}
-use Rattle.slate_script.specs.Session.{IsSettled, StandsFor}
+use Rattle.slate_script.specs.Session.{StandsFor}
 use Rattle.slate_script.specs.Told.{Follows, IsUntrue, PutsTables}
 use Rattle.slate_script.proofs.RunEnds.{LineError, unless_error, is_no_error, rose_from, line_cause, no_part, only_memory, store_rose, operator_rose, transformer_rose, reader_no_part, reader_not_write, reader_undamaged, reader_error, reader_complete, reader_kinds, reader_read, reader_full, line_not_long, line_not_read, line_kinds, line_read, line_complete, line_error, end_there, end_read, end_formed, end_no_error}
 use Rattle.slate_script.proofs.RunSays.{end_counts, end_says, line_says, reader_says}
@@ -171,7 +172,7 @@ returns-in-Err-answer_line g c =
               (λ os settled. c.in-Err-answer_line.ensures.line.checked m r os (record { meaning = c.loop-line.invariant.puts.meaning; rules = ap (λ x. rules_in x m seg) c.loop-line.invariant.settings; settled = settled }))
               (λ at says. line_says c.answer_line.new.session c.answer_line.new.tally before (g.R.Source.left c.next.new.source) (g.W.Sink.content c.answer_line.new.sink) c.in-Err-answer_line.error (its_cause g c) (λ h. (c.in-Err-answer_line.ensures.sink.write_fault (ap Err h)).1) c.in-Err-answer_line.ensures.sink.unanswered (took_told (λ v. v.items) c.in-Ok-Some.field-0 c.in-Ok-Some.line c.as_slice.result.now (g.R.Source.left c.next.new.source) c.next.new.self c.in-Ok-Some.ensures.told c.in-Ok-Some.ensures.within c.in-Ok-Some.field-0-is c.as_slice.ensures.value at) says tt told-is));
           untrue = ((λ damage. untrue_on policies (meaning_of g.M.MergeOperator.combine g.T.BlockTransformer.encoded g.T.BlockTransformer.decoded c.args.env.now.operator c.args.env.now.transformer) (segments_by g.X.PrefixExtractor.lengths c.args.laws.now.segments) c.loop-line.session (g.S.Store.acts c.args.env.now.store.now) (g.S.Store.acts c.loop-line.env.store.now) (g.S.Store.acts c.answer_line.new.env.store.now) (c.loop-line.invariant.followed lawful.policies lawful.parts)
-              (subst (λ (m : Meaning). (os : Objects) → IsSettled policies m (segments_by g.X.PrefixExtractor.lengths c.args.laws.now.segments) (Some os) c.loop-line.session → IsUntrue os (g.S.Store.acts c.loop-line.env.store.now) (g.S.Store.acts c.answer_line.new.env.store.now)) c.loop-line.invariant.puts.meaning (λ os settled. (c.in-Err-answer_line.ensures.line.told os settled).untrue damage))));
+              (subst (λ (m : Meaning). (os : Objects) → IsSettled policies m (segments_by g.X.PrefixExtractor.lengths c.args.laws.now.segments) (Some os) c.loop-line.session.core → IsUntrue os (g.S.Store.acts c.loop-line.env.store.now) (g.S.Store.acts c.answer_line.new.env.store.now)) c.loop-line.invariant.puts.meaning (λ os settled. (c.in-Err-answer_line.ensures.line.told os settled).untrue damage))));
         };
         read = λ script is. record {
           whole = (tt);
@@ -243,7 +244,7 @@ loop-line-preserved g c =
           ((c.in-Ok.ensures.line.sound (subst (λ (x : Meaning). IsKept x c.loop-line.session.core) (sym c.loop-line.invariant.puts.meaning) c.loop-line.invariant.kept)).kept);
       alone = λ premises. (c.in-Ok.ensures.line.honest (meaning_of g.M.MergeOperator.combine g.T.BlockTransformer.encoded g.T.BlockTransformer.decoded c.args.env.now.operator c.args.env.now.transformer) (run_rules c.args.laws.now.options (meaning_of g.M.MergeOperator.combine g.T.BlockTransformer.encoded g.T.BlockTransformer.decoded c.args.env.now.operator c.args.env.now.transformer) (segments_by g.X.PrefixExtractor.lengths c.args.laws.now.segments)) (c.loop-line.invariant.running premises)).alone (c.loop-line.invariant.alone premises);
       followed = λ lawful_policies lawful. follows_on policies (meaning_of g.M.MergeOperator.combine g.T.BlockTransformer.encoded g.T.BlockTransformer.decoded c.args.env.now.operator c.args.env.now.transformer) (segments_by g.X.PrefixExtractor.lengths c.args.laws.now.segments) c.loop-line.session c.answer_line.new.session (g.S.Store.acts c.args.env.now.store.now) (g.S.Store.acts c.loop-line.env.store.now) (g.S.Store.acts c.answer_line.new.env.store.now) (c.loop-line.invariant.followed lawful_policies lawful)
-          (subst (λ (m : Meaning). (os : Objects) → IsSettled policies m (segments_by g.X.PrefixExtractor.lengths c.args.laws.now.segments) (Some os) c.loop-line.session → Follows policies m (segments_by g.X.PrefixExtractor.lengths c.args.laws.now.segments) os c.answer_line.new.session (g.S.Store.acts c.loop-line.env.store.now) (g.S.Store.acts c.answer_line.new.env.store.now)) c.loop-line.invariant.puts.meaning (λ os settled. (c.in-Ok.ensures.line.told os settled).follows));
+          (subst (λ (m : Meaning). (os : Objects) → IsSettled policies m (segments_by g.X.PrefixExtractor.lengths c.args.laws.now.segments) (Some os) c.loop-line.session.core → Follows policies m (segments_by g.X.PrefixExtractor.lengths c.args.laws.now.segments) os c.answer_line.new.session (g.S.Store.acts c.loop-line.env.store.now) (g.S.Store.acts c.answer_line.new.env.store.now)) c.loop-line.invariant.puts.meaning (λ os settled. (c.in-Ok.ensures.line.told os settled).follows));
       stored = stores_on (tables_of c.loop-line.session.core.events) (tables_of c.answer_line.new.session.core.events) _ _ _ c.loop-line.invariant.stored c.in-Ok.ensures.line.tables;
       source_later = omega (arith, c.next.ensures.later);
       sink_later = omega (arith, c.answer_line.ensures.sink.later);

@@ -9,8 +9,9 @@ use Rattle.slate_db.specs.Flushed.{layout_of}
 use Rattle.slate_db.specs.Installs.{runs_of, tables_of}
 use Rattle.slate_db.specs.Log.{LIMIT}
 use Rattle.slate_db.specs.Sound.{IsKept}
+use Rattle.slate_db.specs.Settled.{IsSettled}
 use Rattle.slate_language.specs.declared.reply.Answer.TheVariants as answers
-use Rattle.slate_script.specs.Session.{SessionModel, StepsAs, Grows, HasTablesAlone, IsLimit, IsSettled}
+use Rattle.slate_script.specs.Session.{SessionModel, StepsAs, Grows, HasTablesAlone, IsLimit}
 use Rattle.slate_script.proofs.SessionParts.{flush_cause, has_room, operable_cause}
 use Rattle.slate_script.proofs.SessionSteps.{flush_as}
 use Rattle.slate_script.proofs.SessionStores.{flush_settled}
@@ -44,9 +45,9 @@ returns g c =
             c.in_ok-seq.ensures.installed.1 c.in_ok-seq.ensures.installed.2
             room
             c.flush.ensures.kept (c.flush.ensures.segmented seg)
-            (subst (λ (v : SessionModel). IsSettled policies m seg (g.S.Store.objects c.args.env.now.store.now) v) (sym c.self.view_is) settled));
+            (subst (λ (v : SessionModel). IsSettled policies m seg (g.S.Store.objects c.args.env.now.store.now) v.core) (sym c.self.view_is) settled));
         alone = (λ alone.
-            let h = subst (λ (v : SessionModel). IsSettled policies m seg (g.S.Store.objects c.args.env.now.store.now) v) (sym c.self.view_is) settled in
+            let h = subst (λ (v : SessionModel). IsSettled policies m seg (g.S.Store.objects c.args.env.now.store.now) v.core) (sym c.self.view_is) settled in
             flush_alone m layout c.self.inside.core c.in_ok-seq.ensures.installed.0 c.flush.new.self c.in_ok-seq.seq (g.S.Store.objects c.args.env.now.store.now) (g.S.Store.objects c.flush.new.env.store.now)
             c.in_ok-seq.ensures.installed.1 c.in_ok-seq.ensures.installed.2 h.kept.0 h.segmented.each h.tables.few
             room
@@ -60,7 +61,7 @@ returns g c =
             c.in_ok-seq.ensures.installed.1 c.in_ok-seq.ensures.installed.2 c.in_ok-seq.ensures.acts
             room
             c.flush.ensures.kept (c.flush.ensures.segmented seg)
-            (subst (λ (v : SessionModel). IsSettled policies m seg (Some os) v) (sym c.self.view_is) settled));
+            (subst (λ (v : SessionModel). IsSettled policies m seg (Some os) v.core) (sym c.self.view_is) settled));
         untrue = tt;
       };
       sound = λ kept. record { kept = c.flush.ensures.kept (subst (λ (v : SessionModel). IsKept m v.core) (sym c.self.view_is) kept); shown = tt };
