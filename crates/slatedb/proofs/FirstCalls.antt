@@ -12,7 +12,7 @@ use Rattle.slate_txn.specs.Reply as replies
 use Rattle.slate_txn.specs.Settings.{Settings}
 use Rattle.slate_txn.specs.State.{Rules, State, opening}
 use Rattle.slate_txn.specs.Step.{step}
-use Rattle.slate_db.specs.Installs.{runs_of}
+use Rattle.slate_db.specs.Installs.{tables_of}
 use Rattle.slate_db.specs.Meaning.{Meaning, IsLawfulMeaning, rules_of}
 use Rattle.slate_db.specs.Model.{CoreModel, at}
 use Rattle.slate_db.specs.Sound.{IsKept}
@@ -41,7 +41,7 @@ pub record IsPut (k v : List ℕ) (c : CoreModel) : Type 0 where
   pub kept : ops ≡ kept_ops (put_op k v)
   pub settings : c.settings ≡ plain_settings
   pub state : c.state ≡ written_state ops tracked
-  pub runs : runs_of c.events ≡ []
+  pub tables : tables_of c.events ≡ []
 
 pub put_first : (m : Meaning) (k v : List ℕ) (before after : CoreModel) (b : BatchModel) (n : Option ℕ) → m.combine ≡ None → before.settings ≡ plain_settings → before.state ≡ opening → before.events ≡ [] →
     b ≡ with_op no_ops k (plain_put v) → op_refusal k (plain_put v) ≡ None →
@@ -53,7 +53,7 @@ put_first m k v before after b n none settings state events-are batch fine steps
   kept = ap (λ (x : BatchModel). x.ops) batch;
   settings = ap (λ (c : CoreModel). c.settings) is ∙ settings;
   state = ap (λ (c : CoreModel). c.state) is ∙ ap (λ (s : State). record s { commits = s.commits ++ (first_commit b.ops (batch_keys b.ops) ∷ []) }) state;
-  runs = ap (λ (c : CoreModel). runs_of c.events) is ∙ ap (λ es. runs_of (es ++ (events.Write 1 (pos 0) b.ops ∷ []))) events-are;
+  tables = ap (λ (c : CoreModel). tables_of c.events) is ∙ ap (λ es. tables_of (es ++ (events.Write 1 (pos 0) b.ops ∷ []))) events-are;
 }
   where
     stepped : step plain opening (lines.Write (put_op k v)) ≡ (at (pos 0) after.state, replies.Written n)

@@ -1,6 +1,6 @@
 -- What is read behind a first put, a flush and a begin.
 use Rattle.std.proofs.Common.{◌≡◌, ℕ, true, cond, List, [], ◌∷◌, ◌++◌, map, Option, Some, None, option_map, pos, refl, sym, ap, ◌∙◌, subst}
-use Rattle.std.specs.Prelude.{IsSome, bytes_eq, filter_map}
+use Rattle.std.specs.Prelude.{bytes_eq, filter_map}
 use Rattle.std.proofs.lemmas.Slice.Eq.{bytes_eq-Decides}
 use Rattle.slate_types.specs.declared.config.IsolationLevel.{IsolationLevel}
 use Rattle.slate_types.specs.declared.error.SlateDBError.{SlateDBError}
@@ -12,14 +12,12 @@ use Rattle.slate_mem.specs.Batch.{Ops, batch_keys, kept, kept_ops, replaces}
 use Rattle.slate_mem.specs.BatchModel.{plain_put}
 use Rattle.slate_mem.specs.RowOf.{op_row}
 use Rattle.slate_mem.proofs.BatchLaws.{keeps_what_is_kept}
-use Rattle.slate_txn.specs.declared.event.TranscriptStep.{TranscriptStep}
 use Rattle.slate_txn.specs.declared.line.Line.TheVariants as lines
-use Rattle.slate_txn.specs.Named.{find_named}
 use Rattle.slate_txn.specs.Reads.{seen}
 use Rattle.slate_txn.specs.Refusals.{write_refusal}
 use Rattle.slate_txn.specs.Reply as replies
 use Rattle.slate_txn.specs.State.{Rules, Commit, State, opening, begun}
-use Rattle.slate_txn.specs.Step.{step, get, get_found, noted, reader, reader_or_snapshot, refused_or, with_reply, as_commit}
+use Rattle.slate_txn.specs.Step.{step, get, get_found, reader_or_snapshot, refused_or, with_reply, as_commit}
 use Rattle.slatedb.specs.FirstSteps.{first_put}
 
 -- no operator, no segments, and the options' defaults
@@ -98,20 +96,6 @@ opened_is id level ops tracked put flushed opened n start written stored begins 
   where
     flushed_is : flushed ≡ flushed_state ops tracked
     flushed_is = sym (ap (λ p. p.0) stored) ∙ ap (λ s. (step plain s lines.Flush).0) written
-
-pub is_open_there : (id : List ℕ) (level : IsolationLevel) (ops : Ops) (tracked : List (List ℕ)) (opened : State) → opened ≡ begun_state ops tracked id level → find_named id opened.txns ≡ Some (begun level 1)
-is_open_there id level ops tracked opened is = ap (λ s. find_named id s.txns) is ∙ ap (λ b. cond b (Some (begun level 1)) None) (bytes_eq_refl id)
-
-pub is_reader : (id : List ℕ) (level : IsolationLevel) (ops : Ops) (tracked : List (List ℕ)) (opened : State) → opened ≡ begun_state ops tracked id level → IsSome (reader opened id)
-is_reader id level ops tracked opened is =
-    subst (λ s. IsSome (reader s id)) (sym is) (subst (λ b. IsSome (reader_or_snapshot (cond b (Some (begun level 1)) None) None)) (sym (bytes_eq_refl id)) refl)
-
-pub is_open_still : (id : List ℕ) (level : IsolationLevel) (ops : Ops) (tracked : List (List ℕ)) (opened : State) (ts : List TranscriptStep) → opened ≡ begun_state ops tracked id level →
-    find_named id (noted opened id ts).txns ≡ Some (record (begun level 1) { transcript = ts })
-is_open_still id level ops tracked opened ts is =
-    ap (λ s. find_named id (noted s id ts).txns) is
-    ∙ ap (λ b. find_named id (cond b ((id, record (begun level 1) { transcript = ts }) ∷ []) ((id, begun level 1) ∷ []))) (bytes_eq_refl id)
-    ∙ ap (λ b. cond b (Some (record (begun level 1) { transcript = ts })) None) (bytes_eq_refl id)
 
 pub reads_first : (k v id : List ℕ) (level : IsolationLevel) (ops : Ops) (tracked : List (List ℕ)) (opened after : State) (a : Option KeyValue) → ops ≡ kept_ops (put_op k v) →
     opened ≡ begun_state ops tracked id level → step plain opened (lines.Get id k) ≡ (after, replies.Found a) → a ≡ Some (first_put k v)

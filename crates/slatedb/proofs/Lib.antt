@@ -1,3 +1,4 @@
+pub mod OpenIds
 pub mod FirstRead
 pub mod FirstTable
 pub mod FirstCalls
