@@ -2,13 +2,14 @@
 use Rattle.std.proofs.Common.{◌≡◌, ◌≢◌, ◌||◌, append-nil, ℕ, suc, ◌+◌, ◌-◌, ◌≤◌, Bool, true, false, not, List, [], ◌∷◌, ◌++◌, length, drop, refl, sym, ap, ◌∙◌, arith, append_assoc}
 use Rattle.std.specs.Prelude.{slice_get}
 use Rattle.std.specs.List.{AllByRecursion}
+use Rattle.std.proofs.lemmas.List.Folds.{list_any-append}
 use Rattle.slate_types.specs.declared.types.RowEntry.{RowEntry}
 use Rattle.slate_types.specs.Rows.{is_base, is_operand}
 use Rattle.slate_mem.specs.Table.{newest}
 use Rattle.slate_mem.specs.Lookup.{is_last_base, is_decided, is_merge_among, newest_first}
-use Rattle.slate_mem.proofs.LayerLaws.{layer_step, layers_begin, layers_decide, layers_end, stays}
+use Rattle.slate_mem.proofs.LayerLaws.{layer_step, layers_begin, layers_decide, layers_end, first_both, stays}
 use Rattle.slate_db.specs.Lookup.{Extends}
-use Rattle.slate_db.specs.Model.{Rows}
+use Rattle.slate_db.specs.Model.{CoreModel, Rows, memory}
 
 -- ---- what decides
 
@@ -45,6 +46,21 @@ extends_both newer found all h k = extends_more newer found k.0 all h k.1
 pub operand_found : (own near found : Rows) → AllByRecursion (λ r. is_operand r ≡ true) own → own ≢ [] → Extends (own ++ near) found → is_merge_among found ≡ true
 operand_found [] near found operands some h = absurd (some refl)
 operand_found (o ∷ os) near found operands some h = ap is_merge_among h.1 ∙ ap (λ b. b || is_merge_among ((os ++ near) ++ h.0)) operands.0
+
+-- the rows in memory
+pub memory_first : (c : CoreModel) → newest_first (memory c) ≡ c.active ++ newest_first c.frozen
+memory_first c = first_both c.frozen (c.active ∷ []) ∙ ap (λ (xs : Rows). xs ++ newest_first c.frozen) (append-nil c.active)
+
+-- and so is one behind own rows
+pub merge_found : (own near found : Rows) → is_merge_among near ≡ true → Extends (own ++ near) found → is_merge_among found ≡ true
+merge_found own near found some h =
+    ap is_merge_among h.1
+    ∙ list_any-append is_operand (own ++ near) h.0
+    ∙ ap (λ b. b || is_merge_among h.0) (list_any-append is_operand own near ∙ ap (λ b. is_merge_among own || b) some ∙ or_true (is_merge_among own))
+  where
+    or_true : (b : Bool) → (b || true) ≡ true
+    or_true true = refl
+    or_true false = refl
 
 module _ (k : List ℕ) (n : ℕ) (own : Rows) (operands : AllByRecursion (λ r. is_operand r ≡ true) own) where
   rest_decided : (xs found : Rows) (b : Bool) → found ≡ own ++ xs → is_decided found ≡ b → is_decided xs ≡ b

@@ -10,7 +10,8 @@
 --     IsOwnRead before after means result      the same of one that reads no more than an own operation: nothing is reached, and only memory refuses
 --     decides_own k ops      own operations of the key decide what is read there, so that no store is asked
 --     keeps_merge k ops      one of the operations that are kept of the key is a merge
-use Rattle.std.specs.Prelude.{◌≡◌, ◌⊎◌, ℕ, Bool, true, not, List, Contains, IfErr, IfOk, OnOk, IsOkUnless, None, Some, Result}
+--     MeetsOperand k n ops c      own operations decide nothing, and an operand stands in memory, among the key's rows up to the sequence down to the first that decides
+use Rattle.std.specs.Prelude.{◌≡◌, ◌⊎◌, ℕ, Bool, true, false, not, List, Contains, IfErr, IfOk, OnOk, IsOkUnless, None, Some, Result}
 use Rattle.std.specs.List.{AllByRecursion, list_any}
 use Rattle.slate_types.specs.declared.error.SlateDBError.{SlateDBError}
 use Rattle.slate_types.specs.declared.error.SlateDBError.TheVariants.{MergeOperatorMissing, OutOfMemory}
@@ -21,8 +22,9 @@ use Rattle.slate_types.specs.Rows.{is_operand}
 use Rattle.slate_types.specs.World.{Made}
 use Rattle.slate_mem.specs.declared.WriteOp.{WriteOp}
 use Rattle.slate_mem.specs.Batch.{Ops, kept, replaces}
-use Rattle.slate_mem.specs.Lookup.{newest_first}
+use Rattle.slate_mem.specs.Lookup.{is_merge_among, newest_first}
 use Rattle.slate_mem.specs.RowOf.{own_row}
+use Rattle.slate_mem.specs.Table.{newest}
 use Rattle.slate_filter.specs.Policy.{Policy}
 use Rattle.slate_table.specs.declared.info.SsTableHandle.{SsTableHandle}
 use Rattle.slate_table.specs.Filtered.{AreLawful, HasFiltersOf}
@@ -95,3 +97,6 @@ decides_own k ops = list_any replaces (kept ops k)
 
 abbrev pub keeps_merge : List ℕ → Ops → Bool
 keeps_merge k ops = list_any (λ op. not (replaces op)) (kept ops k)
+
+abbrev pub MeetsOperand : List ℕ → ℕ → Ops → CoreModel → Type 0
+MeetsOperand k n ops c = (decides_own k ops ≡ false) × (is_merge_among (newest k n (newest_first (memory c))) ≡ true)

@@ -13,6 +13,7 @@ ghost use Rattle.slate_types.specs.Keys.{in_range, is_refused};
 ghost use Rattle.slate_types.specs.Outside.{Act, IsFault, Objects, OnlyReads};
 ghost use Rattle.slate_types.specs.Refusing.{NoMore};
 ghost use Rattle.slate_types.specs.World.{World, Checks, IsCall, Made, Sees};
+ghost use Rattle.slate_mem.specs.Lookup.{is_merge_among, newest_first};
 ghost use Rattle.slate_mem.specs.Table.{newest};
 ghost use Rattle.slate_txn.specs.declared.event.TranscriptStep.TheVariants as steps;
 ghost use Rattle.slate_txn.specs.Alone.{first_left};
@@ -31,7 +32,7 @@ ghost use Rattle.slate_db.specs.Asked.{Asks, Finds, needs_tables, takes_flushed}
 ghost use Rattle.slate_db.specs.Checked.{OrSlips};
 ghost use Rattle.slate_db.specs.Meaning.{Meaning, combine_of, rules_in, rules_of};
 ghost use Rattle.slate_db.specs.Shown.{Asking};
-ghost use Rattle.slate_db.specs.Readable.{IsAnswered, IsOwnRow, IsOwnRead, IsRead, IsReadable, decides_own, keeps_merge};
+ghost use Rattle.slate_db.specs.Readable.{IsAnswered, IsOwnRow, IsOwnRead, IsRead, IsReadable, MeetsOperand, decides_own, keeps_merge};
 ghost use Rattle.slate_db.specs.Model.{Rows, at, memory};
 ghost use Rattle.slate_db.specs.Sound.{IsKept};
 ghost use Rattle.slate_db.specs.ScanFilters.{scan_query};
@@ -88,6 +89,9 @@ impl Core {
         ensures missing { let reach = ⟦<EnvOf<S, M, T> as Outside>⟧.reach in
             let m = (reach env.old).meaning in
             m.combine ≡ None → own.items ≢ [] → IfOk result (λ row. ⊥) }
+        ensures merged { let reach = ⟦<EnvOf<S, M, T> as Outside>⟧.reach in
+            let m = (reach env.old).meaning in
+            m.combine ≡ None → is_merge_among (newest key.now at (newest_first (memory self.now))) ≡ true → IfOk result (λ row. ⊥) }
     {
         let near = newest_behind(
             self.alloc,
@@ -145,6 +149,9 @@ impl Core {
         ensures missing { let reach = ⟦<EnvOf<S, M, T> as Outside>⟧.reach in
             let m = (reach env.old).meaning in
             (t : Tx) → find_named id.now self.now.state.txns ≡ Some t → m.combine ≡ None → keeps_merge key.now t.ops ≡ true → IfOk result (λ row. ⊥) }
+        ensures operand { let reach = ⟦<EnvOf<S, M, T> as Outside>⟧.reach in
+            let m = (reach env.old).meaning in
+            (from : Reader) → reader self.now.state id.now ≡ Some from → m.combine ≡ None → MeetsOperand key.now at from.ops self.now → IfOk result (λ row. ⊥) }
     {
         let own = self.transactions.own_rows(self.alloc, id, key)?;
         if is_decided(&own) {
@@ -187,6 +194,9 @@ impl Core {
         ensures missing { let reach = ⟦<EnvOf<S, M, T> as Outside>⟧.reach in
             let m = (reach env.old).meaning in
             (t : Tx) → find_named id.now self.now.state.txns ≡ Some t → m.combine ≡ None → keeps_merge key.now t.ops ≡ true → IfOk result (λ row. ⊥) }
+        ensures operand { let reach = ⟦<EnvOf<S, M, T> as Outside>⟧.reach in
+            let m = (reach env.old).meaning in
+            (from : Reader) → reader self.now.state id.now ≡ Some from → m.combine ≡ None → MeetsOperand key.now at from.ops self.now → IfOk result (λ row. ⊥) }
     {
         let query = query_of(key, context)?;
         self.seen_by(id, key, at, laws.policies.as_slice(), &query, env)
@@ -246,6 +256,9 @@ impl Core {
         ensures kept { (m : Meaning) → IsKept m self.old → IsKept m self.new }
         ensures settings { self.new.settings ≡ self.old.settings }
         ensures stay { StayOpen self.old self.new }
+        ensures operand { let reach = ⟦<EnvOf<S, M, T> as Outside>⟧.reach in
+            let m = (reach env.old).meaning in
+            (from : Reader) → reader self.old.state id.now ≡ Some from → m.combine ≡ None → MeetsOperand key.now from.at from.ops self.old → IfOk result (λ a. ⊥) }
     {
         let Some(at) = self.start_of(id) else {
             unreachable!()

@@ -28,6 +28,7 @@ returns-in_err-query g c =
       decided = λ t found some. (call_none _, refl);
       folded = λ t found some lawful short. IfOk-from_err c.from_residual.result _ c.from_residual.ensures.0;
       missing = λ t found lacks some. IfOk-from_err c.from_residual.result _ c.from_residual.ensures.0;
+      operand = λ from found lacks meets. IfOk-from_err c.from_residual.result _ c.from_residual.ensures.0;
     }
 
 pub seen_by-requires : goal.seen_by-requires
@@ -49,4 +50,5 @@ returns g c =
       decided = c.seen_by.ensures.decided;
       folded = c.seen_by.ensures.folded;
       missing = c.seen_by.ensures.missing;
+      operand = c.seen_by.ensures.operand;
     }

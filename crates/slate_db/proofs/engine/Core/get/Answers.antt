@@ -25,7 +25,7 @@ use Rattle.slate_db.specs.Installs.{tables_of}
 use Rattle.slate_db.specs.Meaning.{combine_of, rules_of}
 use Rattle.slate_db.specs.Model.{CoreModel}
 use Rattle.slate_db.specs.View.{view_of, unseen_of, IsWholeInside}
-use Rattle.slate_db.specs.Readable.{IsAnswered, IsReadError, decides_own, keeps_merge}
+use Rattle.slate_db.specs.Readable.{IsAnswered, IsReadError, MeetsOperand, decides_own, keeps_merge}
 use Rattle.slate_db.specs.Sound.{IsKept}
 use Rattle.slate_db.specs.Vouched.{IsVouchedFor}
 use Rattle.slate_txn.proofs.NamedLaws.{IsNamed, open_is}
@@ -65,6 +65,7 @@ returns-in_err-key g c =
       decided = λ t found some. (call_none _, refl);
       folded = λ t found some lawful short. IfOk-from_err c.from_residual.result _ c.from_residual.ensures.0;
       missing = λ t found lacks some. IfOk-from_err c.from_residual.result _ c.from_residual.ensures.0;
+      operand = λ from found lacks meets. IfOk-from_err c.from_residual.result _ c.from_residual.ensures.0;
       same = rw p.1 refl;
       stay = stay_same c.args.self.now _ refl;
       vouched = λ is k h. h;
@@ -85,6 +86,7 @@ returns-in-Err g c =
       decided = λ t found some. c.asked.ensures.decided t found (ap (λ (k : List ℕ). decides_own k t.ops) c.in_ok-key.ensures ∙ some);
       folded = λ t found some lawful short. tt;
       missing = λ t found lacks some. tt;
+      operand = λ from found lacks meets. tt;
       same = refl;
       stay = stay_same c.args.self.now _ refl;
       vouched = λ is k h. h;
@@ -109,6 +111,7 @@ returns-in-Err-note_get g c =
       decided = λ t found some. c.asked.ensures.decided t found (ap (λ (k : List ℕ). decides_own k t.ops) c.in_ok-key.ensures ∙ some);
       folded = λ t found some lawful short. tt;
       missing = λ t found lacks some. tt;
+      operand = λ from found lacks meets. tt;
       same = ap view_of (unnoted c.self.inside c.note_get.new.self c.in-Err-note_get.ensures.err) ∙ c.self.view_is;
       stay = stay_same c.args.self.now _ (ap view_of (unnoted c.self.inside c.note_get.new.self c.in-Err-note_get.ensures.err) ∙ c.self.view_is);
       vouched = λ is k h. let m = (reach_of g.S.Store g.M.MergeOperator g.T.BlockTransformer c.args.env.now).meaning in subst (λ (v : CoreModel). IsVouchedFor m v k) (sym (ap view_of (unnoted c.self.inside c.note_get.new.self c.in-Err-note_get.ensures.err) ∙ c.self.view_is)) h;
@@ -204,6 +207,10 @@ returns g c =
           c.answer-found.ensures ∙ ap (λ (row : Option RowEntry). option_map key_value (option_and_then (λ r. hide_tombstone r.value r) row))
           (c.in-Ok.ensures.folded t found (ap (λ (k : List ℕ). decides_own k t.ops) key ∙ some) (subst (λ (k : List ℕ). IsLawful (combine_of m k)) (sym key) lawful) (subst (λ (k : List ℕ). KeepsShort (combine_of m k)) (sym key) short)
           ∙ ap (λ (k : List ℕ). fold_rows (combine_of m k) (map (own_row k) (kept t.ops k))) key);
+      operand = λ from found lacks meets.
+          let at = start_at c.self.inside c.args.self.now c.self.view_is c.args.id.now from found c.in-Some.at c.in-Some.ensures in
+          c.in-Ok.ensures.operand from found lacks
+          (subst (λ (k : List ℕ). MeetsOperand k c.in-Some.at from.ops c.args.self.now) (sym c.in_ok-key.ensures) (subst (λ n. MeetsOperand c.args.key.now n from.ops c.args.self.now) (sym at) meets));
       missing = λ t found lacks some. c.in-Ok.ensures.missing t found lacks (ap (λ (k : List ℕ). keeps_merge k t.ops) c.in_ok-key.ensures ∙ some);
       same = tt;
       stay = stay_noted c.args.self.now _ c.args.id.now (noted_step g c) (noted_is g c);

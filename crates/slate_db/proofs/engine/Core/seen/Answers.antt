@@ -37,7 +37,7 @@ use Rattle.slate_db.proofs.Filters.{filtered_known}
 use Rattle.slate_db.proofs.Finds.{brought_key, if_any, none_brought, some_brought}
 use Rattle.slate_db.proofs.Gets.{found_bases, found_folds, stored_as, Folds}
 use Rattle.slate_db.proofs.Runs.{all_handles}
-use Rattle.slate_db.proofs.UnderOwn.{operand_found}
+use Rattle.slate_db.proofs.UnderOwn.{memory_first, merge_found, operand_found}
 use Rattle.slate_db.proofs.Versions.{twice}
 use Rattle.slate_db.proofs.engine.Core.seen.Goals as goal
 use Rattle.slate_db.proofs.engine.Core.seen.Given as given
@@ -127,6 +127,7 @@ returns-in_err-near g c =
       asks = asks_none (record { policies = map (λ p. (goal.FilterPolicy-dyn g (p.vtable, p.value)).meaning p.value) c.args.policies.now; query = c.args.query.now }) _ _ _ (call_none _);
       finds = λ above is needs. IfOk-from_err c.from_residual.result _ c.from_residual.ensures.0;
       missing = λ lacks some. IfOk-from_err c.from_residual.result _ c.from_residual.ensures.0;
+      merged = λ lacks some. IfOk-from_err c.from_residual.result _ c.from_residual.ensures.0;
     }
 
 pub returns-in_err-found : goal.returns-in_err-found
@@ -150,6 +151,7 @@ returns-in_err-found g c =
       asks = asks_by (record { policies = map (λ p. (goal.FilterPolicy-dyn g (p.vtable, p.value)).meaning p.value) c.args.policies.now; query = c.args.query.now }) _ _ c.args.self.now (handles_of c.runs.result.now) handles c.newest_of_runs.ensures.behind;
       finds = λ above is needs. IfOk-from_err c.from_residual-in_err-found.result _ c.from_residual-in_err-found.ensures.0;
       missing = λ lacks some. IfOk-from_err c.from_residual-in_err-found.result _ c.from_residual-in_err-found.ensures.0;
+      merged = λ lacks some. IfOk-from_err c.from_residual-in_err-found.result _ c.from_residual-in_err-found.ensures.0;
     }
 
 pub returns : goal.returns
@@ -179,6 +181,11 @@ returns g c =
           (made_quiet (before g c) (between g c) (after g c) _ refl (λ i. record (between g c).meaning { combine = c.fold_found.ensures.same i }) refl c.newest_of_runs.ensures.behind);
       finds = λ above is needs. if_any c.fold_found.result
           (made_quiet (before g c) (between g c) (after g c) _ refl (λ i. record (between g c).meaning { combine = c.fold_found.ensures.same i }) refl (brought g c above is needs));
+      merged = λ lacks some. subst (λ (r : Result (Option RowEntry) SlateDBError). IfOk r (λ row. ⊥))
+          (sym (c.fold_found.ensures.missing (sym same ∙ lacks)
+          (merge_found c.args.own.items (newest c.as_slice.result.now c.args.at (c.args.self.now.active ++ newest_first c.args.self.now.frozen)) c.in_ok-found.found.items
+          (ap (λ (k : List ℕ). is_merge_among (newest k c.args.at (c.args.self.now.active ++ newest_first c.args.self.now.frozen))) c.as_slice.ensures ∙ ap (λ (rows : List RowEntry). is_merge_among (newest c.args.key.now c.args.at rows)) (sym (memory_first c.args.self.now)) ∙ some)
+          (subst (λ xs. Extends xs c.in_ok-found.found.items) (near g c) c.in_ok-found.ensures.extends)))) tt;
       missing = λ lacks some. subst (λ (r : Result (Option RowEntry) SlateDBError). IfOk r (λ row. ⊥))
           (sym (c.fold_found.ensures.missing (sym same ∙ lacks)
           (operand_found c.args.own.items (newest c.as_slice.result.now c.args.at (c.args.self.now.active ++ newest_first c.args.self.now.frozen)) c.in_ok-found.found.items c.requires.operands some (subst (λ xs. Extends xs c.in_ok-found.found.items) (near g c) c.in_ok-found.ensures.extends)))) tt;

@@ -108,6 +108,11 @@ returns-then-is_decided g c =
           let rows : own ≡ map (own_row k) (reverse (kept t.ops k)) = c.in_ok-own.ensures.rows t there in
           IfOk-weaker c.fold_found.result _ _ (λ row h. h ∙ ap (fold_rows (combine_of before.meaning k)) (oldest_first k t.ops own rows))
           (c.fold_found.ensures.row k lawful short (own_pairs k own (own_keys k t.ops own rows) (own_short k t.ops own rows (c.own_rows.ensures.fine t there))));
+      operand = λ from found lacks meets.
+          let there : reader (view_of c.self.inside).state c.args.id.now ≡ Some from = ap (λ (v : CoreModel). reader v.state c.args.id.now) c.self.view_is ∙ found in
+          let rows : own ≡ map (own_row k) (reverse (kept from.ops k)) = own_rows_of (view_of c.self.inside).state c.args.id.now from there k own c.in_ok-own.ensures.rows c.in_ok-own.ensures.none in
+          let decided : is_decided own ≡ true = ap is_decided (sym c.deref.ensures.value) ∙ sym c.is_decided.ensures ∙ c.if-is_decided.true in
+          let clash : true ≡ false = sym (sym (own_decides k from.ops) ∙ ap is_decided (sym rows) ∙ decided) ∙ meets.0 in cc;
       missing = λ t found lacks some.
           let there : find_named c.args.id.now c.self.inside.transactions ≡ Some t = ap (λ (v : CoreModel). find_named c.args.id.now v.state.txns) c.self.view_is ∙ found in
           subst (λ (r : Result (Option RowEntry) SlateDBError). IfOk r (λ row. ⊥)) (sym (c.fold_found.ensures.missing lacks (own_merges k t.ops own (c.in_ok-own.ensures.rows t there) some))) tt;
@@ -149,4 +154,5 @@ returns g c =
       missing = λ t found lacks some.
           let there : find_named c.args.id.now c.self.inside.transactions ≡ Some t = ap (λ (v : CoreModel). find_named c.args.id.now v.state.txns) c.self.view_is ∙ found in
           c.seen.ensures.missing lacks (own_some k t.ops own (c.in_ok-own.ensures.rows t there) some);
+      operand = λ from found lacks meets. c.seen.ensures.merged lacks meets.1;
     }
