@@ -345,7 +345,6 @@ impl Core {
         laws: &'a Laws<X>,
     ) -> Result<TxnIterator<'a>, SlateDBError>
         requires open { IsSome (reader self.old.state id.now) }
-        requires range { is_refused range.start range.end ≡ false }
         requires prefix { (p k : List ℕ) → prefix ≡ Some p → in_range range k ≡ true → starts_with nat_eq k p ≡ true }
         requires valid { IsValid laws.now.options }
         ensures noted { OnOk result (self.new ≡ record self.old { state = noted self.old.state id.now (steps.Scan options.now.order range ∷ []) }) }
@@ -365,9 +364,10 @@ impl Core {
         ensures later { let reach = ⟦<EnvOf<S, M, T> as Outside>⟧.reach in
             let m = (reach env.old).meaning in
             IfOk result (λ it. IsFor m (scan_of it) × Made (reach env.old) (reach env.new) (λ reads. (later : List Act) (at : Option (List ℕ)) (e : SlateDBError) → ScanRefuses (scan_of it) m later at e → IsRefusedByScan m self.old (reads ++ later) at e)) }
-        ensures undamaged { let reach = ⟦<EnvOf<S, M, T> as Outside>⟧.reach in IsAnswered (map (λ p. meaning p) laws.now.policies.items) (reach env.old) (reach env.new) self.old → IfErr result (IsFault (reach env.old) (reach env.new)) }
+        ensures invalid { is_refused range.start range.end ≡ true → (result ≡ Err SlateDBError.InvalidRange) × (self.new ≡ self.old) × (env.new ≡ env.old) }
+        ensures undamaged { let reach = ⟦<EnvOf<S, M, T> as Outside>⟧.reach in is_refused range.start range.end ≡ false → IsAnswered (map (λ p. meaning p) laws.now.policies.items) (reach env.old) (reach env.new) self.old → IfErr result (IsFault (reach env.old) (reach env.new)) }
         ensures cause { let reach = ⟦<EnvOf<S, M, T> as Outside>⟧.reach in
-            IfErr result (IsOpeningError (map (λ p. meaning p) laws.now.policies.items) (scan_query range prefix options.now.filter_context) (reach env.old) (reach env.new) self.old) }
+            is_refused range.start range.end ≡ false → IfErr result (IsOpeningError (map (λ p. meaning p) laws.now.policies.items) (scan_query range prefix options.now.filter_context) (reach env.old) (reach env.new) self.old) }
         ensures vouched { OnOk result ((m : Meaning) (other : List ℕ) → IsVouchedFor m self.old other → IsVouchedFor m self.new other) }
         ensures same { OnErr result (self.new ≡ self.old) }
         ensures kept { (m : Meaning) → IsKept m self.old → IsKept m self.new }
@@ -379,6 +379,9 @@ impl Core {
         let Some(begin) = self.start_of(id) else {
             unreachable!()
         };
+        if range.leaves_none() {
+            return Err(SlateDBError::InvalidRange);
+        }
         let how = table_options(prefix, options, &laws.options)?;
         let rows = self.opened(id, begin, range, how, laws.policies.as_slice(), env)?;
         let scan = match self.transactions.note_scan(id, options.order, &rows.range) {

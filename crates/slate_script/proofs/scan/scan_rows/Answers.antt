@@ -31,4 +31,4 @@ returns-in_err-scan-clause-noted g c = same_noted c.args.core.now c.scan-opened.
 pub returns-in_err-scan-clause-cause : goal.returns-in_err-scan-clause-cause
 returns-in_err-scan-clause-cause g c =
     let p = err_from_is_err_and c.from_residual.result c.from_residual.ensures.1 in
-    rw (p.1, p.2) (opening_scan _ _ c.args.core.now c.in_err-scan.field-0.0 c.in_err-scan.ensures.cause)
+    rw (p.1, p.2) (opening_scan _ _ c.args.core.now c.in_err-scan.field-0.0 (c.in_err-scan.ensures.cause c.requires.range))

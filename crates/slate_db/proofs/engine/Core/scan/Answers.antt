@@ -1,4 +1,4 @@
-use Rattle.std.proofs.Common.{inl, inr, ◌≡◌, ◌≤◌, ℕ, [], ◌∷◌, ◌++◌, List, Some, refl, ap, sym, subst, ◌∙◌}
+use Rattle.std.proofs.Common.{inl, inr, true, false, ◌≡◌, ◌≤◌, ℕ, [], ◌∷◌, ◌++◌, List, Some, refl, ap, sym, subst, ◌∙◌}
 use Rattle.std.specs.Prelude.{Ok, slice_get}
 use Rattle.std.proofs.lemmas.Result.{IfOk-from_err, err_from_is_err_and}
 use Rattle.slate_types.specs.declared.bytes_range.BytesRange.{BytesRange}
@@ -43,6 +43,27 @@ unnoted s ts same = ap (λ (us : Transactions). record s { transactions = us }) 
 pub opened-requires-clause-prefix : goal.opened-requires-clause-prefix
 opened-requires-clause-prefix g c p k is within = c.requires.prefix p k (sym c.in_ok-how.ensures.prefix ∙ is) within
 
+pub returns-then-leaves_none : goal.returns-then-leaves_none
+returns-then-leaves_none g c = record {
+  noted = tt;
+  step = tt;
+  names = λ from found. tt;
+  opened = λ from found a. tt;
+  checked = λ from found os r. tt;
+  left = λ from found. tt;
+  later = tt;
+  invalid = λ is. (refl, refl, refl);
+  undamaged = λ fits. let never : true ≡ false = sym c.if-leaves_none.true ∙ c.leaves_none.ensures ∙ fits in absurd cc;
+  cause = λ fits. let never : true ≡ false = sym c.if-leaves_none.true ∙ c.leaves_none.ensures ∙ fits in absurd cc;
+  vouched = tt;
+  same = refl;
+  stay = stay_same c.args.self.now _ refl;
+  opens = tt;
+  kept = λ m k. k;
+  settings = refl;
+  reads = reads_none _;
+}
+
 pub returns-in_err-how : goal.returns-in_err-how
 returns-in_err-how g c =
     let p = err_from_is_err_and c.from_residual.result c.from_residual.ensures.1 in
@@ -54,8 +75,9 @@ returns-in_err-how g c =
       checked = λ from found os r. IfOk-from_err c.from_residual.result _ c.from_residual.ensures.0;
       left = λ from found. IfOk-from_err c.from_residual.result _ c.from_residual.ensures.0;
       later = IfOk-from_err c.from_residual.result _ c.from_residual.ensures.0;
-      undamaged = λ a. err_exit c.from_residual.result _ c.from_residual.ensures.1 _ (subst (IsFault (reach_of g.S.Store g.M.MergeOperator g.T.BlockTransformer c.args.env.now) (reach_of g.S.Store g.M.MergeOperator g.T.BlockTransformer c.args.env.now)) (sym c.in_err-how.ensures.cause) tt);
-      cause = err_exit c.from_residual.result _ c.from_residual.ensures.1 _ (inl (subst (IsFault (reach_of g.S.Store g.M.MergeOperator g.T.BlockTransformer c.args.env.now) (reach_of g.S.Store g.M.MergeOperator g.T.BlockTransformer c.args.env.now)) (sym c.in_err-how.ensures.cause) tt));
+      invalid = λ is. let never : true ≡ false = sym is ∙ sym c.leaves_none.ensures ∙ c.if-leaves_none.false in absurd cc;
+      undamaged = λ fits a. err_exit c.from_residual.result _ c.from_residual.ensures.1 _ (subst (IsFault (reach_of g.S.Store g.M.MergeOperator g.T.BlockTransformer c.args.env.now) (reach_of g.S.Store g.M.MergeOperator g.T.BlockTransformer c.args.env.now)) (sym c.in_err-how.ensures.cause) tt);
+      cause = λ fits. err_exit c.from_residual.result _ c.from_residual.ensures.1 _ (inl (subst (IsFault (reach_of g.S.Store g.M.MergeOperator g.T.BlockTransformer c.args.env.now) (reach_of g.S.Store g.M.MergeOperator g.T.BlockTransformer c.args.env.now)) (sym c.in_err-how.ensures.cause) tt));
       vouched = rw p.1 tt;
       same = rw p.1 refl;
       stay = stay_same c.args.self.now _ refl;
@@ -80,9 +102,10 @@ returns-in_err-rows g c =
       checked = λ from found os r. IfOk-from_err c.from_residual-in_err-rows.result _ c.from_residual-in_err-rows.ensures.0;
       left = λ from found. IfOk-from_err c.from_residual-in_err-rows.result _ c.from_residual-in_err-rows.ensures.0;
       later = IfOk-from_err c.from_residual-in_err-rows.result _ c.from_residual-in_err-rows.ensures.0;
-      undamaged = λ a. err_exit c.from_residual-in_err-rows.result _ c.from_residual-in_err-rows.ensures.1 _
+      invalid = λ is. let never : true ≡ false = sym is ∙ sym c.leaves_none.ensures ∙ c.if-leaves_none.false in absurd cc;
+      undamaged = λ fits a. err_exit c.from_residual-in_err-rows.result _ c.from_residual-in_err-rows.ensures.1 _
           (answered_as (λ p. (goal.FilterPolicy-dyn g (p.vtable, p.value)).meaning p.value) c.as_slice.result.now c.args.laws.now.policies.items c.as_slice.ensures.value (reach_of g.S.Store g.M.MergeOperator g.T.BlockTransformer c.args.env.now) (reach_of g.S.Store g.M.MergeOperator g.T.BlockTransformer c.opened.new.env) c.args.self.now (λ os. IsFault (reach_of g.S.Store g.M.MergeOperator g.T.BlockTransformer c.args.env.now) (reach_of g.S.Store g.M.MergeOperator g.T.BlockTransformer c.opened.new.env) c.in_err-rows.field-0.0) (λ b. c.in_err-rows.ensures.undamaged above b) a);
-      cause = err_exit c.from_residual-in_err-rows.result _ c.from_residual-in_err-rows.ensures.1 _
+      cause = λ fits. err_exit c.from_residual-in_err-rows.result _ c.from_residual-in_err-rows.ensures.1 _
           (opening_as (λ p. (goal.FilterPolicy-dyn g (p.vtable, p.value)).meaning p.value) c.as_slice.result.now c.args.laws.now.policies.items c.as_slice.ensures.value c.args.range c.in_ok-how.how.prefix c.args.prefix c.in_ok-how.ensures.prefix c.in_ok-how.how.filter_context c.args.options.now.filter_context c.in_ok-how.ensures.context (reach_of g.S.Store g.M.MergeOperator g.T.BlockTransformer c.args.env.now) (reach_of g.S.Store g.M.MergeOperator g.T.BlockTransformer c.opened.new.env) c.args.self.now c.in_err-rows.field-0.0 c.in_err-rows.ensures.cause);
       vouched = rw p.1 tt;
       same = rw p.1 refl;
@@ -105,8 +128,9 @@ returns-in-Err g c = record {
   checked = λ from found os r. tt;
   left = λ from found. tt;
   later = tt;
-  undamaged = λ a. subst (IsCounted _ _) (sym c.from.ensures) tt;
-  cause = inl (subst (IsCounted _ _) (sym c.from.ensures) tt);
+  invalid = λ is. let never : true ≡ false = sym is ∙ sym c.leaves_none.ensures ∙ c.if-leaves_none.false in absurd cc;
+  undamaged = λ fits a. subst (IsCounted _ _) (sym c.from.ensures) tt;
+  cause = λ fits. inl (subst (IsCounted _ _) (sym c.from.ensures) tt);
   vouched = tt;
   same = ap view_of (unnoted c.self.inside c.note_scan.new.self c.in-Err.ensures.err) ∙ c.self.view_is;
   stay = stay_same c.args.self.now _ (ap view_of (unnoted c.self.inside c.note_scan.new.self c.in-Err.ensures.err) ∙ c.self.view_is);
@@ -160,7 +184,7 @@ returns g c =
     let above : (from : Reader) → reader old.state id ≡ Some from → old.floor ≤ c.in-Some.begin = λ from found. subst (λ (n : ℕ). old.floor ≤ n) (sym (begins from found)) (floor_at s old c.self.view_is id from found c.self.invariant) in
     record {
       noted = noted_is g c;
-      step = λ k h. step_scan (rules_of old.settings k) old.state id order range (open_is (reader old.state id) c.requires.open).value (open_is (reader old.state id) c.requires.open).is c.requires.range
+      step = λ k h. step_scan (rules_of old.settings k) old.state id order range (open_is (reader old.state id) c.requires.open).value (open_is (reader old.state id) c.requires.open).is (sym c.leaves_none.ensures ∙ c.if-leaves_none.false)
           ∙ ap (λ (v : CoreModel). (v.state, RowsAre [])) (sym (noted_is g c));
       names = λ from found. record { named = refl; number = number_is g c from found; ordered = e.order ∙ how; ranged = e.range };
       opened = λ from found a.
@@ -174,8 +198,9 @@ returns g c =
           (λ u at. scan_left m old id order range from c.in-Ok.scan found (number_is g c from found) (own_at s old c.self.view_is id c.self.invariant) u at
           ∙ ap (λ (o : IterationOrder). Some (o, rows_seen (rules_of old.settings m) old.state.commits from.at from.ops order range)) (sym (e.order ∙ how)));
       later = e.later;
-      undamaged = λ a. tt;
-      cause = tt;
+      invalid = λ is. let never : true ≡ false = sym is ∙ sym c.leaves_none.ensures ∙ c.if-leaves_none.false in absurd cc;
+      undamaged = λ fits a. tt;
+      cause = λ fits. tt;
       vouched = λ k other h. subst (λ (v : CoreModel). IsVouchedFor k v other) (sym (noted_is g c)) (vouched_scan k old id other order range h);
       same = tt;
       stay = stay_noted old _ id (opening g c) (noted_is g c);
