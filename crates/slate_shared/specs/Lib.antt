@@ -1,3 +1,4 @@
+pub mod Given
 pub mod LockedModel
 pub mod Shared
 pub mod Passes

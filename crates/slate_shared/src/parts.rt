@@ -5,10 +5,14 @@ pub trait Parts {
     ghost use Rattle.slate_types.specs.declared.config.Options.{Options};
     ghost use Rattle.slate_types.specs.Outside.{Meaning};
     ghost use Rattle.slate_mem.specs.KeyTests.{Segments};
+    ghost use Rattle.slate_filter.specs.Policy.{Policy};
+    ghost use Rattle.std.specs.Prelude.{List};
 
     ghost options: { Options };
 
     ghost meaning: { Meaning };
 
     ghost segments: { Segments };
+
+    ghost policies: { List Policy };
 }
