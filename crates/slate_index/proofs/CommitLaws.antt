@@ -18,15 +18,15 @@ use Rattle.slate_index.specs.Commits.{op_of, change_ops, value_of}
 use Rattle.slate_index.specs.Journals.{values_at}
 
 -- the last that is put at a key, or that it is deleted
-abbrev or_else : Option (Option (List ℕ)) → Option (Option (List ℕ)) → Option (Option (List ℕ))
+abbrev pub or_else : Option (Option (List ℕ)) → Option (Option (List ℕ)) → Option (Option (List ℕ))
 or_else (Some v) o = Some v
 or_else None o = o
 
-abbrev where_is : Bool → Option (List ℕ) → Option (Option (List ℕ))
+abbrev pub where_is : Bool → Option (List ℕ) → Option (Option (List ℕ))
 where_is true v = Some v
 where_is false v = None
 
-abbrev final : List (List ℕ × Option (List ℕ)) → List ℕ → Option (Option (List ℕ))
+abbrev pub final : List (List ℕ × Option (List ℕ)) → List ℕ → Option (Option (List ℕ))
 final [] k = None
 final (p ∷ ps) k = or_else (final ps k) (where_is (bytes_eq p.0 k) p.1)
 
@@ -45,7 +45,7 @@ changed_finally m (p ∷ ps) k = changed_finally (put_value m p.0 p.1) ps k ∙ 
 
 -- ---- what is kept
 
-abbrev listed : Option (Option (List ℕ)) → List WriteOp
+abbrev pub listed : Option (Option (List ℕ)) → List WriteOp
 listed None = []
 listed (Some v) = op_of v ∷ []
 
@@ -77,12 +77,16 @@ kept_puts (p ∷ ps) k = by (bytes_eq p.0 k) (final ps k) (kept_puts ps k)
     by false None h = h
     by false (Some v) h = h
 
-kept_is : (ps : List (List ℕ × Option (List ℕ))) (k : List ℕ) → kept (kept_ops (change_ops ps)) k ≡ listed (final ps k)
-kept_is ps k = keeps_what_is_kept (change_ops ps) k ∙ by (final ps k) (kept_puts ps k)
+-- what a list of puts and deletes leaves of a key
+pub kept_of : (ps : List (List ℕ × Option (List ℕ))) (k : List ℕ) → kept (change_ops ps) k ≡ listed (final ps k)
+kept_of ps k = by (final ps k) (kept_puts ps k)
   where
     by : (o : Option (Option (List ℕ))) → AreKept (ops_of (change_ops ps) k) o → kept (change_ops ps) k ≡ listed o
     by None h = ap (from_last replaces) h
     by (Some v) h = h.1
+
+kept_is : (ps : List (List ℕ × Option (List ℕ))) (k : List ℕ) → kept (kept_ops (change_ops ps)) k ≡ listed (final ps k)
+kept_is ps k = keeps_what_is_kept (change_ops ps) k ∙ kept_of ps k
 
 -- ---- the state after it
 

@@ -38,7 +38,7 @@ and_false true = refl
 and_false false = refl
 
 -- the keys of the old value that the new one hasn't
-gone_is : (k : List ℕ) (olds news : List (List ℕ)) → among k (filter (λ j. not (among j news)) olds) ≡ (among k olds && not (among k news))
+pub gone_is : (k : List ℕ) (olds news : List (List ℕ)) → among k (filter (λ j. not (among j news)) olds) ≡ (among k olds && not (among k news))
 gone_is k [] news = refl
 gone_is k (j ∷ olds) news = by (bytes_eq j k) refl (not (among j news)) refl (gone_is k olds news)
   where
@@ -60,7 +60,7 @@ entry_is : (fs : FieldsModel) (id : List ℕ) (o : Option (List ℕ)) (k : List 
 entry_is fs id None k h = cc
 entry_is fs id (Some v) k h = tells_of fs fs.count id v k h
 
-no_entry : (fs : FieldsModel) (id other : List ℕ) (o : Option (List ℕ)) → among (record_key other) (entries_if fs id o) ≡ false
+pub no_entry : (fs : FieldsModel) (id other : List ℕ) (o : Option (List ℕ)) → among (record_key other) (entries_if fs id o) ≡ false
 no_entry fs id other o = by (among (record_key other) (entries_if fs id o)) refl
   where
     by : (b : Bool) → among (record_key other) (entries_if fs id o) ≡ b → b ≡ false

@@ -4,4 +4,5 @@ pub mod Parts
 pub mod Changes
 pub mod Commits
 pub mod Journals
+pub mod Shown
 pub mod Laws

@@ -5,6 +5,7 @@
 //! of its records.
 #![tactic(auto)]
 
+pub mod audit;
 pub mod comma;
 pub mod entries;
 pub mod error;
