@@ -16,6 +16,7 @@ use Rattle.slate_db.specs.Flushed.{Layout}
 use Rattle.slate_db.specs.Parts.{IsTableError}
 use Rattle.slate_db.specs.Sound.{IsKept}
 use Rattle.slate_db.specs.Settled.{IsSettled, IsSettledIn}
+use Rattle.slate_db.proofs.Settled.{settled_answered, settled_readable, true_answered}
 use Rattle.slate_language.specs.declared.reply.Answer.{Answer}
 use Rattle.slate_script.specs.Calls.Line.{Answers, AnswersByRead, AnswersWithin, AnswersByWrite}
 use Rattle.slate_script.specs.Session.{SessionModel, StepsAs, Grows, IsLimit, StoresNothing}

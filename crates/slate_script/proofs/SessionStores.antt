@@ -21,6 +21,7 @@ use Rattle.slate_db.specs.Log.{LIMIT}
 use Rattle.slate_db.specs.Segmented.{IsSegmented}
 use Rattle.slate_db.specs.Sound.{IsKept}
 use Rattle.slate_db.specs.Settled.{HasTables, IsSettled}
+use Rattle.slate_db.proofs.Settled as cores
 use Rattle.slate_script.specs.Session.{SessionModel, StoresNothing}
 use Rattle.slate_db.proofs.Runs.{are_placed}
 use Rattle.slate_db.proofs.RunsOf.{runs_more, runs_same, tables_are}
@@ -135,19 +136,4 @@ pub tables_still : {m : Meaning} {seg : Segments} (e new : SessionModel) → Sto
 tables_still e new s = same_tables new.core.events e.core.events s.runs
 
 pub stays_settled : (policies : List Policy) (m : Meaning) (seg : Segments) (objects : Option Objects) (e new : SessionModel) → StoresNothing m seg e new → IsSettled policies m seg objects e.core → IsSettled policies m seg objects new.core
-stays_settled policies m seg objects e new s h = record {
-  lawful_policies = h.lawful_policies;
-  lawful = h.lawful;
-  kept = s.kept h.kept;
-  segmented = s.segmented h.segmented;
-  tables = record {
-    holds = by objects h.tables.holds;
-    numbered = subst (NumberedFrom 1) (sym s.runs) h.tables.numbered;
-    few = let a : length (runs_of new.core.events) ≡ length (runs_of e.core.events) = ap length s.runs in omega (arith, a, h.tables.few, s.later);
-  };
-  filtered = subst (AreFiltered m.encode policies) (sym (tables_still e new s)) h.filtered;
-}
-  where
-    by : (o : Option Objects) → HoldsTables o e.core.events → HoldsTables o new.core.events
-    by None holds = holds
-    by (Some os) holds = subst (Holds os) (sym (tables_still e new s)) holds
+stays_settled policies m seg objects e new s = cores.stays_settled policies m seg objects e.core new.core s.runs s.later s.kept s.segmented

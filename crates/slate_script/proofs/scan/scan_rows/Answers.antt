@@ -32,3 +32,8 @@ pub returns-in_err-scan-clause-cause : goal.returns-in_err-scan-clause-cause
 returns-in_err-scan-clause-cause g c =
     let p = err_from_is_err_and c.from_residual.result c.from_residual.ensures.1 in
     rw (p.1, p.2) (opening_scan _ _ c.args.core.now c.in_err-scan.field-0.0 (c.in_err-scan.ensures.cause c.requires.range))
+
+pub returns-in_err-scan-clause-undamaged : goal.returns-in_err-scan-clause-undamaged
+returns-in_err-scan-clause-undamaged g c answered =
+    let p = err_from_is_err_and c.from_residual.result c.from_residual.ensures.1 in
+    rw (p.1, p.2) (c.in_err-scan.ensures.undamaged c.requires.range answered)
