@@ -215,7 +215,8 @@ impl Core {
     /// show it, of a table that the journal names; and by `OutOfMemory`. Then nothing is recorded. Neither damage nor a missing
     /// operator is answered where the store holds the tables that the journal names, nor where its acts tell that each read of this
     /// call was answered by them. Where the acts tell otherwise, an Ok rests on a section that slipped through: of such a table, other
-    /// than it stands there, with a checksum that fits.
+    /// than it stands there, with a checksum that fits. Without an operator no row is answered where own operations leave the key open
+    /// and its rows in memory come to an operand before one that decides.
     pub fn get<S: Store, M: MergeOperator, T: BlockTransformer, X: PrefixExtractor>(
         &mut self,
         id: &Uuid,
@@ -324,9 +325,10 @@ impl Core {
     /// given each key of the range must begin with it. The filters of tables that can hold a key of the range are asked first, for the
     /// key where the range is a point, else for the prefix, with the options' context: a denied table costs one read.
     ///
-    /// Refuses by `StoreFault` and `BlockTransformError`, each only where its count of faults rose; by `ChecksumMismatch`,
-    /// `CorruptTable`, `InvalidRowFlags` and `InvalidFilterBlock`, only where reads of this call show it, of a table that the journal
-    /// names; and by `OutOfMemory`. Then nothing is noted.
+    /// Refuses by `InvalidRange` exactly where the bounds make no range, and then nothing is reached; by `StoreFault` and
+    /// `BlockTransformError`, each only where its count of faults rose; by `ChecksumMismatch`, `CorruptTable`, `InvalidRowFlags` and
+    /// `InvalidFilterBlock`, only where reads of this call show it, of a table that the journal names; and by `OutOfMemory`. Then
+    /// nothing is noted.
     ///
     /// Calls on the iterator refuse later by what the reads since show of such a table; and, but for seeks, by
     /// `MergeOperatorMissing`, only where there is no operator and a row is an operand, and by `InvalidSequenceOrder`, only where
