@@ -1,5 +1,5 @@
 -- The feed of the events that are left.
-use Rattle.std.proofs.Common.{◌≡◌, ℕ, ◌+◌, ◌<◌, ◌≤◌, List, [], ◌∷◌, ◌++◌, length, drop, get_or, option_to_list, Option, Some, None, refl, sym, ap, ◌∙◌, arith, append_assoc, append-nil, drop-cons, add-one, drop_of_length-le}
+use Rattle.std.proofs.Common.{◌≡◌, ℕ, ◌+◌, ◌<◌, ◌≤◌, List, ◌∷◌, ◌++◌, length, drop, get_or, option_to_list, Option, Some, None, refl, sym, ap, ◌∙◌, append_assoc, append-nil, drop-cons, add-one, drop_of_length-le}
 use Rattle.std.specs.List.{cons_option}
 use Rattle.slate_txn.specs.declared.event.Event.{Event}
 use Rattle.slate_queue.specs.declared.entries.FeedEntry.{FeedEntry}

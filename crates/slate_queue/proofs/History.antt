@@ -1,7 +1,7 @@
 -- What deeds that are right where they stand have done.
 use Rattle.std.proofs.Common.{◌≡◌, ◌≢◌, ℕ, zero, ◌+◌, ◌≤◌, ◌<◌, Bool, true, false, cond, ◌&&◌, ◌||◌, nat_eq, List, [], ◌∷◌, ◌++◌, Option, Some, None, refl, sym, ap, subst, ◌∙◌, arith, append_assoc}
 use Rattle.std.proofs.lemmas.Bool.Decides.{nat_tests}
-use Rattle.slate_queue.specs.Deeds.{Deed, Jobs, none_yet, with_lease, Does, done_by, Did, after_deeds, adds, claims, finishes, any_deed, lease_by, last_lease}
+use Rattle.slate_queue.specs.Deeds.{Deed, Jobs, none_yet, with_lease, Does, done_by, Did, adds, claims, finishes, any_deed, lease_by, last_lease}
 
 any_more : (t : Deed → Bool) (ds : List Deed) (d : Deed) → any_deed t (ds ++ (d ∷ [])) ≡ (any_deed t ds || t d)
 any_more t [] d = by (t d)

@@ -1,5 +1,5 @@
 -- What the commits of an audited journal do, where its transcripts are vouched.
-use Rattle.std.proofs.Common.{◌≡◌, ◌≢◌, ◌⊎◌, inl, inr, ℕ, ◌+◌, ◌≤◌, Bool, true, false, List, [], ◌∷◌, ◌++◌, filter_map, Option, Some, None, refl, sym, ap, subst, ◌∙◌, arith, append-nil}
+use Rattle.std.proofs.Common.{◌≡◌, ◌⊎◌, inl, inr, ℕ, ◌+◌, List, [], ◌∷◌, ◌++◌, Option, Some, None, refl, sym, ap, subst, ◌∙◌, append-nil}
 use Rattle.std.specs.Prelude.{ℤ, IsSome, IsTrue}
 use Rattle.std.specs.List.{AllByRecursion, cons_option}
 use Rattle.slate_types.specs.declared.config.IsolationLevel.{IsolationLevel}
@@ -12,10 +12,10 @@ use Rattle.slate_txn.specs.declared.event.TranscriptStep.{TranscriptStep}
 use Rattle.slate_txn.specs.Named.{find_named}
 use Rattle.slate_txn.specs.State.{Rules, Commit, Tx, State, opening, last, last_of}
 use Rattle.slate_txn.specs.Tracking.{Reading, reads_of}
-use Rattle.slate_txn.specs.Replay.{apply, apply_all, replay, Allowed, LegalFrom, ids_of}
+use Rattle.slate_txn.specs.Replay.{apply, apply_all, replay, Allowed, LegalFrom}
 use Rattle.slate_txn.specs.Alone.{IsAlone}
-use Rattle.slate_txn.specs.Vouched.{AreVouched, TracksReads, AloneWhere, AloneBy, AloneAt, AreAloneFrom}
-use Rattle.slate_txn.specs.Audited.{IsOfKindBy, IsOfKindAt, AreOfKindFrom, AreOfKind}
+use Rattle.slate_txn.specs.Vouched.{AreVouched, TracksReads, AloneWhere, AloneBy, AreAloneFrom}
+use Rattle.slate_txn.specs.Audited.{IsOfKindBy, IsOfKindAt, AreOfKindFrom}
 use Rattle.slate_txn.specs.Laws.{Counts}
 use Rattle.slate_txn.proofs.SequenceLaws.{apply_counts}
 use Rattle.slate_txn.proofs.PlaceLaws.{each_at_its_place}
@@ -23,7 +23,7 @@ use Rattle.slate_mem.specs.declared.WriteOp.TheVariants.{Delete}
 use Rattle.slate_queue.specs.Stored.{job_key, job_bytes}
 use Rattle.slate_queue.specs.Jobs.{leased}
 use Rattle.slate_queue.specs.Commits.{put_of, IsAdd, IsClaim, IsFinish, IsQueueCommit}
-use Rattle.slate_queue.specs.Deeds.{Deed, Jobs, none_yet, Does, done_by, Did, deed_by, deed_of, deeds_of, any_deed, adds, claims, finishes, last_lease}
+use Rattle.slate_queue.specs.Deeds.{Deed, Jobs, none_yet, done_by, Did, deed_by, deed_of, deeds_of}
 use Rattle.slate_queue.specs.Laws.{IsAudited, Shows, EachShowsADeed, ClaimedOnce, AddedOnce, FinishedOnce, FinishesNameTheLastLease}
 use Rattle.slate_queue.proofs.History.{claimed_once, added_once, finished_once, last_named}
 use Rattle.slate_queue.proofs.Changes.{one_kept, added_kept}

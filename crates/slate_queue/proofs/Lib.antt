@@ -1,3 +1,9 @@
+pub mod FormLaws
+pub mod AddForm
+pub mod ClaimForm
+pub mod ClaimWalk
+pub mod FinishForm
+pub mod AuditLaws
 pub mod FeedLaws
 pub mod History
 pub mod Changes

@@ -1,10 +1,9 @@
 -- The jobs that stand behind some commits, and what one commit of a queue more does to them.
-use Rattle.std.proofs.Common.{◌≡◌, ◌≢◌, ◌⊎◌, inl, inr, ℕ, ◌+◌, ◌<◌, ◌≤◌, ◌^◌, Bool, true, false, cond, nat_eq, List, [], ◌∷◌, ◌++◌, map, length, bytes_eq, Option, Some, None, option_map, refl, sym, ap, subst, ◌∙◌, arith, append-nil}
+use Rattle.std.proofs.Common.{◌≡◌, ◌≢◌, ℕ, ◌+◌, ◌<◌, ◌≤◌, ◌^◌, Bool, true, false, cond, nat_eq, List, [], ◌∷◌, ◌++◌, map, length, bytes_eq, Option, Some, None, option_map, refl, sym, ap, subst, ◌∙◌, arith, append-nil}
 use Rattle.std.specs.Prelude.{take, drop, nat_le}
 use Rattle.std.specs.Int.{w64, cast_signed}
 use Rattle.std.specs.List.{AllByRecursion}
 use Rattle.std.proofs.lemmas.Bool.Decides.{nat_tests}
-use Rattle.std.proofs.lemmas.Slice.Eq.{bytes_eq-Decides}
 use Rattle.slate_types.specs.declared.iter.IterationOrder.TheVariants.{Ascending}
 use Rattle.slate_types.specs.declared.types.KeyValue.{KeyValue}
 use Rattle.slate_types.specs.declared.types.RowEntry.{RowEntry}
@@ -13,7 +12,7 @@ use Rattle.slate_types.specs.Rows.{key_value, operand}
 use Rattle.slate_types.specs.Fold.{from_last, shown}
 use Rattle.slate_mem.specs.declared.WriteOp.{WriteOp}
 use Rattle.slate_mem.specs.declared.WriteOp.TheVariants.{Put, Delete, Merge}
-use Rattle.slate_mem.specs.Batch.{Ops, replaces, kept, kept_ops}
+use Rattle.slate_mem.specs.Batch.{replaces, kept_ops}
 use Rattle.slate_txn.specs.declared.event.TranscriptStep.{TranscriptStep}
 use Rattle.slate_txn.specs.declared.event.TranscriptStep.TheVariants as steps
 use Rattle.slate_txn.specs.State.{Rules, Commit, combine_at, last_of}
@@ -23,7 +22,7 @@ use Rattle.slate_txn.specs.Laws.{Counts}
 use Rattle.slate_txn.proofs.SeenLaws.{IsOfRow, answers_are_seen, rows_are_seen}
 use Rattle.slate_queue.specs.Stored.{Job, counter_key, jobs_prefix, job_key, id_of, lease_of, number_bytes, number_of, job_bytes, job_of, counter_in}
 use Rattle.slate_queue.specs.Jobs.{new_job, leased, last_number}
-use Rattle.slate_queue.specs.Commits.{Writes, put_of, added, IsAdd, IsClaim, IsFinish, IsPassed}
+use Rattle.slate_queue.specs.Commits.{put_of, added, IsAdd, IsClaim, IsFinish}
 use Rattle.slate_queue.specs.Deeds.{Deed, Jobs, with_lease, Does, done_by, deed_by, lease_read}
 use Rattle.slate_queue.proofs.Changes.{number_again, eight, lease_again, id_again, apart_keys, same_bytes, one_kept, added_kept, value_at, left_by, IsPlain, leaves}
 

@@ -3,7 +3,7 @@
 --     added id payload      what an added job puts: the counter, and itself
 --     IsAdd, IsClaim now, IsFinish      a commit of that batch and transcript adds a job, claims one at the moment, or finishes one
 --     IsQueueCommit level now ops tracked ts      a serializable commit that does one of these
-use Rattle.std.specs.Prelude.{◌≡◌, ◌≢◌, ◌⊎◌, ℕ, ℤ, pos, ◌+◌, ◌<◌, ◌≤◌, ◌^◌, Bool, true, false, List, [], ◌∷◌, ◌++◌, map, length, Option, Some, None, option_map}
+use Rattle.std.specs.Prelude.{◌≡◌, ◌≢◌, ◌⊎◌, ℕ, ℤ, ◌+◌, ◌<◌, ◌≤◌, ◌^◌, true, false, List, [], ◌∷◌, ◌++◌, map, length, Option, Some, option_map}
 use Rattle.std.specs.List.{AllByRecursion}
 use Rattle.slate_types.specs.declared.config.Ttl.TheVariants.{Default}
 use Rattle.slate_types.specs.declared.config.IsolationLevel.{IsolationLevel}

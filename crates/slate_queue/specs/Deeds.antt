@@ -7,7 +7,7 @@
 --     last_lease id first ds      the lease of the last claim of an id
 --     deed_of e, deeds_of es      the deed that a commit of a queue shows, and those of events
 use Rattle.std.specs.Prelude.{◌≡◌, ◌≢◌, ℕ, ◌+◌, Bool, false, ◌&&◌, ◌||◌, if◌then◌else◌, nat_eq, List, [], ◌∷◌, filter_map, Option, Some, None, ⊤}
-use Rattle.slate_mem.specs.declared.WriteOp.TheVariants.{Put, Delete, Merge}
+use Rattle.slate_mem.specs.declared.WriteOp.TheVariants.{Put, Delete}
 use Rattle.slate_mem.specs.Batch.{Ops}
 use Rattle.slate_txn.specs.declared.event.Event.{Event}
 use Rattle.slate_txn.specs.declared.event.Event.TheVariants as events

@@ -6,7 +6,7 @@
 --     longest, last_number      the longest payload, and the last number of an id or a lease
 --     Call, Answer      what is asked, and what is answered
 --     queue_step q call      the queue behind the call and its answer, or why it is refused
-use Rattle.std.specs.Prelude.{◌≡◌, ℕ, zero, suc, ◌+◌, ◌-◌, ◌^◌, ℤ, pos, ◌+ℤ◌, int_le, int_lt, Bool, ◌||◌, if◌then◌else◌, nat_eq, nat_le, nat_lt, List, length, Option, Some, None, Result, Ok, Err}
+use Rattle.std.specs.Prelude.{ℕ, zero, suc, ◌+◌, ◌-◌, ◌^◌, ℤ, pos, ◌+ℤ◌, int_le, int_lt, Bool, ◌||◌, if◌then◌else◌, nat_eq, nat_le, nat_lt, List, length, Option, Some, None, Result, Ok, Err}
 use Rattle.slate_queue.specs.declared.error.QueueError.{QueueError}
 use Rattle.slate_queue.specs.declared.error.QueueError.TheVariants as errors
 use Rattle.slate_queue.specs.Stored.{Job}

@@ -3,4 +3,5 @@ pub mod Jobs
 pub mod Commits
 pub mod Deeds
 pub mod Feed
+pub mod Forms
 pub mod Laws
