@@ -9,7 +9,7 @@ use Rattle.slate_txn.specs.declared.event.TranscriptStep.TheVariants.{Get, Scan,
 use Rattle.slate_queue.specs.Stored.{counter_key, job_key, number_bytes, job_bytes, counter_in}
 use Rattle.slate_queue.specs.Jobs.{new_job, last_number}
 use Rattle.slate_queue.specs.Commits.{put_of, IsAdd}
-use Rattle.slate_queue.specs.Forms.{put_value, puts, keeps_put, next_of, next_id, is_new_job, adds_job, adds, adds_in}
+use Rattle.slate_queue.specs.Forms.{put_value, puts, keeps_put, next_of, next_id, is_new_job, adds_job, adds_by, adds_in}
 use Rattle.slate_queue.proofs.Changes.{added_kept}
 use Rattle.slate_queue.proofs.FormLaws.{never, refutes, some_is, and_both, keeps_put_decides, puts_decides, IsNewJob, new_job_is, new_job_test, first_same, rest_same, lt_is, lt_test}
 
@@ -129,10 +129,10 @@ added_by id v jk ck job counter read first second r h = record {
     ops_are : job ∷ counter ∷ [] ≡ (job_key (r.counter + 1), put_of (job_bytes (new_job (drop 16 v)))) ∷ (counter_key, put_of (number_bytes (r.counter + 1))) ∷ []
     ops_are = λ i. (h.kept_job ∙ (λ j. (key_is j, put_of (new.is j)))) i ∷ (h.kept_counter ∙ (λ j. (h.counter_is j, put_of (number_bytes (r.is j))))) i ∷ []
 
-add_passes : (job counter : List ℕ × WriteOp) (jk ck : List ℕ) (read first second : TranscriptStep) → IsAdd (job ∷ counter ∷ []) (jk ∷ ck ∷ []) (read ∷ first ∷ second ∷ []) → adds (next_id read) (put_value job.1) jk ck job counter first second ≡ true
+add_passes : (job counter : List ℕ × WriteOp) (jk ck : List ℕ) (read first second : TranscriptStep) → IsAdd (job ∷ counter ∷ []) (jk ∷ ck ∷ []) (read ∷ first ∷ second ∷ []) → adds_by (next_id read) (put_value job.1) jk ck job counter first second ≡ true
 add_passes job counter jk ck read first second h =
-    (λ i. adds (next_id (read_is i)) (put_value ((job_is i).1)) jk ck job counter first second)
-    ∙ ap (λ o. adds o (Some value) jk ck job counter first second) (reads_next h.answer h.counter h.read h.left)
+    (λ i. adds_by (next_id (read_is i)) (put_value ((job_is i).1)) jk ck job counter first second)
+    ∙ ap (λ o. adds_by o (Some value) jk ck job counter first second) (reads_next h.answer h.counter h.read h.left)
     ∙ adds_passes id value jk ck job counter first second (record {
       new = new_job_test h.payload h.short;
       job_is = key_is;
@@ -181,10 +181,10 @@ add_passes job counter jk ck read first second h =
 
 -- the test of a commit of two operations and three steps
 pub add_decides : (job counter : List ℕ × WriteOp) (jk ck : List ℕ) (read first second : TranscriptStep) →
-    Decides (adds (next_id read) (put_value job.1) jk ck job counter first second) (IsAdd (job ∷ counter ∷ []) (jk ∷ ck ∷ []) (read ∷ first ∷ second ∷ []))
+    Decides (adds_by (next_id read) (put_value job.1) jk ck job counter first second) (IsAdd (job ∷ counter ∷ []) (jk ∷ ck ∷ []) (read ∷ first ∷ second ∷ []))
 add_decides job counter jk ck read first second = (λ e. by (next_id read) (put_value job.1) refl e, add_passes job counter jk ck read first second)
   where
-    by : (o : Option ℕ) (v : Option (List ℕ)) → next_id read ≡ o → adds o v jk ck job counter first second ≡ true → IsAdd (job ∷ counter ∷ []) (jk ∷ ck ∷ []) (read ∷ first ∷ second ∷ [])
+    by : (o : Option ℕ) (v : Option (List ℕ)) → next_id read ≡ o → adds_by o v jk ck job counter first second ≡ true → IsAdd (job ∷ counter ∷ []) (jk ∷ ck ∷ []) (read ∷ first ∷ second ∷ [])
     by None v r e = never e
     by (Some id) None r e = never e
     by (Some id) (Some v) r e = added_by id v jk ck job counter read first second (read_by read id r) (adds_tells id v jk ck job counter first second e)

@@ -10,7 +10,7 @@ use Rattle.slate_txn.specs.declared.event.TranscriptStep.{TranscriptStep}
 use Rattle.slate_txn.specs.declared.event.TranscriptStep.TheVariants.{Get, Scan, Next, Seek, View, Own}
 use Rattle.slate_queue.specs.Stored.{Job, job_key, id_of, job_of}
 use Rattle.slate_queue.specs.Commits.{IsFinish}
-use Rattle.slate_queue.specs.Forms.{has_job_key, is_claimed, keeps_delete, deletes, ends_job, finishes, finishes_in}
+use Rattle.slate_queue.specs.Forms.{has_job_key, is_claimed, keeps_delete, deletes, ends_job, finishes_by, finishes_in}
 use Rattle.slate_queue.proofs.Changes.{one_kept, id_again}
 use Rattle.slate_queue.proofs.FormLaws.{never, refutes, and_both, first_same, rest_same, own_id, keeps_delete_decides, deletes_decides}
 
@@ -56,9 +56,9 @@ ended_by k row key job own e =
       };
     }
 
-finish_passes : (read : TranscriptStep) (key : List ℕ) (job : List ℕ × WriteOp) (own : TranscriptStep) → IsFinish (job ∷ []) (key ∷ []) (read ∷ own ∷ []) → finishes read key job own ≡ true
+finish_passes : (read : TranscriptStep) (key : List ℕ) (job : List ℕ × WriteOp) (own : TranscriptStep) → IsFinish (job ∷ []) (key ∷ []) (read ∷ own ∷ []) → finishes_by read key job own ≡ true
 finish_passes read key job own h =
-    ap (λ r. finishes r key job own) (first_same _ _ _ _ steps)
+    ap (λ r. finishes_by r key job own) (first_same _ _ _ _ steps)
     ∙ (λ i. own_key i && (ap is_claimed h.stands ∙ claimed_test h.job h.claimed) i && (bytes_eq-Decides key (job_key h.id)).1 (first_same _ _ _ _ keys) i && (keeps_delete_decides (job_key h.id) job).1 (first_same _ _ _ _ ops) i
     && (deletes_decides (job_key h.id) own).1 (first_same _ _ _ _ (rest_same _ _ _ _ steps)) i)
   where
@@ -74,10 +74,10 @@ finish_passes read key job own h =
     own_key : has_job_key (job_key h.id) ≡ true
     own_key = (bytes_eq-Decides (job_key h.id) (job_key (id_of (job_key h.id)))).1 (ap job_key (sym (id_again h.id h.fits)))
 
-pub finish_decides : (read : TranscriptStep) (key : List ℕ) (job : List ℕ × WriteOp) (own : TranscriptStep) → Decides (finishes read key job own) (IsFinish (job ∷ []) (key ∷ []) (read ∷ own ∷ []))
+pub finish_decides : (read : TranscriptStep) (key : List ℕ) (job : List ℕ × WriteOp) (own : TranscriptStep) → Decides (finishes_by read key job own) (IsFinish (job ∷ []) (key ∷ []) (read ∷ own ∷ []))
 finish_decides read key job own = (by read, finish_passes read key job own)
   where
-    by : (r : TranscriptStep) → finishes r key job own ≡ true → IsFinish (job ∷ []) (key ∷ []) (r ∷ own ∷ [])
+    by : (r : TranscriptStep) → finishes_by r key job own ≡ true → IsFinish (job ∷ []) (key ∷ []) (r ∷ own ∷ [])
     by (Get k (Some row)) e = ended_by k row key job own e
     by (Get k None) e = never e
     by (Own k op) e = never e

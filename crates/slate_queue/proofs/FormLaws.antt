@@ -15,7 +15,7 @@ use Rattle.slate_queue.specs.Stored.{Job, job_key, id_of, is_job_key, number_byt
 use Rattle.slate_queue.specs.declared.stored.LeaseHead.{LeaseHead}
 use Rattle.slate_queue.specs.Jobs.{new_job, longest}
 use Rattle.slate_queue.specs.Commits.{put_of}
-use Rattle.slate_queue.specs.Forms.{is_default, put_value, is_value, puts, keeps_put, is_delete, deletes, keeps_delete, no_lease, is_new_job, has_job_key, head_of, held_by, frees, raises, is_next_lease, is_leased, IsRewritten}
+use Rattle.slate_queue.specs.Forms.{is_default, put_value, is_just, puts, keeps_put, is_delete, deletes, keeps_delete, no_lease, is_new_job, has_job_key, head_of, held_by, frees, raises, is_next_lease, is_leased, IsRewritten}
 use Rattle.slate_queue.proofs.Changes.{same_bytes}
 
 pub never : {A : Type 0} → false ≡ true → A
@@ -60,10 +60,10 @@ is_plain (Put v o) = is_default o.ttl
 is_plain Delete = false
 is_plain (Merge v o) = false
 
-pub value_decides : (v : List ℕ) (op : WriteOp) → Decides (is_value v (put_value op)) (op ≡ put_of v)
+pub value_decides : (v : List ℕ) (op : WriteOp) → Decides (is_just v (put_value op)) (op ≡ put_of v)
 value_decides v (Put w o) = by o.ttl
   where
-    by : (t : Ttl) → Decides (is_value v (cond (is_default t) (Some w) None)) (Put w (record { ttl = t }) ≡ put_of v)
+    by : (t : Ttl) → Decides (is_just v (cond (is_default t) (Some w) None)) (Put w (record { ttl = t }) ≡ put_of v)
     by Default = (λ e. ap put_of ((bytes_eq-Decides w v).0 e), λ p. (bytes_eq-Decides w v).1 (ap of_put p))
     by NoExpiry = refutes (λ p. never (ap is_plain p))
     by (ExpireAfter n) = refutes (λ p. never (ap is_plain p))
@@ -73,7 +73,7 @@ value_decides v (Merge w o) = refutes (λ p. never (ap is_plain p))
 pub keeps_put_decides : (k v : List ℕ) (o : List ℕ × WriteOp) → Decides (keeps_put k v o) (o ≡ (k, put_of v))
 keeps_put_decides k v o =
     Decides-like (keeps_put k v o) (λ h. λ i. (h.0 i, h.1 i)) (λ p. (ap (λ (x : List ℕ × WriteOp). x.0) p, ap (λ (x : List ℕ × WriteOp). x.1) p))
-    (Decides-and (bytes_eq o.0 k) (is_value v (put_value o.1)) (bytes_eq-Decides o.0 k) (value_decides v o.1))
+    (Decides-and (bytes_eq o.0 k) (is_just v (put_value o.1)) (bytes_eq-Decides o.0 k) (value_decides v o.1))
 
 pub delete_decides : (op : WriteOp) → Decides (is_delete op) (op ≡ Delete)
 delete_decides Delete = (λ e. refl, λ p. refl)
@@ -108,8 +108,8 @@ no_own step k op e = refutes (λ p. never (sym e ∙ ap is_own p))
 
 pub puts_decides : (k v : List ℕ) (step : TranscriptStep) → Decides (puts k v step) (step ≡ Own k (put_of v))
 puts_decides k v (Own j op) =
-    Decides-like (bytes_eq j k && is_value v (put_value op)) (λ h. λ i. Own (h.0 i) (h.1 i)) (λ p. (ap own_key p, ap own_op p))
-    (Decides-and (bytes_eq j k) (is_value v (put_value op)) (bytes_eq-Decides j k) (value_decides v op))
+    Decides-like (bytes_eq j k && is_just v (put_value op)) (λ h. λ i. Own (h.0 i) (h.1 i)) (λ p. (ap own_key p, ap own_op p))
+    (Decides-and (bytes_eq j k) (is_just v (put_value op)) (bytes_eq-Decides j k) (value_decides v op))
 puts_decides k v (Get j a) = no_own (Get j a) k (put_of v) refl
 puts_decides k v (Scan o r) = no_own (Scan o r) k (put_of v) refl
 puts_decides k v (Next n a) = no_own (Next n a) k (put_of v) refl

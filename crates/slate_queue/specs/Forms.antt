@@ -5,7 +5,7 @@
 --     deletes k step, keeps_delete k o      the same of a delete
 --     next_of counter, next_id step      the next id behind a counter, and behind a read of it
 --     is_new_job v      a job as it is added
---     adds, adds_in      the operations, keys and steps are those of an added job, of lists as long as its own, and of any
+--     adds_by, adds_in      the operations, keys and steps are those of an added job, of lists as long as its own, and of any
 --     has_job_key k      the key of an id's job
 --     opens_jobs step, is_of_jobs start end      a scan of all jobs, upwards
 --     first_row step      the row that a step of the first scan was answered
@@ -16,7 +16,7 @@
 --     rewrites, rewrites_row, takes, claims_by, Claims      the operation, the key and the step are those of a claimed job, and behind its row
 --     claim_steps, claims_all      the steps of a claim, and the test of them all
 --     AreRewritten ops      what is known of the values that operations put
---     is_found step, is_claimed j, ends_job, finishes, finishes_in      the same of a finished job
+--     is_found step, is_claimed j, ends_job, finishes_by, finishes_in      the same of a finished job
 --     IsQueueWork now ops tracked ts      a commit adds, claims or finishes a job
 --     IsForeign es e      an audit of these events refuses so
 use Rattle.std.specs.Prelude.{◌≡◌, ◌⊎◌, ℕ, ◌+◌, ◌-◌, ◌<◌, ◌^◌, ℤ, int_le, Bool, true, false, ◌&&◌, ◌||◌, not, if◌then◌else◌, nat_eq, nat_le, nat_lt, List, [], ◌∷◌, ◌++◌, length, take, Option, Some, None, IfSome, option_map, bytes_eq}
@@ -57,12 +57,12 @@ put_value (Put v o) = if is_default o.ttl then Some v else None
 put_value Delete = None
 put_value (Merge v o) = None
 
-abbrev pub is_value : List ℕ → Option (List ℕ) → Bool
-is_value v None = false
-is_value v (Some w) = bytes_eq w v
+abbrev pub is_just : List ℕ → Option (List ℕ) → Bool
+is_just v None = false
+is_just v (Some w) = bytes_eq w v
 
 abbrev pub puts : List ℕ → List ℕ → TranscriptStep → Bool
-puts k v (Own j op) = bytes_eq j k && is_value v (put_value op)
+puts k v (Own j op) = bytes_eq j k && is_just v (put_value op)
 puts k v (Get j a) = false
 puts k v (Scan o r) = false
 puts k v (Next n a) = false
@@ -70,7 +70,7 @@ puts k v (Seek n j) = false
 puts k v (View r) = false
 
 abbrev pub keeps_put : List ℕ → List ℕ → List ℕ × WriteOp → Bool
-keeps_put k v o = bytes_eq o.0 k && is_value v (put_value o.1)
+keeps_put k v o = bytes_eq o.0 k && is_just v (put_value o.1)
 
 abbrev pub is_delete : WriteOp → Bool
 is_delete Delete = true
@@ -112,13 +112,13 @@ abbrev pub adds_job : ℕ → List ℕ → List ℕ → List ℕ → List ℕ ×
 adds_job id v jk ck job counter first second =
     is_new_job v && bytes_eq jk (job_key id) && bytes_eq ck counter_key && keeps_put jk v job && keeps_put ck (number_bytes id) counter && puts ck (number_bytes id) first && puts jk v second
 
-abbrev pub adds : Option ℕ → Option (List ℕ) → List ℕ → List ℕ → List ℕ × WriteOp → List ℕ × WriteOp → TranscriptStep → TranscriptStep → Bool
-adds None v jk ck job counter first second = false
-adds (Some id) None jk ck job counter first second = false
-adds (Some id) (Some v) jk ck job counter first second = adds_job id v jk ck job counter first second
+abbrev pub adds_by : Option ℕ → Option (List ℕ) → List ℕ → List ℕ → List ℕ × WriteOp → List ℕ × WriteOp → TranscriptStep → TranscriptStep → Bool
+adds_by None v jk ck job counter first second = false
+adds_by (Some id) None jk ck job counter first second = false
+adds_by (Some id) (Some v) jk ck job counter first second = adds_job id v jk ck job counter first second
 
 abbrev pub adds_keys : List (List ℕ) → List ℕ × WriteOp → List ℕ × WriteOp → TranscriptStep → TranscriptStep → TranscriptStep → Bool
-adds_keys (jk ∷ ck ∷ []) job counter read first second = adds (next_id read) (put_value job.1) jk ck job counter first second
+adds_keys (jk ∷ ck ∷ []) job counter read first second = adds_by (next_id read) (put_value job.1) jk ck job counter first second
 adds_keys _ job counter read first second = false
 
 abbrev pub adds_ops : Ops → List (List ℕ) → TranscriptStep → TranscriptStep → TranscriptStep → Bool
@@ -258,17 +258,17 @@ is_claimed (Some j) = not (nat_eq j.lease 0)
 abbrev pub ends_job : List ℕ → KeyValue → List ℕ → List ℕ × WriteOp → TranscriptStep → Bool
 ends_job k row key job own = has_job_key k && is_claimed (job_of row.value) && bytes_eq key k && keeps_delete k job && deletes k own
 
-abbrev pub finishes : TranscriptStep → List ℕ → List ℕ × WriteOp → TranscriptStep → Bool
-finishes (Get k (Some row)) key job own = ends_job k row key job own
-finishes (Get k None) key job own = false
-finishes (Own k op) key job own = false
-finishes (Scan o r) key job own = false
-finishes (Next n a) key job own = false
-finishes (Seek n j) key job own = false
-finishes (View r) key job own = false
+abbrev pub finishes_by : TranscriptStep → List ℕ → List ℕ × WriteOp → TranscriptStep → Bool
+finishes_by (Get k (Some row)) key job own = ends_job k row key job own
+finishes_by (Get k None) key job own = false
+finishes_by (Own k op) key job own = false
+finishes_by (Scan o r) key job own = false
+finishes_by (Next n a) key job own = false
+finishes_by (Seek n j) key job own = false
+finishes_by (View r) key job own = false
 
 abbrev pub finishes_key : List (List ℕ) → TranscriptStep → List ℕ × WriteOp → TranscriptStep → Bool
-finishes_key (key ∷ []) read job own = finishes read key job own
+finishes_key (key ∷ []) read job own = finishes_by read key job own
 finishes_key _ read job own = false
 
 abbrev pub finishes_op : Ops → List (List ℕ) → TranscriptStep → TranscriptStep → Bool

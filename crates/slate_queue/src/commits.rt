@@ -5,7 +5,7 @@ ghost use Rattle.slate_txn.specs.Audited.{AreOfKind};
 ghost use Rattle.slate_txn.specs.Replay.{IsLegal};
 ghost use Rattle.slate_queue.specs.Commits.{IsClaim, IsQueueCommit};
 ghost use Rattle.slate_txn.specs.declared.event.TranscriptStep.TheVariants.{Get};
-ghost use Rattle.slate_queue.specs.Forms.{AreRewritten, IsQueueWork, IsForeign, IsRewritten, adds, adds_in, adds_job, adds_keys, adds_ops, claim_steps, claims_all, claims_by, claims_key, claims_op, deletes, ends_job, finishes, finishes_in, finishes_key, finishes_op, first_row, is_found, is_of_jobs, is_passed, is_value, keeps_delete, keeps_put, next_id, next_of, opens_jobs, put_value, puts, rewrites, rewrites_row, takes};
+ghost use Rattle.slate_queue.specs.Forms.{AreRewritten, IsQueueWork, IsForeign, IsRewritten, adds_by, adds_in, adds_job, adds_keys, adds_ops, claim_steps, claims_all, claims_by, claims_key, claims_op, deletes, ends_job, finishes_by, finishes_in, finishes_key, finishes_op, first_row, is_found, is_of_jobs, is_passed, is_just, keeps_delete, keeps_put, next_id, next_of, opens_jobs, put_value, puts, rewrites, rewrites_row, takes};
 ghost use Rattle.slate_queue.specs.Stored.{counter_in};
 
 use crate::error::QueueError;
@@ -32,7 +32,7 @@ fn put_value(op: &WriteOp) -> Option<&Bytes>
 
 /// Whether the operation puts the value under the default options.
 fn is_value(value: &[u8], op: &WriteOp) -> bool
-    ensures { result ≡ is_value value.now (put_value op.now) }
+    ensures { result ≡ is_just value.now (put_value op.now) }
 {
     match put_value(op) {
         Some(put) => put.as_slice() == value,
@@ -102,7 +102,7 @@ fn adds(
     first: &TranscriptStep,
     second: &TranscriptStep,
 ) -> bool
-    ensures { result ≡ adds (next_id read.now) (put_value job.now.1) job_key.now counter_key.now job.now counter.now first.now second.now }
+    ensures { result ≡ adds_by (next_id read.now) (put_value job.now.1) job_key.now counter_key.now job.now counter.now first.now second.now }
 {
     match next_id(read) {
         Some(id) => match put_value(&job.1) {
@@ -475,7 +475,7 @@ fn finishes(
     job: &(Bytes, WriteOp),
     own: &TranscriptStep,
 ) -> bool
-    ensures { result ≡ finishes read.now key.now job.now own.now }
+    ensures { result ≡ finishes_by read.now key.now job.now own.now }
 {
     match found(read) {
         Some((id_key, row)) => ends_job(id_key, row, key, job, own),
