@@ -128,7 +128,7 @@ are_reads m (k ∷ ks) (steps.Seek i j ∷ ts) h = absurd h.0
 are_reads m (k ∷ ks) (steps.View g ∷ ts) h = absurd h.0
 are_reads m (k ∷ ks) (steps.Own j o ∷ ts) h = absurd h.0
 
-reads_again : (m : Amounts) (ks : List (List ℕ)) (ts : List TranscriptStep) → AreSteps IsRead ks (map m ks) ts → AreReads m ks ts
+pub reads_again : (m : Amounts) (ks : List (List ℕ)) (ts : List TranscriptStep) → AreSteps IsRead ks (map m ks) ts → AreReads m ks ts
 reads_again m [] [] h = tt
 reads_again m [] (t ∷ ts) h = absurd h
 reads_again m (k ∷ ks) [] h = absurd h
@@ -154,12 +154,12 @@ puts_again (p ∷ ps) (steps.Next i b ∷ ts) h = absurd h.0
 puts_again (p ∷ ps) (steps.Seek i j ∷ ts) h = absurd h.0
 puts_again (p ∷ ps) (steps.View g ∷ ts) h = absurd h.0
 
-keys_moved : (m : Amounts) (o : Order) → map (λ p. p.0) (order_moves m o) ≡ order_keys o
+pub keys_moved : (m : Amounts) (o : Order) → map (λ p. p.0) (order_moves m o) ≡ order_keys o
 keys_moved m (Issue a name n) = refl
 keys_moved m (Pay a from to n) = refl
 keys_moved m (Trade a buyer seller q p) = refl
 
-zip_moves : (m : Amounts) (o : Order) → zip (order_keys o) (map (λ p. p.1) (order_moves m o)) ≡ order_moves m o
+pub zip_moves : (m : Amounts) (o : Order) → zip (order_keys o) (map (λ p. p.1) (order_moves m o)) ≡ order_moves m o
 zip_moves m (Issue a name n) = refl
 zip_moves m (Pay a from to n) = refl
 zip_moves m (Trade a buyer seller q p) = refl
@@ -234,16 +234,19 @@ order_again o m ops tracked ts ks js ns vs reads put made left = record {
 
 -- ---- the batch of the puts
 
-puts_last : (ps : List (List ℕ × ℕ)) (p : List ℕ × ℕ) → puts (ps ++ (p ∷ [])) ≡ puts ps ++ ((p.0, amount_put p.1) ∷ [])
+pub puts_last : (ps : List (List ℕ × ℕ)) (p : List ℕ × ℕ) → puts (ps ++ (p ∷ [])) ≡ puts ps ++ ((p.0, amount_put p.1) ∷ [])
 puts_last [] p = refl
 puts_last (q ∷ ps) p = λ i. (q.0, amount_put q.1) ∷ puts_last ps p i
 
-puts_more : (ks : List (List ℕ)) (vs : List ℕ) (i : ℕ) (k d : List ℕ) (v : ℕ) → i < length ks → i < length vs → k ≡ get_or ks i d → v ≡ get_or vs i 0 → puts (take (i + 1) (zip ks vs)) ≡ puts (take i (zip ks vs)) ++ ((k, amount_put v) ∷ [])
-puts_more ks vs i k d v within also key amount =
+pub zip_more : (ks : List (List ℕ)) (vs : List ℕ) (i : ℕ) (k d : List ℕ) (v : ℕ) → i < length ks → i < length vs → k ≡ get_or ks i d → v ≡ get_or vs i 0 → take (i + 1) (zip ks vs) ≡ take i (zip ks vs) ++ ((k, v) ∷ [])
+zip_more ks vs i k d v within also key amount =
     let l : i < length (zip ks vs) = omega (arith, length-zip ks vs) in
     let more : take (i + 1) (zip ks vs) ≡ take i (zip ks vs) ++ (get_or (zip ks vs) i (d, 0) ∷ []) = rw (add-one, take-suc (zip ks vs) i (d, 0)) in
     let here : get_or (zip ks vs) i (d, 0) ≡ (k, v) = get_or-zip ks vs i (d, 0) within also ∙ (λ j. (sym key j, sym amount j)) in
-    ap puts (more ∙ ap (λ p. take i (zip ks vs) ++ (p ∷ [])) here) ∙ puts_last (take i (zip ks vs)) (k, v)
+    more ∙ ap (λ p. take i (zip ks vs) ++ (p ∷ [])) here
+
+puts_more : (ks : List (List ℕ)) (vs : List ℕ) (i : ℕ) (k d : List ℕ) (v : ℕ) → i < length ks → i < length vs → k ≡ get_or ks i d → v ≡ get_or vs i 0 → puts (take (i + 1) (zip ks vs)) ≡ puts (take i (zip ks vs)) ++ ((k, amount_put v) ∷ [])
+puts_more ks vs i k d v within also key amount = ap puts (zip_more ks vs i k d v within also key amount) ∙ puts_last (take i (zip ks vs)) (k, v)
 
 pub batch_more : (ks : List (List ℕ)) (vs : List ℕ) (i : ℕ) (k d value : List ℕ) (v : ℕ) (b : BatchModel) → i < length ks → i < length vs → k ≡ get_or ks i d → v ≡ get_or vs i 0 → value ≡ amount_bytes v →
     IsBatchOf (puts (take i (zip ks vs)) ++ ((k, plain_put value) ∷ [])) b → IsBatchOf (puts (take (i + 1) (zip ks vs))) b
@@ -267,6 +270,9 @@ some_is x y e = cc
 
 abbrev pub Shows : Option Order → List (List ℕ) → List ℕ → List ℕ → Type 0
 Shows shown ks ns vs = (o : Order) (m : Amounts) (js : List (List ℕ)) → IsMade o m ks ns js vs → shown ≡ Some (plain_order o)
+
+pub shows_as : (shown : Option Order) (ks ls : List (List ℕ)) (ns ms vs ws : List ℕ) → ls ≡ ks → ms ≡ ns → ws ≡ vs → Shows shown ls ms ws → Shows shown ks ns vs
+shows_as shown ks ls ns ms vs ws a b d h = subst (λ x. Shows shown x ns vs) a (subst (λ x. Shows shown ls x vs) b (subst (λ x. Shows shown ls ms x) d h))
 
 pub none_shown : (ops : Ops) (tracked : List (List ℕ)) (ts : List TranscriptStep) (ks js : List (List ℕ)) (ns vs : List ℕ) (shown : Option Order) → AreSteps IsRead ks ns (take (length ts / 2) ts) → AreSteps IsPut js vs (drop (length ts / 2) ts) → Shows shown ks ns vs → shown ≡ None →
     (o : Order) (m : Amounts) → IsOrderBy o m ops tracked ts → ⊥

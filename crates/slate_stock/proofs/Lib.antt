@@ -8,3 +8,4 @@ pub mod LegLaws
 pub mod MapLaws
 pub mod ForeignLaws
 pub mod ShownLaws
+pub mod OpenLaws

@@ -44,11 +44,16 @@ distinct_keys (Pay a from to n) names none =
 distinct_keys (Trade a buyer seller q p) names none =
     let is : Clear (form_refusals (Trade a buyer seller q p)) = clear (form_refusals (Trade a buyer seller q p)) none in
     let other : bytes_eq buyer seller ≡ false = test_clear (bytes_eq buyer seller) _ is.0 in
-    let stranger : bytes_eq a money ≡ false = test_clear (bytes_eq a money) _ is.1.0 in
-    ((same_tail (head a) seller buyer ∙ turned_eq seller buyer ∙ other,
-        (apart_assets a money seller buyer names.0 refl stranger, (apart_assets a money seller seller names.0 refl stranger, tt))),
-    ((apart_assets a money buyer buyer names.0 refl stranger, (apart_assets a money buyer seller names.0 refl stranger, tt)),
-    ((same_tail (head money) buyer seller ∙ other, tt), (tt, tt))))
+    let stranger : bytes_eq a money ≡ false = test_clear (bytes_eq a money) _ is.1.0 in (
+      (
+        same_tail (head a) seller buyer ∙ turned_eq seller buyer ∙ other,
+        (apart_assets a money seller buyer names.0 refl stranger, (apart_assets a money seller seller names.0 refl stranger, tt)),
+      ),
+      (
+        (apart_assets a money buyer buyer names.0 refl stranger, (apart_assets a money buyer seller names.0 refl stranger, tt)),
+        ((same_tail (head money) buyer seller ∙ other, tt), (tt, tt)),
+      ),
+    )
 
 pub known_is : (o : Order) (ks : List (List ℕ)) (ns : List ℕ) → HasNames o → first_of (form_refusals o) ≡ None → ks ≡ order_keys o → length ns ≡ length (order_keys o) → ns ≡ map (known (order_keys o) ns) (order_keys o)
 known_is o ks ns names none same long = known_there (order_keys o) ns (distinct_keys o names none) long

@@ -1,5 +1,5 @@
 //! Amounts as they are stored.
-ghost use Rattle.std.specs.Prelude.{◌≡◌, ◌<◌, ◌^◌, ℕ, IfOk, IfSome, None};
+ghost use Rattle.std.specs.Prelude.{◌≡◌, ◌≢◌, ◌<◌, ◌^◌, ℕ, IfOk, IfSome, None, length};
 ghost use Rattle.slate_stock.specs.Amounts.{amount_bytes};
 
 use bytes::Bytes;
@@ -18,6 +18,7 @@ pub fn stored(alloc: Global, amount: u64) -> Result<Bytes, AllocError>
 pub fn amount(value: &[u8]) -> Option<u64>
     ensures some { IfSome result (λ n. (value.now ≡ amount_bytes n) × (n < 2 ^ 64)) }
     ensures none { result ≡ None → (n : ℕ) → value.now ≡ amount_bytes n → ⊥ }
+    ensures long { result ≡ None → length value.now ≢ 8 }
 {
     if value.len() != 8 {
         return None;

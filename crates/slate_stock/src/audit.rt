@@ -1,5 +1,5 @@
 //! The audit of a journal: whether all its commits are orders'.
-ghost use Rattle.std.specs.Prelude.{◌≡◌, ◌⊎◌, ◌/◌, ℕ, List, true, false, Ok, OnOk, IfErr, IfOk, IsOkUnless, length, take, drop, map};
+ghost use Rattle.std.specs.Prelude.{◌≡◌, ◌≢◌, ◌⊎◌, ◌/◌, ℕ, List, true, false, Ok, OnOk, IfErr, IfOk, IsOkUnless, length, take, drop, map};
 ghost use Rattle.std.specs.List.{zip};
 ghost use Rattle.slate_mem.specs.Batch.{Ops, batch_keys, kept_ops};
 ghost use Rattle.slate_txn.specs.declared.event.TranscriptStep.{TranscriptStep};
@@ -11,7 +11,7 @@ ghost use Rattle.slate_stock.specs.Amounts.{Amounts};
 ghost use Rattle.slate_stock.specs.Orders.{order_keys, order_moves};
 ghost use Rattle.slate_stock.specs.Commits.{IsOrder, IsOrderBy, puts};
 ghost use Rattle.slate_stock.specs.Journals.{IsOrders};
-ghost use Rattle.slate_stock.specs.Legs.{AreSteps, IsForeign, IsLeft, IsMade, IsPut, IsRead};
+ghost use Rattle.slate_stock.specs.Legs.{AreSteps, IsForeign, IsMade, IsPut, IsRead};
 
 use crate::amount::stored;
 use crate::error::StockError;
@@ -21,7 +21,7 @@ use crate::moves::{form_refusal, moves};
 use crate::order::Order;
 use crate::shown::shown;
 use bytes::Bytes;
-use slate_mem::WriteBatch;
+use slate_mem::{WriteBatch, WriteOp};
 use slate_txn::audit::{CommitForm, first_foreign};
 use slate_txn::event::{Transcript, TranscriptStep};
 use slate_txn::journal::Journal;
@@ -100,23 +100,20 @@ fn is_order(
 }
 
 /// Whether the order reads and puts this.
-fn is_made(
-    alloc: Global,
-    order: &Order,
-    reads: &Legs,
-    puts: &Legs,
-) -> Result<bool, AllocError>
+fn is_made(alloc: Global, order: &Order, reads: &Legs, puts: &Legs) -> Result<bool, AllocError>
     ensures yes { result ≡ Ok true → (m : Amounts) × IsMade order.now m reads.now.keys.items reads.now.amounts.items puts.now.keys.items puts.now.amounts.items }
     ensures no { result ≡ Ok false → (m : Amounts) → IsMade order.now m reads.now.keys.items reads.now.amounts.items puts.now.keys.items puts.now.amounts.items → ⊥ }
 {
-    if form_refusal(order).is_some() {
+    order.has_names();
+    if let Some(error) = form_refusal(order) {
+        drop(error);
         return Ok(false);
     }
     let keys = order_keys(alloc, order)?;
-    if reads.keys.as_slice() != keys.as_slice() {
+    if !are_keys(reads.keys.as_slice(), keys.as_slice()) {
         return Ok(false);
     }
-    if puts.keys.as_slice() != keys.as_slice() {
+    if !are_keys(puts.keys.as_slice(), keys.as_slice()) {
         return Ok(false);
     }
     if reads.amounts.len() != keys.len() {
@@ -124,30 +121,80 @@ fn is_made(
     }
     match moves(alloc, order, reads.amounts.as_slice()) {
         Ok(new) => Ok(puts.amounts.as_slice() == new.as_slice()),
-        Err(StockError::Db(_)) => Err(AllocError),
-        Err(_) => Ok(false),
+        Err(error) => unmade(error),
+    }
+}
+
+/// That an order makes nothing, where it is refused, and not for want of memory.
+fn unmade(error: StockError) -> Result<bool, AllocError>
+    ensures { IfOk result (λ made. (made ≡ false) × (error ≢ StockError.Db SlateDBError.OutOfMemory)) }
+{
+    match error {
+        StockError::Db(_) => Err(AllocError),
+        _ => Ok(false),
     }
 }
 
 /// Whether a commit of these puts has these operations, and tracks all their keys.
-fn is_left(
-    alloc: Global,
-    puts: &Legs,
-    ops: &OpList,
-    tracked: &KeyList,
-) -> Result<bool, AllocError>
-    ensures yes { result ≡ Ok true → IsLeft puts.now.keys.items puts.now.amounts.items ops.now tracked.now }
-    ensures no { result ≡ Ok false → IsLeft puts.now.keys.items puts.now.amounts.items ops.now tracked.now → ⊥ }
+fn is_left(alloc: Global, legs: &Legs, ops: &OpList, tracked: &KeyList) -> Result<bool, AllocError>
+    ensures yes { result ≡ Ok true → (ops.now ≡ kept_ops (puts (zip legs.now.keys.items legs.now.amounts.items))) × (tracked.now ≡ batch_keys ops.now) }
+    ensures no { result ≡ Ok false → ops.now ≡ kept_ops (puts (zip legs.now.keys.items legs.now.amounts.items)) → tracked.now ≡ batch_keys ops.now → ⊥ }
 {
-    let batch = batch_of(alloc, puts)?;
+    let batch = batch_of(alloc, legs)?;
     let Ok(kept) = batch.ops(alloc) else {
         return Err(AllocError);
     };
-    let all = ops.keys(alloc)?;
-    if ops.as_slice() != kept.as_slice() {
+    if !are_ops(ops.as_slice(), kept.as_slice()) {
         return Ok(false);
     }
-    Ok(tracked.as_slice() == all.as_slice())
+    let all = ops.keys(alloc)?;
+    Ok(are_keys(tracked.as_slice(), all.as_slice()))
+}
+
+/// Whether the operations are these.
+fn are_ops(ops: &[(Bytes, WriteOp)], others: &[(Bytes, WriteOp)]) -> bool
+    ensures yes { result ≡ true → ops.now ≡ others.now }
+    ensures no { result ≡ false → ops.now ≡ others.now → ⊥ }
+{
+    if ops.len() != others.len() {
+        return false;
+    }
+    for place in 0..ops.len() {
+        if !is_op(&ops[place], &others[place]) {
+            return false;
+        }
+    }
+    true
+}
+
+fn is_op(op: &(Bytes, WriteOp), other: &(Bytes, WriteOp)) -> bool
+    ensures yes { result ≡ true → op.now ≡ other.now }
+    ensures no { result ≡ false → op.now ≡ other.now → ⊥ }
+{
+    op.0 == other.0 && op.1 == other.1
+}
+
+/// Whether the keys are these.
+fn are_keys(keys: &[Bytes], others: &[Bytes]) -> bool
+    ensures yes { result ≡ true → keys.now ≡ others.now }
+    ensures no { result ≡ false → keys.now ≡ others.now → ⊥ }
+{
+    if keys.len() != others.len() {
+        return false;
+    }
+    for place in 0..keys.len() {
+        if !is_key(&keys[place], &others[place]) {
+            return false;
+        }
+    }
+    true
+}
+
+fn is_key(key: &Bytes, other: &Bytes) -> bool
+    ensures yes { result ≡ true → key.now ≡ other.now }
+    ensures no { result ≡ false → key.now ≡ other.now → ⊥ }
+{
+    key == other
 }
 
 /// The batch of these puts.

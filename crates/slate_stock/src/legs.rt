@@ -1,5 +1,6 @@
 //! The steps of an order's transcript, each as its key and its amount.
-ghost use Rattle.std.specs.Prelude.{◌≡◌, ◌<◌, ◌^◌, ℕ, List, IfOk, IfSome, None, Ok};
+ghost use Rattle.std.specs.Prelude.{◌≡◌, ◌≢◌, ◌<◌, ◌^◌, ℕ, List, IfOk, IfSome, None, Some, Ok, length};
+ghost use Rattle.slate_types.specs.declared.types.KeyValue.{KeyValue};
 ghost use Rattle.slate_stock.specs.Commits.{IsAmount, amount_put};
 ghost use Rattle.slate_stock.specs.Legs.{AreSteps, IsPut, IsRead};
 
@@ -83,6 +84,7 @@ fn put_by(step: &TranscriptStep) -> Option<(&Bytes, u64)>
 pub fn answered(answer: &Option<KeyValue>) -> Option<u64>
     ensures some { IfSome result (λ n. IsAmount n answer.now) }
     ensures none { result ≡ None → (n : ℕ) → IsAmount n answer.now → ⊥ }
+    ensures stored { result ≡ None → (row : KeyValue) × (answer.now ≡ Some row) × (length row.value ≢ 8) }
 {
     match answer {
         Some(row) => amount(row.value.as_slice()),

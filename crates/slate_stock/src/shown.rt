@@ -91,14 +91,7 @@ fn by_four(
     let Some((_, buyer)) = balance_of(second) else {
         return Ok(None);
     };
-    trade(
-        alloc,
-        asset,
-        buyer,
-        seller,
-        quantity,
-        price(cost, quantity),
-    )
+    trade(alloc, asset, buyer, seller, quantity, price(cost, quantity))
 }
 
 fn issue(
