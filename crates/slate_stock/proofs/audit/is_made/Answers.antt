@@ -17,12 +17,14 @@ returns-in-Ok-clause-yes c = λ is.
     let form : first_of (form_refusals o) ≡ None = sym c.form_refusal.ensures ∙ c.in_default.is in
     let read : ns ≡ map (known (order_keys o) ns) (order_keys o) = known_is o c.args.reads.now.keys.items ns c.has_names.ensures form keys long in
     let does = c.in-Ok.ensures.ok (known (order_keys o) ns) (c.as_slice-5.ensures.value ∙ read) in
-    let same : c.as_slice-in-Ok.result.now ≡ c.as_slice-in-Ok-2.result.now = (bytes_eq-Decides c.as_slice-in-Ok.result.now c.as_slice-in-Ok-2.result.now).0 (sym c.eq.ensures ∙ ok_is c.eq.result _ is) in
-    (known (order_keys o) ns, record {
-      names = c.has_names.ensures;
-      fits = does.0;
-      keys = keys;
-      read = read;
-      put_keys = put_keys;
-      new = sym c.as_slice-in-Ok.ensures.value ∙ same ∙ c.as_slice-in-Ok-2.ensures.value ∙ does.1;
-    })
+    let same : c.as_slice-in-Ok.result.now ≡ c.as_slice-in-Ok-2.result.now = (bytes_eq-Decides c.as_slice-in-Ok.result.now c.as_slice-in-Ok-2.result.now).0 (sym c.eq.ensures ∙ ok_is c.eq.result _ is) in (
+      known (order_keys o) ns,
+      record {
+        names = c.has_names.ensures;
+        fits = does.0;
+        keys = keys;
+        read = read;
+        put_keys = put_keys;
+        new = sym c.as_slice-in-Ok.ensures.value ∙ same ∙ c.as_slice-in-Ok-2.ensures.value ∙ does.1;
+      },
+    )
