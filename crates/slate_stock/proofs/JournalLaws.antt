@@ -126,7 +126,7 @@ more_always r cs c n0 counts e new old n = subst (Balanced r) (sym (up_to_more n
 
 -- ---- what was read
 
-known : (n : ℕ) (o : Option RowEntry) → IsAmount n (option_map key_value o) → (n ≡ amount_in o) × (n < 2 ^ 64)
+pub known : (n : ℕ) (o : Option RowEntry) → IsAmount n (option_map key_value o) → (n ≡ amount_in o) × (n < 2 ^ 64)
 known n None h = (h, omega arith)
 known n (Some row) h = (sym (ap amount_of h.0 ∙ amount_again n h.1), h.1)
 
@@ -236,7 +236,7 @@ apply_last : (before : List Event) (e : Event) (s : State) → apply_all s (befo
 apply_last [] e s = refl
 apply_last (x ∷ before) e s = apply_last before e (apply s x)
 
-at_is : (r : Rules) (cs : List Commit) (n n0 : ℕ) (k : List ℕ) → Counts n0 cs → last_of n0 cs ≤ n → amount_at r cs n k ≡ amounts r cs k
+pub at_is : (r : Rules) (cs : List Commit) (n n0 : ℕ) (k : List ℕ) → Counts n0 cs → last_of n0 cs ≤ n → amount_at r cs n k ≡ amounts r cs k
 at_is r cs n n0 k counts l = ap (λ xs. amount_in (shown (combine_at r k) (key_rows r k xs))) (all_up_to n0 n cs counts l)
 
 pub each_is_a_step : EachIsAStep

@@ -20,7 +20,7 @@ abbrev pub NoColon : List ℕ → Type 0
 NoColon [] = Unit {0}
 NoColon (b ∷ bs) = (b ≢ 58) × NoColon bs
 
-and_both : (a b : Bool) → (a && b) ≡ true → (a ≡ true) × (b ≡ true)
+pub and_both : (a b : Bool) → (a && b) ≡ true → (a ≡ true) × (b ≡ true)
 and_both true true h = (refl, refl)
 and_both true false h = cc
 and_both false b h = cc

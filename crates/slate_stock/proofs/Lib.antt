@@ -4,3 +4,8 @@ mod KeyLaws
 mod OrderLaws
 pub mod JournalLaws
 pub mod ReadingLaws
+pub mod LegLaws
+pub mod MapLaws
+pub mod ForeignLaws
+pub mod ShownLaws
+pub mod OpenLaws

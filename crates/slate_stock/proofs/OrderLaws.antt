@@ -41,11 +41,11 @@ nat_same : (n : ℕ) → nat_eq n n ≡ true
 nat_same n = grind (arith, nat_tests)
 
 -- names behind one head
-same_tail : (p x y : List ℕ) → bytes_eq (p ++ x) (p ++ y) ≡ bytes_eq x y
+pub same_tail : (p x y : List ℕ) → bytes_eq (p ++ x) (p ++ y) ≡ bytes_eq x y
 same_tail [] x y = refl
 same_tail (b ∷ bs) x y = ap (λ t. t && bytes_eq (bs ++ x) (bs ++ y)) (nat_same b) ∙ same_tail bs x y
 
-apart_assets : (a o x y : List ℕ) → IsPlainName a → IsPlainName o → bytes_eq a o ≡ false → bytes_eq (balance_key a x) (balance_key o y) ≡ false
+pub apart_assets : (a o x y : List ℕ) → IsPlainName a → IsPlainName o → bytes_eq a o ≡ false → bytes_eq (balance_key a x) (balance_key o y) ≡ false
 apart_assets a o x y h g e = by (bytes_eq (balance_key a x) (balance_key o y)) refl
   where
     by : (b : Bool) → bytes_eq (balance_key a x) (balance_key o y) ≡ b → bytes_eq (balance_key a x) (balance_key o y) ≡ false

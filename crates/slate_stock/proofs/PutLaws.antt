@@ -1,5 +1,5 @@
 -- What a commit that puts amounts makes of the amounts in the state.
-use Rattle.std.proofs.Common.{◌≡◌, ℕ, ◌+◌, ◌<◌, ◌^◌, Bool, true, false, cond, List, [], ◌∷◌, ◌++◌, map, filter, bytes_eq, Option, Some, None, refl, sym, ap, ◌∙◌, append-nil}
+use Rattle.std.proofs.Common.{◌≡◌, ℕ, length, ◌+◌, ◌<◌, ◌^◌, Bool, true, false, cond, List, [], ◌∷◌, ◌++◌, map, filter, bytes_eq, Option, Some, None, refl, sym, ap, ◌∙◌, append-nil}
 use Rattle.std.specs.List.{list_any, cons_option}
 use Rattle.std.specs.Option.{option_and_then}
 use Rattle.std.specs.Prelude.{ℤ}
@@ -93,6 +93,10 @@ row_is c default seq now ps k = ap (λ os. fold_rows c (map (op_row k seq defaul
 pub amount_again : (n : ℕ) → n < 2 ^ 64 → amount_of (amount_bytes n) ≡ n
 unfolding amount_of amount_bytes
 amount_again n h = from_be_bytes-to_be_bytes_8 n h
+
+pub amount_long : (n : ℕ) → length (amount_bytes n) ≡ 8
+unfolding amount_bytes
+amount_long n = refl
 
 -- the amount in the rows of a key
 abbrev pub amount_among : Combine → List RowEntry → ℕ

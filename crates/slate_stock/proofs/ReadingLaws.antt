@@ -29,7 +29,7 @@ balance_is asset name h = ap cut_name (append_assoc asset (58 ∷ []) name) ∙ 
 
 -- ---- what was read and put
 
-answered_is : (n : ℕ) (a : Option KeyValue) → IsAmount n a → amount_answered a ≡ n
+pub answered_is : (n : ℕ) (a : Option KeyValue) → IsAmount n a → amount_answered a ≡ n
 answered_is n None h = sym h
 answered_is n (Some kv) h = ap amount_of h.0 ∙ amount_again n h.1
 
@@ -67,7 +67,7 @@ fit : (n : ℕ) (a : Option KeyValue) → IsAmount n a → n < 2 ^ 64
 fit n None h = omega arith
 fit n (Some kv) h = h.1
 
-all_fit : (m : Amounts) (ks : List (List ℕ)) (reads : List TranscriptStep) → AreReads m ks reads → AllBelow m ks
+pub all_fit : (m : Amounts) (ks : List (List ℕ)) (reads : List TranscriptStep) → AreReads m ks reads → AllBelow m ks
 all_fit m [] reads h = tt
 all_fit m (k ∷ ks) [] h = absurd h
 all_fit m (k ∷ ks) (steps.Get j a ∷ ts) h = (fit (m k) a h.0.1, all_fit m ks ts h.1)
@@ -98,7 +98,7 @@ price_is p q = by (nat_eq q 0) refl
         quotient : p * q / q ≡ p
         quotient = ap (λ x. x / q) (add_none (p * q)) ∙ div-mul-add p q 0 above
 
-order_there : (o : Order) (m : Amounts) → HasNames o → order_refusal m o ≡ None → order_by (map (λ k. (k, m k)) (order_keys o)) (map (λ p. p.1) (order_moves m o)) ≡ Some (plain_order o)
+pub order_there : (o : Order) (m : Amounts) → HasNames o → order_refusal m o ≡ None → order_by (map (λ k. (k, m k)) (order_keys o)) (map (λ p. p.1) (order_moves m o)) ≡ Some (plain_order o)
 order_there (Issue a name n) m names none = ap (λ x. of_two (Some a) None x (m (issued_key a)) n) (balance_is a name names.0)
 order_there (Pay a from to n) m names none =
     let is = clear (form_refusals (Pay a from to n) ++ amount_refusals m (Pay a from to n)) none in

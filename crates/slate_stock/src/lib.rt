@@ -5,12 +5,15 @@
 #![tactic(auto)]
 
 pub mod amount;
+pub mod audit;
 pub mod error;
 pub mod keys;
 pub mod laws;
+pub mod legs;
 pub mod moves;
 pub mod name;
 pub mod order;
+pub mod shown;
 
 pub use error::StockError;
 pub use name::Name;
