@@ -15,7 +15,7 @@ use Rattle.slate_stock.specs.Amounts.{Amounts, amount_bytes}
 use Rattle.slate_stock.specs.Orders.{order_keys, order_moves}
 use Rattle.slate_stock.specs.Commits.{AreReads, amount_put, puts, own_puts, IsOrderBy, IsOrder}
 use Rattle.slate_stock.specs.Reading.{put_value, plain_order}
-use Rattle.slate_stock.specs.Legs.{IsRead, IsPut, AreSteps, IsMade, IsLeft}
+use Rattle.slate_stock.specs.Legs.{IsRead, IsPut, AreSteps, AreLegsOf, IsLeft}
 use Rattle.slate_stock.proofs.PutLaws.{AllFit, amount_again}
 use Rattle.slate_stock.proofs.OrderLaws.{moves_fit}
 use Rattle.slate_stock.proofs.ReadingLaws.{answered_is, all_fit, plain_by}
@@ -202,20 +202,20 @@ back_puts o m ops tracked ts h =
 -- ---- a commit that is an order's makes what is read off it, and the other way
 
 pub is_made : (o : Order) (m : Amounts) (ops : Ops) (tracked : List (List ℕ)) (ts : List TranscriptStep) (ks js : List (List ℕ)) (ns vs : List ℕ) → AreSteps IsRead ks ns (take (length ts / 2) ts) → AreSteps IsPut js vs (drop (length ts / 2) ts) →
-    IsOrderBy o m ops tracked ts → IsMade o m ks ns js vs
+    IsOrderBy o m ops tracked ts → AreLegsOf o m ks ns js vs
 is_made o m ops tracked ts ks js ns vs reads put h =
     let r = same_steps IsRead read_tells ks (order_keys o) ns (map m (order_keys o)) (take (length ts / 2) ts) reads (front_reads o m ops tracked ts h) in
     let p = same_steps IsPut put_tells js (order_keys o) vs (map (λ p. p.1) (order_moves m o)) (drop (length ts / 2) ts) put (back_puts o m ops tracked ts h) in
     record { names = h.names; fits = h.fits; keys = r.0; read = r.1; put_keys = p.0; new = p.1 }
 
-zipped : (o : Order) (m : Amounts) (ks js : List (List ℕ)) (ns vs : List ℕ) → IsMade o m ks ns js vs → zip js vs ≡ order_moves m o
+zipped : (o : Order) (m : Amounts) (ks js : List (List ℕ)) (ns vs : List ℕ) → AreLegsOf o m ks ns js vs → zip js vs ≡ order_moves m o
 zipped o m ks js ns vs made = (λ i. zip (made.put_keys i) (made.new i)) ∙ zip_moves m o
 
-pub is_left : (o : Order) (m : Amounts) (ops : Ops) (tracked : List (List ℕ)) (ts : List TranscriptStep) (ks js : List (List ℕ)) (ns vs : List ℕ) → IsMade o m ks ns js vs → IsOrderBy o m ops tracked ts → IsLeft js vs ops tracked
+pub is_left : (o : Order) (m : Amounts) (ops : Ops) (tracked : List (List ℕ)) (ts : List TranscriptStep) (ks js : List (List ℕ)) (ns vs : List ℕ) → AreLegsOf o m ks ns js vs → IsOrderBy o m ops tracked ts → IsLeft js vs ops tracked
 is_left o m ops tracked ts ks js ns vs made h = (h.kept ∙ ap (λ ps. kept_ops (puts ps)) (sym (zipped o m ks js ns vs made)), h.keys)
 
 pub order_again : (o : Order) (m : Amounts) (ops : Ops) (tracked : List (List ℕ)) (ts : List TranscriptStep) (ks js : List (List ℕ)) (ns vs : List ℕ) → AreSteps IsRead ks ns (take (length ts / 2) ts) → AreSteps IsPut js vs (drop (length ts / 2) ts) →
-    IsMade o m ks ns js vs → IsLeft js vs ops tracked → IsOrderBy o m ops tracked ts
+    AreLegsOf o m ks ns js vs → IsLeft js vs ops tracked → IsOrderBy o m ops tracked ts
 order_again o m ops tracked ts ks js ns vs reads put made left = record {
   names = made.names;
   fits = made.fits;
@@ -259,7 +259,7 @@ batch_ends ks vs i b past h = h.0 ∙ ap (λ ps. kept_ops (puts ps)) (take_all i
 -- ---- whether a commit is an order's, by what it shows
 
 pub made_order : (ops : Ops) (tracked : List (List ℕ)) (ts : List TranscriptStep) (ks js : List (List ℕ)) (ns vs : List ℕ) (o : Order) → AreSteps IsRead ks ns (take (length ts / 2) ts) → AreSteps IsPut js vs (drop (length ts / 2) ts) →
-    (m : Amounts) × IsMade o m ks ns js vs → IsLeft js vs ops tracked → IsOrder SerializableSnapshot ops tracked ts
+    (m : Amounts) × AreLegsOf o m ks ns js vs → IsLeft js vs ops tracked → IsOrder SerializableSnapshot ops tracked ts
 made_order ops tracked ts ks js ns vs o reads put made left = record { serializable = refl; order = o; amounts = made.0; by = order_again o made.0 ops tracked ts ks js ns vs reads put made.1 left }
 
 none_some : {X P : Type 0} (x : X) → None ≡ Some x → P
@@ -269,7 +269,7 @@ some_is : {X : Type 0} (x y : X) → Some x ≡ Some y → x ≡ y
 some_is x y e = cc
 
 abbrev pub Shows : Option Order → List (List ℕ) → List ℕ → List ℕ → Type 0
-Shows shown ks ns vs = (o : Order) (m : Amounts) (js : List (List ℕ)) → IsMade o m ks ns js vs → shown ≡ Some (plain_order o)
+Shows shown ks ns vs = (o : Order) (m : Amounts) (js : List (List ℕ)) → AreLegsOf o m ks ns js vs → shown ≡ Some (plain_order o)
 
 pub shows_as : (shown : Option Order) (ks ls : List (List ℕ)) (ns ms vs ws : List ℕ) → ls ≡ ks → ms ≡ ns → ws ≡ vs → Shows shown ls ms ws → Shows shown ks ns vs
 shows_as shown ks ls ns ms vs ws a b d h = subst (λ x. Shows shown x ns vs) a (subst (λ x. Shows shown ls x vs) b (subst (λ x. Shows shown ls ms x) d h))
@@ -279,11 +279,11 @@ pub none_shown : (ops : Ops) (tracked : List (List ℕ)) (ts : List TranscriptSt
 none_shown ops tracked ts ks js ns vs shown reads put shows none o m h = none_some (plain_order o) (sym none ∙ shows o m js (is_made o m ops tracked ts ks js ns vs reads put h))
 
 pub none_made : (ops : Ops) (tracked : List (List ℕ)) (ts : List TranscriptStep) (ks js : List (List ℕ)) (ns vs : List ℕ) (shown : Option Order) (g : Order) → AreSteps IsRead ks ns (take (length ts / 2) ts) → AreSteps IsPut js vs (drop (length ts / 2) ts) → Shows shown ks ns vs → shown ≡ Some g →
-    ((m : Amounts) → IsMade g m ks ns js vs → ⊥) → (o : Order) (m : Amounts) → IsOrderBy o m ops tracked ts → ⊥
+    ((m : Amounts) → AreLegsOf g m ks ns js vs → ⊥) → (o : Order) (m : Amounts) → IsOrderBy o m ops tracked ts → ⊥
 none_made ops tracked ts ks js ns vs shown g reads put shows is none o m h =
-    let made : IsMade o m ks ns js vs = is_made o m ops tracked ts ks js ns vs reads put h in
+    let made : AreLegsOf o m ks ns js vs = is_made o m ops tracked ts ks js ns vs reads put h in
     let same : g ≡ plain_order o = some_is g (plain_order o) (sym is ∙ shows o m js made) in
-    none m (subst (λ x. IsMade x m ks ns js vs) (sym same) (is_made (plain_order o) m ops tracked ts ks js ns vs reads put (plain_by o m ops tracked ts h)))
+    none m (subst (λ x. AreLegsOf x m ks ns js vs) (sym same) (is_made (plain_order o) m ops tracked ts ks js ns vs reads put (plain_by o m ops tracked ts h)))
 
 pub none_left : (ops : Ops) (tracked : List (List ℕ)) (ts : List TranscriptStep) (ks js : List (List ℕ)) (ns vs : List ℕ) → AreSteps IsRead ks ns (take (length ts / 2) ts) → AreSteps IsPut js vs (drop (length ts / 2) ts) → (IsLeft js vs ops tracked → ⊥) →
     (o : Order) (m : Amounts) → IsOrderBy o m ops tracked ts → ⊥

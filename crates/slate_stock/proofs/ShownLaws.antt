@@ -6,7 +6,7 @@ use Rattle.slate_stock.specs.declared.order.Order.TheVariants.{Issue, Pay, Trade
 use Rattle.slate_stock.specs.Amounts.{Amounts}
 use Rattle.slate_stock.specs.Commits.{HasNames}
 use Rattle.slate_stock.specs.Reading.{cut_name, front_of, balance_of, issued_of, of_two, of_four, price, plain_order}
-use Rattle.slate_stock.specs.Legs.{IsMade}
+use Rattle.slate_stock.specs.Legs.{AreLegsOf}
 use Rattle.slate_stock.proofs.ReadingLaws.{order_there}
 
 -- ---- the cut at a colon
@@ -55,7 +55,7 @@ plain_names (Issue a name n) h = h
 plain_names (Pay a from to n) h = h
 plain_names (Trade a buyer seller q p) h = h
 
-pub two_show : (o : Order) (m : Amounts) (ks js : List (List ℕ)) (ns vs : List ℕ) → IsMade o m ks ns js vs → length ks ≡ 2 → (first d second e : List ℕ) (had put : ℕ) → first ≡ get_or ks 0 d → second ≡ get_or ks 1 e → had ≡ get_or ns 0 0 → put ≡ get_or vs 0 0 →
+pub two_show : (o : Order) (m : Amounts) (ks js : List (List ℕ)) (ns vs : List ℕ) → AreLegsOf o m ks ns js vs → length ks ≡ 2 → (first d second e : List ℕ) (had put : ℕ) → first ≡ get_or ks 0 d → second ≡ get_or ks 1 e → had ≡ get_or ns 0 0 → put ≡ get_or vs 0 0 →
     of_two (issued_of first) (balance_of first) (balance_of second) had put ≡ Some (plain_order o)
 two_show (Issue a name n) m ks js ns vs made two first d second e had put f s h p =
     let f' = f ∙ ap (λ xs. get_or xs 0 d) made.keys in
@@ -73,7 +73,7 @@ two_show (Trade a buyer seller q r) m ks js ns vs made two first d second e had 
     let l : length ks ≡ 4 = ap length made.keys in
     absurd (omega arith)
 
-pub four_show : (o : Order) (m : Amounts) (ks js : List (List ℕ)) (ns vs : List ℕ) → IsMade o m ks ns js vs → length ks ≡ 4 → (first d second e : List ℕ) (q cost : ℕ) → first ≡ get_or ks 0 d → second ≡ get_or ks 1 e →
+pub four_show : (o : Order) (m : Amounts) (ks js : List (List ℕ)) (ns vs : List ℕ) → AreLegsOf o m ks ns js vs → length ks ≡ 4 → (first d second e : List ℕ) (q cost : ℕ) → first ≡ get_or ks 0 d → second ≡ get_or ks 1 e →
     q ≡ get_or ns 0 0 - get_or vs 0 0 → cost ≡ get_or ns 2 0 - get_or vs 2 0 → of_four (balance_of first) (balance_of second) q cost ≡ Some (plain_order o)
 four_show (Issue a name n) m ks js ns vs made four first d second e q cost f s h p =
     let l : length ks ≡ 2 = ap length made.keys in
@@ -89,7 +89,7 @@ four_show (Trade a buyer seller n r) m ks js ns vs made four first d second e q 
     (λ i. of_four (balance_of (f' i)) (balance_of (s' i)) (h' i) (p' i)) ∙ order_there (Trade a buyer seller n r) m made.names made.fits
 
 -- two keys with two amounts, or four with four
-pub lengths : (o : Order) (m : Amounts) (ks js : List (List ℕ)) (ns vs : List ℕ) → IsMade o m ks ns js vs →
+pub lengths : (o : Order) (m : Amounts) (ks js : List (List ℕ)) (ns vs : List ℕ) → AreLegsOf o m ks ns js vs →
     ((length ks ≡ 2) × (length ns ≡ 2) × (length vs ≡ 2)) ⊎ ((length ks ≡ 4) × (length ns ≡ 4) × (length vs ≡ 4))
 lengths (Issue a name n) m ks js ns vs made = inl (ap length made.keys, ap length made.read, ap length made.new)
 lengths (Pay a from to n) m ks js ns vs made = inl (ap length made.keys, ap length made.read, ap length made.new)

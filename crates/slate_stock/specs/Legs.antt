@@ -1,7 +1,7 @@
 -- The steps of an order's transcript, each as its key and its amount.
 --     IsRead k n t, IsPut k n t      a step reads an amount, or puts it
 --     AreSteps P ks ns ts      each step, in their order
---     IsMade o m ks ns js vs      keys and amounts that were read, and keys and amounts that were put, are what the order makes on a map
+--     AreLegsOf o m ks ns js vs      keys and amounts that were read, and keys and amounts that were put, are what the order makes on a map
 --     IsLeft o ks vs ops tracked      what a commit leaves of these puts: its operations, and the keys that it tracks
 --     IsForeign es e      the refusal of the first event that is no order's
 use Rattle.std.specs.Prelude.{◌≡◌, ℕ, ◌<◌, ◌^◌, List, [], ◌∷◌, map, Option, None, ⊤}
@@ -35,7 +35,7 @@ AreSteps P (k ∷ ks) [] ts = ⊥
 AreSteps P (k ∷ ks) (n ∷ ns) [] = ⊥
 AreSteps P (k ∷ ks) (n ∷ ns) (t ∷ ts) = P k n t × AreSteps P ks ns ts
 
-pub record IsMade (o : Order) (m : Amounts) (ks : List (List ℕ)) (ns : List ℕ) (js : List (List ℕ)) (vs : List ℕ) : Type 0 where
+pub record AreLegsOf (o : Order) (m : Amounts) (ks : List (List ℕ)) (ns : List ℕ) (js : List (List ℕ)) (vs : List ℕ) : Type 0 where
   pub names : HasNames o
   pub fits : order_refusal m o ≡ None
   pub keys : ks ≡ order_keys o

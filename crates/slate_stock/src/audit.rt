@@ -11,7 +11,7 @@ ghost use Rattle.slate_stock.specs.Amounts.{Amounts};
 ghost use Rattle.slate_stock.specs.Orders.{order_keys, order_moves};
 ghost use Rattle.slate_stock.specs.Commits.{IsOrder, IsOrderBy, puts};
 ghost use Rattle.slate_stock.specs.Journals.{IsOrders};
-ghost use Rattle.slate_stock.specs.Legs.{AreSteps, IsForeign, IsMade, IsPut, IsRead};
+ghost use Rattle.slate_stock.specs.Legs.{AreSteps, IsForeign, AreLegsOf, IsPut, IsRead};
 
 use crate::amount::stored;
 use crate::error::StockError;
@@ -101,8 +101,8 @@ fn is_order(
 
 /// Whether the order reads and puts this.
 fn is_made(alloc: Global, order: &Order, reads: &Legs, puts: &Legs) -> Result<bool, AllocError>
-    ensures yes { result ≡ Ok true → (m : Amounts) × IsMade order.now m reads.now.keys.items reads.now.amounts.items puts.now.keys.items puts.now.amounts.items }
-    ensures no { result ≡ Ok false → (m : Amounts) → IsMade order.now m reads.now.keys.items reads.now.amounts.items puts.now.keys.items puts.now.amounts.items → ⊥ }
+    ensures yes { result ≡ Ok true → (m : Amounts) × AreLegsOf order.now m reads.now.keys.items reads.now.amounts.items puts.now.keys.items puts.now.amounts.items }
+    ensures no { result ≡ Ok false → (m : Amounts) → AreLegsOf order.now m reads.now.keys.items reads.now.amounts.items puts.now.keys.items puts.now.amounts.items → ⊥ }
 {
     order.has_names();
     if let Some(error) = form_refusal(order) {

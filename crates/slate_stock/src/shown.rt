@@ -4,7 +4,7 @@ ghost use Rattle.slate_stock.specs.declared.order.Order.{Order};
 ghost use Rattle.slate_stock.specs.Amounts.{Amounts};
 ghost use Rattle.slate_stock.specs.Commits.{HasNames};
 ghost use Rattle.slate_stock.specs.Names.{is_plain_name};
-ghost use Rattle.slate_stock.specs.Legs.{IsMade};
+ghost use Rattle.slate_stock.specs.Legs.{AreLegsOf};
 ghost use Rattle.slate_stock.specs.Reading.{balance_of, cut_name, issued_of, of_four, of_two, plain_order, price};
 
 use crate::name::Name;
@@ -20,7 +20,7 @@ pub fn shown(
     amounts: &[u64],
     new: &[u64],
 ) -> Result<Option<Order>, AllocError>
-    ensures { (o : Order) (m : Amounts) (js : List (List ℕ)) → IsMade o m keys.now amounts.now js new.now → IfOk result (λ shown. shown ≡ Some (plain_order o)) }
+    ensures { (o : Order) (m : Amounts) (js : List (List ℕ)) → AreLegsOf o m keys.now amounts.now js new.now → IfOk result (λ shown. shown ≡ Some (plain_order o)) }
 {
     if are_long(keys, amounts, new, 2) {
         return by_two(
