@@ -2,3 +2,4 @@ pub mod OpenIds
 pub mod FirstRead
 pub mod FirstTable
 pub mod FirstCalls
+pub mod Turning

@@ -1,1 +1,2 @@
 pub mod FirstSteps
+pub mod Turns

@@ -8,6 +8,7 @@
 #![tactic(auto)]
 
 pub mod first_steps;
+pub mod turns;
 
 pub use bytes::Bytes;
 pub use counters::{Add, add_is_lawful, counter_value};
