@@ -1,10 +1,10 @@
 -- A line is split at its spaces, one after the other.
-use Rattle.std.proofs.Common.{◌≡◌, ℕ, suc, ◌+◌, ◌-◌, ◌<◌, Bool, true, false, cond, not, ◌==◌, List, [], ◌∷◌, ◌++◌, length, take, drop, get_or, refl, sym, ap, ◌∙◌, arith, add-one, append_assoc}
+use Rattle.std.proofs.Common.{◌≡◌, ℕ, suc, ◌+◌, ◌-◌, ◌<◌, Bool, true, false, cond, not, ◌==◌, List, [], ◌∷◌, ◌++◌, Option, Some, None, MatchOption, length, take, drop, refl, sym, ap, ◌∙◌, arith, append_assoc}
 use Rattle.std.specs.Prelude.{slice_range}
 use Rattle.std.specs.List.{onto_first}
-use Rattle.std.proofs.lemmas.Bool.Decides.{nat_tests}
 use Rattle.std.proofs.lemmas.List.{drop-drop, length-drop}
-use Rattle.std.proofs.Math.Seq.{drop-cons}
+use Rattle.std.proofs.lemmas.List.Sums.{position_or_len_is}
+use Rattle.memchr.specs.Find.{IsFirstByte, is_byte}
 use Rattle.slate_types.proofs.Lists.{take_behind}
 use Rattle.slate_language.specs.Parse.{tokens_of}
 use Rattle.slate_language.specs.Built.{until_space}
@@ -14,6 +14,10 @@ use Rattle.slate_language.proofs.BuiltLaws.{split_by_is, tokens_some}
 byte_before : (b : ℕ) (bs : List ℕ) (c : Bool) → (b == 32) ≡ c → tokens_of (b ∷ bs) ≡ cond c ([] ∷ tokens_of bs) (onto_first b (tokens_of bs))
 byte_before b bs c is = sym (split_by_is b (tokens_of bs) (tokens_some bs)) ∙ ap (λ t. cond t ([] ∷ tokens_of bs) (onto_first b (tokens_of bs))) is
 
+never : (b : Bool) → ¬ (b ≡ true) → b ≡ false
+never true h = absurd (h refl)
+never false h = refl
+
 until_here : (b : ℕ) (bs : List ℕ) → (b == 32) ≡ true → until_space (b ∷ bs) ≡ 0
 until_here b bs is = ap (λ c. cond (not c) (1 + until_space bs) 0) is
 
@@ -22,21 +26,10 @@ until_later b bs is =
     let more : 1 + until_space bs ≡ suc (until_space bs) = omega arith in
     ap (λ c. cond (not c) (1 + until_space bs) 0) is ∙ more
 
-is_space : (b : ℕ) → b ≡ 32 → (b == 32) ≡ true
-is_space b h = grind (arith, nat_tests)
-
-no_space : (b : ℕ) → ¬ (b ≡ 32) → (b == 32) ≡ false
-no_space b h = grind (arith, nat_tests)
-
--- ---- the bytes before a space, one after the other
-
-pub space_at : (bs : List ℕ) (i : ℕ) → i < length bs → get_or bs i 0 ≡ 32 → until_space (drop i bs) ≡ 0
-space_at bs i within is = ap until_space (drop-cons bs i 0 within) ∙ until_here (get_or bs i 0) (drop (suc i) bs) (is_space (get_or bs i 0) is)
-
-pub other_at : (bs : List ℕ) (i : ℕ) → i < length bs → ¬ (get_or bs i 0 ≡ 32) → until_space (drop i bs) ≡ until_space (drop (i + 1) bs) + 1
-other_at bs i within other =
-    ap until_space (drop-cons bs i 0 within) ∙ until_later (get_or bs i 0) (drop (suc i) bs) (no_space (get_or bs i 0) other)
-    ∙ (λ j. sym (add-one (until_space (drop (sym (add-one i) j) bs))) j)
+-- what a search for a space finds
+pub first_space : (bs : List ℕ) (r : Option ℕ) → IsFirstByte (is_byte 32) bs r → MatchOption r (until_space bs ≡ length bs) (λ k. until_space bs ≡ k)
+first_space bs None h = position_or_len_is (λ b. b == 32) bs (length bs) 0 (omega arith) (λ k below. never _ (h k (omega arith) below)) (λ below. absurd (omega arith))
+first_space bs (Some k) h = position_or_len_is (λ b. b == 32) bs k 0 (omega (arith, h.0.high)) (λ j below. never _ (h.0.before j (omega arith) below)) (λ below. h.1)
 
 -- ---- the first token, and those behind it
 

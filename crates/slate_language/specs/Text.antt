@@ -1,5 +1,6 @@
 -- The text of a reply.
 --     shown_bytes v      a byte token: `'` and the bytes, or `0x` and their hex digits
+--     spaced ws      the words, each behind a space
 --     reply_text a      the reply, without its line end
 use Rattle.std.specs.Prelude.{ℕ, ◌+◌, ◌/◌, ◌%◌, Bool, ◌&&◌, if◌then◌else◌, nat_lt, nat_le, List, [], ◌∷◌, ◌++◌, map, flat_map, length, Option, Some, None, ℤ, codes, decimal}
 use Rattle.std.specs.Fmt.{signed_decimal}
@@ -75,6 +76,9 @@ error_words (errors.SeekKeyOutOfKeyRange k) = codes "SeekKeyOutOfKeyRange" ∷ s
 error_words (errors.InvalidSequenceOrder a b) = codes "InvalidSequenceOrder" ∷ decimal a ∷ decimal b ∷ []
 error_words (errors.LimitReached n) = codes "LimitReached" ∷ decimal n ∷ []
 error_words errors.OutOfMemory = codes "OutOfMemory" ∷ []
+
+abbrev pub spaced : List (List ℕ) → List ℕ
+spaced ws = flat_map (λ w. 32 ∷ w) ws
 
 abbrev pub found_words : Option KeyValue → List (List ℕ)
 found_words None = codes "none" ∷ []

@@ -3,11 +3,12 @@ ghost use Rattle.std.specs.Prelude.{◌≡◌, ◌++◌, ◌∷◌, [], Some, ma
 ghost use Rattle.std.specs.List.{join_with_byte};
 ghost use Rattle.slate_language.specs.Replies.{reply_line};
 ghost use Rattle.slate_language.specs.Answers.{entry_commit, reply_of, word_text, words_text};
-ghost use Rattle.slate_language.specs.Text.{commit_words, error_words, row_words, stamp, sequence};
+ghost use Rattle.slate_language.specs.Text.{commit_words, error_words, row_words, spaced, stamp, sequence};
 ghost use Rattle.slate_txn.specs.Reply.{JournalIs, Refused, RowsAre};
 
-use crate::text::shown;
+use crate::text::push_shown;
 use bytes::Bytes;
+use itoa::Buffer;
 use slate_txn::KeyList;
 use slate_types::{KeyValue, SlateDBError};
 use std::alloc::{AllocError, Global};
@@ -248,15 +249,25 @@ fn row_text(alloc: Global, row: &KeyValue) -> Result<Vec<u8>, AllocError>
 fn rows_text(alloc: Global, rows: &[KeyValue]) -> Result<Vec<u8>, AllocError>
     ensures text { IfOk result (λ v. v.items ≡ reply_line (RowsAre rows.now)) }
 {
-    let mut words = Vec::new(alloc);
-    words.push(Word::Text(b"rows"))?;
-    words.push(Word::Number(rows.len() as u64))?;
+    let mut line = Vec::with_capacity(alloc, 64)?;
+    line.extend_from_slice(b"rows ")?;
+    push_word(alloc, &mut line, &Word::Number(rows.len() as u64))?;
     for row in rows {
-        words.extend_from_slice(&row_words(row))?;
+        push_row(alloc, &mut line, row)?;
     }
-    let text = line_of(alloc, words.as_slice());
-    drop(words);
-    text
+    line.push(b'\n')?;
+    Ok(line)
+}
+
+/// Adds the words of a row to the line, each behind a space.
+fn push_row(alloc: Global, line: &mut Vec<u8>, row: &KeyValue) -> Result<(), AllocError>
+    ensures text { OnOk result (line.new.items ≡ line.old.items ++ spaced (row_words row.now)) }
+{
+    push_spaced(alloc, line, &Word::Shown(row.key.as_slice()))?;
+    push_spaced(alloc, line, &Word::Shown(row.value.as_slice()))?;
+    push_spaced(alloc, line, &Word::Number(row.seq))?;
+    push_spaced(alloc, line, &Word::Moment(row.create_ts))?;
+    push_spaced(alloc, line, &stamp(row.expire_ts))
 }
 
 /// The words of a row: its key, its value, its sequence, when it was made and when it ends.
@@ -324,7 +335,7 @@ fn sequence(seq: Option<u64>) -> Word<'static>
 fn line_of(alloc: Global, words: &[Word<'_>]) -> Result<Vec<u8>, AllocError>
     ensures text { IfOk result (λ v. v.items ≡ join_with_byte 32 (map word_text words.now) ++ (10 ∷ [])) }
 {
-    let mut line = Vec::new(alloc);
+    let mut line = Vec::with_capacity(alloc, 64)?;
     for (i, word) in words.iter().enumerate() {
         if i > 0 {
             line.push(b' ')?;
@@ -335,23 +346,22 @@ fn line_of(alloc: Global, words: &[Word<'_>]) -> Result<Vec<u8>, AllocError>
     Ok(line)
 }
 
+/// Adds a space and the word to the line.
+fn push_spaced(alloc: Global, line: &mut Vec<u8>, word: &Word<'_>) -> Result<(), AllocError>
+    ensures text { OnOk result (line.new.items ≡ line.old.items ++ (32 ∷ word_text word.now)) }
+{
+    line.push(b' ')?;
+    push_word(alloc, line, word)
+}
+
 /// Adds the word to the line.
 fn push_word(alloc: Global, line: &mut Vec<u8>, word: &Word<'_>) -> Result<(), AllocError>
     ensures text { OnOk result (line.new.items ≡ line.old.items ++ word_text word.now) }
 {
     match word {
         Word::Text(text) => line.extend_from_slice(text),
-        Word::Shown(bytes) => push_text(line, shown(alloc, bytes)?),
-        Word::Number(number) => push_text(line, number.to_string(alloc)?.into_bytes()),
-        Word::Moment(moment) => push_text(line, moment.to_string(alloc)?.into_bytes()),
+        Word::Shown(bytes) => push_shown(alloc, line, bytes),
+        Word::Number(number) => line.extend_from_slice(Buffer::new().format(*number).as_bytes()),
+        Word::Moment(moment) => line.extend_from_slice(Buffer::new().format(*moment).as_bytes()),
     }
-}
-
-/// Adds the text to the line.
-fn push_text(line: &mut Vec<u8>, text: Vec<u8>) -> Result<(), AllocError>
-    ensures text { OnOk result (line.new.items ≡ line.old.items ++ text.items) }
-{
-    let pushed = line.extend_from_slice(&text);
-    drop(text);
-    pushed
 }

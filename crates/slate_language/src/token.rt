@@ -10,6 +10,7 @@ ghost use Rattle.slate_language.specs.Built.{until_space, is_name, is_digit, is_
 use crate::text::is_visible;
 use bytes::Bytes;
 use hex::FromHexError;
+use memchr::memchr;
 use slate_txn::ScanStep;
 use slate_types::Ttl;
 use std::alloc::{AllocError, Global};
@@ -71,7 +72,7 @@ pub fn split_tokens(alloc: Global, line: &Bytes) -> Result<Vec<Token<'_>>, Alloc
     ensures joined { IfOk result (λ v. join_with_byte 32 v.items ≡ line.now) }
 {
     let bytes = line.as_slice();
-    let mut tokens = Vec::new(alloc);
+    let mut tokens = Vec::with_capacity(alloc, 8)?;
     let mut start = 0;
     loop {
         let end = start + until_space(&bytes[start..]);
@@ -88,12 +89,10 @@ fn until_space(bytes: &[u8]) -> usize
     ensures len { result ≡ until_space bytes.now }
     ensures within { result ≤ length bytes.now }
 {
-    for (i, byte) in bytes.iter().enumerate() {
-        if *byte == b' ' {
-            return i;
-        }
+    match memchr(b' ', bytes) {
+        Some(space) => space,
+        None => bytes.len(),
     }
-    bytes.len()
 }
 
 /// Whether the token is this word.

@@ -4,7 +4,10 @@ use Rattle.std.specs.Prelude.{codes, ltb, slice_index}
 use Rattle.std.specs.Int.{w128, byte_at, bytes_high_first, to_be_bytes}
 use Rattle.std.proofs.Math.Arith.{mod-mul}
 use Rattle.std.proofs.Math.Nat.{div-div-eq-div-mul, pow-succ'}
+use Rattle.std.specs.Str.{IsAscii, IsUtf8}
 use Rattle.std.proofs.lemmas.Bool.{and_parts, cases_lt, eqb-true, ltb-true}
+use Rattle.std.proofs.lemmas.Str.{IsUtf8-from_ascii}
+use Rattle.std.proofs.lemmas.Str.Ascii.{IsAscii-nil, IsAscii-cons}
 use Rattle.hex.specs.Hex.{encode_lower, encode_with, lower_digits}
 use Rattle.slate_block.proofs.Pieces.{same_head, same_tail, same_ends}
 use Rattle.slate_table.specs.Paths.{hex_digit, hex, path_of}
@@ -60,6 +63,21 @@ digits (suc k) n =
 
 pub digits_of_id : (n : ℕ) → encode_lower (to_be_bytes w128 n) ≡ hex 32 n
 digits_of_id n = digits 16 n
+
+-- the digits of an id are text
+digit_small : (d : ℕ) → d < 16 → hex_digit d < 128
+digit_small d lt = by (ltb d 10) refl
+  where
+    by : (t : Bool) → ltb d 10 ≡ t → cond t (48 + d) (87 + d) < 128
+    by true e = omega (arith, lt)
+    by false e = omega (arith, lt)
+
+ascii_digits : (k n : ℕ) → IsAscii (hex k n)
+ascii_digits zero n = IsAscii-nil
+ascii_digits (suc k) n = IsAscii-cons (hex_digit (n / 16 ^ k % 16)) (hex k n) (digit_small (n / 16 ^ k % 16) (omega arith)) (ascii_digits k n)
+
+pub digits_are_text : (k n : ℕ) → IsUtf8 (hex k n)
+digits_are_text k n = IsUtf8-from_ascii (hex k n) (ascii_digits k n)
 
 -- ---- one path, one id
 

@@ -100,6 +100,14 @@ impl DbTransactionInner {
         self.begin
     }
 
+    /// The batch of its own operations.
+    pub fn batch(&self) -> &WriteBatch
+        ensures batch { IsBatchOf self.now.ops result.now }
+        ensures own { self.now.ops ≡ own_of self.now.transcript }
+    {
+        &self.batch
+    }
+
     /// Puts a value. Refuses by `EmptyKey`, by `KeyTooLong` above 65535 bytes, by `ValueTooLong` above 2^32 - 1 bytes, in this
     /// order, and by `OutOfMemory`, and then nothing is put.
     pub fn put(
@@ -563,12 +571,7 @@ fn unshared_next(alloc: Global, answer: &Option<KeyValue>) -> Result<Option<KeyV
     ensures { IfOk result (λ same. same ≡ answer.now) }
 {
     match answer {
-        Some(row) => {
-            let key = Bytes::copy_from_slice(alloc, row.key.as_slice())?;
-            let same = unshared_row(alloc, &key, row);
-            drop(key);
-            same.map(Some)
-        }
+        Some(row) => unshared_whole(alloc, row).map(Some),
         None => Ok(None),
     }
 }
@@ -587,6 +590,30 @@ fn unshared_row(alloc: Global, key: &Bytes, row: &KeyValue) -> Result<KeyValue, 
         }),
         Err(error) => {
             drop(value);
+            Err(error)
+        }
+    }
+}
+
+/// The same row, its key and its value in one buffer of their own.
+fn unshared_whole(alloc: Global, row: &KeyValue) -> Result<KeyValue, AllocError>
+    ensures { IfOk result (λ same. same ≡ row.now) }
+{
+    let key_len = row.key.len();
+    let mut text = Vec::with_capacity(alloc, key_len.saturating_add(row.value.len()))?;
+    text.extend_from_slice(row.key.as_slice())?;
+    text.extend_from_slice(row.value.as_slice())?;
+    let mut key = Bytes::from_vec(text)?;
+    match key.split_off(key_len) {
+        Ok(value) => Ok(KeyValue {
+            key,
+            value,
+            seq: row.seq,
+            create_ts: row.create_ts,
+            expire_ts: row.expire_ts,
+        }),
+        Err(error) => {
+            drop(key);
             Err(error)
         }
     }

@@ -28,8 +28,11 @@ loop-i-preserved c =
           ∙ sym (joined_first 32 word_text c.args.words.now i d within first)
     ]
 
+pub returns-in_err-line : goal.returns-in_err-line
+returns-in_err-line c = record { text = IfOk-from_err c.from_residual.result _ c.from_residual.ensures.0 }
+
 pub returns-in_err-push : goal.returns-in_err-push
-returns-in_err-push c = record { text = IfOk-from_err c.from_residual.result _ c.from_residual.ensures.0 }
+returns-in_err-push c = record { text = IfOk-from_err c.from_residual-in_err-push.result _ c.from_residual-in_err-push.ensures.0 }
 
 pub returns-in_err-push-2 : goal.returns-in_err-push-2
 returns-in_err-push-2 c = record { text = IfOk-from_err c.from_residual-in_err-push-2.result _ c.from_residual-in_err-push-2.ensures.0 }
