@@ -37,13 +37,13 @@ use Rattle.slate_db.proofs.MemoryLayers.{frozen_rise}
 use Rattle.slate_db.proofs.Versions.{short_versions, short_by_key}
 use Rattle.slate_types.proofs.Lists.{AllByRecursion_append, AllByRecursion_front, AllByRecursion_weaken, AllByRecursion_filter}
 
-tables_append : (m : Meaning) (ts us : List (Ulid × List ℕ)) (layers more : List Rows) → AreTables m ts layers → AreTables m us more → AreTables m (ts ++ us) (layers ++ more)
+pub tables_append : (m : Meaning) (ts us : List (Ulid × List ℕ)) (layers more : List Rows) → AreTables m ts layers → AreTables m us more → AreTables m (ts ++ us) (layers ++ more)
 tables_append m [] us layers more h is = subst (λ (ls : List Rows). AreTables m us (ls ++ more)) (sym h) is
 tables_append m (x ∷ ts) us layers more (v, first, rest, table, others, same) is =
     (v, first, rest ++ more, table, tables_append m ts us rest more others is, ap (λ ls. ls ++ more) same)
 
 -- the layers of a run's tables have the versions of all its rows
-cut_layers : (k : List ℕ) (layers parts : List Rows) (rows : Rows) → versions_in k parts ≡ versions k rows → versions_in k (layers ++ parts) ≡ versions_in k (layers ++ (rows ∷ []))
+pub cut_layers : (k : List ℕ) (layers parts : List Rows) (rows : Rows) → versions_in k parts ≡ versions k rows → versions_in k (layers ++ parts) ≡ versions_in k (layers ++ (rows ∷ []))
 cut_layers k layers parts rows same =
     flat_map-append (versions k) layers parts ∙ ap (λ xs. versions_in k layers ++ xs) (same ∙ sym (append-nil (versions k rows))) ∙ sym (flat_map-append (versions k) layers (rows ∷ []))
 

@@ -1,4 +1,7 @@
 mod Lists
+pub mod SharedRuns
+pub mod Handed
+pub mod UnderKeys
 mod ApartIds
 mod Journals
 mod Split
@@ -6,8 +9,8 @@ mod Short
 mod Folds
 mod AllRows
 mod Kept
-mod Operands
-mod Asks
+pub mod Operands
+pub mod Asks
 pub mod Keeps
 mod Quiet
 pub mod RunsOf
@@ -15,7 +18,7 @@ pub mod Logs
 pub mod Adding
 mod LogViews
 mod MemoryLayers
-mod Wholes
+pub mod Wholes
 mod Calls
 mod Writes
 mod Puts
@@ -68,7 +71,7 @@ mod ScanStates
 mod ScanNotes
 mod Refused
 mod Plain
-mod Tests
+pub mod Tests
 pub mod Segmenting
 pub mod Recording
 pub mod Managing
@@ -111,3 +114,7 @@ mod Behind
 mod KeyBlocks
 mod Needs
 mod Finds
+mod Numbered
+mod PreparedOf
+pub mod Flights
+pub mod Aloft

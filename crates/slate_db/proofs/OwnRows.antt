@@ -161,5 +161,8 @@ module _ (k : List ℕ) (ops : Ops) (own : Rows) (is : own ≡ map (own_row k) (
   pub own_merges : keeps_merge k ops ≡ true → is_merge_among own ≡ true
   own_merges some = ap is_merge_among is ∙ merges_turned k (kept ops k) ∙ some
 
+  pub merge_kept : is_merge_among own ≡ true → keeps_merge k ops ≡ true
+  merge_kept some = sym (ap is_merge_among is ∙ merges_turned k (kept ops k)) ∙ some
+
   pub own_some : keeps_merge k ops ≡ true → own ≢ []
   own_some some none = let clash : false ≡ true = sym (ap is_merge_among none) ∙ own_merges some in cc

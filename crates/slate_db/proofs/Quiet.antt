@@ -13,7 +13,7 @@ or_false false = refl
 any_more : (t : Event → Bool) (es : List Event) (e : Event) → t e ≡ false → list_any t (es ++ (e ∷ [])) ≡ list_any t es
 any_more t es e h = list_any-append t es (e ∷ []) ∙ ap (λ b. list_any t es || (b || false)) h ∙ or_false (list_any t es)
 
-freeze_more : (es : List Event) (e : Event) → is_freeze e ≡ false → after_freeze (es ++ (e ∷ [])) ≡ after_freeze es ++ (e ∷ [])
+pub freeze_more : (es : List Event) (e : Event) → is_freeze e ≡ false → after_freeze (es ++ (e ∷ [])) ≡ after_freeze es ++ (e ∷ [])
 freeze_more [] e h = ap (λ b. cond b [] (e ∷ [])) h
 freeze_more (x ∷ es) e h =
     ap (λ b. cond b (after_freeze (es ++ (e ∷ []))) (cond (is_freeze x) (es ++ (e ∷ [])) (x ∷ (es ++ (e ∷ []))))) (any_more is_freeze es e h)

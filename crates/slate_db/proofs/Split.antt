@@ -6,7 +6,7 @@ use Rattle.slate_txn.specs.Reads.{up_to}
 use Rattle.slate_db.specs.Sound.{above}
 use Rattle.slate_db.specs.Log.{Rising}
 
-rising_from : (m n : ℕ) (cs : List Commit) → m ≤ n → Rising n cs → Rising m cs
+pub rising_from : (m n : ℕ) (cs : List Commit) → m ≤ n → Rising n cs → Rising m cs
 rising_from m n [] h r = tt
 rising_from m n (c ∷ cs) h r = (let k : n < c.seq = r.0 in omega arith, r.1)
 
@@ -25,7 +25,7 @@ all_above n i (c ∷ cs) h r =
     let e : nat_lt i c.seq ≡ true = grind (arith, nat_tests) in
     rw e (ap (λ xs. c ∷ xs) (all_above c.seq i cs (omega arith) r.1))
 
-none_up_to : (n i : ℕ) (cs : List Commit) → i ≤ n → Rising n cs → up_to i cs ≡ []
+pub none_up_to : (n i : ℕ) (cs : List Commit) → i ≤ n → Rising n cs → up_to i cs ≡ []
 none_up_to n i [] h r = refl
 none_up_to n i (c ∷ cs) h r =
     let k : n < c.seq = r.0 in

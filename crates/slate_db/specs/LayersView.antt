@@ -7,7 +7,7 @@ abbrev pub layers_view : Inside → LayersModel
 layers_view s = record {
   active = s.active.rows;
   frozen = map (λ t. t.rows) s.frozen.items;
-  runs = s.runs.items;
+  runs = s.runs;
   floor = s.floor;
   for_freeze = vec_capacity s.frozen - vec_len s.frozen;
 }

@@ -17,15 +17,18 @@ pub mod Frozen
 pub mod Load
 pub mod Flushed
 pub mod FlushLaws
+pub mod Flying
 pub mod SegmentRuns
 pub mod StoredParts
 pub mod Written
 pub mod Unasked
+pub mod Prepared
 pub mod Committed
 pub mod Operated
 pub mod Opened
 pub mod Lookup
 pub mod LogView
+pub mod SharedRuns
 pub mod LayersView
 pub mod View
 pub mod Vectors
@@ -33,6 +36,7 @@ pub mod Parts
 pub mod Answered
 pub mod Shown
 pub mod Readable
+pub mod KeyShares
 pub mod HeldOn
 pub mod Settled
 pub mod Vouched

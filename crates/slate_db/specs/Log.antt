@@ -9,7 +9,7 @@
 --     held_by l      the journal's events, with one more for whatever is open
 --     IsLog l      what is true of every log; no commit lies between the last install and the last flush
 --     HasPlace more l      room was made for so many events more beside the ends, and the journal has a place for them
---     with_begin, with_snapshot, with_end, with_release, with_freeze, with_write, with_commit, with_install, with_flush      the log after each
+--     with_begin, with_snapshot, with_end, with_release, with_freeze, with_write, with_commit, with_install, with_install_through, with_flush      the log after each
 --     MayCommit l id n ops tracked ts      a commit that a log may take
 use Rattle.std.specs.Prelude.{◌≡◌, ◌⊎◌, ℕ, ◌+◌, ◌-◌, ◌^◌, ◌≤◌, ◌<◌, List, [], ◌∷◌, ◌++◌, length, Option, None, unwrap_or, IsSome, ℤ}
 use Rattle.std.specs.List.{AllByRecursion}
@@ -134,6 +134,9 @@ pub record MayCommit (l : LogModel) (id : List ℕ) (n : Option ℕ) (ops : Ops)
   pub keys : AreKeysOf ops tracked
   pub free : HasNoConflict (replay l.events) (find_named id (replay l.events).txns) tracked ts
   pub fits : unwrap_or n l.last ≤ 2 ^ 64 - 2
+
+abbrev pub with_install_through : LogModel → ℕ → List (Ulid × List ℕ) → ℕ → LogModel
+with_install_through l through ts spare = record l { flushed = through; installs = l.installs + 1; events = l.events ++ (events.Install through ts ∷ []); spare = spare }
 
 abbrev pub with_install : LogModel → List (Ulid × List ℕ) → ℕ → LogModel
 with_install l ts spare = record l { flushed = l.last; installs = l.installs + 1; events = l.events ++ (events.Install l.last ts ∷ []); spare = spare }

@@ -48,7 +48,10 @@ ghost use Rattle.slate_db.specs.Unasked.{IsUnaskedCommit, IsUnaskedWrite};
 ghost use Rattle.slate_db.specs.Vouched.{IsVouchedFor};
 ghost use Rattle.slate_db.specs.Written.{IsWritten};
 
+mod flights;
+mod prepared;
 mod reads;
+mod shares;
 
 use crate::commit::{self, make};
 use crate::flush::stored;
@@ -699,6 +702,7 @@ impl Core {
         ensures begins { AllByRecursion (λ p. self.now.floor ≤ p.1.begin) self.now.state.txns }
         ensures shows { AllByRecursion (λ p. self.now.floor ≤ p.1) self.now.state.snapshots }
         ensures own { AllByRecursion (λ p. p.1.ops ≡ own_of p.1.transcript) self.now.state.txns }
+        ensures quiet { self.now.active ≡ [] → IsQuiet self.now.events }
         ensures folds { (m : Meaning) → IsLawfulMeaning m → IsKept m self.now → FoldsToState m self.now }
         ensures stored { (m : Meaning) → IsLawfulMeaning m → IsKept m self.now → StoresState m self.now }
     {

@@ -1,12 +1,19 @@
 //! The layers of rows: the memtables, and what is kept of runs of tables.
-ghost use Rattle.std.specs.Prelude.{◌≡◌, ◌≢◌, ◌≤◌, ◌<◌, ◌∷◌, ◌++◌, [], ℕ, List, map, length, IsTrue, ◌↔◌, OnOk, OnErr, IsOkUnless};
+ghost use Rattle.std.specs.Prelude.{◌≡◌, ◌≢◌, ◌≤◌, ◌<◌, ◌∷◌, ◌++◌, [], ℕ, List, map, length, IsTrue, ◌↔◌, IfOk, OnOk, OnErr, IsOkUnless, drop};
 ghost use Rattle.std.specs.List.{AllByRecursion};
 ghost use Rattle.slate_types.specs.declared.error.SlateDBError.{SlateDBError};
-ghost use Rattle.slate_mem.specs.Table.{put_rows};
+ghost use Rattle.slate_mem.specs.Lookup.{newest_first};
+ghost use Rattle.slate_mem.specs.Table.{newest, put_rows};
 ghost use Rattle.slate_db.specs.Flushed.{events_of_flush};
 ghost use Rattle.slate_db.specs.Layers.{AreLayers, AreRising, FitsMemory, without_seq};
 ghost use Rattle.slate_db.specs.Model.{versions_in};
+ghost use Rattle.slate_db.specs.SharedRuns.{tables_in};
 
+use crate::flight::share_all;
+use crate::key_share::KeyShare;
+use crate::run_list::RunList;
+use bytes::Bytes;
+use slate_mem::lookup::newest_of_memory;
 use slate_mem::{ImmutableMemtable, MemTable};
 use slate_read::SortedRun;
 use slate_types::{RowEntry, SlateDBError};
@@ -21,7 +28,7 @@ pub struct Layers {
     /// The rows that wait for a flush, the newest last.
     frozen: Vec<ImmutableMemtable>,
     /// What is kept of runs of tables, those of the newest install last.
-    runs: Vec<SortedRun>,
+    runs: RunList,
     /// The greatest barrier of a flush so far.
     floor: u64,
 }
@@ -47,7 +54,7 @@ impl Layers {
         Layers {
             active: MemTable::new(alloc),
             frozen: Vec::new(alloc),
-            runs: Vec::new(alloc),
+            runs: RunList::new(alloc),
             floor: 0,
         }
     }
@@ -71,6 +78,24 @@ impl Layers {
         ensures { result.now ≡ self.now.runs }
     {
         self.runs.as_slice()
+    }
+
+    /// What a read of a key at a sequence takes: its rows in memory up to there, newest first, to the first that decides, and a copy
+    /// of the runs, which readers share. The one error is `OutOfMemory`.
+    pub fn share_key(
+        &mut self,
+        alloc: Global,
+        key: &Bytes,
+        at: u64,
+    ) -> Result<KeyShare, SlateDBError>
+        ensures same { self.new ≡ self.old }
+        ensures shared { IfOk result (λ s. (s.rows ≡ newest key.now at (self.old.active ++ newest_first self.old.frozen)) × (tables_in s.runs ≡ tables_in self.old.runs)) }
+        ensures whole { AreLayers self.new }
+        ensures cause { IsOkUnless result SlateDBError.OutOfMemory }
+    {
+        let rows = newest_of_memory(alloc, &self.active, self.frozen.as_slice(), key, at)?;
+        let runs = self.runs.share()?;
+        Ok(KeyShare::new(rows, runs))
     }
 
     /// How many events a flush adds.
@@ -128,6 +153,34 @@ impl Layers {
             unreachable!()
         };
         self.frozen.push_reserved(table);
+    }
+
+    /// The rows that wait for a flush, shared, the newest last. The one error is `AllocError`.
+    pub fn share_frozen(&mut self, alloc: Global) -> Result<Vec<ImmutableMemtable>, AllocError>
+        ensures same { self.new ≡ self.old }
+        ensures whole { AreLayers self.new }
+        ensures shared { IfOk result (λ shared. map (λ t. t.rows) shared.items ≡ self.old.frozen) }
+    {
+        share_all(alloc, self.frozen.as_mut_slice())
+    }
+
+    /// Keeps runs in place of the first tables that waited. Where memory is wanting nothing is changed.
+    pub fn install_first(
+        &mut self,
+        count: usize,
+        runs: Vec<SortedRun>,
+        floor: u64,
+    ) -> Result<(), AllocError>
+        requires { count ≤ length self.old.frozen }
+        ensures value { OnOk result (self.new ≡ record self.old { frozen = drop count self.old.frozen; runs = self.old.runs ++ runs.items; floor = floor; for_freeze = self.new.for_freeze }) }
+        ensures same { OnErr result (self.new ≡ self.old) }
+        ensures whole { AreLayers self.new }
+    {
+        let mut runs = runs;
+        self.runs.append(&mut runs)?;
+        self.floor = floor;
+        drop(self.frozen.drain(..count));
+        Ok(())
     }
 
     /// Keeps runs in place of the rows that waited. Where memory is wanting nothing is changed.

@@ -5,19 +5,25 @@
 #![tactic(auto)]
 
 mod commit;
+mod commit_prepared;
 pub mod cut;
 pub mod engine;
+pub mod flight;
 pub mod flush;
 pub mod gather;
+pub mod key_share;
 pub mod laws;
 pub mod layers;
 pub mod log;
 pub mod lookup;
 pub mod open_scan;
+pub mod prepared;
 mod put;
+pub mod run_list;
 pub mod scan;
 mod scan_filters;
 pub mod segments;
 mod tested;
 mod values;
 pub mod vectors;
+mod write_prepared;

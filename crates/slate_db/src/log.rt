@@ -6,7 +6,7 @@ ghost use Rattle.slate_txn.specs.Named.{find_named};
 ghost use Rattle.slate_txn.specs.Reads.{up_to};
 ghost use Rattle.slate_txn.specs.Replay.{replay};
 ghost use Rattle.slate_db.specs.Installs.{ArePlaced, installed};
-ghost use Rattle.slate_db.specs.Log.{LIMIT, IsLog, IsWhollyKept, HasPlace, MayCommit, held_by, with_begin, with_snapshot, with_commit, with_end, with_release, with_freeze, with_write, with_install, with_flush};
+ghost use Rattle.slate_db.specs.Log.{LIMIT, IsLog, IsWhollyKept, HasPlace, MayCommit, held_by, with_begin, with_snapshot, with_commit, with_end, with_release, with_freeze, with_write, with_install, with_install_through, with_flush};
 
 use slate_txn::{Event, Journal, KeyList, OpList, TableList, Transcript};
 use slate_types::{IsolationLevel, SlateDBError};
@@ -228,6 +228,21 @@ impl Log {
             through: self.last,
             tables,
         });
+    }
+
+    /// Installs the tables of the next flush through a sequence, in the room that was made.
+    pub fn push_install_through(&mut self, through: u64, tables: TableList)
+        requires place { HasPlace 1 self.old }
+        requires tables { ArePlaced (self.old.installs + 1) 0 tables }
+        requires behind { installed self.old.events ≤ through }
+        requires within { through ≤ self.old.last }
+        ensures value { self.new ≡ with_install_through self.old through tables self.new.spare }
+        ensures whole { IsLog self.new }
+    {
+        self.installs += 1;
+        self.flushed = through;
+        self.journal
+            .push_reserved(Event::Install { through, tables });
     }
 
     /// A flush that finds nothing to install, since all is installed.

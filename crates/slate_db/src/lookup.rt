@@ -136,10 +136,7 @@ fn newest_of_blocks(
 }
 
 /// The question of a get to the filters of tables.
-pub(crate) fn query_of(
-    key: &Bytes,
-    context: &Option<FilterContext>,
-) -> Result<FilterQuery, SlateDBError>
+pub fn query_of(key: &Bytes, context: &Option<FilterContext>) -> Result<FilterQuery, SlateDBError>
     ensures query { IfOk result (λ query. query ≡ point_query key.now context.now) }
     ensures cause { IsOkUnless result SlateDBError.OutOfMemory }
 {

@@ -143,7 +143,7 @@ fn copy_handles(alloc: Global, handles: &[SsTableHandle]) -> Result<Vec<SsTableH
     Ok(copies)
 }
 
-fn copy_run(alloc: Global, run: &SortedRun) -> Result<SortedRun, AllocError>
+pub(crate) fn copy_run(alloc: Global, run: &SortedRun) -> Result<SortedRun, AllocError>
     ensures { IfOk result (λ copy. copy.tables.items ≡ run.now.tables.items) }
 {
     let prefix = run.prefix.clone()?;

@@ -42,8 +42,9 @@ ghost use Rattle.slate_db.specs.Opened.{StayOpen};
 ghost use Rattle.slate_db.specs.Vouched.{IsVouchedFor};
 
 use crate::engine::Core;
+use crate::key_share::seen_behind;
 use crate::laws::Laws;
-use crate::lookup::{newest_behind, newest_of_runs, query_of};
+use crate::lookup::{newest_behind, query_of};
 use crate::open_scan::{asked_sources, merged, table_options};
 use crate::scan::{DbIterator, TxnIterator};
 use bytes::Bytes;
@@ -101,17 +102,16 @@ impl Core {
             key,
             at,
         )?;
-        let found = newest_of_runs(
+        seen_behind(
             self.alloc,
             near,
             self.layers.runs(),
-            key.as_slice(),
+            key,
             at,
             policies,
             query,
             env,
-        )?;
-        fold_found(self.alloc, found, &mut env.operator)
+        )
     }
 
     /// The row that an open transaction or an open snapshot sees at a key: own operations, which a snapshot has none of, lie above

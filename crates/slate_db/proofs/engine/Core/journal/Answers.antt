@@ -1,6 +1,7 @@
-use Rattle.std.proofs.Common.{◌≡◌, ◌≤◌, arith, sym, subst, ap, ◌∙◌}
+use Rattle.std.proofs.Common.{◌≡◌, ◌≤◌, [], arith, sym, subst, ap, ◌∙◌}
 use Rattle.std.specs.List.{AllByRecursion}
 use Rattle.slate_txn.specs.Alone.{own_of}
+use Rattle.slate_txn.specs.Places.{IsQuiet}
 use Rattle.slate_txn.specs.Reads.{up_to}
 use Rattle.slate_txn.specs.State.{last_of}
 use Rattle.slate_txn.specs.Replay.{IsLegal}
@@ -45,6 +46,9 @@ returns-clause-shows c = subst (λ (v : CoreModel). AllByRecursion (λ p. v.floo
 
 pub returns-clause-own : goal.returns-clause-own
 returns-clause-own c = subst (λ (v : CoreModel). AllByRecursion (λ p. p.1.ops ≡ own_of p.1.transcript) v.state.txns) c.self.view_is c.self.invariant.tied.own
+
+pub returns-clause-quiet : goal.returns-clause-quiet
+returns-clause-quiet c = subst (λ (v : CoreModel). v.active ≡ [] → IsQuiet v.events) c.self.view_is c.self.invariant.tied.quiet
 
 pub returns-clause-folds : goal.returns-clause-folds
 returns-clause-folds c m law kept =

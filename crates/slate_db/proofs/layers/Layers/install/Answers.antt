@@ -8,7 +8,7 @@ use Rattle.slate_db.proofs.layers.Layers.install.Goals as goal
 
 becomes : (c : goal.After-drop-runs-2) → record (layers_view c.self.inside) {
   frozen = [];
-  runs = c.self.inside.runs.items ++ c.args.runs.items;
+  runs = c.self.inside.runs ++ c.args.runs.items;
   floor = c.args.floor;
   for_freeze = vec_capacity c.clear.new.self - vec_len c.clear.new.self;
 } ≡ layers_view (record c.self.inside { frozen = c.clear.new.self; runs = c.append.new.self; floor = c.args.floor })
@@ -22,8 +22,8 @@ becomes c = λ i. record (layers_view c.self.inside) {
     frozen : [] ≡ map (λ t. t.rows) c.clear.new.self.items
     frozen = sym (ap (λ (ts : List MemTableModel). map (λ t. t.rows) ts) c.clear.ensures.items)
 
-    runs : c.self.inside.runs.items ++ c.args.runs.items ≡ c.append.new.self.items
-    runs = sym c.in_ok-append.ensures.items
+    runs : c.self.inside.runs ++ c.args.runs.items ≡ c.append.new.self
+    runs = sym c.in_ok-append.ensures.added
 
 stays : (c : goal.After-drop-runs-2) → AreLayers (layers_view (record c.self.inside { frozen = c.clear.new.self; runs = c.append.new.self; floor = c.args.floor }))
 stays c = subst AreLayers (becomes c) (layers_installed (layers_view c.self.inside) _ _ _ c.self.invariant)

@@ -1,0 +1,146 @@
+//! A commit of a transaction whose batch was prepared, up to its event. It calls no operator.
+ghost use Rattle.std.specs.Prelude.{◌≡◌, ◌≢◌, ◌⊎◌, ◌+◌, ◌<◌, ◌≤◌, ◌++◌, [], ℕ, ℤ, List, Option, None, Some, Err, unwrap_or, IfErr, IfOk, OnOk, OnErr};
+ghost use Rattle.std.specs.List.{AllByRecursion};
+ghost use Rattle.slate_types.specs.declared.error.SlateDBError.{SlateDBError};
+ghost use Rattle.slate_types.specs.Fold.{Combine, operator_at};
+ghost use Rattle.slate_types.specs.Keys.{keys_set};
+ghost use Rattle.slate_mem.specs.Batch.{kept_ops};
+ghost use Rattle.slate_mem.specs.CommitRows.{commit_rows};
+ghost use Rattle.slate_mem.specs.KeyTests.{Segments, prefixes};
+ghost use Rattle.slate_mem.specs.Table.{put_rows};
+ghost use Rattle.slate_txn.specs.Managers.{StandsFor, IsCommitOf, with_commit, writes_at};
+ghost use Rattle.slate_txn.specs.Named.{find_named, without};
+ghost use Rattle.slate_txn.specs.Conflict.{conflict, tracked_writes};
+ghost use Rattle.slate_txn.specs.HandedOver.{Grown, IsConflict};
+ghost use Rattle.slate_txn.specs.Replay.{commit_made};
+ghost use Rattle.slate_txn.specs.State.{Commit, Tx};
+ghost use Rattle.slate_txn.specs.Tested.{IsUntracked};
+ghost use Rattle.slate_db.specs.BatchTests.{IsTestRefusal, test_refusal};
+ghost use Rattle.slate_db.specs.Committed.{IsNextOf, IsFull, put_at, recorded_at};
+ghost use Rattle.slate_db.specs.Layers.{AreLayers, in_memory};
+ghost use Rattle.slate_db.specs.Log.{AreFine};
+ghost use Rattle.slate_db.specs.Managed.{IsManaged};
+ghost use Rattle.slate_db.specs.Prepared.{PreparedWith, IsPrepared, WasPrepared, own_batch, prepared_for, whole_refusal};
+
+use crate::commit::Made;
+use crate::layers::Layers;
+use crate::prepared::{Passed, Prepared};
+use crate::put::put_own;
+use crate::segments::SegmentPrefixes;
+use slate_txn::{DbTransactionInner, OpList, Tested, TransactionManager};
+use slate_types::SlateDBError;
+use std::alloc::Global;
+use uuid::Uuid;
+
+/// As `commit::make`, of an open transaction whose batch was prepared. Refuses by `TransactionConflict` before all other tests, by
+/// `SequenceExhausted`, then as `Prepared::pass` does, and by `OutOfMemory`. The manager has then tracked what the transaction
+/// handed over.
+pub(crate) fn make_prepared(
+    alloc: Global,
+    segments: &mut SegmentPrefixes,
+    layers: &mut Layers,
+    manager: &mut TransactionManager,
+    id: &Uuid,
+    owned: DbTransactionInner,
+    prepared: Prepared,
+    last: u64,
+) -> Result<Made, SlateDBError>
+    requires fits { last ≤ 18446744073709551614 }
+    requires whole { AreLayers layers.old }
+    requires within { AllByRecursion (λ rows. AllByRecursion (λ r. r.seq ≤ last) rows) (in_memory layers.old) }
+    requires newest { manager.old.last ≡ last }
+    requires held { IsUntracked manager.old id.now owned }
+    requires prepared { (d : Option ℕ) × (now : ℤ) × WasPrepared d now (own_batch owned.ops) prepared }
+    ensures tracked { IfOk result (λ made. made.tracked ≡ tracked_writes owned) }
+    ensures steps { IfOk result (λ made. made.transcript ≡ owned.transcript) }
+    ensures ops { IfOk result (λ made. made.ops ≡ kept_ops owned.ops) }
+    ensures fine { IfOk result (λ made. AreFine made.ops) }
+    ensures next { IfOk result (λ made. IsNextOf last owned.ops made.seq) }
+    ensures free { (cs : List Commit) → StandsFor manager.old cs → OnOk result (conflict cs owned ≡ None) }
+    ensures tested { (o : Option (List ℕ → Combine)) (g : Segments) (d : Option ℕ) (now : ℤ) → IsPrepared (prepared_for o g d now (own_batch owned.ops)) prepared → OnOk result (test_refusal o g segments.old d now owned.ops ≡ None) }
+    ensures recorded { (o : Option (List ℕ → Combine)) (g : Segments) (d : Option ℕ) (now : ℤ) → IsPrepared (prepared_for o g d now (own_batch owned.ops)) prepared → IfOk result (λ made. segments.new ≡ recorded_at g made.seq made.ops segments.old) }
+    ensures put { (o : Option (List ℕ → Combine)) (g : Segments) (d : Option ℕ) (now : ℤ) → IsPrepared (prepared_for o g d now (own_batch owned.ops)) prepared → IfOk result (λ made. layers.new ≡ put_at (operator_at o) d made.seq now owned.ops layers.old) }
+    ensures whole { AreLayers layers.new }
+    ensures committed { (now : ℤ) (ids : ℕ) (cs : List Commit) (ps : List (List ℕ × Tx)) → IsManaged manager.old ids last cs ps → IfOk result (λ made. IsManaged manager.new ids (unwrap_or made.seq last) (cs ++ commit_made made.seq now made.ops made.tracked) (without id.now ps)) }
+    ensures same_segments { OnErr result (segments.new ≡ segments.old) }
+    ensures same_layers { OnErr result (layers.new ≡ layers.old) }
+    ensures grown { OnErr result (Grown id.now manager.old manager.new) }
+    ensures cause { (o : Option (List ℕ → Combine)) (g : Segments) (d : Option ℕ) (now : ℤ) → IsPrepared (prepared_for o g d now (own_batch owned.ops)) prepared → (cs : List Commit) → StandsFor manager.old cs →
+        IfErr result (λ e. (e ≡ SlateDBError.OutOfMemory) ⊎ (IsConflict (conflict cs owned) e ⊎ IsFull last (conflict cs owned) owned.ops e) ⊎ IsTestRefusal o g segments.old d now last (conflict cs owned) owned.ops e) }
+{
+    let tested = owned.test(alloc, manager, id)?;
+    let Tested {
+        batch,
+        tracked,
+        transcript,
+    } = tested;
+    drop(batch);
+    if prepared.is_empty() {
+        manager.drop_txn(id);
+        return Ok(Made {
+            seq: None,
+            ops: prepared.into_ops(),
+            tracked,
+            transcript,
+        });
+    }
+    if last >= 18446744073709551614 {
+        return Err(SlateDBError::SequenceExhausted);
+    }
+    let ops = put_prepared(alloc, segments, layers, manager, id, prepared, last)?;
+    Ok(Made {
+        seq: Some(last + 1),
+        ops,
+        tracked,
+        transcript,
+    })
+}
+
+/// Puts the rows of a transaction's prepared batch at the sequence behind the last, and gives the operations. The manager has then
+/// ended the transaction. Refuses as `Prepared::pass` does, and by `OutOfMemory`, and then nothing is done.
+fn put_prepared(
+    alloc: Global,
+    segments: &mut SegmentPrefixes,
+    layers: &mut Layers,
+    manager: &mut TransactionManager,
+    id: &Uuid,
+    prepared: Prepared,
+    last: u64,
+) -> Result<OpList, SlateDBError>
+    requires fits { last < 18446744073709551614 }
+    requires whole { AreLayers layers.old }
+    requires within { AllByRecursion (λ rows. AllByRecursion (λ r. r.seq ≤ last) rows) (in_memory layers.old) }
+    requires newest { manager.old.last ≡ last }
+    requires prepared { (w : PreparedWith) × IsPrepared w prepared }
+    ensures recorded { (w : PreparedWith) → IsPrepared w prepared → OnOk result (segments.new ≡ keys_set (segments.old ++ prefixes w.segments w.batch.ops)) }
+    ensures put { (w : PreparedWith) → IsPrepared w prepared → OnOk result (layers.new ≡ record layers.old { active = put_rows layers.old.active (commit_rows (operator_at w.combine) w.default_millis (last + 1) w.now w.batch.ops) }) }
+    ensures whole { AreLayers layers.new }
+    ensures ops { IfOk result (λ ops. ops ≡ prepared.ops) }
+    ensures tested { (w : PreparedWith) → IsPrepared w prepared → OnOk result (whole_refusal w segments.old ≡ None) }
+    ensures committed { OnOk result (manager.new ≡ record manager.old { last = last + 1; active = without id.now manager.old.active; kept = manager.new.kept }) }
+    ensures stands { OnOk result ((cs : List Commit) (c : Commit) → IsCommitOf (last + 1) (writes_at (find_named id.now manager.old.active)) c → StandsFor manager.old cs → StandsFor manager.new (with_commit cs c (find_named id.now manager.old.active))) }
+    ensures same_segments { OnErr result (segments.new ≡ segments.old) }
+    ensures same_layers { OnErr result (layers.new ≡ layers.old) }
+    ensures same { OnErr result (manager.new ≡ manager.old) }
+    ensures cause { (w : PreparedWith) → IsPrepared w prepared → IfErr result (λ e. (e ≡ SlateDBError.OutOfMemory) ⊎ (whole_refusal w segments.old ≡ Some e)) }
+{
+    let passed = prepared.pass(segments, last + 1)?;
+    let Passed {
+        ops,
+        keys,
+        prefixes,
+        rows,
+    } = passed;
+    drop(keys);
+    put_own(
+        alloc,
+        segments,
+        layers,
+        manager,
+        rows,
+        &prefixes,
+        id,
+        last + 1,
+    )?;
+    Ok(ops)
+}
