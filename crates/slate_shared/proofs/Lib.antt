@@ -4,3 +4,5 @@ pub mod Moves
 pub mod Seats
 pub mod Taken
 pub mod LockedLaws
+pub mod Encoding
+pub mod Alike

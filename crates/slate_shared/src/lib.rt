@@ -8,6 +8,7 @@
 
 pub mod board;
 pub mod database;
+pub mod encode;
 pub(crate) mod lock;
 pub mod locked;
 pub mod parts;
@@ -16,6 +17,7 @@ pub(crate) mod plays;
 pub mod txn;
 
 pub use database::Database;
+pub use encode::{EncodeWorker, FlushPlan, encode_segments};
 pub use parts::Parts;
 pub use pass::Pass;
 pub use txn::DbTransaction;
