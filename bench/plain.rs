@@ -188,6 +188,9 @@ fn main() {
         [] => status_of(run_parts(false)),
         ["time"] => status_of(run_parts(true)),
         ["make", name] => status_of(scripts::make(name).map(|script| print!("{script}"))),
+        ["make", name, "small"] => {
+            status_of(scripts::make_small(name).map(|script| print!("{script}")))
+        }
         ["run", store, words @ ..] => run_script(store, words, Journal::None),
         ["keep", store, words @ ..] => run_script(store, words, Journal::new()),
         ["reads", store, words @ ..] => run_for_reads(store, words),
@@ -2054,38 +2057,64 @@ mod script {
 mod scripts {
     use std::fmt::{Result, Write};
 
-    /// How many writes a script has that flushes at its end or not at all.
-    const MANY: u64 = 100_000;
+    /// How long a script is.
+    struct Sizes {
+        /// How many writes a script has that flushes at its end or not at all.
+        many: u64,
 
-    /// How many writes a script has that flushes in between.
-    const SOME: u64 = 10_000;
+        /// How many writes a script has that flushes in between.
+        some: u64,
+
+        /// How many gets follow where a get can meet each table.
+        few: u64,
+
+        /// How many writes stand between two flushes where 156 runs are scanned.
+        run: u64,
+
+        /// How many keys are in the range that one of two transactions scans.
+        width: u64,
+
+        /// How many writes stand between two flushes where there are segments.
+        segments_run: u64,
+
+        /// How many keys a segment has.
+        segment: u64,
+
+        /// How many merges stand between two flushes.
+        merges: u64,
+    }
+
+    const WHOLE: Sizes = Sizes {
+        many: 100_000,
+        some: 10_000,
+        few: 1_000,
+        run: 640,
+        width: 10_000,
+        segments_run: 10_000,
+        segment: 1_000,
+        merges: 1_000,
+    };
+
+    /// A tenth as long, for counts of instructions; scripts with a flush behind each 64 writes have 4,000 of them.
+    const SMALL: Sizes = Sizes {
+        many: 10_000,
+        some: 4_000,
+        few: 400,
+        run: 64,
+        width: 1_000,
+        segments_run: 1_000,
+        segment: 100,
+        merges: 100,
+    };
 
     /// How many writes stand between two flushes.
     const FLUSH_INTERVAL: u64 = 64;
-
-    /// How many gets follow where a get can meet each table.
-    const FEW: u64 = 1_000;
-
-    /// How many writes stand between two flushes where 156 runs are scanned.
-    const RUN: u64 = 640;
 
     /// How often all rows are scanned.
     const SCANS: u64 = 4;
 
     /// How far apart the keys of a table are that two transactions scan.
     const STEP: u64 = 100;
-
-    /// How many keys are in the range that one of them scans.
-    const WIDTH: u64 = 10_000;
-
-    /// How many writes stand between two flushes where there are segments.
-    const SEGMENTS_RUN: u64 = 10_000;
-
-    /// How many keys a segment has.
-    const SEGMENT: u64 = 1_000;
-
-    /// How many merges stand between two flushes.
-    const MERGES: u64 = 1_000;
 
     /// How many keys are drawn from.
     const DRAWN_KEYS: u64 = 1_000;
@@ -2095,20 +2124,36 @@ mod scripts {
 
     /// The script of this name, and nothing where there is none.
     pub fn make(name: &str) -> Option<String> {
+        make_of(name, &WHOLE)
+    }
+
+    /// The same, shorter.
+    pub fn make_small(name: &str) -> Option<String> {
+        make_of(name, &SMALL)
+    }
+
+    fn make_of(name: &str, sizes: &Sizes) -> Option<String> {
+        let &Sizes {
+            many,
+            some,
+            few,
+            run,
+            ..
+        } = sizes;
         let mut text = String::new();
         let made = match name {
-            "write" => write_many(&mut text),
-            "write_and_flush" => write_many(&mut text).and_then(|()| writeln!(text, "flush")),
-            "read_rising" => write_and_read(&mut text, |i| i, SOME),
-            "read_scattered" => write_and_read(&mut text, |i| scattered(i, SOME), FEW),
-            "read_filtered" => write_and_read(&mut text, |i| scattered(i, SOME), SOME),
-            "scan_up" => write_and_scan(&mut text, MANY, "asc"),
-            "scan_down" => write_and_scan(&mut text, MANY, "desc"),
-            "scan_runs_up" => write_and_scan(&mut text, RUN, "asc"),
-            "scan_runs_down" => write_and_scan(&mut text, RUN, "desc"),
-            "write_past_scans" => write_past_scans(&mut text),
-            "merge" => merge_many(&mut text),
-            "segments" => write_and_scan_segments(&mut text),
+            "write" => write_many(&mut text, many),
+            "write_and_flush" => write_many(&mut text, many).and_then(|()| writeln!(text, "flush")),
+            "read_rising" => write_and_read(&mut text, |i| i, some, some),
+            "read_scattered" => write_and_read(&mut text, |i| scattered(i, some), some, few),
+            "read_filtered" => write_and_read(&mut text, |i| scattered(i, some), some, some),
+            "scan_up" => write_and_scan(&mut text, many, many, "asc"),
+            "scan_down" => write_and_scan(&mut text, many, many, "desc"),
+            "scan_runs_up" => write_and_scan(&mut text, many, run, "asc"),
+            "scan_runs_down" => write_and_scan(&mut text, many, run, "desc"),
+            "write_past_scans" => write_past_scans(&mut text, sizes),
+            "merge" => merge_many(&mut text, sizes),
+            "segments" => write_and_scan_segments(&mut text, sizes),
             _ => return None,
         };
         made.ok().map(|()| text)
@@ -2123,14 +2168,14 @@ mod scripts {
         writeln!(text, "write put 'account/{key:08}/balance '{value:0100}")
     }
 
-    fn write_many(text: &mut String) -> Result {
-        (0..MANY).try_for_each(|i| put(text, scattered(i, MANY), i))
+    fn write_many(text: &mut String, many: u64) -> Result {
+        (0..many).try_for_each(|i| put(text, scattered(i, many), i))
     }
 
     /// Many writes with a flush behind each so many, and scans of all rows.
-    fn write_and_scan(text: &mut String, interval: u64, order: &str) -> Result {
-        for i in 0..MANY {
-            put(text, scattered(i, MANY), i)?;
+    fn write_and_scan(text: &mut String, many: u64, interval: u64, order: &str) -> Result {
+        for i in 0..many {
+            put(text, scattered(i, many), i)?;
             if (i + 1) % interval == 0 {
                 writeln!(text, "flush")?;
             }
@@ -2140,38 +2185,38 @@ mod scripts {
     }
 
     /// Many writes over segments, with a flush behind each so many, and a scan of each segment.
-    fn write_and_scan_segments(text: &mut String) -> Result {
-        for i in 0..MANY {
-            let key = scattered(i, MANY);
-            let segment = key / SEGMENT;
+    fn write_and_scan_segments(text: &mut String, sizes: &Sizes) -> Result {
+        for i in 0..sizes.many {
+            let key = scattered(i, sizes.many);
+            let segment = key / sizes.segment;
             writeln!(text, "write put 's{segment:02}:{key:012}/balance '{i:0100}")?;
-            if (i + 1) % SEGMENTS_RUN == 0 {
+            if (i + 1) % sizes.segments_run == 0 {
                 writeln!(text, "flush")?;
             }
         }
         writeln!(text, "begin t si")?;
-        (0..MANY / SEGMENT)
+        (0..sizes.many / sizes.segment)
             .try_for_each(|segment| writeln!(text, "prefix t asc 's{segment:02}: * *"))
     }
 
     /// Two serializable transactions that each scan a range of a table, many writes of keys that leave out the range of the first
     /// alone, and the commits of both.
-    fn write_past_scans(text: &mut String) -> Result {
-        let middle = MANY / 2;
-        let scans = [("free", middle), ("met", middle + WIDTH)];
-        (0..FEW).try_for_each(|i| put(text, i * STEP, i))?;
+    fn write_past_scans(text: &mut String, sizes: &Sizes) -> Result {
+        let middle = sizes.many / 2;
+        let scans = [("free", middle), ("met", middle + sizes.width)];
+        (0..sizes.few).try_for_each(|i| put(text, i * STEP, i))?;
         writeln!(text, "flush")?;
         for (name, start) in scans {
-            let end = start + WIDTH;
+            let end = start + sizes.width;
             writeln!(text, "begin {name} ssi")?;
             writeln!(
                 text,
                 "scan {name} asc i'account/{start:08} e'account/{end:08}"
             )?;
         }
-        for i in 0..MANY {
-            let key = scattered(i, MANY);
-            put(text, if key < middle { key } else { key + WIDTH }, i)?;
+        for i in 0..sizes.many {
+            let key = scattered(i, sizes.many);
+            put(text, if key < middle { key } else { key + sizes.width }, i)?;
         }
         for (name, start) in scans {
             writeln!(text, "put {name} 'account/{start:08} '{name}")?;
@@ -2181,17 +2226,17 @@ mod scripts {
     }
 
     /// Many operands of counters that are drawn, with a flush behind each so many, and a get of each counter.
-    fn merge_many(text: &mut String) -> Result {
+    fn merge_many(text: &mut String, sizes: &Sizes) -> Result {
         let mut x = 0;
-        for i in 0..MANY {
+        for i in 0..sizes.many {
             x = drawn(x);
             let counter = key_number(x);
             writeln!(
                 text,
                 "write merge 'counter/{counter:03} '{:08}",
-                scattered(i, MANY)
+                scattered(i, sizes.many)
             )?;
-            if (i + 1) % MERGES == 0 {
+            if (i + 1) % sizes.merges == 0 {
                 writeln!(text, "flush")?;
             }
         }
@@ -2231,20 +2276,20 @@ mod scripts {
     }
 
     /// Writes with flushes in between, and gets behind them, each of the key of another write.
-    fn write_and_read(text: &mut String, key: impl Fn(u64) -> u64, gets: u64) -> Result {
-        for i in 0..SOME {
+    fn write_and_read(text: &mut String, key: impl Fn(u64) -> u64, some: u64, gets: u64) -> Result {
+        for i in 0..some {
             put(text, key(i), i)?;
             if (i + 1) % FLUSH_INTERVAL == 0 {
                 writeln!(text, "flush")?;
             }
         }
         writeln!(text, "begin t si")?;
-        let stride = SOME / gets;
+        let stride = some / gets;
         (0..gets).try_for_each(|i| {
             writeln!(
                 text,
                 "get t 'account/{:08}/balance",
-                key(scattered(i * stride, SOME))
+                key(scattered(i * stride, some))
             )
         })
     }
@@ -2255,9 +2300,9 @@ mod measure {
     use std::fs::OpenOptions;
     use std::io::{self, Write};
     use std::process::Command;
-    use std::time::Instant;
 
-    /// What the system tells of a process that ended.
+    /// What the system tells of a process that ended: seconds and microseconds for the program, and for the system on its behalf, then
+    /// its peak memory.
     #[repr(C)]
     #[derive(Default)]
     struct Usage {
@@ -2270,7 +2315,8 @@ mod measure {
         fn wait4(process: i32, status: *mut i32, options: i32, usage: *mut Usage) -> i32;
     }
 
-    /// Runs a program over this one's standard input and output, and appends its nanoseconds and its peak memory in KiB to a file. Gives
+    /// Runs a program over this one's standard input and output, and appends its processor time in nanoseconds and its peak memory in KiB to
+    /// a file. Gives
     /// the program's status, and 1 where it has none or a call of the system fails.
     pub fn measure(file: &str, program: &str, words: &[&str]) -> i32 {
         run(file, program, words).unwrap_or(1)
@@ -2279,11 +2325,11 @@ mod measure {
     fn run(file: &str, program: &str, words: &[&str]) -> io::Result<i32> {
         let mut figures = OpenOptions::new().create(true).append(true).open(file)?;
         let (mut status, mut usage) = (0, Usage::default());
-        let start = Instant::now();
         let child = Command::new(program).args(words).spawn()?;
         // The standard library waits without asking for the memory.
         let ended = unsafe { wait4(child.id() as i32, &mut status, 0, &mut usage) };
-        let nanos = start.elapsed().as_nanos();
+        let [seconds, micros, system_seconds, system_micros] = usage.times;
+        let nanos = (seconds + system_seconds) * 1_000_000_000 + (micros + system_micros) * 1_000;
         if ended < 0 {
             return Err(io::Error::last_os_error());
         }
