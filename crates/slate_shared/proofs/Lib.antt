@@ -4,5 +4,14 @@ pub mod Moves
 pub mod Seats
 pub mod Taken
 pub mod LockedLaws
+pub mod CommitLaws
+pub mod WriteLaws
+pub mod Held
+pub mod Flown
+pub mod Landed
+pub mod KeyReads
+pub mod KeptSeats
+pub mod Gets
 pub mod Encoding
 pub mod Alike
+pub mod PlainLaws

@@ -26,7 +26,7 @@ use Rattle.slate_db.specs.Meaning.{Meaning, rules_in}
 use Rattle.slate_db.specs.Model.{CoreModel}
 use Rattle.slate_db.specs.Segmented.{IsSegmented}
 use Rattle.slate_db.specs.Sound.{IsKept}
-use Rattle.slate_shared.specs.declared.locked.Flight.{Flight}
+use Rattle.slate_db.specs.declared.flight.Flight.{Flight}
 use Rattle.slate_shared.specs.LockedModel.{holds_at, frozen_by, grow, IsFull}
 use Rattle.slate_shared.specs.Locked.{IsLocked}
 
@@ -79,10 +79,10 @@ is_some (Some y) x e = refl
 is_some None x e = absurd (cc e)
 
 -- what a begin of a core says, where it answers
-abbrev Opens : CoreModel → CoreModel → IsolationLevel → Result (List ℕ × ℕ) SlateDBError → Type 0
+abbrev pub Opens : CoreModel → CoreModel → IsolationLevel → Result (List ℕ × ℕ) SlateDBError → Type 0
 Opens c d level r = IfOk r (λ a. (m : Meaning) (g : Segments) → step (rules_in c.settings m g) c.state (lines.Begin a.0 level) ≡ (d.state, replies.Begun a.0 a.1))
 
-abbrev Notes : CoreModel → CoreModel → IsolationLevel → Result (List ℕ × ℕ) SlateDBError → Type 0
+abbrev pub Notes : CoreModel → CoreModel → IsolationLevel → Result (List ℕ × ℕ) SlateDBError → Type 0
 Notes c d level r = IfOk r (λ a. d ≡ record c { state = d.state; events = c.events ++ events.Begin a.0 level a.1 ∷ []; spare = d.spare })
 
 pub begun_locked : (o : Settings) (m : Meaning) (g : Segments) (c d : CoreModel) (level : IsolationLevel) (r : Result (List ℕ × ℕ) SlateDBError) → IsLocked o m g c → Opens c d level r → Notes c d level r
@@ -149,7 +149,7 @@ more a b e = by (nat_lt a b) refl
     by true h = refl
     by false h = absurd (grind (arith, nat_tests))
 
-as_many : (a b : ℕ) → b ≡ a → nat_lt a b ≡ false
+pub as_many : (a b : ℕ) → b ≡ a → nat_lt a b ≡ false
 as_many a b e = by (nat_lt a b) refl
   where
     by : (t : Bool) → nat_lt a b ≡ t → t ≡ false
@@ -172,7 +172,7 @@ frozen_at o m g c t n l is does = same n (ap (λ p. p.1) does) ∙ (let commits 
 
 -- ---- a refusal
 
-full : (o : Settings) (m : Meaning) (g : Segments) (c : CoreModel) (n : ℕ) → IsLocked o m g c → Replays c.events c.state → NoPlace n c → IsFull n c.events
+pub full : (o : Settings) (m : Meaning) (g : Segments) (c : CoreModel) (n : ℕ) → IsLocked o m g c → Replays c.events c.state → NoPlace n c → IsFull n c.events
 full o m g c n l is h = let t = ap length (is.txns ∙ l.bare) in let s = ap length is.snapshots in omega (arith, h, t, s)
 
 abbrev pub Refuses : {X : Type 0} → Type 0 → Result X SlateDBError → Type 0

@@ -14,10 +14,10 @@ use Rattle.slate_txn.specs.declared.event.Event.TheVariants.{Begin, End, Commit,
 use Rattle.slate_txn.specs.Named.{find_named}
 use Rattle.slate_txn.specs.Replay.{replay, apply}
 use Rattle.slate_txn.specs.State.{Tx, begun}
-use Rattle.slate_shared.specs.declared.locked.Flight.{Flight}
+use Rattle.slate_db.specs.declared.flight.Flight.{Flight}
 use Rattle.slate_shared.specs.LockedModel.{LockedModel, holds_at}
 use Rattle.slate_shared.specs.declared.board.View.{View}
-use Rattle.slate_shared.specs.Shared.{IsOpen, IsNew, all_parts, total_parts, OwnsAll, less, same, times, is_own, newcomer, holding, longer, txn_after, own_after, after_event, after_none, after_look, IsOwner, either_txn, either_flight, flight_after, MayFly, NoInstall, joined, IsMine, May, Knows, IsAuthored, KeepsRule, acquired, added, let_go, looked}
+use Rattle.slate_shared.specs.Shared.{IsOpen, IsNew, all_parts, total_parts, OwnsAll, less, same, times, is_own, newcomer, holding, longer, txn_after, own_after, after_event, after_none, after_look, IsOwner, either_txn, either_flight, flight_after, MayFly, NoInstall, joined, IsMine, May, Knows, IsAuthored, KeepsRule, acquired, appended, let_go, looked}
 use Rattle.slate_shared.proofs.Lists.{prefix_self, prefix_more, prefix_length, total_set, total_more, total_two, view_there, at_below, at_end, get_there, last_or, last_or-snoc, get_snoc, get_below, prefix_trans, longer_begins, longer_covers, prefix_longer, longer_first, longer_second, same-eq, same-ne, times-append, mark, mark_here, mark_else, moved, moved_here, moved_else}
 use Rattle.slate_shared.proofs.Names.{replay_more, found_before, found_last, found_without, mark_id, mark_id_here, mark_id_else}
 
@@ -456,7 +456,7 @@ module _ where
   slot_or ((k, Some y) ∷ xs) = y
 
   pub adds : (slots id : ℕ) (me : M) (new : ℕ) (e : Event) (g : Option Flight) → me.1 ≡ (0, Some (holds_at (me.0.base ++ e ∷ []) g)) ∷ [] → me.0.holds ≡ true → new ≡ 2 * length me.0.base + 2 → May me.0 e → MayFly me.0.flight me.0.base_flight g
-      → Allows Rule slots id me 0 (λ _. new) (λ _. added (step slots 0 new 0 none) me new)
+      → Allows Rule slots id me 0 (λ _. new) (λ _. appended (step slots 0 new 0 none) me new)
   adds slots id me new e g out holds is may fly s r _ at _ =
       let v : View = me.0 in
       let k = r.each_seat id v at in
@@ -585,9 +585,9 @@ module _ where
 
   -- the releases, where the seat is known up to an equation
   pub adds_at : (slots id : ℕ) (me : M) (v : View) (y : LockedModel) (new : ℕ) → me ≡ (v, (0, Some y) ∷ []) → ((e : Event) × (y.events ≡ v.base ++ e ∷ []) × May v e) → v.holds ≡ true → new ≡ 2 * length v.base + 2 → MayFly v.flight v.base_flight y.flight
-      → Allows Rule slots id me 0 (λ _. new) (λ _. added (step slots 0 new 0 none) me new)
+      → Allows Rule slots id me 0 (λ _. new) (λ _. appended (step slots 0 new 0 none) me new)
   adds_at slots id me v y new is event holds long fly =
-      subst (λ (m : M). Allows Rule slots id m 0 (λ _. new) (λ _. added (step slots 0 new 0 none) m new)) (sym is)
+      subst (λ (m : M). Allows Rule slots id m 0 (λ _. new) (λ _. appended (step slots 0 new 0 none) m new)) (sym is)
       (adds slots id (v, (0, Some y) ∷ []) new event.0 y.flight (ap (λ (l : List Event). (0, Some (holds_at l y.flight)) ∷ []) event.1) holds long event.2 fly)
 
   pub keeps_at : (slots id : ℕ) (me : M) (v : View) (y : LockedModel) (new : ℕ) → me ≡ (v, (0, Some y) ∷ []) → y.events ≡ v.base → v.holds ≡ true → new ≡ 2 * length v.base → MayFly v.flight v.base_flight y.flight

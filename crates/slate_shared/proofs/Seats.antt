@@ -5,7 +5,7 @@ use Rattle.slate_types.specs.declared.config.IsolationLevel.{IsolationLevel}
 use Rattle.slate_txn.specs.declared.event.Event.{Event}
 use Rattle.slate_txn.specs.declared.event.Event.TheVariants.{Begin}
 use Rattle.slate_txn.specs.State.{Tx, begun}
-use Rattle.slate_shared.specs.declared.locked.Flight.{Flight}
+use Rattle.slate_db.specs.declared.flight.Flight.{Flight}
 use Rattle.slate_shared.specs.declared.board.View.{View}
 use Rattle.slate_shared.specs.LockedModel.{LockedModel}
 use Rattle.slate_shared.specs.Shared.{holding, after_event, flight_after, txn_after}

@@ -1,7 +1,10 @@
 pub mod Given
 pub mod LockedModel
+pub mod Errands
 pub mod Shared
 pub mod Passes
 pub mod Locked
+pub mod Ended
+pub mod KeyReads
 pub mod Encoded
 pub mod Jobs

@@ -9,7 +9,7 @@ use Rattle.slate_txn.specs.declared.event.Event.{Event}
 use Rattle.slate_txn.specs.declared.event.Event.TheVariants.{Freeze}
 use Rattle.slate_txn.specs.Replay.{replay}
 use Rattle.slate_db.specs.Log.{LIMIT, ends_of}
-use Rattle.slate_shared.specs.declared.locked.Flight.{Flight}
+use Rattle.slate_db.specs.declared.flight.Flight.{Flight}
 
 pub record LockedModel : Type 0 where
   pub events : List Event

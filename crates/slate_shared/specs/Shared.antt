@@ -22,7 +22,7 @@
 --     IsAuthored      which places have an owner
 --     KeepsRule s      the rule: there is one journal that all of it speaks of
 --     IsSameSeat s t      the same seat of the same table
---     acquired, added, let_go, looked      what a step tells: that which takes the lock, which lets it go with an event or without one, and which only looks
+--     acquired, appended, let_go, looked      what a step tells: that which takes the lock, which lets it go with an event or without one, and which only looks
 use Rattle.std.specs.Prelude.{◌≡◌, ◌≢◌, ℕ, suc, ◌+◌, ◌-◌, ◌*◌, ◌^◌, ◌<◌, ◌≤◌, ◌==◌, Bool, true, false, if◌then◌else◌, List, [], ◌∷◌, ◌++◌, length, slice_get, slice_index, Option, Some, None}
 use mathlib.Core.Option.{some}
 use mathlib.Core.List.{IsPrefix}
@@ -36,7 +36,7 @@ use Rattle.slate_types.specs.declared.types.Ulid.{Ulid}
 use Rattle.slate_txn.specs.Named.{find_named}
 use Rattle.slate_txn.specs.Replay.{replay}
 use Rattle.slate_txn.specs.State.{Tx, begun}
-use Rattle.slate_shared.specs.declared.locked.Flight.{Flight}
+use Rattle.slate_db.specs.declared.flight.Flight.{Flight}
 use Rattle.slate_shared.specs.LockedModel.{LockedModel, holds_at}
 use Rattle.slate_shared.specs.declared.board.View.{View}
 
@@ -233,8 +233,8 @@ acquired st m found m' =
     × (found ≢ st.first → m' ≡ m)
 
 -- the event stands at the journal's end
-abbrev pub added : At → Sat → ℕ → Sat → Type 0
-added st m stored m' = (e : Event) (g : Option Flight) → m.1 ≡ (0, Some (holds_at (m.0.base ++ e ∷ []) g)) ∷ [] → m' ≡ (after_event m.0 e g, [])
+abbrev pub appended : At → Sat → ℕ → Sat → Type 0
+appended st m stored m' = (e : Event) (g : Option Flight) → m.1 ≡ (0, Some (holds_at (m.0.base ++ e ∷ []) g)) ∷ [] → m' ≡ (after_event m.0 e g, [])
 
 abbrev pub let_go : At → Sat → ℕ → Sat → Type 0
 let_go st m stored m' = (g : Option Flight) → m.1 ≡ (0, Some (holds_at m.0.base g)) ∷ [] → m' ≡ (after_none m.0 g, [])

@@ -1,7 +1,8 @@
 //! The table that threads share: one word, and one slot with the core.
-use crate::locked::{Flight, Locked};
+use crate::locked::Locked;
 use crate::parts::Parts;
 use atomic_table::{Seat, Shared, Table, TableRule};
+use slate_db::flight::Flight;
 use slate_txn::{DbTransactionInner, Event};
 use std::alloc::Global;
 use std::collections::LinkedList;

@@ -6,19 +6,29 @@
 //! else: all else about the core is what its type says.
 #![tactic(auto)]
 
+pub(crate) mod aboard;
 pub mod board;
+pub mod commits;
 pub mod database;
 pub mod encode;
+pub(crate) mod errand;
+pub mod flush;
+pub mod handle;
 pub(crate) mod lock;
 pub mod locked;
+pub mod operations;
 pub mod parts;
 pub mod pass;
 pub(crate) mod plays;
+mod reads;
 pub mod txn;
+pub mod wait;
+pub mod writes;
 
 pub use database::Database;
 pub use encode::{EncodeWorker, FlushPlan, encode_segments};
-pub use parts::Parts;
+pub use handle::WriteHandle;
+pub use parts::{Parts, Plain};
 pub use pass::Pass;
 pub use txn::DbTransaction;
 
@@ -29,5 +39,5 @@ fn goes<T: Send>() {}
 /// The database is shared between threads, and what a thread has of it goes to others.
 pub fn types_cross_threads<P: Parts + Send + Sync>() {
     crosses::<Database<P>>();
-    goes::<(Pass<P>, DbTransaction<P>)>();
+    goes::<(Pass<P>, DbTransaction<P>, WriteHandle<P>)>();
 }

@@ -17,9 +17,9 @@ impl<P: Parts> Play<Option<Locked<P>>, View> for Acquire {
 pub(crate) struct Add;
 
 impl<P: Parts> Play<Option<Locked<P>>, View> for Add {
-    ghost use Rattle.slate_shared.specs.Shared.{added};
+    ghost use Rattle.slate_shared.specs.Shared.{appended};
 
-    ghost then = { added };
+    ghost then = { appended };
 }
 
 /// Lets the lock go with the journal as it was.

@@ -1,13 +1,15 @@
 //! Slate as a library: a transactional store, which one `use` brings.
 //!
-//! A program opens a `Core`, writes batches to it, flushes it to a store of objects, and reads it in transactions. `first_steps` is
-//! a program to begin from.
+//! A program opens a `Database`, which its threads share, each by a `Pass`: it commits in transactions, writes batches, and flushes
+//! to a store of objects. `threads` is a program to begin from. Where one thread has the whole store, a `Core` is the same without a
+//! lock, and has scans too: `first_steps` begins there.
 //!
 //! Where there is no operator, no transformer or no extractor, the `None` of its `Option` is handed in, and `NoOperator`,
 //! `NoTransformer` or `NoExtractor` names its type.
 #![tactic(auto)]
 
 pub mod first_steps;
+pub mod threads;
 pub mod turns;
 
 pub use bytes::Bytes;
@@ -17,11 +19,15 @@ pub use slate_db::laws::Laws;
 pub use slate_db::scan::{DbIterator, TxnIterator};
 pub use slate_filter::{BloomFilterPolicy, FilterPolicy};
 pub use slate_mem::WriteBatch;
+pub use slate_shared::{
+    Database, DbTransaction, EncodeWorker, FlushPlan, Parts, Pass, Plain, WriteHandle,
+    encode_segments,
+};
 pub use slate_store::{Env, FileStore, MemoryStore, Store, StoreError};
 pub use slate_types::{
     BlockFormat, BlockTransformer, BytesRange, FilterContext, IsolationLevel, IterationOrder,
     KeyValue, MergeOperator, MergeOperatorError, MergeOptions, NoExtractor, NoOperator,
     NoTransformer, Options, PrefixExtractor, PutOptions, ReadOptions, ScanOptions, SlateDBError,
-    TransformError, Ttl,
+    TransformError, Ttl, WriteOptions,
 };
 pub use uuid::Uuid;

@@ -1,11 +1,12 @@
 use Rattle.slate_txn.specs.Settings.{settings_of}
-use Rattle.slate_shared.proofs.LockedLaws.{begun_locked, begun_grows, begun_fresh, same_held, refused_full}
+use Rattle.slate_shared.proofs.Held.{begun_held}
+use Rattle.slate_shared.proofs.LockedLaws.{begun_grows, begun_fresh, same_held, refused_full}
 use Rattle.slate_shared.proofs.locked.Locked.begin.Goals as goal
 
 pub invariant_of-self : goal.invariant_of-self
 invariant_of-self g c =
     let e = c.begin.ensures in
-    begun_locked (settings_of g.P.Parts.options) g.P.Parts.meaning g.P.Parts.segments c.self.inside.core c.begin.new.self c.args.level c.begin.result c.self.invariant e.step e.event e.segmented e.kept e.same
+    begun_held (settings_of g.P.Parts.options) g.P.Parts.meaning g.P.Parts.segments c.self.inside.flight c.self.inside.installed c.self.inside.core c.begin.new.self c.args.level c.begin.result c.self.invariant e.step e.event e.segmented e.kept e.same
 
 pub returns : goal.returns
 returns g c =
@@ -14,8 +15,8 @@ returns g c =
     let m = g.P.Parts.meaning in
     let s = g.P.Parts.segments in
     rw (← c.self.view_is) (record {
-      ok = begun_grows o m s c.self.inside.core c.begin.new.self c.args.level c.self.inside.flight c.begin.result c.self.invariant c.journal.ensures.replays e.step e.event;
-      fresh = begun_fresh o m s c.self.inside.core c.begin.new.self c.args.level c.begin.result c.self.invariant c.journal.ensures.replays e.step;
+      ok = begun_grows o m s c.self.inside.core c.begin.new.self c.args.level c.self.inside.flight c.begin.result c.self.invariant.locked c.journal.ensures.replays e.step e.event;
+      fresh = begun_fresh o m s c.self.inside.core c.begin.new.self c.args.level c.begin.result c.self.invariant.locked c.journal.ensures.replays e.step;
       err = same_held c.self.inside.core c.begin.new.self c.self.inside.flight c.begin.result e.same;
-      cause = refused_full o m s c.self.inside.core 2 c.begin.result c.self.invariant c.journal.ensures.replays e.cause;
+      cause = refused_full o m s c.self.inside.core 2 c.begin.result c.self.invariant.locked c.journal.ensures.replays e.cause;
     })
