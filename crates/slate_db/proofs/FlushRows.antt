@@ -35,7 +35,7 @@ some_rows (r ∷ rs) h = omega arith
 
 -- ---- newest first
 
-abbrev AreFalling : Rows → Type 0
+abbrev pub AreFalling : Rows → Type 0
 AreFalling [] = Unit {0}
 AreFalling (r ∷ rs) = AllByRecursion (λ s. s.seq < r.seq) rs × AreFalling rs
 
@@ -47,7 +47,7 @@ before_last : (xs : Rows) (r : RowEntry) → AreRising (xs ++ (r ∷ [])) → Al
 before_last [] r h = tt
 before_last (x ∷ xs) r h = ((AllByRecursion_behind _ xs (r ∷ []) h.0).0, before_last xs r h.1)
 
-falling : (rs : Rows) → AreRising (reverse rs) → AreFalling rs
+pub falling : (rs : Rows) → AreRising (reverse rs) → AreFalling rs
 falling [] h = tt
 falling (r ∷ rs) h =
     let g : AreRising (reverse rs ++ (r ∷ [])) = subst (λ (xs : Rows). AreRising xs) (reverse-append (r ∷ []) rs) h in
@@ -86,7 +86,7 @@ stands r (s ∷ rs) n o = by (bytes_eq s.key r.key) refl o (λ h. stands r rs n.
     by true e o rest = (same_stands r s e o.0, rest o.1)
     by false e o rest = (other_stands r s e n.0, rest o)
 
-in_order : (rows : Rows) → IsInOrder Ascending rows → ((k : List ℕ) → AreFalling (of_key k rows)) → AreInOrder rows
+pub in_order : (rows : Rows) → IsInOrder Ascending rows → ((k : List ℕ) → AreFalling (of_key k rows)) → AreInOrder rows
 in_order [] h f = tt
 in_order (r ∷ rs) h f = (stands r rs h.0 (own (bytes_eq r.key r.key) ((bytes_eq-Decides r.key r.key).1 refl) (f r.key)), in_order rs h.1 (λ k. tail k (bytes_eq r.key k) (f k)))
   where

@@ -1,6 +1,9 @@
 mod Lists
 pub mod SharedRuns
 pub mod Handed
+pub mod BeginsLaws
+mod RangeRows
+mod RangeShares
 pub mod UnderKeys
 mod ApartIds
 mod Journals
@@ -68,7 +71,7 @@ mod Notes
 mod Passing
 mod Foldings
 mod ScanStates
-mod ScanNotes
+pub mod ScanNotes
 mod Refused
 mod Plain
 pub mod Tests

@@ -44,7 +44,7 @@ is_less Greater h = cc
 stands : (r s : RowEntry) → sequenced_cmp (sequenced r) (sequenced s) ≡ Less → row_lt r s ≡ true
 stands r s h = rows_by_sequenced r s ∙ ap is_lt h
 
-stood : (r s : RowEntry) → row_lt r s ≡ true → sequenced_cmp (sequenced r) (sequenced s) ≡ Less
+pub stood : (r s : RowEntry) → row_lt r s ≡ true → sequenced_cmp (sequenced r) (sequenced s) ≡ Less
 stood r s h = is_less _ (sym (rows_by_sequenced r s) ∙ h)
 
 Before : RowEntry → Rows → Type 0

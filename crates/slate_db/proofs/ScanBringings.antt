@@ -94,7 +94,7 @@ merge_sources sources it is m reads r c =
 behind_first : (x r : RowEntry) (rows : Rows) → Contains rows r → Contains (x ∷ rows) r
 behind_first x r rows k = Contains-append_right (x ∷ []) rows r k
 
-of_its_key : (rows : Rows) (r : RowEntry) → Contains rows r → Contains (of_key r.key rows) r
+pub of_its_key : (rows : Rows) (r : RowEntry) → Contains rows r → Contains (of_key r.key rows) r
 of_its_key [] r k = absurd (none_of r k)
 of_its_key (x ∷ rows) r (zero, lt, is) = by (bytes_eq x.key r.key) (ap (λ (y : RowEntry). bytes_eq y.key r.key) is ∙ bytes_eq_same r.key)
   where
@@ -111,7 +111,7 @@ first_or : (x r : RowEntry) (rows more : Rows) → (Contains rows r → Contains
 first_or x r rows more next (zero, lt, is) = (0, omega arith, is)
 first_or x r rows more next (suc i, lt, is) = behind_first x r more (next (i, omega (arith, lt), is))
 
-kept_among : (t : RowEntry → Bool) (rows : Rows) (r : RowEntry) → Contains (filter t rows) r → Contains rows r
+pub kept_among : (t : RowEntry → Bool) (rows : Rows) (r : RowEntry) → Contains (filter t rows) r → Contains rows r
 kept_among t [] r k = k
 kept_among t (x ∷ rows) r k = by (t x) (kept_among t rows r) k
   where
@@ -180,11 +180,11 @@ module _ (m : Meaning) (range : BytesRange) (order : IterationOrder) (reads : Li
 
   -- owns: the own operations are of an open transaction
   pub sources_scanned : (c : CoreModel) (n : ℕ) (ops : Ops) (layers : List Rows) (runs : List SortedRun) (sources : List ScanSource) → AreScanSources range order n ops layers (reverse runs) sources → ((k : List ℕ) → AllByRecursion (IsOwnRow c) (own_rows ops k)) →
-      newest_first (memory c) ≡ flat_map (λ rows. rows) layers → SourcesBring sources m reads r → IsScanned m c (handles_of runs) reads r
-  sources_scanned c n ops layers runs sources are owns turned some = by (subst (λ (l : List ScanSource). SourcesBring l m reads r) are.are some)
+      (Contains (flat_map (λ rows. rows) layers) r → Contains (newest_first (memory c)) r) → SourcesBring sources m reads r → IsScanned m c (handles_of runs) reads r
+  sources_scanned c n ops layers runs sources are owns there some = by (subst (λ (l : List ScanSource). SourcesBring l m reads r) are.are some)
     where
       later : SourcesBring are.in_memory m reads r ⊎ SourcesBring are.in_runs m reads r → IsScanned m c (handles_of runs) reads r
-      later (inl k) = inr (inl (subst (λ (l : Rows). Contains l r) (sym turned) (some_layer n layers are.in_memory are.of_memory k)))
+      later (inl k) = inr (inl (there (some_layer n layers are.in_memory are.of_memory k)))
       later (inr k) = inr (inr (some_run n (handles_of runs) (reverse runs) are.in_runs (AllByRecursion_reverse (AreTablesAmong (handles_of runs)) runs (all_among runs)) are.of_runs k))
 
       by : SourcesBring (are.own ∷ (are.in_memory ++ are.in_runs)) m reads r → IsScanned m c (handles_of runs) reads r

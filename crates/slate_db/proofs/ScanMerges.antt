@@ -40,7 +40,6 @@ use Rattle.slate_read.specs.ReadSources as read
 use Rattle.slate_read.specs.Showing.{ShowsByReads}
 use Rattle.slate_table.specs.declared.info.SsTableHandle.{SsTableHandle}
 use Rattle.slate_table.specs.Parts.{Encode}
-use Rattle.slate_txn.specs.Reads.{rows_seen}
 use Rattle.slate_db.specs.declared.scan.DbIterator.{DbIterator}
 use Rattle.slate_db.specs.declared.scan.ScanState.{ScanState}
 use Rattle.slate_db.specs.declared.scan.ScanState.TheVariants.{Walking}
@@ -49,11 +48,11 @@ use Rattle.slate_db.specs.Checked.{ChecksFrom, OrSlips}
 use Rattle.slate_db.specs.Installs.{handles_of, tables_of}
 use Rattle.slate_db.specs.Lookup.{AreFilteredAs}
 use Rattle.slate_db.specs.Log.{AreFine}
-use Rattle.slate_db.specs.Meaning.{rules_of}
 use Rattle.slate_db.specs.Model.{CoreModel, Rows, memory}
 use Rattle.slate_db.specs.OpenScans.{AreScanSources, CanOpen, FoldsRefuse, IsBlamedFor, SourcesBring, SourcesRise, folded_rows, merged_rows}
 use Rattle.slate_filter.specs.Policy.{Policy}
 use Rattle.slate_db.specs.Readable.{IsAnswered, IsOwnRow, IsReadable}
+use Rattle.slate_db.specs.RangeShares.{HasUpto, LeavesSeen}
 use Rattle.slate_db.specs.ScanFilters.{AreRunsLeft, AreTablesThere, RunsAreLeft, ShowsFilters, scan_query}
 use Rattle.slate_db.specs.Scanned.{AreStoredRuns, own_rows}
 use Rattle.slate_db.specs.Scans.{AreForIn, FoldsAll, IsFor, IsOpeningError, IsOperableIn, IsReadAmong, IsReached, IsRefusedByScan, IsScanRefusal, IsScanned, IsShownByScan, IsSoundIn, IsSoundSource, IsWorldOf, Leaves, MergedSources, RefusesFold, RefusesIn, ScanRefuses, ScanSource, has_value, left_in, merge_offers, merge_refuses, merge_rows, order_of, source_refuses, source_rows}
@@ -202,10 +201,6 @@ module _ (sources : List ScanSource) (order : IterationOrder) (merge : MergedSou
 
 -- ---- what is left
 
--- in a world of these objects what a reader sees
-abbrev pub LeavesSeen : Objects → Meaning → CoreModel → ℕ → Ops → BytesRange → IterationOrder → DbIterator → Type 0
-LeavesSeen os m c n ops range order it = (v : World) × IsWorldOf os m v × Leaves it v (rows_seen (rules_of c.settings m) c.state.commits n ops order range)
-
 module _ (os : Objects) (m : Meaning) (c : CoreModel) (n : ℕ) (ops : Ops) (range : BytesRange) (order : IterationOrder) (sources : List ScanSource) where
   pub opened_leaves : (o : ScanOpens os m c n ops range order sources) (rows : Merged) (it : DbIterator) → it.state ≡ Walking rows → it.range ≡ range → it.order ≡ order → IsGoing rows × FoldsAll rows × (rows.iterator.order ≡ order) →
       IsSound rows o.world → rest_folding merge_rows rows o.world ≡ folded_rows o.world.meaning order o.world sources → IsOperableIn (Walking rows) o.world → AreForIn range m (Walking rows) →
@@ -293,17 +288,17 @@ module _ (m : Meaning) (c : CoreModel) (x : Unseen) (w : IsWhole c x) (left : Li
   abbrev pub LaterBrought : Merged → List Act → Type 0
   LaterBrought rows reads = (later : List Act) (at : Option (List ℕ)) (e : SlateDBError) → Folds rows m later at e → FoldsRefuse sources m (reads ++ later) at e
 
-  -- owns: the own operations are of an open transaction; turned: the layers are those in memory, the newest first
-  pub scan_refused : (owns : (k : List ℕ) → AllByRecursion (IsOwnRow c) (own_rows ops k)) → (turned : newest_first (memory c) ≡ flat_map (λ rows. rows) layers) → (rows : Merged) (it : DbIterator) (reads : List Act) → it.state ≡ Walking rows → it.range ≡ range → IsGoing rows → LaterBrought rows reads →
+  -- owns: the own operations are of an open transaction; there: the rows of the layers are among those in memory
+  pub scan_refused : (owns : (k : List ℕ) → AllByRecursion (IsOwnRow c) (own_rows ops k)) → (there : (r : RowEntry) → Contains (flat_map (λ rows. rows) layers) r → Contains (newest_first (memory c)) r) → (rows : Merged) (it : DbIterator) (reads : List Act) → it.state ≡ Walking rows → it.range ≡ range → IsGoing rows → LaterBrought rows reads →
       (later : List Act) (at : Option (List ℕ)) (e : SlateDBError) → ScanRefuses it m later at e → IsRefusedByScan m c (reads ++ later) at e
-  scan_refused owns turned rows it reads state_is range_is going brought later at e h = by (own_refusal rows it state_is range_is going later at e h)
+  scan_refused owns there rows it reads state_is range_is going brought later at e h = by (own_refusal rows it state_is range_is going later at e h)
     where
       of : IsReached range at → FoldsRefuse sources m (reads ++ later) at e → IsRefusedByScan m c (reads ++ later) at e
       of reached (inl met) = record {
         handles = handles_of x.runs;
         are = all_handles c.events x.runs w.tied.runs;
         refused = inl (brought_weaker (SourcesBring sources m (reads ++ later)) (IsScanned m c (handles_of x.runs) (reads ++ later)) (SourcesRise sources m (reads ++ later)) (IsReadAmong m (handles_of x.runs) (reads ++ later)) m at e
-            (λ r k. scanned_of (reads ++ later) r (sources_scanned m range order (reads ++ later) r c n ops layers left sources are owns turned k))
+            (λ r k. scanned_of (reads ++ later) r (sources_scanned m range order (reads ++ later) r c n ops layers left sources are owns (there r) k))
             (λ r k. read_of (reads ++ later) r (sources_risen m range order (reads ++ later) r n ops layers left sources are k)) met);
       }
       of reached (inr blamed) = refused_by (reads ++ later) at e (shown (reads ++ later) at e reached blamed)
@@ -376,11 +371,11 @@ leaves_runs policies before middle range runs left asked first os answers groups
 
 -- readable: objects for which the core is; lefts: what the filters left of its runs, by these
 module _ (policies : List Policy) (before after : Reach) (c : CoreModel) (x : Unseen) (w : IsWhole c x) (left : List SortedRun) (among : (h : SsTableHandle) → Contains (handles_of left) h → Contains (handles_of x.runs) h) (range : BytesRange) (order : IterationOrder)
-    (n : ℕ) (ops : Ops) (fine : AreFine ops) (from : c.floor ≤ n) (sources : List ScanSource) (are : AreScanSources range order n ops (c.active ∷ reverse c.frozen) (reverse left) sources) (os : Objects) (readable : IsReadable policies before.meaning os c)
+    (n : ℕ) (ops : Ops) (fine : AreFine ops) (from : c.floor ≤ n) (active : Rows) (has : HasUpto range n c.active active) (sources : List ScanSource) (are : AreScanSources range order n ops (active ∷ reverse c.frozen) (reverse left) sources) (os : Objects) (readable : IsReadable policies before.meaning os c)
     (lefts : LeavesRuns policies before.meaning os range x.runs left) (plain : before.meaning.combine ≡ None → holds_merge ops ≡ false) where
   opens : ScanOpens os before.meaning c n ops range order sources
   opens = scan_opens before.meaning c x w readable.lawful readable.kept os readable.holds n from ops fine plain range order left
-      (lefts (runs_of_core before.meaning c x w readable.lawful readable.kept).groups (stored before.meaning c x w readable.lawful readable.kept os readable.holds) (runs_filtered policies before.meaning os c x w readable)) sources are
+      (lefts (runs_of_core before.meaning c x w readable.lawful readable.kept).groups (stored before.meaning c x w readable.lawful readable.kept os readable.holds) (runs_filtered policies before.meaning os c x w readable)) active has sources are
 
   -- where the objects answered the call, it met the world
   opens_met : AnswersFrom os before after → Sees opens.world before after
@@ -393,14 +388,14 @@ module _ (policies : List Policy) (before after : Reach) (c : CoreModel) (x : Un
       ((v : World) → AllByRecursion (CanOpen v order) sources → Sees v before after → IsSound rows v) →
       ((v : World) → AllByRecursion (CanOpen v order) sources → Sees v before after → rest_folding merge_rows rows v ≡ folded_rows v.meaning order v sources) →
       ((v : World) → AllByRecursion (CanOpen v order) sources → Sees v before after → (v.meaning.combine ≡ None → AreBases (merged_rows order v sources)) → IsOperableIn (Walking rows) v) →
-      (reads : List Act) → LaterBlamed before.meaning c x w left among range order n ops (c.active ∷ reverse c.frozen) sources are rows reads →
+      (reads : List Act) → LaterBlamed before.meaning c x w left among range order n ops (active ∷ reverse c.frozen) sources are rows reads →
       Sees opens.world before after → LeavesSeen os before.meaning c n ops range order it
   scan_leaves rows it state_is range_is order_is going sound rest op reads blamed sees =
       opened_leaves os before.meaning c n ops range order sources opens rows it state_is range_is order_is going (sound opens.world opens.can sees) (rest opens.world opens.can sees) (op opens.world opens.can sees world_operable)
-      (sources_for before.meaning c x w left among range order n ops (c.active ∷ reverse c.frozen) sources are rows reads blamed)
+      (sources_for before.meaning c x w left among range order n ops (active ∷ reverse c.frozen) sources are rows reads blamed)
 
   scan_undamaged : AnswersFrom os before after → (e : SlateDBError) → Made before after (λ reads. IsFault before after e ⊎ IsBlamedFor sources before.meaning reads None e) → IsFault before after e
-  scan_undamaged answers e made = opening_undamaged before.meaning c x w left among range order n ops (c.active ∷ reverse c.frozen) sources are os before after e opens (opens_met answers) made
+  scan_undamaged answers e made = opening_undamaged before.meaning c x w left among range order n ops (active ∷ reverse c.frozen) sources are os before after e opens (opens_met answers) made
 
 -- what an opened scan leaves: where objects answered the call, and over a store that tells its acts, but for a section that slipped
 pub record OpensScan (policies : List Policy) (before after : Reach) (c : CoreModel) (n : ℕ) (ops : Ops) (range : BytesRange) (order : IterationOrder) (it : DbIterator) : Type 0 where
@@ -409,7 +404,7 @@ pub record OpensScan (policies : List Policy) (before after : Reach) (c : CoreMo
 
 -- filters are asked to the middle, and the sources that they left are opened from there on
 module _ (policies : List Policy) (before middle after : Reach) (c : CoreModel) (x : Unseen) (w : IsWhole c x) (left : List SortedRun) (range : BytesRange) (asked : RunsAreLeft policies before middle range x.runs left) (first : OnlyReads before middle) (last : OnlyReads middle after)
-    (order : IterationOrder) (n : ℕ) (ops : Ops) (fine : AreFine ops) (from : c.floor ≤ n) (sources : List ScanSource) (are : AreScanSources range order n ops (c.active ∷ reverse c.frozen) (reverse left) sources)
+    (order : IterationOrder) (n : ℕ) (ops : Ops) (fine : AreFine ops) (from : c.floor ≤ n) (active : Rows) (has : HasUpto range n c.active active) (sources : List ScanSource) (are : AreScanSources range order n ops (active ∷ reverse c.frozen) (reverse left) sources)
     (plain : (os : Objects) → IsReadable policies middle.meaning os c → middle.meaning.combine ≡ None → holds_merge ops ≡ false) where
   module _ (os : Objects) (readable : IsReadable policies before.meaning os c) (answers : AnswersFrom os before middle) where
     abbrev still : IsReadable policies middle.meaning os c
@@ -419,14 +414,14 @@ module _ (policies : List Policy) (before middle after : Reach) (c : CoreModel) 
     lefts_still = leaves_runs policies before middle range x.runs left asked first os answers
 
     abbrev opens_last : ScanOpens os middle.meaning c n ops range order sources
-    opens_last = opens policies middle after c x w left asked.among range order n ops fine from sources are os still lefts_still (plain os still)
+    opens_last = opens policies middle after c x w left asked.among range order n ops fine from active has sources are os still lefts_still (plain os still)
 
   pub scan_opened : (rows : Merged) (it : DbIterator) → it.state ≡ Walking rows → it.range ≡ range → it.order ≡ order → IsGoing rows × FoldsAll rows × (rows.iterator.order ≡ order) →
       ((v : World) → AllByRecursion (CanOpen v order) sources → Sees v middle after → IsSound rows v) →
       ((v : World) → AllByRecursion (CanOpen v order) sources → Sees v middle after → rest_folding merge_rows rows v ≡ folded_rows v.meaning order v sources) →
       ((v : World) → AllByRecursion (CanOpen v order) sources → Sees v middle after → (v.meaning.combine ≡ None → AreBases (merged_rows order v sources)) → IsOperableIn (Walking rows) v) →
       ((v : World) → AllByRecursion (CanOpen v order) sources → Checks v middle after) →
-      (reads : List Act) → IsCall middle after reads → LaterBlamed middle.meaning c x w left asked.among range order n ops (c.active ∷ reverse c.frozen) sources are rows reads →
+      (reads : List Act) → IsCall middle after reads → LaterBlamed middle.meaning c x w left asked.among range order n ops (active ∷ reverse c.frozen) sources are rows reads →
       OpensScan policies before after c n ops range order it
   scan_opened rows it state_is range_is order_is going sound rest op checks reads call blamed = record {
     answered = λ a. let answers = from_first a.os before middle after first last a.answers in leaves a.os a.readable answers (met a.os a.readable answers (from_last a.os before middle after first last a.answers));
@@ -439,12 +434,12 @@ module _ (policies : List Policy) (before middle after : Reach) (c : CoreModel) 
       asking_checked os r = asked.checked (runs_of_core before.meaning c x w r.lawful r.kept).groups os (stored before.meaning c x w r.lawful r.kept os r.holds)
 
       met : (os : Objects) (r : IsReadable policies before.meaning os c) (answers : AnswersFrom os before middle) → AnswersFrom os middle after → Sees (opens_last os r answers).world middle after
-      met os r answers later = opens_met policies middle after c x w left asked.among range order n ops fine from sources are os (still os r answers) (lefts_still os r answers) (plain os (still os r answers)) later
+      met os r answers later = opens_met policies middle after c x w left asked.among range order n ops fine from active has sources are os (still os r answers) (lefts_still os r answers) (plain os (still os r answers)) later
 
       leaves : (os : Objects) (r : IsReadable policies before.meaning os c) (answers : AnswersFrom os before middle) → Sees (opens_last os r answers).world middle after → LeavesSeen os before.meaning c n ops range order it
       leaves os r answers sees =
           subst (λ (m : Meaning). LeavesSeen os m c n ops range order it) first.meaning
-          (scan_leaves policies middle after c x w left asked.among range order n ops fine from sources are os (still os r answers) (lefts_still os r answers) (plain os (still os r answers))
+          (scan_leaves policies middle after c x w left asked.among range order n ops fine from active has sources are os (still os r answers) (lefts_still os r answers) (plain os (still os r answers))
           rows it state_is range_is order_is going sound rest op reads blamed sees)
 
   -- a refused opening, where objects answered the call
@@ -452,7 +447,7 @@ module _ (policies : List Policy) (before middle after : Reach) (c : CoreModel) 
   opening_whole e made a =
       let answers = from_first a.os before middle after first last a.answers in
       fault_earlier before middle after e first.later
-      (scan_undamaged policies middle after c x w left asked.among range order n ops fine from sources are a.os (still a.os a.readable answers) (lefts_still a.os a.readable answers) (plain a.os (still a.os a.readable answers))
+      (scan_undamaged policies middle after c x w left asked.among range order n ops fine from active has sources are a.os (still a.os a.readable answers) (lefts_still a.os a.readable answers) (plain a.os (still a.os a.readable answers))
       (from_last a.os before middle after first last a.answers) e made)
 
 pub readable_as : {A : Type 0} (of : A → Policy) (xs ys : List A) → xs ≡ ys → (m : Meaning) (os : Objects) (c : CoreModel) → IsReadable (map of ys) m os c → IsReadable (map of xs) m os c

@@ -34,7 +34,7 @@ was_there : {X : Type 0} (f : X → X) (o : Option X) (y : X) → option_map f o
 was_there f None y h = cc
 was_there f (Some x) y h = (x, refl, same_Some (f x) y h)
 
-get_within : {X : Type 0} (xs : List X) (i : ℕ) → i < length xs → IsSome (slice_get xs i)
+pub get_within : {X : Type 0} (xs : List X) (i : ℕ) → i < length xs → IsSome (slice_get xs i)
 get_within [] i h = absurd (omega (arith, h))
 get_within (x ∷ xs) zero h = refl
 get_within (x ∷ xs) (suc i) h = get_within xs i (omega (arith, h))

@@ -11,7 +11,7 @@ use Rattle.slate_types.specs.Iteration.{IsInOrder}
 use Rattle.slate_types.specs.Keys.{in_range}
 use Rattle.slate_types.specs.Outside.{Objects}
 use Rattle.slate_types.specs.RowTurns.{AreInTurn, row_before}
-use Rattle.slate_types.specs.Rows.{is_base}
+use Rattle.slate_types.specs.Rows.{is_base, of_key}
 use Rattle.slate_types.specs.World.{World}
 use Rattle.slate_mem.specs.declared.WriteOp.{WriteOp}
 use Rattle.slate_mem.specs.declared.WriteOp.TheVariants as ops
@@ -34,13 +34,16 @@ use Rattle.slate_db.specs.Log.{AreFine}
 use Rattle.slate_db.specs.Meaning.{Meaning, IsLawfulMeaning, rules_of}
 use Rattle.slate_db.specs.Model.{CoreModel, Rows, memory}
 use Rattle.slate_db.specs.OpenScans.{AreEach, AreScanSources, CanOpen, IsInMemory, IsMemorySource, IsOverRun, IsRunSource, folded_rows, merged_rows}
+use Rattle.slate_db.specs.RangeShares.{HasUpto}
 use Rattle.slate_db.specs.ScanFilters.{AreRunsLeft}
 use Rattle.slate_db.specs.Scanned.{AreStoredRuns, BringEach, Brings, HasOwn, in_one, left_of, own_rows}
 use Rattle.slate_db.specs.Scans.{IsWorldOf, ScanSource, has_value, source_rows}
 use Rattle.slate_db.specs.Sound.{AreBases, IsKept}
 use Rattle.slate_db.specs.Whole.{IsWhole, Unseen}
+use Rattle.slate_db.proofs.FlushRows.{AreFalling, falling}
 use Rattle.slate_db.proofs.NoMerges.{memory_bases}
 use Rattle.slate_db.proofs.Plain.{kept_replace}
+use Rattle.slate_db.proofs.RangeRows.{AreWider, active_rises, are_wider}
 use Rattle.slate_db.proofs.RunsOf.{tables_are}
 use Rattle.slate_db.proofs.ScanFolds.{folded_keys}
 use Rattle.slate_db.proofs.ScanLists.{Grouped, grouped, have_some, stored_runs}
@@ -234,21 +237,29 @@ module _ (m : Meaning) (c : CoreModel) (x : Unseen) (w : IsWhole c x) (law : IsL
   newest_memory : reverse (memory c) ≡ c.active ∷ reverse c.frozen
   newest_memory = reverse-append c.frozen (c.active ∷ [])
 
+  -- the active rows of a key, the newest first
+  active_falls : (k : List ℕ) → AreFalling (of_key k c.active)
+  active_falls k = falling (of_key k c.active) (active_rises c.frozen c.active w.layers.rise k)
+
   newest_runs : (groups : List (List Rows)) → in_one (reverse groups) ≡ reverse (in_one groups)
   newest_runs [] = refl
   newest_runs (ls ∷ groups) =
       ap in_one (reverse-append (ls ∷ []) groups) ∙ map_both all_rows (reverse groups) (ls ∷ []) ∙ ap (λ (l : List Rows). l ++ (all_rows ls ∷ [])) (newest_runs groups) ∙ sym (reverse-append (all_rows ls ∷ []) (in_one groups))
 
   module _ (os : Objects) (holds : Holds os (tables_of c.events)) (n : ℕ) (from : c.floor ≤ n) (ops : Ops) (fine : AreFine ops) (plain : m.combine ≡ None → holds_merge ops ≡ false) (range : BytesRange) (order : IterationOrder) (left : List SortedRun)
-      (lefts : AreRunsLeft range x.runs runs_of_core.groups left) (sources : List ScanSource) (are : AreScanSources range order n ops (c.active ∷ reverse c.frozen) (reverse left) sources) where
+      (lefts : AreRunsLeft range x.runs runs_of_core.groups left) (active : Rows) (has : HasUpto range n c.active active) (sources : List ScanSource) (are : AreScanSources range order n ops (active ∷ reverse c.frozen) (reverse left) sources) where
     abbrev v : World
     v = world_at os holds
 
     own_in : IsIn v order (HasOwn range ops) are.own.iterator
     own_in = memory_in v order (HasOwn range ops) are.own.iterator are.of_own.1
 
-    in_memory : AreIn v order range n (reverse (memory c)) are.in_memory
-    in_memory = subst (λ (ls : List Rows). AreIn v order range n ls are.in_memory) (sym newest_memory) (memory_all v order range n (c.active ∷ reverse c.frozen) are.in_memory are.of_memory)
+    in_memory : AreIn v order range n (active ∷ reverse c.frozen) are.in_memory
+    in_memory = memory_all v order range n (active ∷ reverse c.frozen) are.in_memory are.of_memory
+
+    -- lists that bring all rows in memory, and up to the sequence those of the sources
+    wider : AreWider range n (reverse (memory c)) (rests v order are.in_memory)
+    wider = subst (λ (ls : List Rows). AreWider range n ls (rests v order are.in_memory)) (sym newest_memory) (are_wider range n c.active active (reverse c.frozen) (rests v order are.in_memory) active_falls has in_memory.bring)
 
     of_left : RunsLeft v range runs_of_core.groups left
     of_left = runs_left v range x.runs runs_of_core.groups left (here os holds) lefts
@@ -262,7 +273,7 @@ module _ (m : Meaning) (c : CoreModel) (x : Unseen) (w : IsWhole c x) (law : IsL
     own_list = read.rest_of are.own.iterator v
 
     abbrev lists : List Rows
-    lists = rests v order are.in_memory ++ rests v order are.in_runs
+    lists = wider.all ++ rests v order are.in_runs
 
     own_rows_are : source_rows are.own v ≡ own_list
     own_rows_are = ap (λ o. filter (upto_seq o) own_list) are.of_own.0 ∙ filter_all own_list
@@ -270,7 +281,7 @@ module _ (m : Meaning) (c : CoreModel) (x : Unseen) (w : IsWhole c x) (law : IsL
     rows_are : map (λ s. source_rows s v) sources ≡ left_of n own_list lists
     rows_are =
         ap (map (λ s. source_rows s v)) are.are
-        ∙ (λ i. own_rows_are i ∷ (map_both (λ s. source_rows s v) are.in_memory are.in_runs ∙ (λ j. in_memory.rows j ++ in_runs.rows j) ∙ sym (map_both (filter (upto_seq (Some n))) (rests v order are.in_memory) (rests v order are.in_runs))) i)
+        ∙ (λ i. own_rows_are i ∷ (map_both (λ s. source_rows s v) are.in_memory are.in_runs ∙ (λ j. (in_memory.rows ∙ sym wider.same) j ++ in_runs.rows j) ∙ sym (map_both (filter (upto_seq (Some n))) wider.all (rests v order are.in_runs))) i)
 
     all_of_merged : (Q : RowEntry → Type 0) → AllByRecursion Q own_list → AllByRecursion (λ rows. AllByRecursion Q (ranged range rows)) (memory c) → AllByRecursion (λ rows. AllByRecursion Q (ranged range rows)) (in_one of_left.some) →
         AllByRecursion Q (merged_rows order v sources)
@@ -278,9 +289,9 @@ module _ (m : Meaning) (c : CoreModel) (x : Unseen) (w : IsWhole c x) (law : IsL
         subst (λ (ls : List Rows). AllByRecursion Q (merged order true ls)) (sym rows_are)
         (all_merged Q order (left_of n own_list lists) (
           own,
-          subst (AllByRecursion (AllByRecursion Q)) (sym (map_both (filter (upto_seq (Some n))) (rests v order are.in_memory) (rests v order are.in_runs)))
-              (AllByRecursion_append (AllByRecursion Q) (map (filter (upto_seq (Some n))) (rests v order are.in_memory)) (map (filter (upto_seq (Some n))) (rests v order are.in_runs))
-              (all_lists Q range n (reverse (memory c)) (rests v order are.in_memory) in_memory.bring (AllByRecursion_reverse _ (memory c) in_mem))
+          subst (AllByRecursion (AllByRecursion Q)) (sym (map_both (filter (upto_seq (Some n))) wider.all (rests v order are.in_runs)))
+              (AllByRecursion_append (AllByRecursion Q) (map (filter (upto_seq (Some n))) wider.all) (map (filter (upto_seq (Some n))) (rests v order are.in_runs))
+              (all_lists Q range n (reverse (memory c)) wider.all wider.bring (AllByRecursion_reverse _ (memory c) in_mem))
               (all_lists Q range n (reverse (in_one of_left.some)) (rests v order are.in_runs) in_runs.bring (AllByRecursion_reverse _ (in_one of_left.some) in_run))),
         ))
 
@@ -302,5 +313,5 @@ module _ (m : Meaning) (c : CoreModel) (x : Unseen) (w : IsWhole c x) (law : IsL
           (all_of_merged (λ r. in_range range r.key ≡ true) (own_within range ops own_list own_in.rows) (every_within (memory c)) (every_within (in_one of_left.some)));
       left = ap (λ (ls : List Rows). filter has_value (folded (operator_at m.combine) true None (merged order true ls))) rows_are
           ∙ core_scans m c x w law kept_m layers (kept_m.1 law).tables n from ops fine range own_list lists own_in.rows
-          (have_some m c range w.tied.runs.groups x.runs layers runs_of_core.groups of_left.some runs_of_core.is runs_of_core.tables w.tied.runs.each of_left.same (rests v order are.in_memory) (rests v order are.in_runs) in_memory.bring in_runs.bring) order;
+          (have_some m c range w.tied.runs.groups x.runs layers runs_of_core.groups of_left.some runs_of_core.is runs_of_core.tables w.tied.runs.each of_left.same wider.all (rests v order are.in_runs) wider.bring in_runs.bring) order;
     }

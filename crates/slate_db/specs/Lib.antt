@@ -47,4 +47,7 @@ pub mod Values
 pub mod Scans
 pub mod ScanFilters
 pub mod OpenScans
+pub mod RangeShares
+pub mod TxnScans
+pub mod Prefixes
 pub mod LeftLaws

@@ -7,16 +7,18 @@ ghost use Rattle.slate_mem.specs.Table.{newest, put_rows};
 ghost use Rattle.slate_db.specs.Flushed.{events_of_flush};
 ghost use Rattle.slate_db.specs.Layers.{AreLayers, AreRising, FitsMemory, without_seq};
 ghost use Rattle.slate_db.specs.Model.{versions_in};
+ghost use Rattle.slate_db.specs.RangeShares.{HasUpto};
 ghost use Rattle.slate_db.specs.SharedRuns.{tables_in};
 
 use crate::flight::share_all;
 use crate::key_share::KeyShare;
+use crate::range_share::{RangeShare, copy_upto};
 use crate::run_list::RunList;
 use bytes::Bytes;
 use slate_mem::lookup::newest_of_memory;
 use slate_mem::{ImmutableMemtable, MemTable};
 use slate_read::SortedRun;
-use slate_types::{RowEntry, SlateDBError};
+use slate_types::{BytesRange, RowEntry, SlateDBError};
 use std::alloc::{AllocError, Global};
 use std::collections::BTreeSet;
 use std::marker::Model;
@@ -96,6 +98,25 @@ impl Layers {
         let rows = newest_of_memory(alloc, &self.active, self.frozen.as_slice(), key, at)?;
         let runs = self.runs.share()?;
         Ok(KeyShare::new(rows, runs))
+    }
+
+    /// What reads of the keys in a range at a sequence take: the range's rows up to there that aren't frozen, the tables that are,
+    /// shared, and a copy of the runs, which readers share. The one error is `OutOfMemory`.
+    pub fn share_range(
+        &mut self,
+        alloc: Global,
+        range: &BytesRange,
+        at: u64,
+    ) -> Result<RangeShare, SlateDBError>
+        ensures same { self.new ≡ self.old }
+        ensures shared { IfOk result (λ s. HasUpto range.now at self.old.active s.active × (s.frozen ≡ self.old.frozen) × (tables_in s.runs ≡ tables_in self.old.runs)) }
+        ensures whole { AreLayers self.new }
+        ensures cause { IsOkUnless result SlateDBError.OutOfMemory }
+    {
+        let active = copy_upto(alloc, &self.active, range, at)?;
+        let runs = self.runs.share()?;
+        let frozen = self.share_frozen(alloc)?;
+        Ok(RangeShare::new(active, frozen, runs))
     }
 
     /// How many events a flush adds.

@@ -11,14 +11,16 @@ ghost use Rattle.slate_types.specs.World.{World, Checks, Made, Sees};
 ghost use Rattle.slate_mem.specs.Batch.{Ops};
 ghost use Rattle.slate_merge.specs.OperatorIterators.{IsGoing, refuses_folding, rest_folding, sound_folding};
 ghost use Rattle.slate_read.specs.SstOptions.{CanFetch};
+ghost use Rattle.slate_txn.specs.Step.{Reader};
 ghost use Rattle.slate_db.specs.Installs.{handles_of};
+ghost use Rattle.slate_db.specs.Model.{CoreModel};
 ghost use Rattle.slate_db.specs.OpenScans.{AreEach, AreScanSources, CanOpen, FoldsRefuse, HasRows, IsBlamedFor, IsMemorySource, IsRunSource, LeftSources, folded_rows, merged_rows};
+ghost use Rattle.slate_db.specs.RangeShares.{IsOpened, IsReaderOf, StandsIn};
 ghost use Rattle.slate_db.specs.ScanFilters.{FailsAsking, scan_query};
 ghost use Rattle.slate_db.specs.Scanned.{HasOwn};
 ghost use Rattle.slate_db.specs.Scans.{FoldsAll, IsOperableIn, IsSoundMerged, merge_offers, merge_refuses, merge_rows, order_of_merge};
 ghost use Rattle.slate_db.specs.Sound.{AreBases};
 
-use crate::layers::Layers;
 use crate::scan::{DbIterator, ScanState};
 use crate::scan_filters::{runs_left, scan_query};
 use bytes::Bytes;
@@ -80,7 +82,7 @@ pub(crate) fn copy_contexts(
 }
 
 /// How a scan reads tables. `OutOfMemory` alone is refused.
-pub(crate) fn table_options(
+pub fn table_options(
     prefix: Option<Bytes>,
     options: &ScanOptions,
     limits: &Options,
@@ -243,7 +245,8 @@ fn run_sources<'a>(
 fn scan_sources<'a>(
     alloc: Global,
     own: WriteBatchIterator,
-    layers: &Layers,
+    active: &MemTable,
+    frozen: &[ImmutableMemtable],
     runs: &[SortedRun],
     range: &BytesRange,
     begin: u64,
@@ -252,11 +255,10 @@ fn scan_sources<'a>(
 ) -> Result<Vec<FilterIterator<ReadSource<'a>, MaxSeq>>, SlateDBError>
     requires range { is_refused range.now.start range.now.end ≡ false }
     requires fetches { CanFetch options.now }
-    ensures sources { (ops : Ops) → HasRows options.now.order (HasOwn range.now ops) own → IfOk result (λ made. AreScanSources range.now options.now.order begin ops (layers.now.active ∷ reverse layers.now.frozen) (reverse runs.now) made.items) }
+    ensures sources { (ops : Ops) → HasRows options.now.order (HasOwn range.now ops) own → IfOk result (λ made. AreScanSources range.now options.now.order begin ops (active.now.rows ∷ reverse (map (λ t. t.rows) frozen.now)) (reverse runs.now) made.items) }
     ensures cause { IsOkUnless result SlateDBError.OutOfMemory }
 {
     let own = FilterIterator::new(alloc, ReadSource::Batch(own), MaxSeq { max_seq: None })?;
-    let (active, frozen) = (layers.active(), layers.frozen());
     let mut sources = Vec::new(alloc);
     sources.push(own)?;
     let mut memory = memory_sources(alloc, active, frozen, range, options.order, begin)?;
@@ -266,12 +268,14 @@ fn scan_sources<'a>(
     Ok(sources)
 }
 
-/// The same of all layers. Filters of stored tables are asked first. Tables that they deny and those whose keys don't reach the range
+/// The same of all runs. Filters of stored tables are asked first. Tables that they deny and those whose keys don't reach the range
 /// are left out: by lawful policies they have no row in the range. A run of which none is left has no source.
-pub(crate) fn asked_sources<'a, S: Store, M: MergeOperator, T: BlockTransformer>(
+fn asked_sources<'a, S: Store, M: MergeOperator, T: BlockTransformer>(
     alloc: Global,
     own: WriteBatchIterator,
-    layers: &Layers,
+    active: &MemTable,
+    frozen: &[ImmutableMemtable],
+    runs: &[SortedRun],
     range: &BytesRange,
     begin: u64,
     options: &SstIteratorOptions,
@@ -282,18 +286,19 @@ pub(crate) fn asked_sources<'a, S: Store, M: MergeOperator, T: BlockTransformer>
     requires prefix { (p k : List ℕ) → options.now.prefix ≡ Some p → in_range range.now k ≡ true → starts_with nat_eq k p ≡ true }
     requires fetches { CanFetch options.now }
     ensures sources { let reach = ⟦<EnvOf<S, M, T> as Outside>⟧.reach in
-        IfOk result (λ made. LeftSources (map (λ p. meaning p) policies.now) (reach env.old) (reach env.new) range.now options.now.order begin own layers.now.active layers.now.frozen layers.now.runs made.items) }
+        IfOk result (λ made. LeftSources (map (λ p. meaning p) policies.now) (reach env.old) (reach env.new) range.now options.now.order begin own active.now.rows (map (λ t. t.rows) frozen.now) runs.now made.items) }
     ensures made { let reach = ⟦<EnvOf<S, M, T> as Outside>⟧.reach in OnOk result (Made (reach env.old) (reach env.new) (λ _. Unit {0})) }
     ensures refused { let reach = ⟦<EnvOf<S, M, T> as Outside>⟧.reach in
-        IfErr result (FailsAsking (map (λ p. meaning p) policies.now) (scan_query range.now options.now.prefix options.now.filter_context) (reach env.old) (reach env.new) (handles_of layers.now.runs)) }
+        IfErr result (FailsAsking (map (λ p. meaning p) policies.now) (scan_query range.now options.now.prefix options.now.filter_context) (reach env.old) (reach env.new) (handles_of runs.now)) }
     ensures reads { let reach = ⟦<EnvOf<S, M, T> as Outside>⟧.reach in OnlyReads (reach env.old) (reach env.new) }
 {
     let query = scan_query(range, options)?;
-    let left = runs_left(alloc, layers.runs(), range, policies, &query, env)?;
+    let left = runs_left(alloc, runs, range, policies, &query, env)?;
     let sources = scan_sources(
         alloc,
         own,
-        layers,
+        active,
+        frozen,
         left.as_slice(),
         range,
         begin,
@@ -344,4 +349,35 @@ pub(crate) fn merged<'a, S: Store, M: MergeOperator, T: BlockTransformer>(
         Ok(()) => Ok(rows),
         Err(error) => Err(refusal_of_opening(error)),
     }
+}
+
+/// Opens a scan of the rows in a range up to a sequence, of own operations and of layers.
+pub(crate) fn opened_over<'a, S: Store, M: MergeOperator, T: BlockTransformer>(
+    alloc: Global,
+    own: WriteBatchIterator,
+    active: &MemTable,
+    frozen: &[ImmutableMemtable],
+    runs: &[SortedRun],
+    range: BytesRange,
+    at: u64,
+    how: SstIteratorOptions,
+    policies: &'a [Box<dyn FilterPolicy>],
+    env: &mut Env<'_, S, M, T>,
+) -> Result<DbIterator<'a>, SlateDBError>
+    requires range { is_refused range.start range.end ≡ false }
+    requires prefix { (p k : List ℕ) → how.prefix ≡ Some p → in_range range k ≡ true → starts_with nat_eq k p ≡ true }
+    requires fetches { CanFetch how }
+    ensures opened { let reach = ⟦<EnvOf<S, M, T> as Outside>⟧.reach in
+        (c : CoreModel) (id : List ℕ) (from : Reader) → StandsIn c range at active.now.rows (map (λ t. t.rows) frozen.now) runs.now → IsReaderOf c id from range how.order own →
+        IsOpened (map (λ p. meaning p) policies.now) (scan_query range how.prefix how.filter_context) (reach env.old) (reach env.new) c at from.ops range how.order result }
+    ensures range { IfOk result (λ it. it.range ≡ range) }
+    ensures order { IfOk result (λ it. it.order ≡ how.order) }
+    ensures reads { let reach = ⟦<EnvOf<S, M, T> as Outside>⟧.reach in OnlyReads (reach env.old) (reach env.new) }
+{
+    let order = how.order;
+    let sources = asked_sources(
+        alloc, own, active, frozen, runs, &range, at, &how, policies, env,
+    )?;
+    let rows = merged(alloc, sources, order, env)?;
+    Ok(DbIterator::new(alloc, rows, range, order))
 }

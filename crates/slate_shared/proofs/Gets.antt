@@ -48,7 +48,7 @@ Read o m t seen by a b k means r = ((r ≡ Err OutOfMemory) × (b ≡ a)) ⊎ ((
 -- ---- over the journal that was seen
 
 module _ (o : Options) (m : Meaning) (policies : List Policy) (t : Opened) (seen : List Event) (a b : Reach) (same : a.meaning ≡ m) where
-  pub answered_core : (c : CoreModel) → IsCoreOf o m t seen c → IsAnsweredBy policies m seen t.tx.ops a b → IsAnswered policies a b c
+  unfoldable pub answered_core : (c : CoreModel) → IsCoreOf o m t seen c → IsAnsweredBy policies m seen t.tx.ops a b → IsAnswered policies a b c
   answered_core c core is = record {
     os = is.os;
     readable = subst (λ (x : Meaning). IsReadable policies x is.os c) (sym same) (record {

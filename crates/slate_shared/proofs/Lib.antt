@@ -10,8 +10,11 @@ pub mod Held
 pub mod Flown
 pub mod Landed
 pub mod KeyReads
+pub mod RangeReads
 pub mod KeptSeats
 pub mod Gets
+pub mod Views
+pub mod ScanReads
 pub mod Encoding
 pub mod Alike
 pub mod PlainLaws

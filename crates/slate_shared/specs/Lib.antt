@@ -6,5 +6,7 @@ pub mod Passes
 pub mod Locked
 pub mod Ended
 pub mod KeyReads
+pub mod Viewed
+pub mod Scans
 pub mod Encoded
 pub mod Jobs

@@ -21,7 +21,9 @@ pub mod parts;
 pub mod pass;
 pub(crate) mod plays;
 mod reads;
+mod scans;
 pub mod txn;
+pub mod view;
 pub mod wait;
 pub mod writes;
 
@@ -31,6 +33,7 @@ pub use handle::WriteHandle;
 pub use parts::{Parts, Plain};
 pub use pass::Pass;
 pub use txn::DbTransaction;
+pub use view::View;
 
 fn crosses<T: Send + Sync>() {}
 
@@ -38,6 +41,6 @@ fn goes<T: Send>() {}
 
 /// The database is shared between threads, and what a thread has of it goes to others.
 pub fn types_cross_threads<P: Parts + Send + Sync>() {
-    crosses::<Database<P>>();
+    crosses::<(Database<P>, View<P>)>();
     goes::<(Pass<P>, DbTransaction<P>, WriteHandle<P>)>();
 }

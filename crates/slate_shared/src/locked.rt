@@ -21,6 +21,7 @@ ghost use Rattle.slate_shared.specs.KeyReads.{IsTaken};
 ghost use Rattle.slate_shared.specs.LockedModel.{frozen_by, grow, holds_at, IsFull};
 
 mod commits;
+mod ranges;
 
 use crate::aboard::Aboard;
 use crate::errand::Errand;

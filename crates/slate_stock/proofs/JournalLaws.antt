@@ -41,7 +41,7 @@ use Rattle.slate_stock.proofs.OrderLaws.{Agree, AllBelow, conserved, issued, iss
 abbrev pub amounts : Rules → List Commit → Amounts
 amounts r cs k = amount_among (combine_at r k) (key_rows r k cs)
 
-abbrev written : List Commit → List (List ℕ)
+abbrev pub written : List Commit → List (List ℕ)
 written cs = flat_map (λ c. batch_keys c.ops) cs ++ batch_keys []
 
 AddUp : Rules → List Commit → Type 0
@@ -57,7 +57,7 @@ record Sound (r : Rules) (cs : List Commit) : Type 0 where
 
 -- ---- keys
 
-written_more : (cs : List Commit) (c : Commit) (k : List ℕ) → among k (written (cs ++ (c ∷ []))) ≡ (among k (batch_keys c.ops) || among k (written cs))
+pub written_more : (cs : List Commit) (c : Commit) (k : List ℕ) → among k (written (cs ++ (c ∷ []))) ≡ (among k (batch_keys c.ops) || among k (written cs))
 written_more [] c k = list_any-append (λ x. bytes_eq x k) (batch_keys c.ops ++ []) [] ∙ ap (λ xs. list_any (λ x. bytes_eq x k) xs || false) (append-nil (batch_keys c.ops))
 written_more (x ∷ cs) c k =
     ap (λ ks. among k ks) (append_assoc (batch_keys x.ops) (flat_map (λ c. batch_keys c.ops) (cs ++ (c ∷ []))) [])
@@ -147,15 +147,15 @@ read_known r cs n n0 m (k ∷ ks) (steps.View g ∷ ts) more counts l h a = absu
 read_known r cs n n0 m (k ∷ ks) (steps.Own j o ∷ ts) more counts l h a = absurd h.0
 
 -- what one commit of the crate is, on the state just before it
-record Fits (r : Rules) (cs : List Commit) (ops : Ops) (tracked : List (List ℕ)) : Type 0 where
-  order : Order
-  names : HasNames order
-  none : order_refusal (amounts r cs) order ≡ None
-  fit : AllFit (order_moves (amounts r cs) order)
-  kept : ops ≡ kept_ops (puts (order_moves (amounts r cs) order))
-  keys : tracked ≡ batch_keys ops
+pub record Fits (r : Rules) (cs : List Commit) (ops : Ops) (tracked : List (List ℕ)) : Type 0 where
+  pub order : Order
+  pub names : HasNames order
+  pub none : order_refusal (amounts r cs) order ≡ None
+  pub fit : AllFit (order_moves (amounts r cs) order)
+  pub kept : ops ≡ kept_ops (puts (order_moves (amounts r cs) order))
+  pub keys : tracked ≡ batch_keys ops
 
-fits_here : (r : Rules) (cs : List Commit) (n n0 : ℕ) (o : Order) (m : Amounts) (ops : Ops) (tracked : List (List ℕ)) (ts : List TranscriptStep) → Counts n0 cs → last_of n0 cs ≤ n →
+pub fits_here : (r : Rules) (cs : List Commit) (n n0 : ℕ) (o : Order) (m : Amounts) (ops : Ops) (tracked : List (List ℕ)) (ts : List TranscriptStep) → Counts n0 cs → last_of n0 cs ≤ n →
     IsOrderBy o m ops tracked ts → IsAlone r cs n ts → Fits r cs ops tracked
 fits_here r cs n n0 o m ops tracked ts counts l by alone =
     let is : Agree m (amounts r cs) (order_keys o) × AllBelow m (order_keys o) = read_known r cs n n0 m (order_keys o) by.reads (own_puts (order_moves m o)) counts l by.read (subst (IsAlone r cs n) by.whole alone) in
@@ -193,7 +193,7 @@ balanced_at_first r = record { adds = λ asset name. refl; within = λ k none. r
 sound_at_first : (r : Rules) → Sound r []
 sound_at_first r = record { whole = balanced_at_first r; always = λ n. balanced_at_first r }
 
-tracks_all : TracksAll order_kind
+pub tracks_all : TracksAll order_kind
 tracks_all = record { serializable = λ level now ops tracked ts h. h.serializable; tracks = λ level now ops tracked ts h. h.by.keys }
 
 goes_on : (r : Rules) → PassesOn r order_kind (Sound r)

@@ -9,3 +9,7 @@ pub mod MapLaws
 pub mod ForeignLaws
 pub mod ShownLaws
 pub mod OpenLaws
+pub mod StepLaws
+pub mod CauseLaws
+pub mod CoreLaws
+pub mod EndLaws

@@ -19,11 +19,11 @@ use Rattle.slate_stock.specs.Amounts.{Amounts, put_amount, put_amounts, amount_b
 use Rattle.slate_stock.specs.Commits.{amount_put, puts}
 
 -- the last amount that is put at a key
-abbrev or_else : Option ℕ → Option ℕ → Option ℕ
+abbrev pub or_else : Option ℕ → Option ℕ → Option ℕ
 or_else (Some n) o = Some n
 or_else None o = o
 
-abbrev where_is : Bool → ℕ → Option ℕ
+abbrev pub where_is : Bool → ℕ → Option ℕ
 where_is true n = Some n
 where_is false n = None
 
@@ -77,11 +77,11 @@ kept_is ps k = keeps_what_is_kept (puts ps) k ∙ by (final ps k) (kept_puts ps 
 
 -- ---- the row of the commit
 
-abbrev row_put : List ℕ → ℕ → Option ℕ → ℤ → Option ℕ → Option RowEntry
+abbrev pub row_put : List ℕ → ℕ → Option ℕ → ℤ → Option ℕ → Option RowEntry
 row_put k seq default now None = None
 row_put k seq default now (Some n) = Some (op_row k seq default now (amount_put n))
 
-row_is : (c : Combine) (default : Option ℕ) (seq : ℕ) (now : ℤ) (ps : List (List ℕ × ℕ)) (k : List ℕ) → row_of c default seq now (kept_ops (puts ps)) k ≡ row_put k seq default now (final ps k)
+pub row_is : (c : Combine) (default : Option ℕ) (seq : ℕ) (now : ℤ) (ps : List (List ℕ × ℕ)) (k : List ℕ) → row_of c default seq now (kept_ops (puts ps)) k ≡ row_put k seq default now (final ps k)
 row_is c default seq now ps k = ap (λ os. fold_rows c (map (op_row k seq default now) os)) (kept_is ps k) ∙ by (final ps k)
   where
     by : (o : Option ℕ) → fold_rows c (map (op_row k seq default now) (listed o)) ≡ row_put k seq default now o

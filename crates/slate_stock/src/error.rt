@@ -36,3 +36,13 @@ impl From<AllocError> for StockError {
         StockError::Db(SlateDBError::OutOfMemory)
     }
 }
+
+impl From<SlateDBError> for StockError {
+    ghost use Rattle.slate_stock.specs.declared.error.StockError.{StockError};
+
+    ghost from_gives = { λ error e. e ≡ StockError.Db error };
+
+    fn from(error: SlateDBError) -> StockError {
+        StockError::Db(error)
+    }
+}

@@ -12,6 +12,7 @@ pub mod laws;
 pub mod legs;
 pub mod moves;
 pub mod name;
+pub mod on_core;
 pub mod order;
 pub mod shown;
 

@@ -45,7 +45,7 @@ use crate::engine::Core;
 use crate::key_share::seen_behind;
 use crate::laws::Laws;
 use crate::lookup::{newest_behind, query_of};
-use crate::open_scan::{asked_sources, merged, table_options};
+use crate::open_scan::{opened_over, table_options};
 use crate::scan::{DbIterator, TxnIterator};
 use bytes::Bytes;
 use slate_filter::FilterPolicy;
@@ -311,13 +311,20 @@ impl Core {
         ensures order { IfOk result (λ it. it.order ≡ how.order) }
         ensures reads { let reach = ⟦<EnvOf<S, M, T> as Outside>⟧.reach in OnlyReads (reach env.old) (reach env.new) }
     {
-        let order = how.order;
         let alloc = self.alloc;
-        let own = self.transactions.own_range(alloc, id, &range, order)?;
-        let layers = &self.layers;
-        let sources = asked_sources(alloc, own, layers, &range, begin, &how, policies, env)?;
-        let rows = merged(alloc, sources, order, env)?;
-        Ok(DbIterator::new(alloc, rows, range, order))
+        let own = self.transactions.own_range(alloc, id, &range, how.order)?;
+        opened_over(
+            alloc,
+            own,
+            self.layers.active(),
+            self.layers.frozen(),
+            self.layers.runs(),
+            range,
+            begin,
+            how,
+            policies,
+            env,
+        )
     }
 
     /// Opens a scan of an open transaction or an open snapshot over the rows in a range, in an order. The rows are fixed now: later

@@ -3,11 +3,12 @@ use Rattle.std.proofs.lemmas.Result.{IfOk-from_err}
 use Rattle.slate_types.specs.declared.filter_policy.FilterQuery.{FilterQuery}
 use Rattle.slate_types.proofs.Exits.{err_exit}
 use Rattle.slate_types.proofs.Reaching.{reads_none}
+use Rattle.slate_mem.specs.Table.{MemTableModel}
 use Rattle.slate_read.specs.declared.sorted_run.SortedRun.{SortedRun}
 use Rattle.slate_store.specs.Reach.{reach_of}
 use Rattle.slate_db.specs.Installs.{handles_of}
 use Rattle.slate_db.specs.OpenScans.{AreScanSources}
-use Rattle.slate_db.specs.ScanFilters.{Covers, FailsAsking, RunsAreLeft, scan_query}
+use Rattle.slate_db.specs.ScanFilters.{Covers, FailsAsking, scan_query}
 use Rattle.slate_db.proofs.RangeFilters.{scan_covers}
 use Rattle.slate_db.proofs.ScanFilters.{fails_memory}
 use Rattle.slate_db.proofs.open_scan.asked_sources.Goals as goal
@@ -28,7 +29,7 @@ returns-in_err-left g c = record {
   sources = IfOk-from_err c.from_residual-in_err-left.result _ c.from_residual-in_err-left.ensures.0;
   made = IfOk-from_err c.from_residual-in_err-left.result _ c.from_residual-in_err-left.ensures.0;
   refused = err_exit c.from_residual-in_err-left.result _ c.from_residual-in_err-left.ensures.1 _
-      (subst (λ (rs : List SortedRun). FailsAsking (map (λ p. (goal.FilterPolicy-dyn g (p.vtable, p.value)).meaning p.value) c.args.policies.now) (scan_query c.args.range.now c.args.options.now.prefix c.args.options.now.filter_context) (reach_of g.S.Store g.M.MergeOperator g.T.BlockTransformer c.args.env.now) (reach_of g.S.Store g.M.MergeOperator g.T.BlockTransformer c.runs_left.new.env) (handles_of rs) c.in_err-left.field-0.0) c.runs.ensures (subst (λ (q : Option FilterQuery). FailsAsking (map (λ p. (goal.FilterPolicy-dyn g (p.vtable, p.value)).meaning p.value) c.args.policies.now) q (reach_of g.S.Store g.M.MergeOperator g.T.BlockTransformer c.args.env.now) (reach_of g.S.Store g.M.MergeOperator g.T.BlockTransformer c.runs_left.new.env) (handles_of c.runs.result.now) c.in_err-left.field-0.0) c.in_ok-query.ensures.query c.in_err-left.ensures.refused));
+      (subst (λ (q : Option FilterQuery). FailsAsking (map (λ p. (goal.FilterPolicy-dyn g (p.vtable, p.value)).meaning p.value) c.args.policies.now) q (reach_of g.S.Store g.M.MergeOperator g.T.BlockTransformer c.args.env.now) (reach_of g.S.Store g.M.MergeOperator g.T.BlockTransformer c.runs_left.new.env) (handles_of c.args.runs.now) c.in_err-left.field-0.0) c.in_ok-query.ensures.query c.in_err-left.ensures.refused);
   reads = c.runs_left.ensures.reads;
 }
 
@@ -45,8 +46,8 @@ returns g c =
     record {
       sources = record {
         left = c.in_ok-left.left.items;
-        asked = subst (λ (rs : List SortedRun). RunsAreLeft (map (λ p. (goal.FilterPolicy-dyn g (p.vtable, p.value)).meaning p.value) c.args.policies.now) (reach_of g.S.Store g.M.MergeOperator g.T.BlockTransformer c.args.env.now) (reach_of g.S.Store g.M.MergeOperator g.T.BlockTransformer c.runs_left.new.env) c.args.range.now rs c.in_ok-left.left.items) c.runs.ensures c.in_ok-left.ensures.left;
-        are = λ ops has. subst (λ (rs : List SortedRun). AreScanSources c.args.range.now c.args.options.now.order c.args.begin ops (c.args.layers.now.active ∷ reverse c.args.layers.now.frozen) (reverse rs) c.in_ok-sources.sources.items) c.as_slice.ensures.value (c.in_ok-sources.ensures.sources ops has);
+        asked = c.in_ok-left.ensures.left;
+        are = λ ops has. subst (λ (rs : List SortedRun). AreScanSources c.args.range.now c.args.options.now.order c.args.begin ops (c.args.active.now.rows ∷ reverse (map (λ (t : MemTableModel). t.rows) c.args.frozen.now)) (reverse rs) c.in_ok-sources.sources.items) c.as_slice.ensures.value (c.in_ok-sources.ensures.sources ops has);
       };
       made = c.in_ok-left.ensures.made;
       refused = tt;

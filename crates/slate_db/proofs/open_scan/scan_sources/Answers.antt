@@ -1,7 +1,5 @@
-use Rattle.std.proofs.Common.{◌≡◌, [], ◌∷◌, List, ap, map, reverse, subst, sym}
+use Rattle.std.proofs.Common.{ap}
 use Rattle.slate_merge.specs.declared.filter_iterator.MaxSeq.{MaxSeq}
-use Rattle.slate_db.specs.Model.{Rows}
-use Rattle.slate_db.specs.OpenScans.{AreEach, IsMemorySource}
 use Rattle.slate_db.proofs.SourceLists.{all_sources, own_is}
 use Rattle.slate_db.proofs.open_scan.scan_sources.Goals as goal
 
@@ -13,6 +11,5 @@ returns-clause-sources g c ops has =
     all_sources range order n ops _ _ c.in_ok-own.own c.new-sources.result.items c.push.new.self.items c.append.new.self.items c.append-2.new.self.items c.in_ok-memory.memory.items c.in_ok-runs.runs.items
     c.new-sources.ensures.items c.in_ok-push.ensures.items c.in_ok-append.ensures.items c.in_ok-append-2.ensures.items
     (own_is range order ops c.args.own c.in_ok-own.own c.in_ok-own.ensures.iterator (ap (λ (p : MaxSeq). p.max_seq) c.in_ok-own.ensures.predicate) has)
-    (subst (λ (rows : Rows). AreEach (IsMemorySource range order n) (rows ∷ reverse c.args.layers.now.frozen) c.in_ok-memory.memory.items) c.active-active.ensures
-    (subst (λ (ls : List Rows). AreEach (IsMemorySource range order n) (c.active-active.result.now.rows ∷ reverse ls) c.in_ok-memory.memory.items) c.frozen-frozen.ensures c.in_ok-memory.ensures.each))
+    c.in_ok-memory.ensures.each
     c.in_ok-runs.ensures.each

@@ -23,6 +23,7 @@ use Rattle.slate_db.specs.declared.engine.Core.TheInside.{Inside}
 use Rattle.slate_db.specs.Checked.{OrSlips}
 use Rattle.slate_db.specs.Meaning.{Meaning, rules_of}
 use Rattle.slate_db.specs.Model.{CoreModel}
+use Rattle.slate_db.specs.RangeShares.{LeavesSeen}
 use Rattle.slate_db.specs.Sound.{IsKept}
 use Rattle.slate_db.specs.View.{view_of, unseen_of, IsWholeInside}
 use Rattle.slate_db.specs.Vouched.{IsVouchedFor}
@@ -30,7 +31,7 @@ use Rattle.slate_db.proofs.Keeps.{kept_event}
 use Rattle.slate_db.proofs.OpenNotes.{step_scan, vouched_scan}
 use Rattle.slate_db.proofs.Opened.{opened_scan, stay_noted, stay_same}
 use Rattle.slate_db.proofs.Operands.{own_updated}
-use Rattle.slate_db.proofs.ScanMerges.{LeavesSeen, answered_as, opening_as, readable_as}
+use Rattle.slate_db.proofs.ScanMerges.{answered_as, opening_as, readable_as}
 use Rattle.slate_db.proofs.Readers.{floor_at, own_at, scan_left, scans_of, start_at}
 use Rattle.slate_db.proofs.Wholes.{after_note, whole_note}
 use Rattle.slate_db.proofs.engine.Core.scan.Goals as goal

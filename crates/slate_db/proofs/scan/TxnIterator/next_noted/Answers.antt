@@ -1,0 +1,63 @@
+use Rattle.std.proofs.Common.{inl, refl, ap, sym, subst, ◌∙◌}
+use Rattle.slate_types.specs.Outside.{IsCounted}
+use Rattle.slate_db.specs.declared.scan.DbIterator.{DbIterator}
+use Rattle.slate_db.proofs.ScanStates.{answered_once}
+use Rattle.slate_db.proofs.scan.TxnIterator.next_noted.Goals as goal
+
+pub returns-in-Err : goal.returns-in-Err
+returns-in-Err g c =
+    let n = c.in-Err.ensures in
+    record {
+      noted = tt;
+      step = record {
+        rows = λ w rows h sees. tt;
+        undamaged = n.undamaged;
+        checked = λ w rows h. tt;
+        later = tt;
+        cause = n.cause;
+        again = n.again;
+        refused = λ kept was. let r = n.refused kept was in (r.0, ap (λ (d : DbIterator). record c.args.self.now { rows = d }) r.1, r.2);
+        names = record { named = refl; number = refl; ordered = n.order; ranged = n.range };
+        reads = n.reads;
+      };
+      same = refl;
+    }
+
+pub returns-in-Err-note_next : goal.returns-in-Err-note_next
+returns-in-Err-note_next g c =
+    let n = c.in-Ok.ensures in
+    let r = c.refuse.ensures in
+    record {
+      noted = tt;
+      step = record {
+        rows = λ w rows h sees. tt;
+        undamaged = λ w rows h sees. subst (IsCounted _ _) (sym (r.same ∙ c.from.ensures)) tt;
+        checked = λ w rows h. tt;
+        later = tt;
+        cause = (n.later.0, n.later.1, inl (subst (IsCounted _ _) (sym (r.same ∙ c.from.ensures)) tt));
+        again = λ unrefused. rw r.same r.again;
+        refused = λ kept was. answered_once c.in-Ok.answer kept (n.refused kept was).0;
+        names = record { named = refl; number = refl; ordered = r.order ∙ n.order; ranged = r.range ∙ n.range };
+        reads = n.reads;
+      };
+      same = c.in-Err-note_next.ensures.same;
+    }
+
+pub returns : goal.returns
+returns g c =
+    let n = c.in-Ok.ensures in
+    record {
+      noted = c.in_default.ensures.noted;
+      step = record {
+        rows = n.rows;
+        undamaged = λ w rows h sees. tt;
+        checked = n.checked;
+        later = n.later;
+        cause = tt;
+        again = λ unrefused. tt;
+        refused = λ kept was. answered_once c.in-Ok.answer kept (n.refused kept was).0;
+        names = record { named = refl; number = refl; ordered = n.order; ranged = n.range };
+        reads = n.reads;
+      };
+      same = tt;
+    }

@@ -1,0 +1,44 @@
+-- What the reads of a transaction are refused for, and its open scans. before, after: what a call reaches
+--     IsReadError policies before after c e      a get or a scan of the core is refused so: by a fault that came in it, for want of memory or of an operator, or by what its
+--                                         reads show of the tables that the journal names
+--     IsReadFault policies before after c id level e      of several reads in one transaction on c the last is
+--     IsReading os m c ts it rows      by these objects a scan that the transaction opened has these rows left
+--     IsScanSince from now c it      by the reads since its opening, which reached `from`, the scan may be refused as a scan of c is
+use Rattle.std.specs.Prelude.{◌≡◌, ◌++◌, ℕ, List, Option, Some, slice_get, None}
+use Rattle.slate_types.specs.declared.config.IsolationLevel.{IsolationLevel}
+use Rattle.slate_types.specs.declared.error.SlateDBError.{SlateDBError}
+use Rattle.slate_types.specs.declared.filter_policy.FilterQuery.{FilterQuery}
+use Rattle.slate_types.specs.declared.types.RowEntry.{RowEntry}
+use Rattle.slate_types.specs.Outside.{Act, Objects, OnlyReads, Reach}
+use Rattle.slate_types.specs.World.{Made}
+use Rattle.slate_filter.specs.Policy.{Policy}
+use Rattle.slate_txn.specs.declared.event.TranscriptStep.{TranscriptStep}
+use Rattle.slate_txn.specs.Alone.{scans_left}
+use Rattle.slate_db.specs.declared.scan.TxnIterator.{TxnIterator}
+use Rattle.slate_db.specs.Meaning.{Meaning, rules_of}
+use Rattle.slate_db.specs.Model.{CoreModel}
+use Rattle.slate_db.specs.Readable as gets
+use Rattle.slate_db.specs.Scans.{IsRefusedByScan, IsScanError, LeavesIn, ScanRefuses, number_of, scan_of}
+use Rattle.slate_steps.specs.Steps.{IsWithin, newest}
+
+pub data IsReadError (policies : List Policy) (before after : Reach) (c : CoreModel) (e : SlateDBError) : Type 0 where
+  of_get : (query : FilterQuery) → gets.IsReadError (record { policies = policies; query = query }) before after c e → IsReadError policies before after c e
+  of_scan : IsScanError policies before after c e → IsReadError policies before after c e
+
+-- core: as it was read; from, upto: what the refused read reached
+pub record IsReadFault (policies : List Policy) (before after : Reach) (c : CoreModel) (id : List ℕ) (level : IsolationLevel) (e : SlateDBError) : Type 0 where
+  pub taken : List TranscriptStep
+  pub core : CoreModel
+  pub within : IsWithin c id level taken core
+  pub from : Reach
+  pub upto : Reach
+  pub first : OnlyReads before from
+  pub later : OnlyReads upto after
+  pub refused : IsReadError policies from upto core e
+
+pub record IsReading (os : Objects) (m : Meaning) (c : CoreModel) (ts : List TranscriptStep) (it : TxnIterator) (rows : List RowEntry) : Type 0 where
+  pub left : slice_get (scans_left (rules_of c.settings m) c.state.commits (newest c) ts) (number_of it) ≡ Some ((scan_of it).order, rows)
+  pub leaves : LeavesIn os m it rows
+
+abbrev pub IsScanSince : Reach → Reach → CoreModel → TxnIterator → Type 0
+IsScanSince from now c it = Made from now (λ reads. (later : List Act) (at : Option (List ℕ)) (e : SlateDBError) → ScanRefuses (scan_of it) from.meaning later at e → IsRefusedByScan from.meaning c (reads ++ later) at e)
