@@ -1,7 +1,7 @@
 //! The work of `slate_bench` and of `slate` in plain Rust, for comparison: the same bytes, by the standard library alone.
 //!
 //! With no word it prints what was done, and with the word `time` how long it took too. Lines and figures are those of
-//! `slate_bench`. Six more words are there for scripts: `make NAME` prints one of them, `run -` and `run FOLDER` answer one
+//! `slate_bench`, and so are those of `threads THREADS ROUNDS`. Six more words are there for scripts: `make NAME` prints one of them, `run -` and `run FOLDER` answer one
 //! as `slate` does, `keep -` and `keep FOLDER` do so and keep a journal, `reads -` and `reads FOLDER` answer one too, and print no
 //! replies, but how much of tables they read, `gen ROUNDS SEED` answers as `slate - gen ROUNDS SEED`, with a journal too, and
 //! `measure FILE PROGRAM WORDS..` runs a program and appends to the file what it took. Behind a store may stand the words
@@ -195,10 +195,30 @@ fn main() {
         ["keep", store, words @ ..] => run_script(store, words, Journal::new()),
         ["reads", store, words @ ..] => run_for_reads(store, words),
         ["gen", rounds, seed] => script::run_generated(rounds, seed, io::stdout()),
+        ["threads", threads, rounds] => share_rounds(threads, rounds, false),
+        ["threads", threads, rounds, "time"] => share_rounds(threads, rounds, true),
         ["measure", file, program, words @ ..] => measure::measure(file, program, words),
         _ => 2,
     };
     exit(status);
+}
+
+/// Prints what so many threads did that shared so many rounds, and how long it took where that is asked for.
+fn share_rounds(threads: &str, rounds: &str, is_timed: bool) -> i32 {
+    let (Ok(threads), Ok(rounds)) = (threads.parse::<u64>(), rounds.parse()) else {
+        return 2;
+    };
+    if !(1..=64).contains(&threads) {
+        return 2;
+    }
+    let Some((text, nanos)) = script::share_rounds(threads, rounds) else {
+        return 1;
+    };
+    println!("threads {threads}: {text}");
+    if is_timed {
+        println!("threads took {nanos} ns");
+    }
+    0
 }
 
 /// Rows and blocks: how they are written, and how they are read.
@@ -1034,6 +1054,12 @@ mod script {
     use std::ops::{Bound, RangeBounds};
     use std::os::unix::fs::FileExt;
     use std::path::{Path, PathBuf};
+    use std::sync::{Mutex, MutexGuard};
+    use std::thread;
+    use std::time::Instant;
+
+    /// How many rounds a thread does between two flushes.
+    const FLUSH_INTERVAL: u64 = 64;
 
     /// How many bytes of a script are read at once.
     const PIECE: usize = 65536;
@@ -1470,6 +1496,81 @@ mod script {
         let committed = session.last;
         writeln!(sink, "replies {replies} committed {committed} hits {hits}")
             .map_err(|_| Failure::Write)
+    }
+
+    /// How many commits of a thread were refused, and how many of the gets of its commits found a row.
+    #[derive(Default)]
+    struct Shared {
+        conflicts: u64,
+        hits: u64,
+    }
+
+    /// So many threads share so many rounds, as those of `slate_bench threads` do, on one session behind one mutex, which each
+    /// call takes. Gives what they did, and how long they took.
+    pub fn share_rounds(threads: u64, rounds: u64) -> Option<(String, u128)> {
+        let mut settings = Settings::new();
+        settings.has_filters = false;
+        let session = Mutex::new(Session::new(Store::at("-"), settings, Journal::new()));
+        let start = Instant::now();
+        let work = |place: u64| {
+            let own = rounds / threads + u64::from(place < rounds % threads);
+            do_rounds(&session, place, own)
+        };
+        let done = thread::scope(|scope| {
+            let handles: Vec<_> = (0..threads)
+                .map(|place| scope.spawn(move || work(place)))
+                .collect();
+            handles
+                .into_iter()
+                .map(|handle| handle.join().ok()?.ok())
+                .collect::<Option<Vec<Shared>>>()
+        })?;
+        let nanos = start.elapsed().as_nanos();
+        let conflicts: u64 = done.iter().map(|shared| shared.conflicts).sum();
+        let hits: u64 = done.iter().map(|shared| shared.hits).sum();
+        let text = format!("{rounds} rounds, {conflicts} conflicts, {hits} hits");
+        Some((text, nanos))
+    }
+
+    fn do_rounds(session: &Mutex<Session>, place: u64, rounds: u64) -> Result<Shared, Failure> {
+        let mut shared = Shared::default();
+        let name = format!("t{place}");
+        let mut drawn = place;
+        for done in 0..rounds {
+            let read = scripts::drawn(drawn);
+            drawn = scripts::drawn(read);
+            let read = format!("k{:03}", scripts::key_number(read));
+            let written = format!("k{:03}", scripts::key_number(drawn));
+            let value = format!("t{place:02}v{done:08}");
+            while !is_committed(session, &name, [&read, &written, &value], &mut shared)? {}
+            if done % FLUSH_INTERVAL == FLUSH_INTERVAL - 1 {
+                locked(session)?.flush()?;
+            }
+        }
+        Ok(shared)
+    }
+
+    /// Whether an attempt at a round commits.
+    fn is_committed(
+        session: &Mutex<Session>,
+        name: &str,
+        [read, written, value]: [&str; 3],
+        shared: &mut Shared,
+    ) -> Result<bool, Failure> {
+        locked(session)?.begin(name, true)?;
+        let found = locked(session)?.get(name, read.as_bytes())?;
+        locked(session)?.put(name, written.as_bytes(), value.as_bytes())?;
+        let ended = locked(session)?.commit(name)?;
+        if ended.starts_with(b"refused ") {
+            shared.conflicts += 1;
+            return Ok(false);
+        }
+        shared.hits += u64::from(found.starts_with(b"row "));
+        Ok(true)
+    }
+
+    fn locked(session: &Mutex<Session>) -> Result<MutexGuard<'_, Session>, Failure> {
+        session.lock().map_err(|_| Damage)
     }
 
     fn answer_lines(
@@ -2266,12 +2367,12 @@ mod scripts {
         writeln!(text, "flush")
     }
 
-    fn drawn(x: u64) -> u64 {
+    pub fn drawn(x: u64) -> u64 {
         x.wrapping_mul(6364136223846793005)
             .wrapping_add(1442695040888963407)
     }
 
-    fn key_number(x: u64) -> u64 {
+    pub fn key_number(x: u64) -> u64 {
         (x >> 33) % DRAWN_KEYS
     }
 

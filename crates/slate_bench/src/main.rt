@@ -1,14 +1,19 @@
 //! Does the work that the store's time goes into, and says what was done: bench/run runs it beside plain Rust.
 //!
 //! With no word it prints counts alone, and with the word `time` how long each took too. With the word `write` and a folder it
-//! puts two tables there: each at a path of its own, and then both again and again at one path.
+//! puts two tables there: each at a path of its own, and then both again and again at one path. With the word `threads` and two numbers
+//! so many threads share so many rounds of transactions on one database; a word behind them says what is printed beside the counts:
+//! `time` how long the rounds took, and `log` a line for each attempt and for each event of the journal.
 #![tactic(auto)]
 
 mod blocks;
 mod checksums;
 mod folder;
 mod report;
+mod rounds;
 mod rows;
+mod shared_store;
+mod sharing;
 mod sums;
 mod tables;
 
@@ -21,14 +26,20 @@ use std::process::ExitCode;
 /// How many rows a table has.
 const TABLE_ROWS: usize = 100_000;
 
+/// The status: 0, or 2 for words that are not known.
 fn main(rt: HostRuntime) -> Result<ExitCode, Error> {
-    status(&rt).map(ExitCode::from)
+    let words = words_of(&rt)?;
+    let status = match sharing::task_of(&words) {
+        Some(task) => sharing::run(&rt, rt.alloc(), task).and(Ok(0)),
+        None => obey(&rt, &words),
+    };
+    drop(words);
+    status.map(ExitCode::from)
 }
 
-/// The status: 0, or 2 for words that are not known.
-fn status(rt: &HostRuntime) -> Result<u8, Error> {
+fn words_of(rt: &HostRuntime) -> Result<Vec<String>, Error> {
     let words: Result<Vec<String>, _> = env::args(rt)?.skip(1).collect(rt.alloc());
-    obey(rt, words?.as_slice())
+    Ok(words?)
 }
 
 /// Does what the words ask for, and answers the status.

@@ -1,0 +1,17 @@
+//! Tests of the shared database: rows through one pass, threads that wait for each other, and tables that several workers build.
+#![tactic(auto)]
+
+#[cfg(test)]
+mod calls;
+#[cfg(test)]
+mod encoding;
+#[cfg(test)]
+mod flushes;
+#[cfg(test)]
+mod gates;
+#[cfg(test)]
+mod operands;
+#[cfg(test)]
+mod rows;
+#[cfg(test)]
+mod threads;
