@@ -1,5 +1,5 @@
 # shellcheck shell=bash disable=SC2154
-# Functions of ./slate: how its program is run, and what a person is told behind it. Source this file behind program.sh. Where standard error
+# Functions of ./slate, ./slate_index and ./slate_queue: how their program is run, and what a person is told behind it. Source this file behind program.sh. Where standard error
 # is no terminal nothing is told, and the proved program takes the place of ./slate.
 
 # What is known of the line at status 3.
@@ -63,7 +63,7 @@ run_watched() {
         "$program" "$@"
         status=$?
     fi
-    ((status != 3)) || [[ -z $kept ]] || find_bad <"$kept"
+    ((status != 3)) || [[ -z $kept || $program_name != slate ]] || find_bad <"$kept"
     end_with "$status" "$@"
 }
 
@@ -78,13 +78,14 @@ run_unproved() {
     try_folder=$(mktemp -d) || give_up "no folder for a run"
     trap 'rm -rf "$try_folder"' EXIT
     : >"$try_folder/input"
-    case $#:${1-} in
-    0: | 1:--help | 1:-h | 1:--version) ;;
-    *)
+    case $program_name:$#:${1-} in
+    slate:0: | slate:1:--help | slate:1:-h | slate:1:--version) ;;
+    slate:*)
         cat >"$try_folder/input" || end_with 5
         # rt runs the program in a folder of its own, and the folder of a word is the caller's.
         [[ -z $1 || $1 == - || $1 == /* ]] || words[0]=$PWD/$1
         ;;
+    *) cat >"$try_folder/input" || end_with 5 ;;
     esac
     (($(wc -c <"$try_folder/input") < most_input)) || give_up "a script of 64 MiB or more needs the proved program"
     (cd "$top/crates/$program_name" && exec rt try -- "${words[@]}") \
@@ -95,6 +96,6 @@ run_unproved() {
         give_up "the unproved run gave no answer"
     fi
     cat "$try_folder/output" || end_with 6
-    ((status != 3)) || find_bad <"$try_folder/input"
+    ((status != 3)) || [[ $program_name != slate ]] || find_bad <"$try_folder/input"
     end_with "$status" "$@"
 }

@@ -97,7 +97,7 @@ values r cs k = option_map operand (shown (combine_at r k) (key_rows r k cs))
 same_le : (a b : ℕ) → a ≡ b → a ≤ b
 same_le a b e = omega arith
 
-values_here : (r : Rules) (cs : List Commit) (n : ℕ) (k : List ℕ) → Counts r.start_seq cs → last_of r.start_seq cs ≤ n → values_at r cs n k ≡ values r cs k
+pub values_here : (r : Rules) (cs : List Commit) (n : ℕ) (k : List ℕ) → Counts r.start_seq cs → last_of r.start_seq cs ≤ n → values_at r cs n k ≡ values r cs k
 values_here r cs n k counts l = ap (λ xs. option_map operand (shown (combine_at r k) (key_rows r k xs))) (all_up_to r.start_seq n cs counts l)
 
 -- what stands behind a commit that puts and deletes

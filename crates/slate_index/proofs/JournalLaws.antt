@@ -1,8 +1,7 @@
 -- On an audited journal whose transcripts are vouched each commit changes a record from the value that stands, and so the entries are those of the records.
-use Rattle.std.proofs.Common.{◌≡◌, ℕ, ◌+◌, ◌≤◌, Bool, true, false, cond, leb, List, [], ◌∷◌, ◌++◌, bytes_eq, Option, Some, None, is_some, refl, sym, ap, subst, ◌∙◌, arith, append-nil}
+use Rattle.std.proofs.Common.{◌≡◌, ℕ, ◌+◌, ◌≤◌, Bool, true, false, cond, leb, List, [], ◌∷◌, ◌++◌, bytes_eq, Option, is_some, refl, sym, ap, subst, ◌∙◌, arith, append-nil}
 use Rattle.std.proofs.lemmas.Bool.Decides.{nat_tests}
 use Rattle.std.proofs.lemmas.Slice.Eq.{bytes_eq-Decides}
-use Rattle.slate_txn.specs.declared.event.Event.{Event}
 use Rattle.slate_txn.specs.declared.event.TranscriptStep.{TranscriptStep}
 use Rattle.slate_txn.specs.State.{Rules, Commit, last_of}
 use Rattle.slate_txn.specs.Reads.{up_to}
@@ -13,7 +12,7 @@ use Rattle.slate_txn.proofs.Growing.{all_up_to, up_to_more}
 use Rattle.slate_txn.proofs.KindLaws.{holds_of_all}
 use Rattle.slate_index.specs.Entries.{FieldsModel, record_key}
 use Rattle.slate_index.specs.Changes.{Values, changed, change_puts, HasEntries}
-use Rattle.slate_index.specs.Commits.{IsPlainName, IsChange, value_of, change_ops}
+use Rattle.slate_index.specs.Commits.{IsPlainName, value_of}
 use Rattle.slate_index.specs.Journals.{change_kind}
 use Rattle.slate_index.specs.Laws.{EntriesAreThoseOfRecords, RecordsHaveNames}
 use Rattle.slate_index.proofs.Following.{follow, at_first, at_record}

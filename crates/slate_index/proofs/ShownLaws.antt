@@ -1,6 +1,5 @@
 -- A commit that changes a record shows the change.
-use Rattle.std.proofs.Common.{◌≡◌, ℕ, suc, ◌+◌, ◌<◌, Bool, true, false, cond, not, ◌||◌, ◌&&◌, List, [], ◌∷◌, ◌++◌, map, filter, flat_map, length, take, drop, get_or, bytes_eq, Option, Some, None, refl, sym, ap, subst, ◌∙◌, add-one}
-use Rattle.std.proofs.lemmas.Slice.Eq.{bytes_eq-Decides}
+use Rattle.std.proofs.Common.{◌≡◌, ℕ, ◌+◌, ◌<◌, Bool, true, false, cond, not, ◌||◌, ◌&&◌, List, [], ◌∷◌, ◌++◌, map, filter, flat_map, length, take, drop, get_or, bytes_eq, Option, Some, None, refl, sym, ap, subst, ◌∙◌, add-one}
 use Rattle.std.proofs.lemmas.List.{get_or-map}
 use Rattle.std.proofs.Math.Seq.{drop-cons, take-suc}
 use Rattle.slate_types.specs.declared.config.IsolationLevel.{IsolationLevel}
@@ -11,10 +10,10 @@ use Rattle.slate_types.proofs.KeyOrder.{bytes_eq_same}
 use Rattle.slate_mem.specs.declared.WriteOp.{WriteOp}
 use Rattle.slate_mem.specs.Batch.{Ops, batch_keys, kept, kept_ops}
 use Rattle.slate_txn.specs.declared.event.TranscriptStep.{TranscriptStep}
-use Rattle.slate_txn.specs.declared.event.TranscriptStep.TheVariants.{Get, Scan, Next, Seek, View, Own}
+use Rattle.slate_txn.specs.declared.event.TranscriptStep.TheVariants.{Get, Own}
 use Rattle.slate_index.specs.Entries.{FieldsModel, record_key, entries_if}
 use Rattle.slate_index.specs.Changes.{deletes, entry_puts, change_puts}
-use Rattle.slate_index.specs.Commits.{IsPlainName, op_of, change_ops, own_steps, value_of, IsChange}
+use Rattle.slate_index.specs.Commits.{op_of, change_ops, own_steps, value_of, IsChange}
 use Rattle.slate_index.specs.Shown.{value_put, new_shown, later_or, last_at, left_of, left_at, left_by, steps_of, IsMadeOf, ShowsChange}
 use Rattle.slate_index.proofs.CommitLaws.{final, or_else, where_is, listed, kept_of}
 use Rattle.slate_index.proofs.Following.{gone_is, no_entry}

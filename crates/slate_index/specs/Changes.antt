@@ -4,7 +4,7 @@
 --     change_puts fs id old new      what a change puts and deletes: the old entries that the new value hasn't go, and the record and the new entries come
 --     HasRecord fs m k      a record stands whose entry has this key
 --     HasEntries fs m      the keys that begin with x are the entries of the records, and hold nothing
-use Rattle.std.specs.Prelude.{◌≡◌, ℕ, Bool, true, not, if◌then◌else◌, List, [], ◌∷◌, ◌++◌, map, filter, Option, Some, None, is_some, bytes_eq}
+use Rattle.std.specs.Prelude.{◌≡◌, ℕ, true, not, if◌then◌else◌, List, [], ◌∷◌, ◌++◌, map, filter, Option, Some, None, is_some, bytes_eq}
 use Rattle.slate_types.specs.Keys.{among}
 use Rattle.slate_index.specs.Entries.{FieldsModel, record_key, entries_of, entries_if, is_entry_key}
 

@@ -3,6 +3,7 @@
 --     record_key id      where a record stands
 --     escaped field      the field with each byte 0 followed by 255
 --     entry_key n field id      where an entry stands
+--     entry_prefix n field      what the keys of all entries with this field begin with
 --     entry_where n id field      the entry of one index, where it has a field of at most 1024 bytes
 --     entries_of fs id v, entries_if fs id o      the entries of a record, by its value, and none where there is no value
 --     is_entry_key k      the key begins with x
@@ -25,6 +26,10 @@ escaped field = flat_map escaped_byte field
 -- x, the index's number, the field, 0 and 1, and the id
 abbrev pub entry_key : ℕ → List ℕ → List ℕ → List ℕ
 entry_key n field id = 120 ∷ n ∷ (escaped field ++ (0 ∷ 1 ∷ id))
+
+-- the same without an id
+abbrev pub entry_prefix : ℕ → List ℕ → List ℕ
+entry_prefix n field = 120 ∷ n ∷ (escaped field ++ (0 ∷ 1 ∷ []))
 
 -- the longest field that an index has
 abbrev pub longest_field : ℕ

@@ -1,13 +1,14 @@
 -- Laws, each the contract of a function of `laws`.
---     EntriesTell      of the keys of entries
+--     EntriesTell, PrefixesTell      of the keys of entries
 --     EntriesAreThoseOfRecords      on an audited journal with vouched transcripts
 --     RecordsHaveNames      there each record's id is a name
-use Rattle.std.specs.Prelude.{◌≡◌, ℕ, true, List, is_some}
+use Rattle.std.specs.Prelude.{◌≡◌, ℕ, true, nat_eq, List, is_some}
+use Rattle.std.specs.List.{starts_with}
 use Rattle.slate_txn.specs.declared.event.Event.{Event}
 use Rattle.slate_txn.specs.State.{Rules}
 use Rattle.slate_txn.specs.Replay.{replay}
 use Rattle.slate_txn.specs.Vouched.{AreVouched}
-use Rattle.slate_index.specs.Entries.{FieldsModel, record_key, entry_key}
+use Rattle.slate_index.specs.Entries.{FieldsModel, record_key, entry_key, entry_prefix}
 use Rattle.slate_index.specs.Changes.{HasEntries}
 use Rattle.slate_index.specs.Commits.{IsPlainName}
 use Rattle.slate_index.specs.Journals.{AreAuditedChanges, values_at}
@@ -15,6 +16,10 @@ use Rattle.slate_index.specs.Journals.{AreAuditedChanges, values_at}
 -- An entry's key tells the number of its index, its field and its record's id.
 abbrev pub EntriesTell : Type 0
 EntriesTell = (n o : ℕ) (f g id other : List ℕ) → entry_key n f id ≡ entry_key o g other → (n ≡ o) × (f ≡ g) × (id ≡ other)
+
+-- An entry's key that begins with a field's prefix is of that field.
+abbrev pub PrefixesTell : Type 0
+PrefixesTell = (n o : ℕ) (f g id : List ℕ) → starts_with nat_eq (entry_key o g id) (entry_prefix n f) ≡ true → (o ≡ n) × (g ≡ f)
 
 -- The keys that begin with x are just the entries of the records, at each sequence.
 abbrev pub EntriesAreThoseOfRecords : Type 0

@@ -5,4 +5,12 @@ pub mod Changes
 pub mod Commits
 pub mod Journals
 pub mod Shown
+pub mod Finds
+pub mod Refusals
+pub mod Script
+pub mod Calls
+pub mod Taken
+pub mod Looking
+pub mod Running
+pub mod Words
 pub mod Laws

@@ -1,17 +1,20 @@
 //! The entries of records, and what a change puts and deletes.
-ghost use Rattle.std.specs.Prelude.{◌≡◌, ◌++◌, not, filter, option_copied, IfOk, IsOkUnless, OnOk};
+ghost use Rattle.std.specs.Prelude.{◌≡◌, ◌⊎◌, ◌++◌, None, Some, not, filter, option_copied, IfErr, IfOk, IsOkUnless, OnOk};
 ghost use Rattle.slate_types.specs.declared.error.SlateDBError.{SlateDBError};
 ghost use Rattle.slate_types.specs.Keys.{among};
+ghost use Rattle.slate_index.specs.declared.error.IndexError.{IndexError};
 ghost use Rattle.slate_index.specs.Changes.{change_puts, deletes, entry_puts};
-ghost use Rattle.slate_index.specs.Commits.{change_ops, op_of};
+ghost use Rattle.slate_index.specs.Commits.{change_ops, op_of, value_of};
 ghost use Rattle.slate_index.specs.Entries.{entries_if, entries_of, entry_where};
+ghost use Rattle.slate_index.specs.Refusals.{delete_refusal};
 
+use crate::error::IndexError;
 use crate::fields::Fields;
 use crate::keys::{entry_key, record_key};
 use crate::name::Name;
 use bytes::Bytes;
 use slate_mem::WriteOp;
-use slate_types::{PutOptions, SlateDBError};
+use slate_types::{KeyValue, PutOptions, SlateDBError};
 use std::alloc::{AllocError, Global};
 
 /// The longest field that gets an entry.
@@ -42,6 +45,38 @@ pub fn change_ops<F: Fields>(
     ops.push((key, op))?;
     push_puts(&mut ops, news)?;
     Ok(ops)
+}
+
+/// What a change of a record puts and deletes, from the row that stands, and that there is one or a new value.
+pub(crate) fn ops_of<F: Fields>(
+    alloc: Global,
+    fields: &F,
+    id: &Name,
+    row: &Option<KeyValue>,
+    new: Option<&Bytes>,
+) -> Result<Vec<(Bytes, WriteOp)>, IndexError>
+    ensures ops { IfOk result (λ ops. ops.items ≡ change_ops (change_puts (F.model fields.now) id.now (value_of row.now) (option_copied new.entry))) }
+    ensures passes { OnOk result (option_copied new.entry ≡ None → delete_refusal id.now (value_of row.now) ≡ None) }
+    ensures cause { IfErr result (λ e. ((option_copied new.entry ≡ None) × (delete_refusal id.now (value_of row.now) ≡ Some e)) ⊎ (e ≡ IndexError.Db SlateDBError.OutOfMemory)) }
+{
+    let old = match row {
+        Some(row) => Some(&row.value),
+        None => None,
+    };
+    if old.is_none() && new.is_none() {
+        return Err(no_record(alloc, id));
+    }
+    change_ops(alloc, fields, id, old, new).map_err(IndexError::Db)
+}
+
+/// That no record has the id.
+fn no_record(alloc: Global, id: &Name) -> IndexError
+    ensures { (result ≡ IndexError.NoRecord id.now) ⊎ (result ≡ IndexError.Db SlateDBError.OutOfMemory) }
+{
+    match Bytes::copy_from_slice(alloc, id.as_slice()) {
+        Ok(id) => IndexError::NoRecord { id },
+        Err(error) => IndexError::from(error),
+    }
 }
 
 /// The put of the value, or a delete.

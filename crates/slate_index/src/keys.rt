@@ -1,9 +1,13 @@
 //! Where records and entries stand.
-ghost use Rattle.std.specs.Prelude.{◌≡◌, ◌∷◌, ◌++◌, flat_map, IfOk, OnOk};
-ghost use Rattle.slate_index.specs.Entries.{entry_key, escaped_byte, record_key};
+ghost use Rattle.std.specs.Prelude.{◌≡◌, ◌∷◌, ◌++◌, [], flat_map, IfOk, IsOkUnless, OnOk};
+ghost use Rattle.std.specs.List.{cons_option};
+ghost use Rattle.slate_types.specs.declared.error.SlateDBError.{SlateDBError};
+ghost use Rattle.slate_index.specs.Entries.{entry_key, entry_prefix, escaped_byte, record_key};
+ghost use Rattle.slate_index.specs.Finds.{name_behind, names_behind};
 
 use crate::name::Name;
 use bytes::Bytes;
+use slate_types::SlateDBError;
 use std::alloc::{AllocError, Global};
 
 /// Where the record of an id stands.
@@ -25,6 +29,19 @@ pub fn entry_key(alloc: Global, number: u8, field: &[u8], id: &Name) -> Result<B
     key.push(number)?;
     push_escaped(&mut key, field)?;
     push_end(&mut key, id)?;
+    Bytes::from_vec(key).map_err(AllocError::from)
+}
+
+/// What the keys of all entries with this field begin with, in the index of this number.
+pub fn entry_prefix(alloc: Global, number: u8, field: &[u8]) -> Result<Bytes, AllocError>
+    ensures { IfOk result (λ key. key ≡ entry_prefix number field.now) }
+{
+    let mut key = Vec::new(alloc);
+    key.push(b'x')?;
+    key.push(number)?;
+    push_escaped(&mut key, field)?;
+    key.push(0)?;
+    key.push(1)?;
     Bytes::from_vec(key).map_err(AllocError::from)
 }
 
@@ -55,4 +72,52 @@ fn push_end(key: &mut Vec<u8>, id: &Name) -> Result<(), AllocError>
 {
     key.extend_from_slice(&[0, 1])?;
     key.extend_from_slice(id.as_slice())
+}
+
+/// The ids behind the prefix in keys, where they are names.
+pub(crate) fn names_behind(
+    alloc: Global,
+    prefix: &[u8],
+    keys: Vec<Bytes>,
+) -> Result<Vec<Name>, SlateDBError>
+    ensures names { IfOk result (λ ids. ids.items ≡ names_behind prefix.now keys.items) }
+    ensures memory { IsOkUnless result SlateDBError.OutOfMemory }
+{
+    let ids = push_names(alloc, prefix, keys.as_slice());
+    drop(keys);
+    match ids {
+        Ok(ids) => Ok(ids),
+        Err(error) => Err(SlateDBError::from(error)),
+    }
+}
+
+fn push_names(alloc: Global, prefix: &[u8], keys: &[Bytes]) -> Result<Vec<Name>, AllocError>
+    ensures names { IfOk result (λ ids. ids.items ≡ names_behind prefix.now keys.now) }
+{
+    let mut ids = Vec::new(alloc);
+    for key in keys {
+        let id = name_behind(alloc, prefix, key)?;
+        push_name(&mut ids, id)?;
+    }
+    Ok(ids)
+}
+
+/// Appends the id, where there is one.
+fn push_name(ids: &mut Vec<Name>, id: Option<Name>) -> Result<(), AllocError>
+    ensures { OnOk result (ids.new.items ≡ ids.old.items ++ cons_option id []) }
+{
+    match id {
+        Some(id) => ids.push(id).map_err(AllocError::from),
+        None => Ok(()),
+    }
+}
+
+/// The id behind the prefix in a key, where it is a name.
+fn name_behind(alloc: Global, prefix: &[u8], key: &Bytes) -> Result<Option<Name>, AllocError>
+    ensures name { IfOk result (λ id. id ≡ name_behind prefix.now key.now) }
+{
+    match key.as_slice().strip_prefix(prefix) {
+        Some(id) => Ok(Name::new(Bytes::copy_from_slice(alloc, id)?)),
+        None => Ok(None),
+    }
 }

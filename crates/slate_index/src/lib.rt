@@ -6,15 +6,24 @@
 #![tactic(auto)]
 
 pub mod audit;
+pub mod change;
 pub mod comma;
 pub mod entries;
 pub mod error;
 pub mod fields;
 pub mod keys;
 pub mod laws;
+pub mod line;
+pub mod lookups;
 pub mod name;
+mod refusals;
+mod reply;
+pub mod run;
 
+pub use change::{delete_record, put_record};
 pub use comma::Comma;
 pub use error::IndexError;
 pub use fields::Fields;
+pub use lookups::lookup;
 pub use name::Name;
+pub use run::run_index;

@@ -1,5 +1,5 @@
 //! Names of records.
-ghost use Rattle.std.specs.Prelude.{◌≡◌, IfSome, is_some};
+ghost use Rattle.std.specs.Prelude.{◌≡◌, true, IfSome, is_some};
 ghost use Rattle.std.specs.List.{list_all};
 ghost use Rattle.slate_index.specs.Names.{is_letter_or_digit, is_plain_name};
 
@@ -34,6 +34,13 @@ impl Name {
         } else {
             None
         }
+    }
+
+    /// That its bytes are a name. It does nothing.
+    pub fn is_named(&self)
+        ensures { is_plain_name self.now ≡ true }
+    {
+        let _ = &self.text;
     }
 
     /// Its bytes.

@@ -14,6 +14,7 @@ use Rattle.slate_txn.specs.Laws.{Counts, shown_after}
 use Rattle.slate_txn.proofs.Growing.{commit_shows, last_more}
 use Rattle.slate_queue.specs.Stored.{Job, counter_key, job_key, id_of, lease_of, number_bytes, number_of, job_bytes}
 use Rattle.slate_queue.specs.Jobs.{new_job}
+pub use Rattle.slate_queue.specs.Standing.{value_at}
 use Rattle.slate_queue.specs.Commits.{put_of, added}
 
 -- ---- numbers
@@ -66,10 +67,6 @@ added_kept id payload = ap by (same_bytes (job_key id))
     by b = map (λ o. (job_key id, o)) (from_last replaces (map (λ (o : List ℕ × WriteOp). o.1) (cond b ((job_key id, put_of (job_bytes (new_job payload))) ∷ []) []))) ++ ((counter_key, put_of (number_bytes id)) ∷ [])
 
 -- ---- what a commit leaves at a key
-
--- the bytes that stand at a key, behind all commits
-abbrev pub value_at : Rules → List Commit → List ℕ → Option (List ℕ)
-value_at r cs k = option_map operand (state_at r cs (last_of r.start_seq cs) k)
 
 -- what is left at a key by what a commit keeps of it
 abbrev pub left_by : List WriteOp → Option (List ℕ) → Option (List ℕ)

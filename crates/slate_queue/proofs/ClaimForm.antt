@@ -45,12 +45,12 @@ none_later (negsuc b) f = refl
 ends_there : (now e : ℤ) → SFits w64 e → int_le now e ≡ true → lease_end now (gap now e) ≡ e
 ends_there now e f h = ap (λ z. cond (int_lt last_moment z) last_moment z) (goes_to now e h) ∙ ap (λ t. cond t last_moment e) (none_later e f)
 
-sum_fits : (now : ℤ) (ms : ℕ) (z : ℤ) → SFits w64 now → now +ℤ pos ms ≡ z → int_lt last_moment z ≡ false → SFits w64 z
+pub sum_fits : (now : ℤ) (ms : ℕ) (z : ℤ) → SFits w64 now → now +ℤ pos ms ≡ z → int_lt last_moment z ≡ false → SFits w64 z
 sum_fits now ms (pos n) f e h = record { sfits = grind (arith, nat_tests) }
 sum_fits (pos a) ms (negsuc n) f e h = absurd (omega (arith, ints))
 sum_fits (negsuc a) ms (negsuc n) f e h = let x : a < 2 ^ 63 = f.sfits in record { sfits = omega (arith, ints) }
 
-end_fits : (now : ℤ) (ms : ℕ) → SFits w64 now → SFits w64 (lease_end now ms)
+pub end_fits : (now : ℤ) (ms : ℕ) → SFits w64 now → SFits w64 (lease_end now ms)
 end_fits now ms f = by (int_lt last_moment (now +ℤ pos ms)) refl
   where
     by : (t : Bool) → int_lt last_moment (now +ℤ pos ms) ≡ t → SFits w64 (cond t last_moment (now +ℤ pos ms))
@@ -89,7 +89,7 @@ behind_sixteen : (m n : ℕ) (xs : List ℕ) → drop 16 (number_bytes m ++ (num
 unfolding number_bytes
 behind_sixteen m n xs = refl
 
-job_again : (j : Job) → j.lease < 2 ^ 64 → SFits w64 j.ends → job_of (job_bytes j) ≡ Some j
+pub job_again : (j : Job) → j.lease < 2 ^ 64 → SFits w64 j.ends → job_of (job_bytes j) ≡ Some j
 job_again j h f = job_long (job_bytes j) long ∙ ap Some (λ i. record { lease = lease_again j h i; ends = end i; payload = behind_sixteen j.lease bits j.payload i })
   where
     bits : ℕ

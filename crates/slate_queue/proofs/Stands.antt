@@ -40,16 +40,16 @@ pub record DoesOne (r : Rules) (cs : List Commit) (c : Commit) (ts : List Transc
   pub does : Does j deed
   pub stands : Stands r (cs ++ (c ∷ [])) (done_by j deed)
 
-some_is : {X : Type 0} (a b : X) → Some a ≡ Some b → a ≡ b
+pub some_is : {X : Type 0} (a b : X) → Some a ≡ Some b → a ≡ b
 some_is a b e = cc
 
 -- ---- what is read
 
-sees_the_state : (r : Rules) (cs : List Commit) (n : ℕ) (k : List ℕ) → seen r cs n [] k ≡ state_at r cs n k
+pub sees_the_state : (r : Rules) (cs : List Commit) (n : ℕ) (k : List ℕ) → seen r cs n [] k ≡ state_at r cs n k
 sees_the_state r cs n k = ap (shown (combine_at r k)) (append-nil (key_rows r k (up_to n cs)))
 
 -- a get of a reader that has nothing of its own
-value_read : (r : Rules) (cs : List Commit) (k : List ℕ) (answer : Option KeyValue) → answer ≡ option_map key_value (seen r cs (last_of r.start_seq cs) [] k) → option_map (λ kv. kv.value) answer ≡ value_at r cs k
+pub value_read : (r : Rules) (cs : List Commit) (k : List ℕ) (answer : Option KeyValue) → answer ≡ option_map key_value (seen r cs (last_of r.start_seq cs) [] k) → option_map (λ kv. kv.value) answer ≡ value_at r cs k
 value_read r cs k answer e = ap (option_map (λ kv. kv.value)) (e ∙ ap (option_map key_value) (sees_the_state r cs (last_of r.start_seq cs) k)) ∙ by (state_at r cs (last_of r.start_seq cs) k)
   where
     by : (o : Option RowEntry) → option_map (λ kv. kv.value) (option_map key_value o) ≡ option_map operand o
@@ -57,7 +57,7 @@ value_read r cs k answer e = ap (option_map (λ kv. kv.value)) (e ∙ ap (option
     by (Some row) = refl
 
 -- a row of a scan stands at its key
-row_read : (r : Rules) (cs : List Commit) (row : KeyValue) → IsOfRow (seen r cs (last_of r.start_seq cs) []) row → value_at r cs row.key ≡ Some row.value
+pub row_read : (r : Rules) (cs : List Commit) (row : KeyValue) → IsOfRow (seen r cs (last_of r.start_seq cs) []) row → value_at r cs row.key ≡ Some row.value
 row_read r cs row h =
     ap (option_map operand) (sym (sees_the_state r cs (last_of r.start_seq cs) row.key) ∙ ap (seen r cs (last_of r.start_seq cs) []) (ap (λ kv. kv.key) h.is) ∙ h.stands)
     ∙ ap (λ kv. Some kv.value) (sym h.is)
@@ -68,16 +68,16 @@ last_of_rows P (x ∷ kvs) kv h = last_of_rows P kvs kv h.1
 
 -- ---- what a change leaves
 
-abbrev left_of : WriteOp → Option (List ℕ)
+abbrev pub left_of : WriteOp → Option (List ℕ)
 left_of (Put v o) = Some v
 left_of _ = None
 
-abbrev IsPutOrDelete : WriteOp → Type 0
+abbrev pub IsPutOrDelete : WriteOp → Type 0
 IsPutOrDelete (Put v o) = Unit {0}
 IsPutOrDelete Delete = Unit {0}
 IsPutOrDelete _ = ⊥
 
-one_left : (r : Rules) (cs : List Commit) (c : Commit) (k : List ℕ) (op : WriteOp) (j : List ℕ) → Counts r.start_seq cs → c.seq ≡ last_of r.start_seq cs + 1 → c.ops ≡ kept_ops ((k, op) ∷ []) → IsPutOrDelete op →
+pub one_left : (r : Rules) (cs : List Commit) (c : Commit) (k : List ℕ) (op : WriteOp) (j : List ℕ) → Counts r.start_seq cs → c.seq ≡ last_of r.start_seq cs + 1 → c.ops ≡ kept_ops ((k, op) ∷ []) → IsPutOrDelete op →
     value_at r (cs ++ (c ∷ [])) j ≡ cond (bytes_eq k j) (left_of op) (value_at r cs j)
 one_left r cs c k op j counts next is plain = leaves r cs c ((k, op) ∷ []) j counts next is (fits op plain (bytes_eq k j)) ∙ by op plain (bytes_eq k j)
   where
@@ -103,14 +103,14 @@ other_counter : (id : ℕ) → bytes_eq (job_key id) counter_key ≡ false
 other_counter id = refl
 
 -- by whether the ids are one
-by_id : {P : Type 0} (a b : ℕ) → (nat_eq a b ≡ true → a ≡ b → P) → (nat_eq a b ≡ false → a ≢ b → P) → P
+pub by_id : {P : Type 0} (a b : ℕ) → (nat_eq a b ≡ true → a ≡ b → P) → (nat_eq a b ≡ false → a ≢ b → P) → P
 by_id {P} a b f g = on (nat_eq a b) refl
   where
     on : (t : Bool) → nat_eq a b ≡ t → P
     on true e = f e (grind (arith, nat_tests))
     on false e = g e (grind (arith, nat_tests))
 
-keys_apart : (a b : ℕ) → a < 2 ^ 64 → b < 2 ^ 64 → a ≢ b → bytes_eq (job_key a) (job_key b) ≡ false
+pub keys_apart : (a b : ℕ) → a < 2 ^ 64 → b < 2 ^ 64 → a ≢ b → bytes_eq (job_key a) (job_key b) ≡ false
 keys_apart a b ha hb other = by (bytes_eq (job_key a) (job_key b)) refl
   where
     by : (t : Bool) → bytes_eq (job_key a) (job_key b) ≡ t → t ≡ false
@@ -132,7 +132,7 @@ counter_one r cs c j id op counts next is plain s = ap counter_in (one_left r cs
 
 -- ---- one commit more
 
-same_le : (x y : ℕ) → x ≡ y → x ≤ y
+pub same_le : (x y : ℕ) → x ≡ y → x ≤ y
 same_le x y e = omega arith
 
 lease_of_job : (value : List ℕ) (job : Job) → job_of value ≡ Some job → lease_of value ≡ job.lease

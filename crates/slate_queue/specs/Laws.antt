@@ -3,16 +3,20 @@
 --     EachShowsADeed      each commit with a sequence adds, claims or finishes a job
 --     ClaimedOnce, AddedOnce, FinishedOnce      no commit before did the same
 --     FinishesNameTheLastLease      a finish names the lease of the last claim before it
-use Rattle.std.specs.Prelude.{◌≡◌, ◌≢◌, ℕ, ℤ, false, List, ◌∷◌, ◌++◌, Some, IsSome}
+--     ClaimsReadUpToTheirJob      a claim that was answered as a reader is reads no key behind that of the job that it takes
+use Rattle.std.specs.Prelude.{◌≡◌, ◌≢◌, ℕ, ℤ, false, true, List, ◌∷◌, ◌++◌, Some, IsSome}
 use Rattle.slate_mem.specs.Batch.{Ops}
 use Rattle.slate_txn.specs.declared.event.Event.{Event}
 use Rattle.slate_txn.specs.declared.event.Event.TheVariants as events
 use Rattle.slate_txn.specs.declared.event.TranscriptStep.{TranscriptStep}
-use Rattle.slate_txn.specs.State.{Rules}
+use Rattle.slate_types.specs.Keys.{key_lt}
+use Rattle.slate_txn.specs.Alone.{IsAlone}
+use Rattle.slate_txn.specs.State.{Commit, Rules}
+use Rattle.slate_txn.specs.Tracking.{is_read, reads_of}
 use Rattle.slate_txn.specs.Replay.{IsLegal}
 use Rattle.slate_txn.specs.Vouched.{AreVouched}
 use Rattle.slate_txn.specs.Audited.{AreOfKind}
-use Rattle.slate_queue.specs.Commits.{IsQueueCommit}
+use Rattle.slate_queue.specs.Commits.{IsClaim, IsQueueCommit}
 use Rattle.slate_queue.specs.Deeds.{Deed, deed_of, deeds_of, adds, claims, finishes, any_deed, last_lease}
 
 pub record IsAudited (n0 : ℕ) (es : List Event) : Type 0 where
@@ -46,3 +50,8 @@ FinishedOnce = (r : Rules) (before : List Event) (id lease : ℕ) → Shows r be
 -- A finish names the lease of the last claim of its job, and there was one.
 abbrev pub FinishesNameTheLastLease : Type 0
 FinishesNameTheLastLease = (r : Rules) (before : List Event) (id lease : ℕ) → Shows r before (Deed.finished id lease) → (last_lease id 0 (deeds_of before) ≡ lease) × (lease ≢ 0)
+
+-- A claim that was answered as a reader is reads no key behind that of the job that it takes: no job with a greater id, and no counter.
+abbrev pub ClaimsReadUpToTheirJob : Type 0
+ClaimsReadUpToTheirJob = (r : Rules) (cs : List Commit) (n : ℕ) (now : ℤ) (ops : Ops) (tracked : List (List ℕ)) (ts : List TranscriptStep) (claim : IsClaim now ops tracked ts) (k : List ℕ) →
+    IsAlone r cs n ts → key_lt claim.row.key k ≡ true → is_read (reads_of ts) k ≡ false

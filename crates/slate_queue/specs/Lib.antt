@@ -5,3 +5,11 @@ pub mod Deeds
 pub mod Feed
 pub mod Forms
 pub mod Laws
+pub mod Standing
+pub mod FirstFree
+pub mod Script
+pub mod CallSteps
+pub mod Calls
+pub mod Walks
+pub mod Runs
+pub mod Words

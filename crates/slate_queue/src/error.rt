@@ -35,3 +35,14 @@ impl From<AllocError> for QueueError {
         QueueError::Db(SlateDBError::OutOfMemory)
     }
 }
+
+impl From<SlateDBError> for QueueError {
+    ghost use Rattle.std.specs.Prelude.{◌≡◌};
+    ghost use Rattle.slate_queue.specs.declared.error.QueueError.TheVariants.{Db};
+
+    ghost from_gives = { λ error e. e ≡ Db error };
+
+    fn from(error: SlateDBError) -> QueueError {
+        QueueError::Db(error)
+    }
+}

@@ -1,7 +1,15 @@
 //! Jobs and numbers as they are stored.
-ghost use Rattle.std.specs.Prelude.{◌≡◌, Some, None, nat_eq, if◌then◌else◌, length, option_map, bytes_eq, drop, ◌≤◌, ◌&&◌, IfSome};
+ghost use Rattle.std.specs.Prelude.{◌≡◌, ◌⊎◌, Some, None, false, nat_eq, if◌then◌else◌, length, option_map, bytes_eq, drop, ◌≤◌, ◌&&◌, IfOk, IfSome};
+ghost use Rattle.slate_types.specs.declared.error.SlateDBError.{SlateDBError};
+ghost use Rattle.slate_queue.specs.declared.error.QueueError.{QueueError};
 ghost use Rattle.slate_queue.specs.Forms.{IsRewritten, has_job_key, head_of, is_claimed, is_held, is_leased, is_new_job, follows, frees, raises};
-ghost use Rattle.slate_queue.specs.Stored.{is_job_key, job_key, job_of, number_bytes, number_of};
+ghost use Rattle.slate_queue.specs.Standing.{job_in};
+ghost use Rattle.slate_queue.specs.CallSteps.{HasLease};
+ghost use Rattle.slate_queue.specs.Stored.{Job, is_job_key, job_bytes, job_key, job_of, number_bytes, number_of};
+
+use crate::error::QueueError;
+use bytes::Bytes;
+use std::alloc::{AllocError, Global};
 
 /// The lease of a stored job: its number, and its end in milliseconds.
 #[derive(Clone, Copy)]
@@ -36,7 +44,7 @@ pub(crate) fn lease_in(job: &[u8]) -> Option<LeaseHead>
 }
 
 /// Whether a claim at the moment may take a job under this lease.
-fn is_free(now: i64, lease: LeaseHead) -> bool
+pub(crate) fn is_free(now: i64, lease: LeaseHead) -> bool
     ensures { result ≡ frees now lease }
 {
     lease.number == 0 || lease.ends <= now
@@ -143,4 +151,63 @@ pub(crate) fn number_bytes(number: u64) -> [u8; 8]
     ensures { result ≡ number_bytes number }
 {
     number.to_be_bytes()
+}
+
+/// The key of a job.
+#[tactic(auto, unfolding(crate::specs::Stored::number_bytes))]
+pub(crate) fn job_key(id: u64) -> [u8; 9]
+    ensures { result ≡ job_key id }
+{
+    let [a, b, c, d, e, f, g, h] = id.to_be_bytes();
+    [b'j', a, b, c, d, e, f, g, h]
+}
+
+/// A job as it is stored.
+#[tactic(auto, unfolding(crate::specs::Stored::number_bytes))]
+pub(crate) fn job_value(
+    alloc: Global,
+    lease: u64,
+    ends: i64,
+    payload: &[u8],
+) -> Result<Vec<u8>, AllocError>
+    ensures value { IfOk result (λ v. v.items ≡ job_bytes (record { lease = lease; ends = ends; payload = payload.now })) }
+{
+    let mut value = Vec::new(alloc);
+    value.extend_from_slice(&lease.to_be_bytes())?;
+    value.extend_from_slice(&ends.to_be_bytes())?;
+    value.extend_from_slice(payload)?;
+    Ok(value)
+}
+
+/// That what stands at the key is no job, or the counter no number.
+pub(crate) fn bad_job(alloc: Global, key: &[u8]) -> QueueError
+    ensures { (result ≡ QueueError.Db SlateDBError.OutOfMemory) ⊎ (result ≡ QueueError.BadJob key.now) }
+{
+    match Bytes::copy_from_slice(alloc, key) {
+        Ok(key) => QueueError::BadJob { key },
+        Err(error) => QueueError::from(error),
+    }
+}
+
+/// The id in a job's key. None for another key.
+pub(crate) fn job_id(key: &[u8]) -> Option<u64>
+    ensures some { IfSome result (λ id. key.now ≡ job_key id) }
+    ensures none { result ≡ None → is_job_key key.now ≡ false }
+{
+    if !is_job_key(key) {
+        return None;
+    }
+    let (_, number) = key.split_at(1);
+    number_in(number)
+}
+
+/// The lease of a stored job. None where it is shorter than 16 bytes, or longer than a value.
+pub(crate) fn job_lease(job: &[u8]) -> Option<LeaseHead>
+    ensures some { IfSome result (HasLease job.now) }
+    ensures none { result ≡ None → job_in (Some job.now) ≡ None }
+{
+    if job.len() > u32::MAX as usize {
+        return None;
+    }
+    lease_in(job)
 }

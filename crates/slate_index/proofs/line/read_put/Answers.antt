@@ -1,0 +1,20 @@
+use Rattle.std.proofs.Common.{◌∙◌, ℕ, List, ap, arith, option_map, sym}
+use Rattle.std.proofs.lemmas.Result.{IfOk-from_err}
+use Rattle.slate_index.specs.declared.line.Line.TheVariants as lines
+use Rattle.slate_index.proofs.Spelling.{put_read}
+use Rattle.slate_index.proofs.line.read_put.Goals as goal
+
+pub returns-in-Some : goal.returns-in-Some
+returns-in-Some c = record {
+  line = ap (option_map (λ (q : List ℕ × List ℕ). lines.Put q.0 q.1)) (sym c.in-Some.is)
+      ∙ put_read c.args.tokens.now c.id-item.result c.value-item.result c.in_ok-id.field-0 (omega (arith, c.in-len2.len_at_least, c.in-len2.len_below)) c.id-item.is c.value-item.is c.in_ok-id.ensures.pair;
+}
+
+pub returns-in-None : goal.returns-in-None
+returns-in-None c = record {
+  line = ap (option_map (λ (q : List ℕ × List ℕ). lines.Put q.0 q.1)) (sym c.in-None.is)
+      ∙ put_read c.args.tokens.now c.id-item.result c.value-item.result c.in_ok-id.field-0 (omega (arith, c.in-len2.len_at_least, c.in-len2.len_below)) c.id-item.is c.value-item.is c.in_ok-id.ensures.pair;
+}
+
+pub returns-in_err-id : goal.returns-in_err-id
+returns-in_err-id c = record { line = IfOk-from_err c.from_residual.result _ c.from_residual.ensures.0 }

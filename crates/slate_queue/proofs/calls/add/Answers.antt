@@ -1,0 +1,66 @@
+use Rattle.std.proofs.Common.{map, arith, refl, ap, ◌∙◌, [], ◌∷◌, w64}
+use Rattle.std.proofs.lemmas.Int.{to_z-of_z}
+use Rattle.slate_types.specs.declared.config.IsolationLevel.TheVariants.{SerializableSnapshot}
+use Rattle.slate_types.specs.declared.error.SlateDBError.TheVariants.{OutOfMemory, SequenceExhausted}
+use Rattle.slate_store.specs.Reach.{reach_of}
+use Rattle.slate_mem.specs.BatchModel.{holds_merge}
+use Rattle.slate_db.specs.Meaning.{segments_by}
+use Rattle.slate_queue.proofs.CallLaws.{committed_at, kept_before, not_exhausted}
+use Rattle.slate_queue.proofs.AddCall.{add_answered, add_not_begun, add_own, add_some, add_stopped_call, add_uncommitted, add_too_long}
+use Rattle.slate_queue.proofs.calls.add.Goals as goal
+
+pub returns-in-Err : goal.returns-in-Err
+returns-in-Err g c =
+    let policies = map (λ p. (goal.FilterPolicy-dyn g (p.vtable, p.value)).meaning p.value) c.args.laws.now.policies.items in
+    let seg = segments_by g.X.PrefixExtractor.lengths c.args.laws.now.segments in
+    let before = reach_of g.S.Store g.M.MergeOperator g.T.BlockTransformer c.args.env.now in
+    record { called = add_not_begun c.args.payload.now c.args.now policies seg before c.args.core.now c.begin.new.core c.in-Err.error c.in-Err.ensures.same c.in-Err.ensures.cause }
+
+pub returns-in-Err-add_job : goal.returns-in-Err-add_job
+returns-in-Err-add_job g c =
+    let policies = map (λ p. (goal.FilterPolicy-dyn g (p.vtable, p.value)).meaning p.value) c.args.laws.now.policies.items in
+    let seg = segments_by g.X.PrefixExtractor.lengths c.args.laws.now.segments in
+    let before = reach_of g.S.Store g.M.MergeOperator g.T.BlockTransformer c.args.env.now in
+    let middle = reach_of g.S.Store g.M.MergeOperator g.T.BlockTransformer c.add_job.new.env in
+    let h = c.in-Err-add_job.ensures.attempt c.args.core.now c.in-Ok.ensures.within in
+    record {
+      called = add_stopped_call c.args.payload.now c.args.now policies seg before middle c.args.core.now c.add_job.new.core c.rollback.new.core c.in-Ok.id c.in-Err-add_job.error (omega arith) c.add_job.ensures.reads h
+          (c.rollback.ensures.ended c.args.core.now SerializableSnapshot h.refused.steps h.refused.within);
+    }
+
+pub returns-in-Err-commit : goal.returns-in-Err-commit
+returns-in-Err-commit g c =
+    let policies = map (λ p. (goal.FilterPolicy-dyn g (p.vtable, p.value)).meaning p.value) c.args.laws.now.policies.items in
+    let seg = segments_by g.X.PrefixExtractor.lengths c.args.laws.now.segments in
+    let before = reach_of g.S.Store g.M.MergeOperator g.T.BlockTransformer c.args.env.now in
+    let middle = reach_of g.S.Store g.M.MergeOperator g.T.BlockTransformer c.add_job.new.env in
+    let after = reach_of g.S.Store g.M.MergeOperator g.T.BlockTransformer c.commit.new.env in
+    let h = c.in-Ok-add_job.ensures.attempt c.args.core.now c.in-Ok.ensures.within in
+    record {
+      called = add_uncommitted c.args.payload.now c.args.now policies seg before middle after c.args.core.now c.add_job.new.core c.commit.new.core c.in-Ok.id c.in-Ok-add_job.new c.in-Err-commit.error (omega arith) c.add_job.ensures.reads c.commit.ensures.reads h
+          (c.in-Err-commit.ensures.ended c.args.core.now SerializableSnapshot h.done.steps h.done.within)
+          (c.in-Err-commit.ensures.cause c.args.core.now SerializableSnapshot h.done.steps h.done.within c.requires.plain (ap holds_merge (add_own c.args.payload.now c.in-Ok-add_job.new h.done.steps h.done.is)));
+    }
+
+pub returns-in-Ok-commit : goal.returns-in-Ok-commit
+returns-in-Ok-commit g c =
+    let policies = map (λ p. (goal.FilterPolicy-dyn g (p.vtable, p.value)).meaning p.value) c.args.laws.now.policies.items in
+    let seg = segments_by g.X.PrefixExtractor.lengths c.args.laws.now.segments in
+    let before = reach_of g.S.Store g.M.MergeOperator g.T.BlockTransformer c.args.env.now in
+    let middle = reach_of g.S.Store g.M.MergeOperator g.T.BlockTransformer c.add_job.new.env in
+    let after = reach_of g.S.Store g.M.MergeOperator g.T.BlockTransformer c.commit.new.env in
+    let h = c.in-Ok-add_job.ensures.attempt c.args.core.now c.in-Ok.ensures.within in
+    record {
+      called = add_answered c.args.payload.now c.args.now policies seg before middle after c.args.core.now c.add_job.new.core c.commit.new.core c.in-Ok.id c.in-Ok-add_job.new c.in-Ok-commit.field-0 (omega arith) c.add_job.ensures.reads c.commit.ensures.reads h
+          (committed_at c.args.core.now c.commit.new.core c.in-Ok.id h.done.steps c.in-Ok-commit.field-0 _ c.args.now (to_z-of_z w64 c.args.now c.ranges.now) (c.in-Ok-commit.ensures.committed c.args.core.now SerializableSnapshot h.done.steps h.done.within))
+          (λ e. not_exhausted c.in-Ok-commit.field-0 SequenceExhausted OutOfMemory (c.in-Ok-commit.ensures.exhausted c.args.core.now SerializableSnapshot h.done.steps h.done.within (add_some c.args.payload.now c.in-Ok-add_job.new h.done.steps h.done.is) e))
+          (kept_before before middle c.args.core.now c.commit.new.core c.add_job.ensures.reads (c.commit.ensures.kept c.args.core.now SerializableSnapshot h.done.steps h.done.within))
+          (c.commit.ensures.segmented c.args.core.now SerializableSnapshot h.done.steps h.done.within);
+    }
+
+pub returns-then-len-gt-LONGEST : goal.returns-then-len-gt-LONGEST
+returns-then-len-gt-LONGEST g c =
+    let policies = map (λ p. (goal.FilterPolicy-dyn g (p.vtable, p.value)).meaning p.value) c.args.laws.now.policies.items in
+    let seg = segments_by g.X.PrefixExtractor.lengths c.args.laws.now.segments in
+    let before = reach_of g.S.Store g.M.MergeOperator g.T.BlockTransformer c.args.env.now in
+    record { called = add_too_long c.args.payload.now c.args.now policies seg before c.args.core.now c.len-then-len-gt-LONGEST.result c.len-then-len-gt-LONGEST.ensures.value (omega arith) }

@@ -1,0 +1,38 @@
+use Rattle.std.proofs.Common.{map}
+use Rattle.slate_store.specs.Reach.{reach_of}
+use Rattle.slate_db.specs.Meaning.{segments_by}
+use Rattle.slate_queue.specs.Jobs as model
+use Rattle.slate_queue.specs.Jobs.{Call, queue_step}
+use Rattle.slate_queue.specs.Script.{Reply, called}
+use Rattle.slate_queue.proofs.LineLaws.{finish_apart, finished_at, refused_ends, refused_text, said_text, text_ends}
+use Rattle.slate_queue.proofs.RunLaws.{goes_one}
+use Rattle.slate_queue.proofs.run.reply_finish.Goals as goal
+
+pub returns-in-Ok : goal.returns-in-Ok
+returns-in-Ok g c =
+    let policies = map (λ p. (goal.FilterPolicy-dyn g (p.vtable, p.value)).meaning p.value) c.args.laws.now.policies.items in
+    let seg = segments_by g.X.PrefixExtractor.lengths c.args.laws.now.segments in
+    let before = reach_of g.S.Store g.M.MergeOperator g.T.BlockTransformer c.args.env.now in
+    let after = reach_of g.S.Store g.M.MergeOperator g.T.BlockTransformer c.finish.new.env in
+    let d = c.finish.new.core in
+    let done = c.in-Ok.ensures.called in
+    record {
+      said = λ r at. said_text policies seg after d (called r (queue_step r.queue (Call.Finish c.args.id c.args.lease))) (Reply.Answered model.Answer.Finished) c.written.result
+          (finished_at policies seg before after c.args.core.now d c.args.id c.args.lease _ tt r at done) (c.written.ensures.text _ c.finished.ensures.text);
+      goes = goes_one policies seg before after c.args.core.now d done.reads done.keeps;
+      cause = text_ends policies seg before after c.args.core.now d c.written.result c.written.ensures.cause;
+    }
+
+pub returns-in-Err : goal.returns-in-Err
+returns-in-Err g c =
+    let policies = map (λ p. (goal.FilterPolicy-dyn g (p.vtable, p.value)).meaning p.value) c.args.laws.now.policies.items in
+    let seg = segments_by g.X.PrefixExtractor.lengths c.args.laws.now.segments in
+    let before = reach_of g.S.Store g.M.MergeOperator g.T.BlockTransformer c.args.env.now in
+    let after = reach_of g.S.Store g.M.MergeOperator g.T.BlockTransformer c.finish.new.env in
+    let d = c.finish.new.core in
+    let done = c.in-Err.ensures.called in
+    record {
+      said = λ r at. refused_text _ _ _ _ policies seg before after c.args.core.now d r at c.in-Err.error c.refuse.result done c.refuse.ensures.text;
+      goes = goes_one policies seg before after c.args.core.now d done.reads done.keeps;
+      cause = refused_ends _ _ _ _ policies seg before after c.args.core.now d (finish_apart c.args.id c.args.lease) c.in-Err.error c.refuse.result done c.refuse.ensures.cause;
+    }

@@ -1,0 +1,366 @@
+//! The queue's program.
+ghost use Rattle.std.specs.Prelude.{◌≡◌, ◌≢◌, ◌⊎◌, ◌≤◌, ◌∷◌, [], ℕ, List, Err, IfErr, IfOk, None, OnOk, Ok, Some, false, map, option_map, true};
+ghost use Rattle.slate_types.specs.Config.{IsValid};
+ghost use Rattle.slate_types.specs.declared.error.SlateDBError.{SlateDBError};
+ghost use Rattle.slate_types.specs.Faults.{Rose};
+ghost use Rattle.slate_types.specs.Outside.{IsFault, Objects, OnlyReads};
+ghost use Rattle.slate_table.specs.Filtered.{AreLawful};
+ghost use Rattle.slate_store.specs.Lines.{script_limit};
+ghost use Rattle.slate_store.specs.Run.{HasTaken, IsRunCause, LineSays, Says, WritesLine, WroteAsSaid, said_by};
+ghost use Rattle.slate_db.specs.Meaning.{IsLawfulMeaning, segments_by};
+ghost use Rattle.slate_queue.specs.declared.error.QueueError.{QueueError};
+ghost use Rattle.slate_queue.specs.Runs.{AnswersBy, Ends, EndsBy, GoesOn, IsReply, IsRunAt};
+ghost use Rattle.slate_queue.specs.Feed.{feed_of};
+ghost use Rattle.slate_queue.specs.Words.{fed_pair};
+ghost use Rattle.slate_queue.specs.Script.{Reply, Run, begun, reply_line, says, stepped, takes};
+
+use crate::calls::{add, claim, finish};
+use crate::entries::feed;
+use crate::error::QueueError;
+use crate::line::{Line, read_line};
+use crate::reply;
+use bytes::Bytes;
+use slate_db::engine::Core;
+use slate_db::laws::Laws;
+use slate_store::{Env, EnvOf, Lines, Sink, Source, Store, write_all};
+use slate_types::{BlockTransformer, MergeOperator, Outside, PrefixExtractor, SlateDBError};
+use std::alloc::{AllocError, Global};
+
+/// Answers a line that means this.
+fn reply_to<S: Store, M: MergeOperator, T: BlockTransformer, X: PrefixExtractor>(
+    alloc: Global,
+    core: &mut Core,
+    line: Line,
+    env: &mut Env<'_, S, M, T>,
+    laws: &Laws<X>,
+) -> Result<Vec<u8>, SlateDBError>
+    requires valid { IsValid laws.now.options }
+    requires plain { laws.now.segments ≡ None }
+    ensures said { let reach = ⟦<EnvOf<S, M, T> as Outside>⟧.reach in
+        let policies = map (λ p. meaning (p.vtable, p.value)) laws.now.policies.items in
+        let seg = segments_by X.lengths laws.now.segments in
+        (r : Run) → IsRunAt policies seg (reach env.old) core.old r →
+        IfOk result (λ text. IsRunAt policies seg (reach env.new) core.new (stepped r line).0 × (text.items ≡ reply_line (stepped r line).1)) }
+    ensures goes { let reach = ⟦<EnvOf<S, M, T> as Outside>⟧.reach in
+        let policies = map (λ p. meaning (p.vtable, p.value)) laws.now.policies.items in
+        GoesOn policies (segments_by X.lengths laws.now.segments) (reach env.old) (reach env.new) core.old core.new 1 }
+    ensures cause { let reach = ⟦<EnvOf<S, M, T> as Outside>⟧.reach in
+        let policies = map (λ p. meaning (p.vtable, p.value)) laws.now.policies.items in
+        IfErr result (Ends policies (segments_by X.lengths laws.now.segments) (reach env.old) (reach env.new) core.old core.new) }
+{
+    match line {
+        Line::Add { payload } => reply_add(alloc, core, payload, env, laws),
+        Line::Claim { now, ms } => reply_claim(alloc, core, now, ms, env, laws),
+        Line::Finish { id, lease } => reply_finish(alloc, core, id, lease, env, laws),
+        Line::Feed { after } => reply_feed(alloc, core, after),
+    }
+}
+
+fn reply_add<S: Store, M: MergeOperator, T: BlockTransformer, X: PrefixExtractor>(
+    alloc: Global,
+    core: &mut Core,
+    payload: Bytes,
+    env: &mut Env<'_, S, M, T>,
+    laws: &Laws<X>,
+) -> Result<Vec<u8>, SlateDBError>
+    requires valid { IsValid laws.now.options }
+    requires plain { laws.now.segments ≡ None }
+    ensures said { let reach = ⟦<EnvOf<S, M, T> as Outside>⟧.reach in
+        let policies = map (λ p. meaning (p.vtable, p.value)) laws.now.policies.items in
+        let seg = segments_by X.lengths laws.now.segments in
+        (r : Run) → IsRunAt policies seg (reach env.old) core.old r →
+        IfOk result (λ text. IsRunAt policies seg (reach env.new) core.new (stepped r (Line.Add payload)).0 × (text.items ≡ reply_line (stepped r (Line.Add payload)).1)) }
+    ensures goes { let reach = ⟦<EnvOf<S, M, T> as Outside>⟧.reach in
+        let policies = map (λ p. meaning (p.vtable, p.value)) laws.now.policies.items in
+        GoesOn policies (segments_by X.lengths laws.now.segments) (reach env.old) (reach env.new) core.old core.new 1 }
+    ensures cause { let reach = ⟦<EnvOf<S, M, T> as Outside>⟧.reach in
+        let policies = map (λ p. meaning (p.vtable, p.value)) laws.now.policies.items in
+        IfErr result (Ends policies (segments_by X.lengths laws.now.segments) (reach env.old) (reach env.new) core.old core.new) }
+{
+    let added = add(core, &payload, 0, env, laws);
+    drop(payload);
+    match added {
+        Ok(id) => written(reply::added(alloc, id)),
+        Err(error) => refuse(alloc, error),
+    }
+}
+
+fn reply_finish<S: Store, M: MergeOperator, T: BlockTransformer, X: PrefixExtractor>(
+    alloc: Global,
+    core: &mut Core,
+    id: u64,
+    lease: u64,
+    env: &mut Env<'_, S, M, T>,
+    laws: &Laws<X>,
+) -> Result<Vec<u8>, SlateDBError>
+    requires valid { IsValid laws.now.options }
+    requires plain { laws.now.segments ≡ None }
+    ensures said { let reach = ⟦<EnvOf<S, M, T> as Outside>⟧.reach in
+        let policies = map (λ p. meaning (p.vtable, p.value)) laws.now.policies.items in
+        let seg = segments_by X.lengths laws.now.segments in
+        (r : Run) → IsRunAt policies seg (reach env.old) core.old r →
+        IfOk result (λ text. IsRunAt policies seg (reach env.new) core.new (stepped r (Line.Finish id lease)).0 × (text.items ≡ reply_line (stepped r (Line.Finish id lease)).1)) }
+    ensures goes { let reach = ⟦<EnvOf<S, M, T> as Outside>⟧.reach in
+        let policies = map (λ p. meaning (p.vtable, p.value)) laws.now.policies.items in
+        GoesOn policies (segments_by X.lengths laws.now.segments) (reach env.old) (reach env.new) core.old core.new 1 }
+    ensures cause { let reach = ⟦<EnvOf<S, M, T> as Outside>⟧.reach in
+        let policies = map (λ p. meaning (p.vtable, p.value)) laws.now.policies.items in
+        IfErr result (Ends policies (segments_by X.lengths laws.now.segments) (reach env.old) (reach env.new) core.old core.new) }
+{
+    match finish(core, id, lease, 0, env, laws) {
+        Ok(()) => written(reply::finished(alloc)),
+        Err(error) => refuse(alloc, error),
+    }
+}
+
+fn reply_claim<S: Store, M: MergeOperator, T: BlockTransformer, X: PrefixExtractor>(
+    alloc: Global,
+    core: &mut Core,
+    now: i64,
+    ms: u64,
+    env: &mut Env<'_, S, M, T>,
+    laws: &Laws<X>,
+) -> Result<Vec<u8>, SlateDBError>
+    requires valid { IsValid laws.now.options }
+    requires plain { laws.now.segments ≡ None }
+    ensures said { let reach = ⟦<EnvOf<S, M, T> as Outside>⟧.reach in
+        let policies = map (λ p. meaning (p.vtable, p.value)) laws.now.policies.items in
+        let seg = segments_by X.lengths laws.now.segments in
+        (r : Run) → IsRunAt policies seg (reach env.old) core.old r →
+        IfOk result (λ text. IsRunAt policies seg (reach env.new) core.new (stepped r (Line.Claim now ms)).0 × (text.items ≡ reply_line (stepped r (Line.Claim now ms)).1)) }
+    ensures goes { let reach = ⟦<EnvOf<S, M, T> as Outside>⟧.reach in
+        let policies = map (λ p. meaning (p.vtable, p.value)) laws.now.policies.items in
+        GoesOn policies (segments_by X.lengths laws.now.segments) (reach env.old) (reach env.new) core.old core.new 1 }
+    ensures cause { let reach = ⟦<EnvOf<S, M, T> as Outside>⟧.reach in
+        let policies = map (λ p. meaning (p.vtable, p.value)) laws.now.policies.items in
+        IfErr result (Ends policies (segments_by X.lengths laws.now.segments) (reach env.old) (reach env.new) core.old core.new) }
+{
+    match claim(core, now, ms, env, laws) {
+        Ok(Some(claim)) => {
+            let text = reply::claimed(alloc, claim.id, claim.lease, claim.payload.as_slice());
+            drop(claim);
+            written(text)
+        }
+        Ok(None) => written(reply::none_free(alloc)),
+        Err(error) => refuse(alloc, error),
+    }
+}
+
+fn reply_feed(alloc: Global, core: &Core, after: u64) -> Result<Vec<u8>, SlateDBError>
+    ensures text { IfOk result (λ text. text.items ≡ reply_line (Reply.FeedIs (map fed_pair (feed_of after core.now.events)))) }
+    ensures cause { IfErr result (λ e. e ≡ SlateDBError.OutOfMemory) }
+{
+    match feed(core.journal(), after) {
+        Ok(entries) => {
+            let text = reply::fed(alloc, entries.as_slice());
+            drop(entries);
+            written(text)
+        }
+        Err(error) => {
+            drop(error);
+            Err(SlateDBError::OutOfMemory)
+        }
+    }
+}
+
+fn written(text: Result<Vec<u8>, AllocError>) -> Result<Vec<u8>, SlateDBError>
+    ensures text { (t : List ℕ) → IfOk text (λ v. v.items ≡ t) → IfOk result (λ v. v.items ≡ t) }
+    ensures cause { IfErr result (λ e. e ≡ SlateDBError.OutOfMemory) }
+{
+    match text {
+        Ok(text) => Ok(text),
+        Err(error) => Err(SlateDBError::from(error)),
+    }
+}
+
+/// The reply to a line that is refused. An error of the database ends the run, but for `SequenceExhausted`.
+fn refuse(alloc: Global, error: QueueError) -> Result<Vec<u8>, SlateDBError>
+    ensures text { IfOk result (λ v. IsReply error × (v.items ≡ reply_line (Reply.Refused error))) }
+    ensures cause { IfErr result (λ e. (e ≡ SlateDBError.OutOfMemory) ⊎ ((error ≡ QueueError.Db e) × (e ≢ SlateDBError.SequenceExhausted))) }
+{
+    match error {
+        QueueError::Db(error) => refuse_by(alloc, error),
+        other => written(reply::refused(alloc, other)),
+    }
+}
+
+fn refuse_by(alloc: Global, error: SlateDBError) -> Result<Vec<u8>, SlateDBError>
+    ensures text { IfOk result (λ v. (error ≡ SlateDBError.SequenceExhausted) × (v.items ≡ reply_line (Reply.Refused (QueueError.Db error)))) }
+    ensures cause { IfErr result (λ e. (e ≡ SlateDBError.OutOfMemory) ⊎ ((error ≡ e) × (e ≢ SlateDBError.SequenceExhausted))) }
+{
+    match error {
+        SlateDBError::SequenceExhausted => written(reply::refused_by(
+            alloc,
+            SlateDBError::SequenceExhausted,
+        )),
+        other => Err(other),
+    }
+}
+
+/// Answers the line with this number. `ScriptSyntax` comes exactly where it is neither silent nor one of the program's.
+fn answer_line<S: Store, M: MergeOperator, T: BlockTransformer, X: PrefixExtractor>(
+    alloc: Global,
+    core: &mut Core,
+    line: &[u8],
+    number: u64,
+    env: &mut Env<'_, S, M, T>,
+    laws: &Laws<X>,
+) -> Result<Option<Vec<u8>>, SlateDBError>
+    requires valid { IsValid laws.now.options }
+    requires plain { laws.now.segments ≡ None }
+    ensures own { OnOk result (takes line.now ≡ true) }
+    ensures said { let reach = ⟦<EnvOf<S, M, T> as Outside>⟧.reach in
+        let policies = map (λ p. meaning (p.vtable, p.value)) laws.now.policies.items in
+        let seg = segments_by X.lengths laws.now.segments in
+        (f : Says) → AnswersBy policies seg (reach env.old) core.old f →
+        IfOk result (λ o. LineSays f (AnswersBy policies seg (reach env.new) core.new) line.now (said_by (option_map (λ t. t.items) o))) }
+    ensures goes { let reach = ⟦<EnvOf<S, M, T> as Outside>⟧.reach in
+        let policies = map (λ p. meaning (p.vtable, p.value)) laws.now.policies.items in
+        GoesOn policies (segments_by X.lengths laws.now.segments) (reach env.old) (reach env.new) core.old core.new 1 }
+    ensures cause { let reach = ⟦<EnvOf<S, M, T> as Outside>⟧.reach in
+        let policies = map (λ p. meaning (p.vtable, p.value)) laws.now.policies.items in
+        IfErr result (λ e. ((e ≡ SlateDBError.ScriptSyntax number) × (takes line.now ≡ false)) ⊎ Ends policies (segments_by X.lengths laws.now.segments) (reach env.old) (reach env.new) core.old core.new e) }
+{
+    match read_line(alloc, line, number) {
+        Ok(Some(meaning)) => match reply_to(alloc, core, meaning, env, laws) {
+            Ok(text) => Ok(Some(text)),
+            Err(error) => Err(error),
+        },
+        Ok(None) => Ok(None),
+        Err(error) => Err(error),
+    }
+}
+
+/// Answers the line with this number into the sink. At `WriteFault` a front of the reply was written, and not all of it, and at
+/// another error nothing.
+fn write_line<W: Sink, S: Store, M: MergeOperator, T: BlockTransformer, X: PrefixExtractor>(
+    alloc: Global,
+    sink: &mut W,
+    core: &mut Core,
+    line: &[u8],
+    number: u64,
+    env: &mut Env<'_, S, M, T>,
+    laws: &Laws<X>,
+) -> Result<(), SlateDBError>
+    requires valid { IsValid laws.now.options }
+    requires plain { laws.now.segments ≡ None }
+    ensures own { OnOk result (takes line.now ≡ true) }
+    ensures said { let reach = ⟦<EnvOf<S, M, T> as Outside>⟧.reach in
+        let policies = map (λ p. meaning (p.vtable, p.value)) laws.now.policies.items in
+        let seg = segments_by X.lengths laws.now.segments in
+        (f : Says) → AnswersBy policies seg (reach env.old) core.old f →
+        WritesLine f (AnswersBy policies seg (reach env.new) core.new) line.now (W.content sink.old) (W.content sink.new) result }
+    ensures unwritten { IfErr result (λ e. (e ≡ SlateDBError.WriteFault) ⊎ (W.content sink.new ≡ W.content sink.old)) }
+    ensures goes { let reach = ⟦<EnvOf<S, M, T> as Outside>⟧.reach in
+        let policies = map (λ p. meaning (p.vtable, p.value)) laws.now.policies.items in
+        GoesOn policies (segments_by X.lengths laws.now.segments) (reach env.old) (reach env.new) core.old core.new 1 }
+    ensures cause { let reach = ⟦<EnvOf<S, M, T> as Outside>⟧.reach in
+        let policies = map (λ p. meaning (p.vtable, p.value)) laws.now.policies.items in
+        IfErr result (λ e. ((e ≡ SlateDBError.WriteFault) × (takes line.now ≡ true) × Rose (W.faults sink.old) (W.faults sink.new)) ⊎ ((e ≡ SlateDBError.ScriptSyntax number) × (takes line.now ≡ false))
+        ⊎ Ends policies (segments_by X.lengths laws.now.segments) (reach env.old) (reach env.new) core.old core.new e) }
+    ensures still { (result ≡ Err SlateDBError.WriteFault) ⊎ (W.faults sink.new ≡ W.faults sink.old) }
+    ensures later { W.faults sink.old ≤ W.faults sink.new }
+{
+    match answer_line(alloc, core, line, number, env, laws) {
+        Ok(Some(text)) => write_all(sink, text.as_slice()),
+        Ok(None) => Ok(()),
+        Err(error) => Err(error),
+    }
+}
+
+/// Answers each line of the source into the sink, and reads on to the end.
+fn write_lines<
+    R: Source,
+    W: Sink,
+    S: Store,
+    M: MergeOperator,
+    T: BlockTransformer,
+    X: PrefixExtractor,
+>(
+    alloc: Global,
+    source: &mut R,
+    sink: &mut W,
+    core: &mut Core,
+    env: &mut Env<'_, S, M, T>,
+    laws: &Laws<X>,
+) -> Result<(), SlateDBError>
+    requires valid { IsValid laws.now.options }
+    requires plain { laws.now.segments ≡ None }
+    ensures said { let reach = ⟦<EnvOf<S, M, T> as Outside>⟧.reach in
+        let policies = map (λ p. meaning (p.vtable, p.value)) laws.now.policies.items in
+        let seg = segments_by X.lengths laws.now.segments in
+        (script before : List ℕ) (f : Says) → R.left source.old ≡ Some script → W.content sink.old ≡ Some before → AnswersBy policies seg (reach env.old) core.old f →
+        WroteAsSaid takes f script (R.left source.new) before (W.content sink.new) result }
+    ensures read { (script : List ℕ) → R.left source.old ≡ Some script → HasTaken takes script (R.left source.new) result }
+    ensures goes { let reach = ⟦<EnvOf<S, M, T> as Outside>⟧.reach in
+        let policies = map (λ p. meaning (p.vtable, p.value)) laws.now.policies.items in
+        (n : ℕ) × (n ≤ script_limit) × GoesOn policies (segments_by X.lengths laws.now.segments) (reach env.old) (reach env.new) core.old core.new n }
+    ensures cause { let reach = ⟦<EnvOf<S, M, T> as Outside>⟧.reach in
+        let policies = map (λ p. meaning (p.vtable, p.value)) laws.now.policies.items in
+        IfErr result (IsRunCause (Rose (R.faults source.old) (R.faults source.new)) (Rose (W.faults sink.old) (W.faults sink.new))
+        (Ends policies (segments_by X.lengths laws.now.segments) (reach env.old) (reach env.new) core.old core.new)) }
+    ensures source_still { (result ≡ Err SlateDBError.ReadFault) ⊎ (R.faults source.new ≡ R.faults source.old) }
+    ensures sink_still { (result ≡ Err SlateDBError.WriteFault) ⊎ (W.faults sink.new ≡ W.faults sink.old) }
+{
+    let mut lines = Lines::new(alloc);
+    let mut number = 0;
+    loop {
+        let line = match lines.next(source) {
+            Ok(Some(line)) => line,
+            Ok(None) => break,
+            Err(error) => return Err(error),
+        };
+        number += 1;
+        match write_line(alloc, sink, core, line.as_slice(), number, env, laws) {
+            Ok(()) => {}
+            Err(error) => return Err(error),
+        }
+    }
+    Ok(())
+}
+
+/// Answers each line of the source into the sink, over an empty queue, and reads on to the end. Jobs are added with `add`, claimed with
+/// `claim` and finished with `finish`; `feed` shows the commits so far. Nothing is ever flushed.
+///
+/// What is said of replies holds where source and sink tell their bytes, and the parts and the policies are lawful and the store tells
+/// its objects. `ScriptSyntax` and `ScriptTooLong` come exactly where the script has them, unless another error came first, `ReadFault`,
+/// `WriteFault`, `StoreFault`, `Callback` and `BlockTransformError` only where that object's count of faults rose, and damage only where a
+/// read shows it. No limit is reached.
+pub fn run_queue<
+    R: Source,
+    W: Sink,
+    S: Store,
+    M: MergeOperator,
+    X: PrefixExtractor,
+    T: BlockTransformer,
+>(
+    alloc: Global,
+    source: &mut R,
+    sink: &mut W,
+    env: &mut Env<'_, S, M, T>,
+    laws: &Laws<X>,
+) -> Result<(), SlateDBError>
+    requires valid { IsValid laws.now.options }
+    requires plain { laws.now.segments ≡ None }
+    ensures said { let reach = ⟦<EnvOf<S, M, T> as Outside>⟧.reach in
+        let policies = map (λ p. meaning (p.vtable, p.value)) laws.now.policies.items in
+        (script before : List ℕ) (os : Objects) → R.left source.old ≡ Some script → W.content sink.old ≡ Some before →
+        AreLawful policies → IsLawfulMeaning (reach env.old).meaning → (reach env.old).objects ≡ Some os →
+        WroteAsSaid takes (says (begun laws.now.options.start_seq)) script (R.left source.new) before (W.content sink.new) result }
+    ensures read { (script : List ℕ) → R.left source.old ≡ Some script → HasTaken takes script (R.left source.new) result }
+    ensures cause { let reach = ⟦<EnvOf<S, M, T> as Outside>⟧.reach in
+        let policies = map (λ p. meaning (p.vtable, p.value)) laws.now.policies.items in
+        IfErr result (IsRunCause (Rose (R.faults source.old) (R.faults source.new)) (Rose (W.faults sink.old) (W.faults sink.new)) (EndsBy policies (reach env.old) (reach env.new))) }
+    ensures undamaged { let reach = ⟦<EnvOf<S, M, T> as Outside>⟧.reach in
+        let policies = map (λ p. meaning (p.vtable, p.value)) laws.now.policies.items in
+        (os : Objects) → AreLawful policies → IsLawfulMeaning (reach env.old).meaning → (reach env.old).objects ≡ Some os →
+        IfErr result (IsRunCause (Rose (R.faults source.old) (R.faults source.new)) (Rose (W.faults sink.old) (W.faults sink.new)) (IsFault (reach env.old) (reach env.new))) }
+    ensures source_still { (result ≡ Err SlateDBError.ReadFault) ⊎ (R.faults source.new ≡ R.faults source.old) }
+    ensures sink_still { (result ≡ Err SlateDBError.WriteFault) ⊎ (W.faults sink.new ≡ W.faults sink.old) }
+    ensures outside { let reach = ⟦<EnvOf<S, M, T> as Outside>⟧.reach in OnlyReads (reach env.old) (reach env.new) }
+{
+    let mut core = Core::new(alloc, &laws.options);
+    let ran = write_lines(alloc, source, sink, &mut core, env, laws);
+    core.close();
+    ran
+}
