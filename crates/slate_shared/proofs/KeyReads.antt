@@ -26,6 +26,7 @@ core_of o m g t seen c k s own taken there stands =
       record {
         settings = taken.locked.settings;
         events = taken.events;
+        legal = taken.legal;
         replays = replays_handed c t.id t.tx taken.replays;
         flushed = refl;
         open_there = found_handed c t.id t.tx open_there;

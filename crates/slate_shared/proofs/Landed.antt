@@ -8,6 +8,7 @@ use Rattle.slate_types.specs.declared.error.SlateDBError.{SlateDBError}
 use Rattle.slate_types.specs.declared.error.SlateDBError.TheVariants.{LimitReached, OutOfMemory}
 use Rattle.slate_types.specs.declared.types.Ulid.{Ulid}
 use Rattle.slate_types.specs.Outside.{IsFault, Objects, Reach}
+use Rattle.slate_filter.specs.Policy.{Policy}
 use Rattle.slate_mem.specs.Lookup.{is_merge_among, newest_first}
 use Rattle.slate_table.specs.Table.{AreInOrder}
 use Rattle.slate_txn.specs.declared.event.Event.{Event}
@@ -17,42 +18,43 @@ use Rattle.slate_txn.specs.Replay.{replay}
 use Rattle.slate_txn.specs.Settings.{Settings, settings_of}
 use Rattle.slate_txn.specs.State.{Commit, last_of}
 use Rattle.slate_db.specs.declared.flight.Flight.{Flight}
-use Rattle.slate_db.specs.Flushed.{AreTablesOfFlush, HasTooLarge, IsFolded, Layout, TakesTables, WantsOperator, with_tables}
+use Rattle.slate_db.specs.Flushed.{AreTablesOfFlush, HasTooLarge, IsFolded, Layout, WantsOperator}
 use Rattle.slate_db.specs.Flying.{took}
-use Rattle.slate_db.specs.Installs.{ArePlaced}
+use Rattle.slate_db.specs.Installs.{tables_of}
 use Rattle.slate_db.specs.Log.{LIMIT}
 use Rattle.slate_db.specs.Meaning.{Meaning}
 use Rattle.slate_db.specs.Model.{Rows}
-use Rattle.slate_db.proofs.PathsApart.{holds_puts}
+use Rattle.slate_db.specs.Readable.{AreFiltered}
 use Rattle.slate_shared.specs.declared.board.View.{View}
 use Rattle.slate_shared.specs.declared.errand.Errand.{Errand}
-use Rattle.slate_shared.specs.Errands.{Departs, HasErrand, HasLanded, IsOverLimit, IsRowsOf, Lands, Refusal, StoresOn, HasTableTooLarge}
+use Rattle.slate_shared.specs.Errands.{Departs, HasErrand, HasLanded, IsNextFlush, IsOverLimit, IsRowsOf, KeepsOn, Lands, Refusal, StoresOn, HasTableTooLarge}
 use Rattle.slate_shared.specs.LockedModel.{IsFull}
 use Rattle.slate_shared.proofs.Flown.{above_newest, prefix_either}
 use Rattle.slate_shared.proofs.Lists.{prefix_more, prefix_trans}
-
--- tables that a flush put lie at their paths
-pub stores_on : (number : ℕ) (ts : List (Ulid × List ℕ)) (before after : Option Objects) → number < 2 ^ 64 → ArePlaced number 0 ts → TakesTables ts before after → StoresOn ts before after
-stores_on number ts before after fits placed takes os told = (with_tables os ts, subst (λ (o : Option Objects). IfSome o (λ objects. after ≡ Some (with_tables objects ts))) told takes, holds_puts os number 0 [] ts fits tt placed tt)
 
 -- they are those of the flight
 pub made_at : (layout : Layout) (tables : List (Ulid × List ℕ)) (m n : Meaning) (r k b d : ℕ) (xs ys : List Rows) → m ≡ n → r ≡ k → b ≡ d → xs ≡ ys → AreTablesOfFlush m layout r b xs tables → AreTablesOfFlush n layout k d ys tables
 made_at layout tables m n r k b d xs ys meaning number barrier layers made = subst (λ (z : Meaning × ℕ × ℕ × List Rows). AreTablesOfFlush z.0 layout z.1 z.2 z.3 tables) (λ i. (meaning i, number i, barrier i, layers i)) made
 
+-- what is in hand has the number of its flight
+pub comes_next : (o : Settings) (m : Meaning) (journal es : List Event) (flight : Option Flight) (x : Errand) → HasErrand o m journal flight x → ((f : Flight) → flight ≡ Some f → IsNextFlush f.number es) → IsNextFlush x.number es
+comes_next o m journal es flight x has next = subst (λ (n : ℕ). IsNextFlush n es) (sym has.errand.number) (next has.flight_of has.flies)
+
 -- ---- a flush lands
 
 module _ (first before : List Event) (ts : List (Ulid × List ℕ)) (flight : Option Flight) (own : List ℕ) (seen : List Event) (own' : List ℕ) (pre : IsPrefix first before) where
-  pub lands_landed : (r : Result ℕ SlateDBError) (a b : Option Objects) → Lands before ts flight own seen own' r → StoresOn ts a b → IfOk r (λ n. HasLanded n a b first own seen own')
-  lands_landed (Ok n) a b lands stored = record { journal = before; seen = pre; tables = ts; event = lands.event.0; place = lands.event.1; stored = stored }
-  lands_landed (Err e) a b lands stored = tt
+  pub lands_landed : (m : Meaning) (ps : List Policy) (r : Result ℕ SlateDBError) (a b : Option Objects) → Lands before ts flight own seen own' r → StoresOn before ts a b → AreFiltered m.encode ps (tables_of seen) → IfOk r (λ n. HasLanded m ps n a b first own seen own')
+  lands_landed m ps (Ok n) a b lands stored filtered = record { journal = before; seen = pre; tables = ts; event = lands.event.0; place = lands.event.1; stored = stored; filtered = filtered }
+  lands_landed m ps (Err e) a b lands stored filtered = tt
+
+  -- its tables stay, and no event names them
+  pub lands_kept : (r : Result ℕ SlateDBError) (a b : Option Objects) → Lands before ts flight own seen own' r → KeepsOn before a b → OnErr r ((own' ≡ own) × KeepsOn seen a b)
+  lands_kept (Ok n) a b lands keeps = tt
+  lands_kept (Err e) a b lands keeps = (lands.same.1, subst (λ (es : List Event). KeepsOn es a b) (sym lands.same.0) keeps)
 
   pub lands_seen : (r : Result ℕ SlateDBError) → Lands before ts flight own seen own' r → IsPrefix first seen
   lands_seen (Ok n) lands = subst (IsPrefix first) (sym lands.event.0) (prefix_more first before (Install n ts ∷ []) pre)
   lands_seen (Err e) lands = subst (IsPrefix first) (sym lands.same.0) pre
-
-  pub lands_own : (r : Result ℕ SlateDBError) → Lands before ts flight own seen own' r → OnErr r (own' ≡ own)
-  lands_own (Ok n) lands = tt
-  lands_own (Err e) lands = lands.same.1
 
   pub lands_cause : (r : Result ℕ SlateDBError) (a b : Reach) (P : SlateDBError → Type 0) → Lands before ts flight own seen own' r →
       IfErr r (λ e. IsFault a b e ⊎ ((e ≡ LimitReached LIMIT) × ((es : List Event) × IsPrefix first es × IsFull 1 es)) ⊎ P e)
@@ -100,9 +102,9 @@ pub none_above : (n : ℕ) (seen : List Event) → above_install seen ≡ [] →
 none_above n seen none = subst (λ (cs : List Commit). AllByRecursion (λ c. n < c.seq) cs) (sym none) tt
 
 -- its install is the last
-pub through_flown : (w u : View) (a b : Option Objects) (r : Result ℕ SlateDBError) → IfOk r (λ n. HasLanded n a b w.seen w.own u.seen u.own) → IfOk r (λ n. AllByRecursion (λ c. n < c.seq) (above_install u.seen))
-through_flown w u a b (Ok n) h = above_newest u.seen h.journal n h.tables h.event
-through_flown w u a b (Err e) h = tt
+pub through_flown : (m : Meaning) (ps : List Policy) (w u : View) (a b : Option Objects) (r : Result ℕ SlateDBError) → IfOk r (λ n. HasLanded m ps n a b w.seen w.own u.seen u.own) → IfOk r (λ n. AllByRecursion (λ c. n < c.seq) (above_install u.seen))
+through_flown m ps w u a b (Ok n) h = above_newest u.seen h.journal n h.tables h.event
+through_flown m ps w u a b (Err e) h = tt
 
 -- v: as it was; w: when it had set off; u: at its end
 module _ (o : Options) (m : Meaning) (v w u : View) (before : List Event) (newest : ℕ) (x : Errand) (pre : IsPrefix v.seen before) (off : Departs o m before w.seen w.flight (Ok (newest, Some x))) where
@@ -117,16 +119,21 @@ module _ (o : Options) (m : Meaning) (v w u : View) (before : List Event) (newes
   newest_flown (Ok n) seen through = (before, pre, prefix_trans before w.seen u.seen seen_off seen, through off.off.flight_of off.off.flies ∙ off.off.errand.through)
   newest_flown (Err e) seen through = tt
 
-  pub own_flown : (a b : Option Objects) (r : Result ℕ SlateDBError) → w.own ≡ v.own → IfOk r (λ n. HasLanded n a b w.seen w.own u.seen u.own) → IfOk r (λ n. (u.own ≡ v.own) ⊎ HasLanded n a b v.seen v.own u.seen u.own)
-  own_flown a b (Ok n) own h = inr (record {
+  pub own_flown : (ps : List Policy) (still : Type 0) (a b : Option Objects) (r : Result ℕ SlateDBError) → w.own ≡ v.own → IfOk r (λ n. HasLanded m ps n a b w.seen w.own u.seen u.own) → IfOk r (λ n. ((u.own ≡ v.own) × still) ⊎ HasLanded m ps n a b v.seen v.own u.seen u.own)
+  own_flown ps still a b (Ok n) own h = inr (record {
     journal = h.journal;
     seen = prefix_trans v.seen w.seen h.journal begins_off h.seen;
     tables = h.tables;
     event = h.event;
     place = h.place ∙ ap (λ (ns : List ℕ). ns ++ length h.journal ∷ []) own;
     stored = h.stored;
+    filtered = h.filtered;
   })
-  own_flown a b (Err e) own h = tt
+  own_flown ps still a b (Err e) own h = tt
+
+  pub refused_flown : (a b : Option Objects) (r : Result ℕ SlateDBError) → w.own ≡ v.own → OnErr r ((u.own ≡ w.own) × KeepsOn u.seen a b) → OnErr r ((u.own ≡ v.own) × KeepsOn u.seen a b)
+  refused_flown a b (Ok n) own h = tt
+  refused_flown a b (Err e) own h = (h.0 ∙ own, h.1)
 
   pub cause_flown : (layout : Layout) (a b : Reach) (r : Result ℕ SlateDBError) → IfErr r (λ e. IsFault a b e ⊎ ((e ≡ LimitReached LIMIT) × ((es : List Event) × IsPrefix w.seen es × IsFull 1 es)) ⊎ HasTableTooLarge (settings_of o) m layout before e) →
       IfErr r (λ e. IsFault a b e ⊎ ((es : List Event) × IsPrefix v.seen es × IsOverLimit (settings_of o) m layout es e))

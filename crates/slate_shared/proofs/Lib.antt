@@ -7,8 +7,10 @@ pub mod LockedLaws
 pub mod CommitLaws
 pub mod WriteLaws
 pub mod Held
+pub mod TablesNamed
 pub mod Flown
 pub mod Landed
+pub mod AllKnown
 pub mod KeyReads
 pub mod RangeReads
 pub mod KeptSeats

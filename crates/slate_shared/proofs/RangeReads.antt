@@ -30,6 +30,7 @@ range_core o m g t seen c range s own taken there st =
       record {
         settings = taken.locked.settings;
         events = taken.events;
+        legal = taken.legal;
         replays = replays_handed c t.id t.tx taken.replays;
         flushed = refl;
         open_there = found_handed c t.id t.tx open_there;

@@ -4,21 +4,24 @@
 --     IsErrand o m journal f x      this is what is in hand of the flight f: all that waits, up to the newest sequence, to be folded to the barrier
 --     HasErrand o m journal flight x      so it is of the flight that is on its way
 --     IsInstalled n journal      an install through this sequence or a later one stands in it
---     StoresOn tables before after      a store that tells its objects holds these tables at their paths then
+--     IsNextFlush n journal      the journal's flushes are numbered, the tables of each have places, and n is the next number
+--     StoresOn journal tables before after      a store that tells its objects holds these tables at their paths then, beside all that it held of what the journal names, or a beginning of it
+--     KeepsOn journal before after      it holds what it held of that
 --     IsRested m w      a seat after the lock was let go: its parts and its open transaction are as they were
 --     Refusal n journal e      memory is wanting, or the journal has no place for so many events
 --     Departs o m journal seen flight r      a flush sets off behind this journal, with this flight; or finds nothing that waits, or is refused; seen: the journal then
---     Lands journal tables flight old seen new r      a flush lands behind this journal with one event, which is its own; or is refused, with none
---     HasLanded n before after old own new own'      an install of tables through n ends the journal that is seen then, its place is one's own, and a store that tells its objects holds them
+--     Lands journal tables flight old seen new r      a flush lands behind this journal, which has its number next, with one event, which is its own; or is refused, with none
+--     HasLanded m ps n before after old own new own'      an install of tables through n ends the journal that is seen then, its place is one's own, a store that tells its objects holds them beside the earlier ones, and all that the journal names have the filters of these policies
 --     HasTableTooLarge o m layout journal e      a table of the rows that wait would have too many blocks
 --     IsOverLimit o m layout journal e      that, or the journal has no place for an event
-use Rattle.std.specs.Prelude.{◌≡◌, ◌⊎◌, ℕ, ◌≤◌, false, List, [], ◌∷◌, ◌++◌, map, length, slice_get, Option, None, Some, Result, IfOk, IfErr, IfSome, OnErr}
+use Rattle.std.specs.Prelude.{◌≡◌, ◌⊎◌, ℕ, ◌+◌, ◌≤◌, false, List, [], ◌∷◌, ◌++◌, map, length, slice_get, Option, None, Some, Result, IfOk, IfErr, IfSome, OnErr}
 use mathlib.Core.List.{IsPrefix}
 use Rattle.slate_types.specs.declared.error.SlateDBError.{SlateDBError}
 use Rattle.slate_types.specs.declared.error.SlateDBError.TheVariants.{LimitReached, OutOfMemory}
 use Rattle.slate_types.specs.declared.types.Ulid.{Ulid}
 use Rattle.slate_types.specs.declared.config.Options.{Options}
 use Rattle.slate_types.specs.Outside.{Objects}
+use Rattle.slate_filter.specs.Policy.{Policy}
 use Rattle.atomic_table.specs.Table.{Me}
 use Rattle.slate_mem.specs.Lookup.{is_merge_among, newest_first}
 use Rattle.slate_table.specs.Table.{AreInOrder}
@@ -33,10 +36,11 @@ use Rattle.slate_txn.specs.State.{last_of}
 use Rattle.slate_db.specs.declared.flight.Flight.{Flight}
 use Rattle.slate_db.specs.Flushed.{CanFlush, HasTooLarge, IsFolded, Layout}
 use Rattle.slate_db.specs.Flying.{took}
-use Rattle.slate_db.specs.Installs.{Holds, installed}
+use Rattle.slate_db.specs.Installs.{Holds, NumberedFrom, installed, runs_of, tables_of}
 use Rattle.slate_db.specs.Log.{LIMIT}
 use Rattle.slate_db.specs.Meaning.{Meaning, rules_of}
 use Rattle.slate_db.specs.Model.{Rows, versions_in}
+use Rattle.slate_db.specs.Readable.{AreFiltered}
 use Rattle.slate_db.specs.Sound.{above}
 use Rattle.slate_shared.specs.declared.board.View.{View}
 use Rattle.slate_shared.specs.declared.errand.Errand.{Errand}
@@ -85,8 +89,17 @@ pub record HasTableTooLarge (o : Settings) (m : Meaning) (layout : Layout) (jour
 abbrev pub IsOverLimit : Settings → Meaning → Layout → List Event → SlateDBError → Type 0
 IsOverLimit o m layout journal e = ((e ≡ LimitReached LIMIT) × IsFull 1 journal) ⊎ HasTableTooLarge o m layout journal e
 
-abbrev pub StoresOn : List (Ulid × List ℕ) → Option Objects → Option Objects → Type 0
-StoresOn tables before after = (os : Objects) → before ≡ Some os → (left : Objects) × (after ≡ Some left) × Holds left tables
+pub record IsNextFlush (n : ℕ) (journal : List Event) : Type 0 where
+  pub number : n ≡ length (runs_of journal) + 1
+  pub numbered : NumberedFrom 1 (runs_of journal)
+
+-- known: what the journal names, or a beginning of it
+abbrev pub StoresOn : List Event → List (Ulid × List ℕ) → Option Objects → Option Objects → Type 0
+StoresOn journal tables before after =
+    (os : Objects) → before ≡ Some os → (left : Objects) × (after ≡ Some left) × ((known : List Event) → IsPrefix known journal → Holds os (tables_of known) → Holds left (tables_of known ++ tables))
+
+abbrev pub KeepsOn : List Event → Option Objects → Option Objects → Type 0
+KeepsOn journal before after = (os : Objects) → before ≡ Some os → (left : Objects) × (after ≡ Some left) × ((known : List Event) → IsPrefix known journal → Holds os (tables_of known) → Holds left (tables_of known))
 
 pub record IsRested (m w : Me (Option LockedModel) View) : Type 0 where
   pub home : w.1 ≡ []
@@ -107,15 +120,17 @@ pub record Departs (o : Options) (m : Meaning) (journal seen : List Event) (flig
 -- old, new: the places of a seat's own events
 pub record Lands (journal : List Event) (tables : List (Ulid × List ℕ)) (flight : Option Flight) (old : List ℕ) (seen : List Event) (new : List ℕ) (r : Result ℕ SlateDBError) : Type 0 where
   pub event : IfOk r (λ n. (seen ≡ journal ++ Install n tables ∷ []) × (new ≡ old ++ length journal ∷ []))
+  pub next : (f : Flight) → flight ≡ Some f → IsNextFlush f.number journal
   pub through : (f : Flight) → flight ≡ Some f → IfOk r (λ n. n ≡ f.through)
   pub same : OnErr r ((seen ≡ journal) × (new ≡ old))
   pub cause : IfErr r (Refusal 1 journal)
 
 -- before, after: the store's objects; old, new: the events seen; own, own': the places of a seat's own events
-pub record HasLanded (n : ℕ) (before after : Option Objects) (old : List Event) (own : List ℕ) (new : List Event) (own' : List ℕ) : Type 0 where
+pub record HasLanded (m : Meaning) (ps : List Policy) (n : ℕ) (before after : Option Objects) (old : List Event) (own : List ℕ) (new : List Event) (own' : List ℕ) : Type 0 where
   pub journal : List Event
   pub seen : IsPrefix old journal
   pub tables : List (Ulid × List ℕ)
   pub event : new ≡ journal ++ Install n tables ∷ []
   pub place : own' ≡ own ++ length journal ∷ []
-  pub stored : StoresOn tables before after
+  pub stored : StoresOn journal tables before after
+  pub filtered : AreFiltered m.encode ps (tables_of new)

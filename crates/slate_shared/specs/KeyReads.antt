@@ -27,7 +27,7 @@ use Rattle.slate_txn.specs.declared.event.TranscriptStep.TheVariants as steps
 use Rattle.slate_txn.specs.Alone.{IsVouched}
 use Rattle.slate_txn.specs.Named.{find_named}
 use Rattle.slate_txn.specs.Reads.{seen as row_seen}
-use Rattle.slate_txn.specs.Replay.{replay}
+use Rattle.slate_txn.specs.Replay.{replay, IsLegal}
 use Rattle.slate_txn.specs.Settings.{Settings, settings_of}
 use Rattle.slate_txn.specs.State.{Tx}
 use Rattle.slate_db.specs.Answered.{AnswersFrom}
@@ -45,11 +45,13 @@ use Rattle.slate_shared.specs.Passes.{Opened}
 pub record IsTaken (o : Settings) (m : Meaning) (g : Segments) (es : List Event) (c : CoreModel) : Type 0 where
   pub locked : IsLocked o m g c
   pub events : c.events ≡ es
+  pub legal : IsLegal o.start_seq c.events
   pub replays : Replays c.events c.state
 
 pub record IsCoreOf (o : Options) (m : Meaning) (t : Opened) (seen : List Event) (c : CoreModel) : Type 0 where
   pub settings : c.settings ≡ settings_of o
   pub events : c.events ≡ seen
+  pub legal : IsLegal o.start_seq c.events
   pub replays : Replays c.events c.state
   pub flushed : c.state.flushed ≡ installed c.events
   pub open_there : find_named t.id c.state.txns ≡ Some t.tx

@@ -2,15 +2,19 @@
 --     IsLocked o m g c      its settings are theirs; what is kept of the rows and of the segments holds for them; of an open transaction it has the
 --                level and the begin alone; and it has no snapshot
 --     IsHeld o m g f n c      what is known of the flush on its way holds too, and this is through which sequence the last install went
-use Rattle.std.specs.Prelude.{◌≡◌, ℕ, [], map, Option}
+--     NamesTables m ps es      the journal's flushes are numbered, the tables of each have places, and all have the filters of these policies
+use Rattle.std.specs.Prelude.{◌≡◌, ℕ, List, [], map, Option}
+use Rattle.slate_filter.specs.Policy.{Policy}
 use Rattle.slate_mem.specs.KeyTests.{Segments}
+use Rattle.slate_txn.specs.declared.event.Event.{Event}
 use Rattle.slate_txn.specs.Places.{last_install}
 use Rattle.slate_txn.specs.Settings.{Settings}
 use Rattle.slate_db.specs.declared.flight.Flight.{Flight}
 use Rattle.slate_db.specs.Flying.{IsAloft}
-use Rattle.slate_db.specs.Installs.{as_begun}
+use Rattle.slate_db.specs.Installs.{NumberedFrom, as_begun, runs_of, tables_of}
 use Rattle.slate_db.specs.Meaning.{Meaning}
 use Rattle.slate_db.specs.Model.{CoreModel}
+use Rattle.slate_db.specs.Readable.{AreFiltered}
 use Rattle.slate_db.specs.Segmented.{IsSegmented}
 use Rattle.slate_db.specs.Sound.{IsKept}
 
@@ -25,3 +29,7 @@ pub record IsHeld (o : Settings) (m : Meaning) (g : Segments) (f : Option Flight
   pub locked : IsLocked o m g c
   pub aloft : IsAloft m f c
   pub newest : n ≡ last_install c.events
+
+pub record NamesTables (m : Meaning) (ps : List Policy) (es : List Event) : Type 0 where
+  pub numbered : NumberedFrom 1 (runs_of es)
+  pub filtered : AreFiltered m.encode ps (tables_of es)

@@ -4,6 +4,7 @@ ghost use Rattle.slate_types.specs.declared.error.SlateDBError.{SlateDBError};
 ghost use Rattle.slate_types.specs.Outside.{IsFault, OnlyReads};
 ghost use Rattle.slate_types.specs.World.{IsCall};
 ghost use Rattle.slate_mem.specs.BatchModel.{holds_merge};
+ghost use Rattle.slate_txn.specs.Replay.{IsLegal};
 ghost use Rattle.slate_txn.specs.Settings.{settings_of};
 ghost use Rattle.slate_db.specs.Meaning.{segments_by};
 ghost use Rattle.slate_db.specs.Prepared.{IsPrepared, lone_refusal, own_batch, prepared_for};
@@ -47,6 +48,7 @@ impl<P: Parts> DbTransaction<P> {
         requires parts { let reach = ⟦<EnvOf<S, M, T> as Outside>⟧.reach in (reach env.old).meaning ≡ P.meaning }
         ensures same { (pass.new.table ≡ pass.old.table) × (pass.new.parts ≡ pass.old.parts) }
         ensures ended { let reach = ⟦<EnvOf<S, M, T> as Outside>⟧.reach in HasEnded (IsFault (reach env.old) (reach env.new)) P.meaning P.segments (settings_of P.options) now self pass.old pass.new result }
+        ensures legal { IsLegal P.options.start_seq pass.new.seen }
         ensures outside { env.new ≡ record env.old { operator = env.new.operator } }
         ensures call { let reach = ⟦<EnvOf<S, M, T> as Outside>⟧.reach in IsCall (reach env.old) (reach env.new) [] }
         ensures reads { let reach = ⟦<EnvOf<S, M, T> as Outside>⟧.reach in OnlyReads (reach env.old) (reach env.new) }
@@ -91,6 +93,7 @@ impl<P: Parts> DbTransaction<P> {
         requires parts { let reach = ⟦<EnvOf<S, M, T> as Outside>⟧.reach in (reach env.old).meaning ≡ P.meaning }
         ensures same { (pass.new.table ≡ pass.old.table) × (pass.new.parts ≡ pass.old.parts) }
         ensures ended { let reach = ⟦<EnvOf<S, M, T> as Outside>⟧.reach in HasEnded (IsFault (reach env.old) (reach env.new)) P.meaning P.segments (settings_of P.options) options.entry.now.now self pass.old pass.new result }
+        ensures legal { IsLegal P.options.start_seq pass.new.seen }
         ensures outside { env.new ≡ record env.old { operator = env.new.operator } }
         ensures call { let reach = ⟦<EnvOf<S, M, T> as Outside>⟧.reach in IsCall (reach env.old) (reach env.new) [] }
         ensures reads { let reach = ⟦<EnvOf<S, M, T> as Outside>⟧.reach in OnlyReads (reach env.old) (reach env.new) }
@@ -113,6 +116,7 @@ impl<P: Parts> DbTransaction<P> {
         requires prepared { IsPrepared (prepared_for P.meaning.combine P.segments P.options.default_ttl_millis now (own_batch self.tx.ops)) prepared }
         ensures same { (pass.new.table ≡ pass.old.table) × (pass.new.parts ≡ pass.old.parts) }
         ensures ended { HasEnded (λ e. e ≡ SlateDBError.OutOfMemory) P.meaning P.segments (settings_of P.options) now self pass.old pass.new result }
+        ensures legal { IsLegal P.options.start_seq pass.new.seen }
     {
         let DbTransaction {
             alloc: _,

@@ -16,10 +16,11 @@ ghost use Rattle.slate_txn.specs.State.{last_of};
 ghost use Rattle.slate_db.specs.declared.flight.Flight.{Flight};
 ghost use Rattle.slate_db.specs.Flushed.{AreTablesOfFlush, Layout, layout_of};
 ghost use Rattle.slate_db.specs.Flying.{took};
-ghost use Rattle.slate_db.specs.Installs.{AreRunsOf, Holds};
+ghost use Rattle.slate_db.specs.Installs.{AreRunsOf, Holds, tables_of};
 ghost use Rattle.slate_db.specs.Log.{LIMIT};
 ghost use Rattle.slate_db.specs.Meaning.{segments_by};
-ghost use Rattle.slate_shared.specs.Errands.{Departs, HasErrand, HasLanded, IsOverLimit, IsRested, Lands, HasTableTooLarge};
+ghost use Rattle.slate_db.specs.Readable.{AreFiltered};
+ghost use Rattle.slate_shared.specs.Errands.{Departs, HasErrand, HasLanded, IsNextFlush, IsOverLimit, IsRested, KeepsOn, Lands, HasTableTooLarge};
 ghost use Rattle.slate_shared.specs.Given.{AreGiven};
 ghost use Rattle.slate_shared.specs.LockedModel.{IsFull, frozen_by, holds_at};
 ghost use Rattle.slate_shared.specs.Shared.{IsSameSeat, IsSized, MayFly, flight_after};
@@ -47,7 +48,8 @@ impl<P: Parts> Pass<P> {
     /// second flush waits until the first has ended. Where no rows are in memory nothing is stored. Refuses by `StoreFault`,
     /// `BlockTransformError` and `Callback`, each only where its count of faults rose; by `LimitReached` where the journal has no
     /// place for an event, or where a table would pass a limit; and by `OutOfMemory`. Then the rows are in memory as before, or
-    /// frozen, and the store's objects are as they were, or have some first of the tables, which no event names.
+    /// frozen, and the store's objects are as they were, or have some first of the tables, which no event names. Either way a store
+    /// that tells its objects keeps each table that it held of what the journal names.
     pub fn flush<R: Wait, S: Store, M: MergeOperator, T: BlockTransformer, X: PrefixExtractor>(
         &mut self,
         rt: &R,
@@ -65,8 +67,8 @@ impl<P: Parts> Pass<P> {
         ensures newest { IfOk result (λ n. (before : List Event) × IsPrefix self.old.seen before × IsPrefix before self.new.seen × (n ≡ last_of P.options.start_seq (replay before).commits)) }
         ensures through { IfOk result (λ n. AllByRecursion (λ c. n < c.seq) (above_install self.new.seen)) }
         ensures own { let reach = ⟦<EnvOf<S, M, T> as Outside>⟧.reach in
-            IfOk result (λ n. (self.new.own ≡ self.old.own) ⊎ HasLanded n (reach env.old).objects (reach env.new).objects self.old.seen self.old.own self.new.seen self.new.own) }
-        ensures refused { OnErr result (self.new.own ≡ self.old.own) }
+            IfOk result (λ n. ((self.new.own ≡ self.old.own) × (env.new ≡ env.old)) ⊎ HasLanded P.meaning P.policies n (reach env.old).objects (reach env.new).objects self.old.seen self.old.own self.new.seen self.new.own) }
+        ensures refused { let reach = ⟦<EnvOf<S, M, T> as Outside>⟧.reach in OnErr result ((self.new.own ≡ self.old.own) × KeepsOn self.new.seen (reach env.old).objects (reach env.new).objects) }
         ensures cause { let reach = ⟦<EnvOf<S, M, T> as Outside>⟧.reach in
             let layout = layout_of laws.now.options (map (λ p. (⟦<dyn FilterPolicy as FilterPolicy>⟧ p.vtable).meaning p.value) laws.now.policies.items) (segments_by X.lengths laws.now.segments) in
             IfErr result (λ e. IsFault (reach env.old) (reach env.new) e ⊎ ((before : List Event) × IsPrefix self.old.seen before × IsOverLimit (settings_of P.options) P.meaning layout before e)) }
@@ -164,12 +166,13 @@ fn carry_out<
     requires meaning { let reach = ⟦<EnvOf<S, M, T> as Outside>⟧.reach in (reach env.old).meaning ≡ P.meaning }
     requires valid { IsValid laws.now.options }
     requires names { AreValidNames (map (λ p. ((⟦<dyn FilterPolicy as FilterPolicy>⟧ p.vtable).meaning p.value).name) laws.now.policies.items) }
+    requires policies { map (λ p. (⟦<dyn FilterPolicy as FilterPolicy>⟧ p.vtable).meaning p.value) laws.now.policies.items ≡ P.policies }
     ensures seat { IsSameSeat place.old place.new × IsRested place.old.me place.new.me × (place.new.me.0.flight ≡ None) }
     ensures seen { IsPrefix place.old.me.0.seen place.new.me.0.seen }
     ensures landed { let reach = ⟦<EnvOf<S, M, T> as Outside>⟧.reach in
-        IfOk result (λ n. HasLanded n (reach env.old).objects (reach env.new).objects place.old.me.0.seen place.old.me.0.own place.new.me.0.seen place.new.me.0.own) }
+        IfOk result (λ n. HasLanded P.meaning P.policies n (reach env.old).objects (reach env.new).objects place.old.me.0.seen place.old.me.0.own place.new.me.0.seen place.new.me.0.own) }
     ensures through { (f : Flight) → place.old.me.0.flight ≡ Some f → IfOk result (λ n. n ≡ f.through) }
-    ensures refused { OnErr result (place.new.me.0.own ≡ place.old.me.0.own) }
+    ensures refused { let reach = ⟦<EnvOf<S, M, T> as Outside>⟧.reach in OnErr result ((place.new.me.0.own ≡ place.old.me.0.own) × KeepsOn place.new.me.0.seen (reach env.old).objects (reach env.new).objects) }
     ensures cause { let reach = ⟦<EnvOf<S, M, T> as Outside>⟧.reach in
         let layout = layout_of laws.now.options (map (λ p. (⟦<dyn FilterPolicy as FilterPolicy>⟧ p.vtable).meaning p.value) laws.now.policies.items) (segments_by X.lengths laws.now.segments) in
         (journal : List Event) → HasErrand (settings_of P.options) P.meaning journal place.old.me.0.flight errand →
@@ -208,9 +211,10 @@ fn land<P: Parts, R: Wait>(
 ) -> Result<u64, SlateDBError>
     requires table { (place.old.table_id ≡ top.now.table_id) × IsSized top.now.table_id }
     requires idle { (place.old.me.1 ≡ []) × (0 < place.old.me.0.parts) }
-    requires made { (f : Flight) × (place.old.me.0.flight ≡ Some f) × AreRunsOf tables runs.items × ((layout : Layout) × AreTablesOfFlush P.meaning layout f.number f.barrier (took f) tables) }
+    requires made { (f : Flight) × (place.old.me.0.flight ≡ Some f) × AreRunsOf tables runs.items × ((layout : Layout) × (layout.policies ≡ P.policies) × AreTablesOfFlush P.meaning layout f.number f.barrier (took f) tables) }
     ensures seat { IsSameSeat place.old place.new × IsRested place.old.me place.new.me × (place.new.me.0.flight ≡ None) }
     ensures landed { (before : List Event) × IsPrefix place.old.me.0.seen before × Lands before tables place.old.me.0.flight place.old.me.0.own place.new.me.0.seen place.new.me.0.own result }
+    ensures filtered { AreFiltered P.meaning.encode P.policies (tables_of place.new.me.0.seen) }
 {
     let mut locked = take(rt, top, place);
     match locked.land(tables, runs) {
@@ -233,6 +237,7 @@ fn abandon<P: Parts, R: Wait>(rt: &R, top: &Top<P>, place: &mut Place<P>)
     ensures seat { IsSameSeat place.old place.new × IsRested place.old.me place.new.me × (place.new.me.0.flight ≡ None) }
     ensures own { place.new.me.0.own ≡ place.old.me.0.own }
     ensures seen { IsPrefix place.old.me.0.seen place.new.me.0.seen }
+    ensures next { (f : Flight) → place.old.me.0.flight ≡ Some f → IsNextFlush f.number place.new.me.0.seen }
 {
     let mut locked = take(rt, top, place);
     locked.abandon();

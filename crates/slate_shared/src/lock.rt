@@ -2,6 +2,7 @@
 ghost use Rattle.std.specs.Prelude.{◌≡◌, ◌*◌, true, [], ◌∷◌, ◌++◌, length, Some, None};
 ghost use mathlib.Core.List.{IsPrefix};
 ghost use Rattle.slate_txn.specs.declared.event.Event.{Event};
+ghost use Rattle.slate_txn.specs.Replay.{IsLegal};
 ghost use Rattle.slate_shared.specs.Shared.{IsSized, IsSameSeat, IsLive, IsOwner, OwnsAll, all_parts, Flies, May, MayFly, holding, after_event, after_none};
 
 use crate::board::{Place, Top};
@@ -41,6 +42,7 @@ pub(crate) fn add<P: Parts>(top: &Top<P>, place: &mut Place<P>, locked: Locked<P
     requires flight { MayFly place.old.me.0.flight place.old.me.0.base_flight locked.flight }
     ensures seat { IsSameSeat place.old place.new }
     ensures view { (e : Event) → locked.events ≡ place.old.me.0.base ++ e ∷ [] → place.new.me ≡ (after_event place.old.me.0 e locked.flight, []) }
+    ensures legal { IsLegal P.options.start_seq locked.events }
 {
     let events = locked.len();
     top.exchange(place, 0, Some(locked));

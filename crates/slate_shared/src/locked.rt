@@ -9,13 +9,14 @@ ghost use Rattle.slate_txn.specs.State.{Tx, last_of};
 ghost use Rattle.slate_db.specs.declared.flight.Flight.{Flight};
 ghost use Rattle.slate_db.specs.Flushed.{AreTablesOfFlush, Layout};
 ghost use Rattle.slate_db.specs.Flying.{took};
-ghost use Rattle.slate_db.specs.Installs.{AreRunsOf};
+ghost use Rattle.slate_db.specs.Installs.{AreRunsOf, tables_of};
 ghost use Rattle.slate_db.specs.KeyShares.{IsKeyShare};
 ghost use Rattle.slate_db.specs.Log.{LIMIT};
 ghost use Rattle.slate_db.specs.Model.{CoreModel};
+ghost use Rattle.slate_db.specs.Readable.{AreFiltered};
 ghost use Rattle.slate_db.specs.Segmented.{IsSegmented};
 ghost use Rattle.slate_db.specs.Sound.{IsKept};
-ghost use Rattle.slate_shared.specs.Errands.{Departs, IsInstalled, Refusal};
+ghost use Rattle.slate_shared.specs.Errands.{Departs, IsInstalled, IsNextFlush, Refusal};
 ghost use Rattle.slate_txn.specs.Settings.{settings_of};
 ghost use Rattle.slate_shared.specs.KeyReads.{IsTaken};
 ghost use Rattle.slate_shared.specs.LockedModel.{frozen_by, grow, holds_at, IsFull};
@@ -50,14 +51,14 @@ pub struct Locked<P: Parts> {
 
 impl<P: Parts> Model for Locked<P> {
     ghost use Rattle.slate_shared.specs.LockedModel.{LockedModel, holds_at};
-    ghost use Rattle.slate_shared.specs.Locked.{IsHeld};
+    ghost use Rattle.slate_shared.specs.Locked.{IsHeld, NamesTables};
     ghost use Rattle.slate_txn.specs.Settings.{settings_of};
 
     ghost Value = { LockedModel };
 
     ghost view = { λ s. holds_at s.core.events s.flight };
 
-    ghost invariant = { λ s. IsHeld (settings_of P.options) P.meaning P.segments s.flight s.installed s.core };
+    ghost invariant = { λ s. IsHeld (settings_of P.options) P.meaning P.segments s.flight s.installed s.core × NamesTables P.meaning P.policies s.core.events };
 }
 
 impl<P: Parts> Locked<P> {
@@ -98,6 +99,7 @@ impl<P: Parts> Locked<P> {
     /// How many events there are so far.
     pub(crate) fn len(&self) -> u64
         ensures count { result ≡ length self.now.events }
+        ensures legal { IsLegal P.options.start_seq self.now.events }
         ensures few { result < 2 ^ 62 }
     {
         self.core.journal().as_slice().len() as u64
@@ -203,10 +205,12 @@ impl<P: Parts> Locked<P> {
         tables: TableList,
         runs: Vec<SortedRun>,
     ) -> Result<u64, SlateDBError>
-        requires { (f : Flight) × (self.old.flight ≡ Some f) × AreRunsOf tables runs.items × ((layout : Layout) × AreTablesOfFlush P.meaning layout f.number f.barrier (took f) tables) }
+        requires { (f : Flight) × (self.old.flight ≡ Some f) × AreRunsOf tables runs.items × ((layout : Layout) × (layout.policies ≡ P.policies) × AreTablesOfFlush P.meaning layout f.number f.barrier (took f) tables) }
         ensures free { self.new.flight ≡ None }
         ensures event { IfOk result (λ n. self.new.events ≡ self.old.events ++ Install n tables ∷ []) }
         ensures through { (f : Flight) → self.old.flight ≡ Some f → IfOk result (λ n. n ≡ f.through) }
+        ensures next { (f : Flight) → self.old.flight ≡ Some f → IsNextFlush f.number self.old.events }
+        ensures filtered { AreFiltered P.meaning.encode P.policies (tables_of self.new.events) }
         ensures same { OnErr result (self.new.events ≡ self.old.events) }
         ensures cause { IfErr result (Refusal 1 self.old.events) }
     {
@@ -222,7 +226,8 @@ impl<P: Parts> Locked<P> {
 
     /// Gives up the flush on its way. What it took waits as before.
     pub(crate) fn abandon(&mut self)
-        ensures { self.new ≡ holds_at self.old.events None }
+        ensures left { self.new ≡ holds_at self.old.events None }
+        ensures next { (f : Flight) → self.old.flight ≡ Some f → IsNextFlush f.number self.old.events }
     {
         self.flight = None;
     }

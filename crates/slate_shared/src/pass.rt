@@ -79,6 +79,7 @@ impl<P: Parts> Pass<P> {
         requires { self.old.table ≡ db.now }
         ensures same { self.new ≡ self.old }
         ensures begun { IfOk result (λ t. (t.table ≡ self.old.table) × (t.tx ≡ begun level t.tx.begin) × ((before : List Event) × IsPrefix self.old.seen before × (t.seen ≡ before ++ Begin t.id level t.tx.begin ∷ []) × (t.tx.begin ≡ last_of P.options.start_seq (replay before).commits))) }
+        ensures legal { IfOk result (λ t. IsLegal P.options.start_seq t.seen) }
         ensures cause { IfErr result (λ e. (e ≡ SlateDBError.OutOfMemory) ⊎ ((e ≡ SlateDBError.LimitReached LIMIT) × ((before : List Event) × IsPrefix self.old.seen before × IsFull 2 before))) }
     {
         let top = &db.board.shared;

@@ -6,6 +6,7 @@ ghost use Rattle.slate_mem.specs.declared.WriteOp.{WriteOp};
 ghost use Rattle.slate_mem.specs.Refusals.{op_refusal};
 ghost use Rattle.slate_txn.specs.declared.event.Event.{Event};
 ghost use Rattle.slate_txn.specs.declared.event.Event.TheVariants.{End};
+ghost use Rattle.slate_txn.specs.Replay.{IsLegal};
 ghost use Rattle.slate_txn.specs.Step.{with_op, with_marks, with_unmarks};
 
 use crate::board::Place;
@@ -108,6 +109,7 @@ impl<P: Parts> DbTransaction<P> {
         requires { (self.table ≡ db.now) × (pass.old.table ≡ db.now) }
         ensures same { (pass.new.table ≡ pass.old.table) × (pass.new.parts ≡ pass.old.parts) × (pass.new.own ≡ pass.old.own) }
         ensures seen { (before : List Event) × IsPrefix pass.old.seen before × IsPrefix self.seen before × (pass.new.seen ≡ before ++ End self.id ∷ []) }
+        ensures legal { IsLegal P.options.start_seq pass.new.seen }
     {
         let DbTransaction {
             alloc: _,

@@ -1,5 +1,8 @@
-use Rattle.std.proofs.Common.{[], ap, ◌∙◌}
+use Rattle.std.proofs.Common.{List, [], sym, ap, subst, ◌∙◌}
+use Rattle.slate_txn.specs.declared.event.Event.{Event}
 use Rattle.slate_txn.specs.declared.event.Event.TheVariants.{Install}
+use Rattle.slate_db.specs.Installs.{tables_of}
+use Rattle.slate_db.specs.Readable.{AreFiltered}
 use Rattle.slate_shared.specs.Shared.{after_none}
 use Rattle.slate_shared.proofs.Flown.{cleared, may_clear_at, same_seat}
 use Rattle.slate_shared.proofs.Moves.{may_event}
@@ -40,11 +43,13 @@ returns-in-Ok g c =
         t.journal.0,
         record {
           event = (ap (λ n. n.0.seen) now, ap (λ n. n.0.own) now);
+          next = λ f is. c.land.ensures.next f ((t.flight f is).0);
           through = λ f is. c.in-Ok.ensures.through f ((t.flight f is).0);
           same = tt;
           cause = tt;
         },
       );
+      filtered = subst (λ (es : List Event). AreFiltered g.P.Parts.meaning.encode g.P.Parts.policies (tables_of es)) (c.in-Ok.ensures.event ∙ sym (ap (λ n. n.0.seen) now)) c.land.ensures.filtered;
     }
 
 pub keep-requires-clause-flight : goal.keep-requires-clause-flight
@@ -71,9 +76,11 @@ returns-in-Err g c =
         t.journal.0,
         record {
           event = tt;
+          next = λ f is. c.land.ensures.next f ((t.flight f is).0);
           through = λ f is. tt;
           same = (ap (λ n. n.0.seen) now, ap (λ n. n.0.own) now);
           cause = c.in-Err.ensures.cause;
         },
       );
+      filtered = subst (λ (es : List Event). AreFiltered g.P.Parts.meaning.encode g.P.Parts.policies (tables_of es)) (c.in-Err.ensures.same ∙ sym (ap (λ n. n.0.seen) now)) c.land.ensures.filtered;
     }

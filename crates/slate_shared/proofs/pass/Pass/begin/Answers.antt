@@ -1,6 +1,8 @@
-use Rattle.std.proofs.Common.{rules, ◌≡◌, ⊎_elim, inl, inr, [], ◌∷◌, ◌++◌, sym, ap, ◌∙◌, subst}
+use Rattle.std.proofs.Common.{rules, ◌≡◌, ⊎_elim, inl, inr, List, [], ◌∷◌, ◌++◌, sym, ap, ◌∙◌, subst}
+use Rattle.slate_txn.specs.declared.event.Event.{Event}
 use Rattle.slate_txn.specs.declared.event.Event.TheVariants.{Begin}
 use mathlib.Core.List.{IsPrefix}
+use Rattle.slate_txn.specs.Replay.{IsLegal}
 use Rattle.slate_txn.specs.State.{begun}
 use Rattle.slate_shared.proofs.Moves.{offshoots, may_event, view_after}
 use Rattle.slate_shared.proofs.Seats.{begun_seat}
@@ -25,6 +27,13 @@ returns-clause-begun g c =
     let y = c.take-locked.result.events in
     let at : c.in-Ok.opened.1 ≡ c.new-own.result.begin = sym (ap (λ o. o.begin) c.new-own.ensures) in
     (search rules, c.new-own.ensures ∙ ap (λ n. begun c.args.level n) at, (y, subst (λ l. IsPrefix l y) before t.journal.0, ap (λ w. w.seen) now ∙ ap (λ n. y ++ Begin c.in-Ok.opened.0 c.args.level n ∷ []) at, sym at ∙ c.in-Ok.ensures.ok.1))
+
+pub returns-clause-legal : goal.returns-clause-legal
+returns-clause-legal g c =
+    let t = c.take-locked.ensures in
+    let longer_one = ap (λ h. h.events) c.in-Ok.ensures.ok.0 in
+    let now = view_after _ _ c.split_seat-seat.result.me.0 _ c.take-locked.result _ _ (Begin c.in-Ok.opened.0 c.args.level c.in-Ok.opened.1) t.seat.1 longer_one c.add.ensures.view in
+    subst (λ (es : List Event). IsLegal g.P.Parts.options.start_seq es) (longer_one ∙ sym (ap (λ w. w.seen) now)) c.add.ensures.legal
 
 pub invariant_of-result : goal.invariant_of-result
 invariant_of-result g c =

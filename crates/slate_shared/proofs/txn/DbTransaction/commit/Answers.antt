@@ -28,6 +28,7 @@ returns-in-Ok g c =
       same = c.settle.ensures.same;
       ended = ended_weaker (λ e. e ≡ OutOfMemory) (IsFault before after) g.P.Parts.meaning g.P.Parts.segments (settings_of g.P.Parts.options) c.args.now c.args.self c.args.pass.now c.settle.new.pass c.settle.result (λ e is. short_fault before after e is)
           (subst (λ (z : ℤ). HasEnded (λ e. e ≡ OutOfMemory) g.P.Parts.meaning g.P.Parts.segments (settings_of g.P.Parts.options) z c.args.self c.args.pass.now c.settle.new.pass c.settle.result) (to_z-of_z w64 c.args.now c.ranges.now) c.settle.ensures.ended);
+      legal = c.settle.ensures.legal;
       outside = refl;
       call = asked_call g.S.Store g.M.MergeOperator g.T.BlockTransformer c.args.env.now c.prepare-prepared.new.operator c.prepare-prepared.ensures.same;
       reads = asked_reads g.S.Store g.M.MergeOperator g.T.BlockTransformer c.args.env.now c.prepare-prepared.new.operator c.prepare-prepared.ensures.same c.prepare-prepared.ensures.later;
@@ -45,6 +46,7 @@ returns-in-Err g c =
     record {
       same = (c.rollback.ensures.same.0, c.rollback.ensures.same.1);
       ended = fault_before before after g.P.Parts.meaning g.P.Parts.segments (settings_of g.P.Parts.options) c.args.now c.args.self c.args.pass.now c.rollback.new.pass s.0 c.in-Err.error c.in-Err.ensures.cause s.1 s.2 s.3 c.rollback.ensures.same.2;
+      legal = c.rollback.ensures.legal;
       outside = refl;
       call = asked_call g.S.Store g.M.MergeOperator g.T.BlockTransformer c.args.env.now c.prepare-prepared.new.operator c.prepare-prepared.ensures.same;
       reads = asked_reads g.S.Store g.M.MergeOperator g.T.BlockTransformer c.args.env.now c.prepare-prepared.new.operator c.prepare-prepared.ensures.same c.prepare-prepared.ensures.later;

@@ -1,6 +1,8 @@
-use Rattle.std.proofs.Common.{rules, ◌≡◌, ◌+◌, ◌<◌, ◌++◌, Some, None, refl, ap, ◌∙◌, arith}
+use Rattle.std.proofs.Common.{rules, ◌≡◌, ◌+◌, ◌<◌, ◌++◌, List, Some, None, refl, sym, ap, subst, ◌∙◌, arith}
 use Rattle.std.proofs.lemmas.List.{append-nil}
+use Rattle.slate_txn.specs.declared.event.Event.{Event}
 use Rattle.slate_txn.specs.declared.event.Event.TheVariants.{End}
+use Rattle.slate_txn.specs.Replay.{IsLegal}
 use Rattle.slate_txn.specs.State.{begun}
 use Rattle.slate_shared.specs.Shared.{either_txn, either_flight}
 use Rattle.slate_shared.proofs.Moves.{joins, may_event, grown, view_after}
@@ -23,6 +25,13 @@ returns-clause-seen g c =
     let y = c.take-locked.result in
     let all = grown c.pass.inside.seat.me.0 c.self.inside.seat.me.0 _ _ _ _ _ y _ _ (End c.self.inside.id) c.join_seat.ensures.2 t.seat.1 t.journal.0 t.journal.1 (ap (λ h. h.events) c.end.ensures) c.add.ensures.view in
     rw (← c.self.view_is, ← c.pass.view_is) (y.events, all.0, all.1, all.2)
+
+pub returns-clause-legal : goal.returns-clause-legal
+returns-clause-legal g c =
+    let t = c.take-locked.ensures in
+    let longer_one = ap (λ h. h.events) c.end.ensures in
+    let all = grown c.pass.inside.seat.me.0 c.self.inside.seat.me.0 _ _ _ _ _ c.take-locked.result _ _ (End c.self.inside.id) c.join_seat.ensures.2 t.seat.1 t.journal.0 t.journal.1 longer_one c.add.ensures.view in
+    subst (λ (es : List Event). IsLegal g.P.Parts.options.start_seq es) (longer_one ∙ sym all.2) c.add.ensures.legal
 
 pub end-requires : goal.end-requires
 end-requires g c =

@@ -2,6 +2,8 @@ use Rattle.std.proofs.Common.{rules, ◌≡◌, ◌+◌, ◌<◌, ◌++◌, ◌�
 use Rattle.std.proofs.lemmas.Int.{to_z-of_z}
 use Rattle.std.proofs.lemmas.List.{append-nil}
 use Rattle.slate_types.specs.declared.error.SlateDBError.TheVariants.{OutOfMemory}
+use Rattle.slate_txn.specs.declared.event.Event.{Event}
+use Rattle.slate_txn.specs.Replay.{IsLegal}
 use Rattle.slate_txn.specs.Settings.{settings_of}
 use Rattle.slate_txn.specs.State.{begun}
 use Rattle.slate_db.specs.Prepared.{IsPrepared, own_batch, prepared_for}
@@ -69,4 +71,5 @@ returns g c =
       same = (c.add.ensures.seat.0 ∙ (t.seat.0.0 ∙ c.join_seat.ensures.0), ap (λ x. x.parts) now ∙ as_many);
       ended = has_ended (λ e. e ≡ OutOfMemory) g.P.Parts.meaning g.P.Parts.segments (settings_of g.P.Parts.options) c.args.now _ (record { table = c.self.inside.seat.table_id; seen = w.seen; id = c.self.inside.id; tx = own }) r c.handled.result (pass_model c.pass.inside.seat.table_id p) (pass_model c.add.new.place.table_id c.add.new.place.me.0) y.events
           (to_z-of_z w64 c.args.now c.ranges.now) (sym c.handled.ensures) (p.own ++ w.own) (ap (λ (l : List ℕ). p.own ++ l) c.self.invariant.2 ∙ append-nil p.own) all.0 all.1 all.2 all.3 c.commit-outcome.ensures.ends;
+      legal = subst (λ (es : List Event). IsLegal g.P.Parts.options.start_seq es) (longer_one ∙ sym all.2) c.add.ensures.legal;
     })
