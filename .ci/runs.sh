@@ -1,5 +1,5 @@
 # shellcheck shell=bash disable=SC2154
-# Functions of ./slate, ./slate_index and ./slate_queue: how their program is run, and what a person is told behind it. Source this file behind program.sh. Where standard error
+# Functions of ./slate, ./slate_index, ./slate_queue and ./slate_stock: how their program is run, and what a person is told behind it. Source this file behind program.sh. Where standard error
 # is no terminal nothing is told, and the proved program takes the place of ./slate.
 
 # What is known of the line at status 3.

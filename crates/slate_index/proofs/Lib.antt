@@ -19,3 +19,4 @@ pub mod ErrorKinds
 pub mod Records
 pub mod Runs
 pub mod Going
+pub mod Attempted

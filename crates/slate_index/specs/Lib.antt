@@ -14,3 +14,4 @@ pub mod Looking
 pub mod Running
 pub mod Words
 pub mod Laws
+pub mod Attempting

@@ -91,7 +91,7 @@ module _ (c d : CoreModel) (id : List ℕ) (level : IsolationLevel) (ts : List T
 
 -- ---- with one
 
-all_tracked : (ks : List (List ℕ)) → filter (λ k. not (among k [])) ks ≡ ks
+pub all_tracked : (ks : List (List ℕ)) → filter (λ k. not (among k [])) ks ≡ ks
 all_tracked [] = refl
 all_tracked (k ∷ ks) = ap (λ js. k ∷ js) (all_tracked ks)
 

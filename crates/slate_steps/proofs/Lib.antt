@@ -3,3 +3,9 @@ pub mod Taking
 pub mod Ending
 pub mod Settling
 pub mod Reading
+pub mod Between
+pub mod StoreTruth
+pub mod Attempts
+pub mod OnPass
+pub mod OpenThere
+pub mod Walking

@@ -93,7 +93,7 @@ within_changed c d e id level ts us f is same kept h = record {
     whole = is ∙ ap changed h.is
         ∙ ap (λ (ps : List (List ℕ × Tx)). record c { state = record c.state { txns = ps }; events = c.events ++ (events.Begin id level (newest c) ∷ []); spare = d.spare }) last
 
-noted_taking : (n : ℕ) (level : IsolationLevel) (ts : List TranscriptStep) (t : TranscriptStep) → own_of (t ∷ []) ≡ [] →
+pub noted_taking : (n : ℕ) (level : IsolationLevel) (ts : List TranscriptStep) (t : TranscriptStep) → own_of (t ∷ []) ≡ [] →
     record (taking n level ts) { transcript = ts ++ (t ∷ []) } ≡ taking n level (ts ++ (t ∷ []))
 noted_taking n level ts t read = ap (λ (os : Ops). record { level = level; begin = n; ops = os; marked = []; unmarked = []; transcript = ts ++ (t ∷ []) }) (sym (noted_own ts t read))
 
@@ -103,7 +103,7 @@ pub within_noted : (c d e : CoreModel) (id : List ℕ) (level : IsolationLevel) 
 within_noted c d e id level ts t read is kept h =
     within_changed c d e id level ts (ts ++ (t ∷ [])) (λ x. record x { transcript = x.transcript ++ (t ∷ []) }) is (noted_taking (newest c) level ts t read) kept h
 
-own_taking : (n : ℕ) (level : IsolationLevel) (ts : List TranscriptStep) (k : List ℕ) (op : WriteOp) → with_op k op (taking n level ts) ≡ taking n level (ts ++ (steps.Own k op ∷ []))
+pub own_taking : (n : ℕ) (level : IsolationLevel) (ts : List TranscriptStep) (k : List ℕ) (op : WriteOp) → with_op k op (taking n level ts) ≡ taking n level (ts ++ (steps.Own k op ∷ []))
 own_taking n level ts k op = ap (λ (os : Ops). record { level = level; begin = n; ops = os; marked = []; unmarked = []; transcript = ts ++ (steps.Own k op ∷ []) }) (sym (own_more ts k op))
 
 -- a put or a delete

@@ -1,2 +1,4 @@
 pub mod Steps
 pub mod Reads
+pub mod Attempts
+pub mod Walks

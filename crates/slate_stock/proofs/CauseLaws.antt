@@ -84,7 +84,7 @@ seen_before policies a b c ts reads h g settled = subst (λ (m : Meaning). Sees 
 pub one_fault : (policies : List Policy) (a b : Reach) (c d : CoreModel) (id : List ℕ) (ts : List TranscriptStep) (x : SlateDBError) → IsWithin c id SerializableSnapshot ts d → IsReadError policies a b d x → IsReadFault policies a b c id SerializableSnapshot x
 one_fault policies a b c d id ts x within h = record { taken = ts; core = d; within = within; from = a; upto = b; first = reads_none a; later = reads_none b; refused = h }
 
-fault_since : (policies : List Policy) (a b z : Reach) (c : CoreModel) (id : List ℕ) (x : SlateDBError) → OnlyReads a b → IsReadFault policies b z c id SerializableSnapshot x → IsReadFault policies a z c id SerializableSnapshot x
+pub fault_since : (policies : List Policy) (a b z : Reach) (c : CoreModel) (id : List ℕ) (x : SlateDBError) → OnlyReads a b → IsReadFault policies b z c id SerializableSnapshot x → IsReadFault policies a z c id SerializableSnapshot x
 fault_since policies a b z c id x reads h = record { taken = h.taken; core = h.core; within = h.within; from = h.from; upto = h.upto; first = reads_then a b h.from reads h.first; later = h.later; refused = h.refused }
 
 pub fault_upto : (policies : List Policy) (a y z : Reach) (c : CoreModel) (id : List ℕ) (x : SlateDBError) → OnlyReads y z → IsReadFault policies a y c id SerializableSnapshot x → IsReadFault policies a z c id SerializableSnapshot x

@@ -13,3 +13,11 @@ pub mod StepLaws
 pub mod CauseLaws
 pub mod CoreLaws
 pub mod EndLaws
+pub mod StoredLaws
+pub mod TotalLaws
+pub mod BookLaws
+pub mod ErrorKinds
+pub mod RunLaws
+pub mod GoingLaws
+pub mod AttemptLaws
+pub mod AttemptCauses

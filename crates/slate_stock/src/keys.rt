@@ -1,6 +1,6 @@
 //! Where balances and issued amounts stand.
 ghost use Rattle.std.specs.Prelude.{◌≡◌, IfOk};
-ghost use Rattle.slate_stock.specs.Amounts.{balance_key, issued_key, money};
+ghost use Rattle.slate_stock.specs.Amounts.{balance_key, head, issued_key, money};
 ghost use Rattle.slate_stock.specs.Orders.{order_keys};
 
 use crate::name::Name;
@@ -59,10 +59,24 @@ pub fn issued_key(alloc: Global, asset: &[u8]) -> Result<Bytes, AllocError>
 pub fn balance_key(alloc: Global, asset: &[u8], name: &Name) -> Result<Bytes, AllocError>
     ensures { IfOk result (λ key. key ≡ balance_key asset.now name.now) }
 {
-    let mut key = Vec::new(alloc);
-    key.extend_from_slice(b"b:")?;
-    key.extend_from_slice(asset)?;
-    key.push(b':')?;
+    let mut key = head_of(alloc, asset)?;
     key.extend_from_slice(name.as_slice())?;
     Bytes::from_vec(key).map_err(AllocError::from)
+}
+
+/// What the keys of an asset's balances begin with.
+pub fn balance_head(alloc: Global, asset: &[u8]) -> Result<Bytes, AllocError>
+    ensures { IfOk result (λ key. key ≡ head asset.now) }
+{
+    Bytes::from_vec(head_of(alloc, asset)?).map_err(AllocError::from)
+}
+
+fn head_of(alloc: Global, asset: &[u8]) -> Result<Vec<u8>, AllocError>
+    ensures { IfOk result (λ v. v.items ≡ head asset.now) }
+{
+    let mut head = Vec::new(alloc);
+    head.extend_from_slice(b"b:")?;
+    head.extend_from_slice(asset)?;
+    head.push(b':')?;
+    Ok(head)
 }

@@ -10,11 +10,16 @@ pub mod error;
 pub mod keys;
 pub mod laws;
 pub mod legs;
+pub mod line;
 pub mod moves;
 pub mod name;
 pub mod on_core;
+pub mod on_pass;
 pub mod order;
+pub mod reply;
+pub mod run;
 pub mod shown;
+pub mod total;
 
 pub use error::StockError;
 pub use name::Name;

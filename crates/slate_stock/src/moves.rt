@@ -110,7 +110,7 @@ fn taken(alloc: Global, asset: &[u8], name: &Name, has: u64, needs: u64) -> Resu
 }
 
 /// A holding with more.
-fn added(old: u64, more: u64) -> Result<u64, StockError>
+pub(crate) fn added(old: u64, more: u64) -> Result<u64, StockError>
     ensures ok { IfOk result (λ sum. (nat_le (2 ^ 64) (old + more) ≡ false) × (sum ≡ old + more)) }
     ensures refused { IfErr result (λ e. (nat_le (2 ^ 64) (old + more) ≡ true) × (e ≡ StockError.TooMuch)) }
 {

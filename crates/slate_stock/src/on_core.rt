@@ -319,7 +319,7 @@ fn read_amounts<S: Store, M: MergeOperator, T: BlockTransformer, X: PrefixExtrac
 }
 
 /// Reads the amount at a key.
-fn read_amount<S: Store, M: MergeOperator, T: BlockTransformer, X: PrefixExtractor>(
+pub(crate) fn read_amount<S: Store, M: MergeOperator, T: BlockTransformer, X: PrefixExtractor>(
     core: &mut Core,
     id: &Uuid,
     key: &Bytes,
@@ -352,7 +352,7 @@ fn read_amount<S: Store, M: MergeOperator, T: BlockTransformer, X: PrefixExtract
 }
 
 /// The amount that was found at a key.
-fn amount_found(found: &Option<KeyValue>, key: &Bytes) -> Result<u64, StockError>
+pub(crate) fn amount_found(found: &Option<KeyValue>, key: &Bytes) -> Result<u64, StockError>
     ensures amount { IfOk result (λ n. IsAmount n found.now) }
     ensures cause { IfErr result (λ e. (e ≡ StockError.Db SlateDBError.OutOfMemory) ⊎ ((e ≡ StockError.BadAmount key.now) × ((row : KeyValue) × (found.now ≡ Some row) × (length row.value ≢ 8)))) }
 {

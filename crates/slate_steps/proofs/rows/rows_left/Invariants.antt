@@ -1,0 +1,13 @@
+use Rattle.std.proofs.Common.{◌≡◌, length}
+use Rattle.slate_store.specs.Reach.{reach_of}
+use Rattle.slate_steps.specs.Walks.{IsRowWalk}
+use Rattle.slate_steps.proofs.rows.rows_left.Given as goal
+
+abbrev pub invariant-loop : goal.invariant-loop
+invariant-loop g l =
+    let before = reach_of g.S.Store g.M.MergeOperator g.T.BlockTransformer l.initial.env in
+    let now = reach_of g.S.Store g.M.MergeOperator g.T.BlockTransformer l.env in
+    record {
+      walking : IsRowWalk before now l.initial.core l.core l.initial.scan l.scan l.rows.items;
+      counted : length l.rows.items ≡ l.counter;
+    }
