@@ -5,8 +5,10 @@
 mod block_iterators;
 #[cfg(test)]
 mod blocks;
+pub mod careless;
 #[cfg(test)]
 mod commit_lists;
+pub mod failing;
 #[cfg(test)]
 mod folded;
 pub mod listing;

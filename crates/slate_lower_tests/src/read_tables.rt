@@ -146,6 +146,27 @@ fn damage_is_named(rt: HostRuntime) {
     assert!(rt; are_named(rt.alloc()));
 }
 
+// How a table is refused that isn't there.
+fn answer_of_nothing(alloc: Global) -> Option<String> {
+    let store = MemoryStore::new(alloc, Vec::new(alloc));
+    let mut reader = Reader::new(alloc, "db", store, None).ok()?;
+    let answered = answer_of_reader(alloc, &mut reader, ID, 0);
+    drop(reader);
+    let text = format!(in alloc; "{answered:?}").ok();
+    drop(answered);
+    text
+}
+
+#[test]
+fn a_missing_table_is_named(rt: HostRuntime) {
+    assert!(rt;
+        is_text(
+            answer_of_nothing(rt.alloc()),
+            "Err(CorruptTable { place: 0 })"
+        )
+    );
+}
+
 // Whether the table is whole or named as damaged, with the byte at a place changed.
 fn is_well_with(alloc: Global, at: usize) -> bool {
     match answer_of_damaged(alloc, TABLE.len(), at, 0x11) {

@@ -2,6 +2,14 @@
 #![tactic(auto)]
 
 #[cfg(test)]
+mod careless;
+#[cfg(test)]
+mod exact_reads;
+#[cfg(test)]
+mod failing;
+#[cfg(test)]
+mod failing_flushes;
+#[cfg(test)]
 mod filters;
 #[cfg(test)]
 mod flushes;
