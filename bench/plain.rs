@@ -4,7 +4,7 @@
 //! `slate_bench`, and so are those of `threads THREADS ROUNDS`. Six more words are there for scripts: `make NAME` prints one of them, `run -` and `run FOLDER` answer one
 //! as `slate` does, `keep -` and `keep FOLDER` do so and keep a journal, `reads -` and `reads FOLDER` answer one too, and print no
 //! replies, but how much of tables they read, `gen ROUNDS SEED` answers as `slate - gen ROUNDS SEED`, with a journal too, and
-//! `measure FILE PROGRAM WORDS..` runs a program and appends to the file what it took. Behind a store may stand the words
+//! `index` answers lines of records as the program of that name, with a journal too, and `measure FILE PROGRAM WORDS..` runs a program and appends to the file what it took. Behind a store may stand the words
 //! `filter=none`, `seg=colon` and `op=max`, as for `slate`.
 
 use block::{decode_block, walk_v1, walk_v2, Builder, Row, Sums, Version};
@@ -194,6 +194,8 @@ fn main() {
         ["run", store, words @ ..] => run_script(store, words, Journal::None),
         ["keep", store, words @ ..] => run_script(store, words, Journal::new()),
         ["reads", store, words @ ..] => run_for_reads(store, words),
+        ["index"] => status_of(index::run(&mut io::stdin().lock(), &mut io::stdout().lock())),
+        ["stock"] => stock::run(io::stdin(), io::stdout()),
         ["gen", rounds, seed] => script::run_generated(rounds, seed, io::stdout()),
         ["threads", threads, rounds] => share_rounds(threads, rounds, false),
         ["threads", threads, rounds, "time"] => share_rounds(threads, rounds, true),
@@ -219,6 +221,216 @@ fn share_rounds(threads: &str, rounds: &str, is_timed: bool) -> i32 {
         println!("threads took {nanos} ns");
     }
     0
+}
+
+/// Records with two indexes, in memory, and the journal of all changes.
+mod index {
+    use std::cmp::Reverse;
+    use std::collections::BTreeMap;
+    use std::io::{BufRead, BufWriter, Write};
+    use std::ops::Bound;
+
+    /// How long a field is at most that gets an entry.
+    const LONGEST_FIELD: usize = 1024;
+
+    /// By which rows are ordered: by key upwards, and the newest of a key first.
+    type RowKey = (Vec<u8>, Reverse<u64>);
+
+    /// A put of a value, or a delete.
+    type Op = (Vec<u8>, Option<Vec<u8>>);
+
+    /// One thing that a transaction did or saw. It is kept, and nothing asks for it.
+    #[allow(dead_code)]
+    enum Step {
+        Get(Vec<u8>, Option<Vec<u8>>),
+        Own(Op),
+    }
+
+    /// An event of the journal. It is kept, and nothing asks for it.
+    #[allow(dead_code)]
+    enum Event {
+        Begin(u64, u64),
+        End(u64),
+        Commit {
+            id: u64,
+            seq: u64,
+            ops: Vec<Op>,
+            tracked: Vec<Vec<u8>>,
+            transcript: Vec<Step>,
+        },
+    }
+
+    /// All versions of all keys, and what was done.
+    struct Records {
+        rows: BTreeMap<RowKey, Option<Vec<u8>>>,
+        journal: Vec<Event>,
+        last: u64,
+        ids: u64,
+    }
+
+    fn record_key(id: &[u8]) -> Vec<u8> {
+        [b"r:", id].concat()
+    }
+
+    /// What the keys of all entries of the index with this field begin with.
+    fn entry_prefix(number: u8, field: &[u8]) -> Vec<u8> {
+        let mut key = vec![b'x', number];
+        for &byte in field {
+            key.push(byte);
+            if byte == 0 {
+                key.push(255);
+            }
+        }
+        key.extend_from_slice(&[0, 1]);
+        key
+    }
+
+    /// The entries of a record with this value: of the first and the second part between commas.
+    fn entries(id: &[u8], value: &[u8]) -> Vec<Vec<u8>> {
+        let mut keys = Vec::new();
+        for (number, field) in (0..).zip(value.split(|&byte| byte == b',').take(2)) {
+            if field.len() <= LONGEST_FIELD {
+                let mut key = entry_prefix(number, field);
+                key.extend_from_slice(id);
+                keys.push(key);
+            }
+        }
+        keys
+    }
+
+    impl Records {
+        fn new() -> Records {
+            Records {
+                rows: BTreeMap::new(),
+                journal: Vec::new(),
+                last: 0,
+                ids: 0,
+            }
+        }
+
+        /// Begins a transaction, and gives its id.
+        fn begin(&mut self) -> u64 {
+            self.ids += 1;
+            self.journal.push(Event::Begin(self.ids, self.last));
+            self.ids
+        }
+
+        fn get(&self, key: &[u8]) -> Option<Vec<u8>> {
+            let from = (key.to_vec(), Reverse(u64::MAX));
+            let (found, value) = self.rows.range(from..).next()?;
+            if found.0 == key {
+                value.clone()
+            } else {
+                None
+            }
+        }
+
+        /// Changes a record to a value, or to none, and tells whether it is changed.
+        fn change(&mut self, id: &[u8], new: Option<&[u8]>) -> bool {
+            let tx = self.begin();
+            let key = record_key(id);
+            let old = self.get(&key);
+            if old.is_none() && new.is_none() {
+                self.journal.push(Event::End(tx));
+                return false;
+            }
+            let ops = change_ops(id, key.clone(), old.as_deref(), new);
+            let mut transcript = vec![Step::Get(key, old)];
+            transcript.extend(ops.iter().cloned().map(Step::Own));
+            self.commit(tx, ops, transcript);
+            true
+        }
+
+        /// Commits the last operation of each key.
+        fn commit(&mut self, id: u64, ops: Vec<Op>, transcript: Vec<Step>) {
+            let kept: BTreeMap<Vec<u8>, Option<Vec<u8>>> = ops.into_iter().collect();
+            self.last += 1;
+            let seq = self.last;
+            for (key, value) in &kept {
+                self.rows
+                    .insert((key.clone(), Reverse(seq)), value.clone());
+            }
+            self.journal.push(Event::Commit {
+                id,
+                seq,
+                tracked: kept.keys().cloned().collect(),
+                ops: kept.into_iter().collect(),
+                transcript,
+            });
+        }
+
+        /// The ids of the records with this field.
+        fn find(&mut self, number: u8, field: &[u8]) -> Vec<Vec<u8>> {
+            let tx = self.begin();
+            let prefix = entry_prefix(number, field);
+            let from = Bound::Included((prefix.clone(), Reverse(u64::MAX)));
+            let mut ids = Vec::new();
+            let mut before: &[u8] = &[];
+            for ((key, _), value) in self.rows.range((from, Bound::Unbounded)) {
+                if !key.starts_with(&prefix) {
+                    break;
+                }
+                if key != before && value.is_some() {
+                    ids.push(key[prefix.len()..].to_vec());
+                }
+                before = key;
+            }
+            self.journal.push(Event::End(tx));
+            ids
+        }
+    }
+
+    /// What a change puts and deletes.
+    fn change_ops(id: &[u8], key: Vec<u8>, old: Option<&[u8]>, new: Option<&[u8]>) -> Vec<Op> {
+        let olds = old.map_or(Vec::new(), |value| entries(id, value));
+        let news = new.map_or(Vec::new(), |value| entries(id, value));
+        let mut ops: Vec<Op> = Vec::new();
+        ops.extend(olds.into_iter().filter(|key| !news.contains(key)).map(|key| (key, None)));
+        ops.push((key, new.map(<[u8]>::to_vec)));
+        ops.extend(news.into_iter().map(|key| (key, Some(Vec::new()))));
+        ops
+    }
+
+    /// Answers lines of records; nothing where one is none.
+    pub fn run<R: BufRead, W: Write>(source: &mut R, sink: &mut W) -> Option<()> {
+        let mut records = Records::new();
+        let mut sink = BufWriter::new(sink);
+        let mut line = Vec::new();
+        loop {
+            line.clear();
+            if source.read_until(b'\n', &mut line).ok()? == 0 {
+                return sink.flush().ok();
+            }
+            let words: Vec<&[u8]> = line.trim_ascii_end().split(|&byte| byte == b' ').collect();
+            answer(&mut records, &words, &mut sink)?;
+        }
+    }
+
+    fn answer<W: Write>(records: &mut Records, words: &[&[u8]], sink: &mut W) -> Option<()> {
+        match words {
+            [b"put", id, value] => {
+                records.change(id, Some(value.strip_prefix(b"'")?));
+                sink.write_all(b"ok\n").ok()
+            }
+            [b"del", id] => {
+                if records.change(id, None) {
+                    return sink.write_all(b"ok\n").ok();
+                }
+                sink.write_all(&[b"refused NoRecord ", *id, b"\n"].concat()).ok()
+            }
+            [b"find", number, field] => {
+                let number = number.first()?.checked_sub(b'0')?;
+                let ids = records.find(number, field.strip_prefix(b"'")?);
+                write!(sink, "found {}", ids.len()).ok()?;
+                for id in ids {
+                    sink.write_all(b" ").ok()?;
+                    sink.write_all(&id).ok()?;
+                }
+                sink.write_all(b"\n").ok()
+            }
+            _ => None,
+        }
+    }
 }
 
 /// Rows and blocks: how they are written, and how they are read.
@@ -2155,6 +2367,220 @@ mod script {
 }
 
 /// The scripts that `slate` and plain Rust answer. `docs/SCRIPT.md` has their language.
+/// Accounts and stock: lines of orders, answered from a map of amounts, with a journal of all orders and what they read.
+mod stock {
+    use std::collections::BTreeMap;
+    use std::io::{BufRead, BufReader, Read, Write};
+
+    /// How many bytes of lines are read at once.
+    const PIECE: usize = 65536;
+
+    /// What an order read or put. It is kept, and nothing asks for it.
+    #[allow(dead_code)]
+    enum Step {
+        Get(Vec<u8>, Option<[u8; 8]>),
+        Put(Vec<u8>, [u8; 8]),
+    }
+
+    /// A transaction began, ended, or was committed. It is kept, and nothing asks for it.
+    #[allow(dead_code)]
+    enum Event {
+        Begin {
+            id: u64,
+            seq: u64,
+        },
+        End {
+            id: u64,
+        },
+        Commit {
+            id: u64,
+            seq: u64,
+            ops: Vec<(Vec<u8>, [u8; 8])>,
+            tracked: Vec<Vec<u8>>,
+            transcript: Vec<Step>,
+        },
+    }
+
+    /// The amounts, under their keys and sequences, as a store keeps them that was never flushed.
+    #[derive(Default)]
+    struct Books {
+        amounts: BTreeMap<(Vec<u8>, std::cmp::Reverse<u64>), [u8; 8]>,
+        seq: u64,
+        ids: u64,
+        journal: Vec<Event>,
+    }
+
+    enum Refusal {
+        Syntax,
+        Said(String),
+    }
+
+    use Refusal::{Said, Syntax};
+
+    /// Answers each line of the source, and gives the status.
+    pub fn run(source: impl Read, mut sink: impl Write) -> i32 {
+        let mut books = Books::default();
+        let mut source = BufReader::with_capacity(PIECE, source);
+        let mut line = Vec::new();
+        loop {
+            line.clear();
+            match source.read_until(b'\n', &mut line) {
+                Ok(0) => return 0,
+                Ok(_) => {}
+                Err(_) => return 5,
+            }
+            let line = line.strip_suffix(b"\n").unwrap_or(&line);
+            if line.first().is_none_or(|byte| *byte == b'#') {
+                continue;
+            }
+            let reply = match books.answer(line) {
+                Ok(reply) => reply,
+                Err(Said(why)) => format!("refused {why}\n"),
+                Err(Syntax) => return 3,
+            };
+            if sink.write_all(reply.as_bytes()).is_err() {
+                return 6;
+            }
+        }
+    }
+
+    fn balance_key(asset: &[u8], name: &[u8]) -> Vec<u8> {
+        [b"b:", asset, b":", name].concat()
+    }
+
+    fn issued_key(asset: &[u8]) -> Vec<u8> {
+        [b"i:", asset].concat()
+    }
+
+    fn name(token: &[u8]) -> Result<&[u8], Refusal> {
+        let is_name = (1..=32).contains(&token.len())
+            && (token.iter()).all(|byte| byte.is_ascii_lowercase() || byte.is_ascii_digit());
+        if is_name {
+            Ok(token)
+        } else {
+            Err(Syntax)
+        }
+    }
+
+    fn number(token: &[u8]) -> Result<u64, Refusal> {
+        let text = std::str::from_utf8(token).map_err(|_| Syntax)?;
+        let number: u64 = text.parse().map_err(|_| Syntax)?;
+        if number.to_string() == text {
+            Ok(number)
+        } else {
+            Err(Syntax)
+        }
+    }
+
+    fn taken(key: &[u8], has: u64, needs: u64) -> Result<u64, Refusal> {
+        has.checked_sub(needs).ok_or_else(|| {
+            Said(format!("NotEnough {} {has} {needs}", String::from_utf8_lossy(key)))
+        })
+    }
+
+    fn added(has: u64, more: u64) -> Result<u64, Refusal> {
+        has.checked_add(more).ok_or_else(|| Said("TooMuch".to_owned()))
+    }
+
+    impl Books {
+        fn answer(&mut self, line: &[u8]) -> Result<String, Refusal> {
+            let tokens: Vec<&[u8]> = line.split(|byte| *byte == b' ').collect();
+            match tokens.as_slice() {
+                [b"issue", asset, holder, amount] => {
+                    let (asset, holder, amount) = (name(asset)?, name(holder)?, number(amount)?);
+                    let keys = vec![issued_key(asset), balance_key(asset, holder)];
+                    self.order(keys, |_, has| {
+                        if has[0] > 0 {
+                            let asset = String::from_utf8_lossy(asset);
+                            return Err(Said(format!("AlreadyIssued {asset}")));
+                        }
+                        Ok(vec![amount, added(has[1], amount)?])
+                    })
+                }
+                [b"pay", asset, from, to, amount] => {
+                    let (asset, from, to) = (name(asset)?, name(from)?, name(to)?);
+                    let amount = number(amount)?;
+                    if from == to {
+                        return Err(Said("SameName".to_owned()));
+                    }
+                    let keys = vec![balance_key(asset, from), balance_key(asset, to)];
+                    self.order(keys, |keys, has| {
+                        let left = taken(&keys[0], has[0], amount)?;
+                        Ok(vec![left, added(has[1], amount)?])
+                    })
+                }
+                [b"total", asset] => Ok(self.total(name(asset)?)),
+                _ => Err(Syntax),
+            }
+        }
+
+        /// Reads the amounts at the keys, and commits those that are made of them.
+        fn order(
+            &mut self,
+            keys: Vec<Vec<u8>>,
+            made: impl FnOnce(&[Vec<u8>], &[u64]) -> Result<Vec<u64>, Refusal>,
+        ) -> Result<String, Refusal> {
+            let id = self.ids;
+            self.ids += 1;
+            self.journal.push(Event::Begin { id, seq: self.seq });
+            let mut transcript = Vec::new();
+            let mut has = Vec::new();
+            for key in &keys {
+                let found = self.amount(key);
+                has.push(found.map_or(0, u64::from_be_bytes));
+                transcript.push(Step::Get(key.clone(), found));
+            }
+            let new = match made(&keys, &has) {
+                Ok(new) => new,
+                Err(refusal) => {
+                    self.journal.push(Event::End { id });
+                    return Err(refusal);
+                }
+            };
+            self.seq += 1;
+            let mut ops = Vec::new();
+            for (key, amount) in keys.iter().zip(new) {
+                let value = amount.to_be_bytes();
+                transcript.push(Step::Put(key.clone(), value));
+                self.amounts.insert((key.clone(), std::cmp::Reverse(self.seq)), value);
+                ops.push((key.clone(), value));
+            }
+            self.journal.push(Event::Commit {
+                id,
+                seq: self.seq,
+                ops,
+                tracked: keys,
+                transcript,
+            });
+            Ok("ok\n".to_owned())
+        }
+
+        fn amount(&self, key: &[u8]) -> Option<[u8; 8]> {
+            let newest = (key.to_vec(), std::cmp::Reverse(u64::MAX));
+            let (found, value) = self.amounts.range(newest..).next()?;
+            (found.0 == key).then_some(*value)
+        }
+
+        fn total(&mut self, asset: &[u8]) -> String {
+            let head = balance_key(asset, b"");
+            let issued = self.amount(&issued_key(asset)).map_or(0, u64::from_be_bytes);
+            let mut sum = 0;
+            let mut last: &[u8] = b"";
+            let from = (head.clone(), std::cmp::Reverse(u64::MAX));
+            for ((key, _), value) in self.amounts.range(from..) {
+                if !key.starts_with(&head) {
+                    break;
+                }
+                if key != last {
+                    sum += u64::from_be_bytes(*value);
+                }
+                last = key;
+            }
+            format!("total {sum} {issued}\n")
+        }
+    }
+}
+
 mod scripts {
     use std::fmt::{Result, Write};
 
@@ -2211,6 +2637,9 @@ mod scripts {
     /// How many writes stand between two flushes.
     const FLUSH_INTERVAL: u64 = 64;
 
+    /// How many accounts pay each other.
+    const ACCOUNTS: u64 = 1_000;
+
     /// How often all rows are scanned.
     const SCANS: u64 = 4;
 
@@ -2255,6 +2684,8 @@ mod scripts {
             "write_past_scans" => write_past_scans(&mut text, sizes),
             "merge" => merge_many(&mut text, sizes),
             "segments" => write_and_scan_segments(&mut text, sizes),
+            "records" => put_and_find(&mut text, many, few),
+            "payments" => pay_many(&mut text, many),
             _ => return None,
         };
         made.ok().map(|()| text)
@@ -2269,8 +2700,32 @@ mod scripts {
         writeln!(text, "write put 'account/{key:08}/balance '{value:0100}")
     }
 
+    /// Many records of two fields, each of which has so many values, and a search for each value in each index.
+    fn put_and_find(text: &mut String, many: u64, values: u64) -> Result {
+        for i in 0..many {
+            let first = i % values;
+            let second = i / values * 7 % values;
+            writeln!(text, "put r{:06} 'town{first},trade{second}", scattered(i, many))?;
+        }
+        (0..values).try_for_each(|value| writeln!(text, "find 0 'town{value}\nfind 1 'trade{value}"))
+    }
+
     fn write_many(text: &mut String, many: u64) -> Result {
         (0..many).try_for_each(|i| put(text, scattered(i, many), i))
+    }
+
+    /// Lines of orders: so many payments among 1,000 accounts, which begin with 1,000 each, and the total.
+    fn pay_many(text: &mut String, many: u64) -> Result {
+        writeln!(text, "issue money bank {}", ACCOUNTS * 1_000)?;
+        (0..ACCOUNTS).try_for_each(|i| writeln!(text, "pay money bank account{i} 1000"))?;
+        for i in 0..many {
+            let from = scattered(i, ACCOUNTS);
+            let to = (from + 1 + i / ACCOUNTS) % ACCOUNTS;
+            if from != to {
+                writeln!(text, "pay money account{from} account{to} {}", i % 7)?;
+            }
+        }
+        writeln!(text, "total money")
     }
 
     /// Many writes with a flush behind each so many, and scans of all rows.
