@@ -35,3 +35,4 @@ pub mod WalkedBlocksV2
 pub mod BlocksReadAgainV2
 pub mod GoodRows
 pub mod WalkedVersions
+pub mod KeySteps

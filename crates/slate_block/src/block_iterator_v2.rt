@@ -43,6 +43,7 @@ impl<B: BlockLike> AscendingState<B> {
         IterationOrder::Ascending
     }
 
+    #[inline(always)]
     fn next_row(&mut self, alloc: Global) -> Result<Option<RowEntry>, SlateDBError>
         ensures read { IfOk result (λ answer. TakesRead self.old.reads answer self.new.reads) }
         ensures rows { IfOk result (λ answer. TakesLeft (left self.old) answer (left self.new)) }
@@ -140,6 +141,7 @@ impl<B: BlockLike> BlockIteratorV2<B> {
 
     /// The first row of those that are left, which is taken off, or `None` where none is left. `CorruptTable` with the
     /// place of the first field that fails in the rows' part, or `InvalidRowFlags`; or `OutOfMemory`.
+    #[inline(always)]
     pub fn next_row(&mut self, alloc: Global) -> Result<Option<RowEntry>, SlateDBError>
         ensures read { IfOk result (λ answer. TakesRead self.old.reads answer self.new.reads) }
         ensures rows { IfOk result (λ answer. TakesLeft (left self.old) answer (left self.new)) }

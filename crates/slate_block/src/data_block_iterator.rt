@@ -63,6 +63,7 @@ impl<B: BlockLike> DataBlockIterator<B> {
 
     /// The first row of those that are left, which is taken off, or `None` where none is left. `CorruptTable` with the
     /// place of the first field that fails in the rows' part, or `InvalidRowFlags`; or `OutOfMemory`.
+    #[inline(always)]
     pub fn next_row(&mut self, alloc: Global) -> Result<Option<RowEntry>, SlateDBError>
         ensures read { IfOk result (λ answer. TakesRead (left_of self.old).reads answer (left_of self.new).reads) }
         ensures rows { IfOk result (λ answer. TakesLeft (left (left_of self.old)) answer (left (left_of self.new))) }

@@ -15,7 +15,7 @@ use slate_types::IterationOrder;
 use std::cmp::Ordering;
 
 /// The order of the key of two parts and another key.
-fn cmp_parts(front: &[u8], suffix: &[u8], key: &[u8]) -> Ordering
+pub(crate) fn cmp_parts(front: &[u8], suffix: &[u8], key: &[u8]) -> Ordering
     ensures { result ≡ key_cmp (front.now ++ suffix.now) key.now }
 {
     let len = front.len().min(key.len());

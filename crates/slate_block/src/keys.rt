@@ -3,6 +3,7 @@ ghost use Rattle.std.specs.Prelude.{◌≡◌, ◌≤◌, ◌⊎◌, ◌++◌, n
 ghost use Rattle.std.specs.List.{common_prefix_len};
 ghost use Rattle.slate_block.specs.BlockSpelling.{whole_key};
 ghost use Rattle.slate_block.specs.WholeKeys.{IsRestored};
+ghost use Rattle.slate_block.specs.Walks.{is_restored};
 
 use crate::writing::put;
 use bytes::Bytes;
@@ -38,6 +39,13 @@ fn shared_chunks(lhs: &[u8], rhs: &[u8]) -> usize
         at += CHUNK;
     }
     at
+}
+
+/// Whether so many bytes of another key and a suffix are a key.
+pub(crate) fn is_restored(shared: usize, other: &[u8], suffix: &[u8]) -> bool
+    ensures { result ≡ is_restored shared other.now suffix.now }
+{
+    shared <= other.len() && 0 < shared + suffix.len() && shared + suffix.len() <= MAX_KEY_LEN
 }
 
 /// The key of so many bytes of another key and the suffix, whose buffer it shares where it is the suffix alone.

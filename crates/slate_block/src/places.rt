@@ -1,12 +1,12 @@
 //! Rows where they stand in a block's rows' part.
-ghost use Rattle.std.specs.Prelude.{◌≡◌, ◌+◌, ◌<◌, ◌^◌, ◌⊎◌, ℕ, true, false, Some, Ok, Err, length, drop, slice_get, IfOk, IfErr};
+ghost use Rattle.std.specs.Prelude.{◌≡◌, ◌+◌, ◌<◌, ◌≤◌, ◌^◌, ◌⊎◌, ℕ, true, false, Some, Ok, Err, length, drop, slice_get, slice_range, IfOk, IfErr};
 ghost use Rattle.slate_block.specs.Damage.{AreWithin, IsDamageIn};
 ghost use Rattle.slate_block.specs.Walks.{moved, between, next_place, row_upto, is_restored, reads_v1, first_key_v1, are_named, block_reads};
 ghost use Rattle.slate_block.specs.BlockWalks.{IsBlockDamage};
 ghost use Rattle.slate_block.specs.PlacedRows.{fields_of, row_in, suffix_of, whole_of};
 
 use crate::fields::{RowFields, corrupt, fields_v1, fields_v2};
-use crate::keys::restored_key;
+use crate::keys::{is_restored, restored_key};
 use crate::row::{read_expiry, row_parts};
 use crate::rows_part::Version;
 use bytes::Bytes;
@@ -29,6 +29,7 @@ fn moved(at: usize, error: SlateDBError) -> SlateDBError
 
 /// The bytes between two places, which share the buffer.
 #[tactic(auto, unfolding(crate::specs::Walks::between))]
+#[inline(always)]
 fn between(body: &Bytes, from: usize, upto: usize) -> Result<Bytes, SlateDBError>
     ensures found { IfOk result (λ bytes. between body.now from upto ≡ Ok bytes) }
     ensures within { IfOk result (λ bytes. from + length bytes < 2 ^ 64) }
@@ -60,6 +61,7 @@ fn fields_of(version: Version, bytes: &[u8]) -> Result<(u32, RowFields), SlateDB
 
 /// The row with these fields, which stand in bytes that begin at a place, and the place behind it. A front of its key stands
 /// in the other key.
+#[inline(always)]
 fn whole_row(
     alloc: Global,
     bytes: &Bytes,
@@ -114,6 +116,34 @@ pub fn row_in(
     };
     drop(bytes);
     row
+}
+
+/// The length that the row of version 2 between two places shares with the other key, and its other fields.
+pub(crate) fn placed_fields(
+    body: &Bytes,
+    other: &[u8],
+    from: usize,
+    upto: usize,
+) -> Result<(usize, RowFields), SlateDBError>
+    ensures found { IfOk result (λ row. row_in Version.V2 body.now other.now from upto ≡ Ok (whole_of (slice_range body.now from upto) other.now row.0 row.1, from + row.1.end)) }
+    ensures places { IfOk result (λ row. (from ≤ upto) × (upto ≤ length body.now) × (row.0 ≤ length other.now)) }
+    ensures within { IfOk result (λ row. AreWithin row.1 (slice_range body.now from upto)) }
+    ensures cause { IfErr result (λ e. row_in Version.V2 body.now other.now from upto ≡ Err e) }
+    ensures damage { IfErr result IsBlockDamage }
+{
+    if from > upto || upto > body.len() {
+        return Err(corrupt(from));
+    }
+    let bytes = &body.as_slice()[from..upto];
+    let (shared, fields) = match fields_v2(bytes) {
+        Ok(row) => row,
+        Err(error) => return Err(moved(from, error)),
+    };
+    let shared = shared as usize;
+    if !is_restored(shared, other, &bytes[fields.suffix_at..fields.suffix_end]) {
+        return Err(corrupt(from));
+    }
+    Ok((shared, fields))
 }
 
 /// The row between two places, which it fills.

@@ -65,6 +65,7 @@ pub fn first_of_group(
 }
 
 /// The next row of a group that isn't over, and what is left behind it.
+#[inline(always)]
 pub fn next_of_group(
     alloc: Global,
     body: &Bytes,
@@ -83,6 +84,7 @@ pub fn next_of_group(
 }
 
 /// The next row of a group that has room, and what is left behind it.
+#[inline(always)]
 fn row_and_rest(
     alloc: Global,
     body: &Bytes,

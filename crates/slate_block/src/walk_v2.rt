@@ -4,9 +4,10 @@ ghost use Rattle.slate_types.specs.declared.types.RowEntry.{RowEntry};
 ghost use Rattle.slate_types.specs.Iteration.{comes_before};
 ghost use Rattle.slate_block.specs.Walks.{reads_v2, RowRead};
 ghost use Rattle.slate_block.specs.BlockWalks.{BeginsRead, IsBlockDamage, IsPast, Refuses, StopsAt};
-ghost use Rattle.slate_block.specs.GroupWalks.{is_over, left_v2, restart_at, BeginsBefore};
+ghost use Rattle.slate_block.specs.GroupWalks.{as_place, is_over, left_v2, restart_at, BeginsBefore};
 
 use crate::fields::key_fields_v2;
+use crate::key_walk::KeyPlace;
 use crate::places::place_behind;
 use crate::row_groups::{RowGroup, first_of_group, next_of_group};
 use bytes::Bytes;
@@ -72,6 +73,7 @@ impl BlockPlace {
 
 /// The row behind a place that has one, and the place behind that row.
 #[tactic(auto, using(crate::proofs::GroupSteps::left_in_group, crate::proofs::GroupSteps::left_behind_group, crate::proofs::GroupSteps::over_left, crate::proofs::GroupSteps::refused_in_group, crate::proofs::GroupSteps::refused_behind_group))]
+#[inline(always)]
 pub fn next_of_block(
     alloc: Global,
     body: &Bytes,
@@ -106,18 +108,50 @@ pub fn behind_key(
     ensures read { IfOk result (λ after. BeginsRead (left_v2 body.now offsets.now after)) }
     ensures cause { IfErr result (λ e. (e ≡ SlateDBError.OutOfMemory) ⊎ Refuses (left_v2 body.now offsets.now place) e) }
 {
-    let mut place = place;
-    while !place.is_at_end(offsets) {
-        let (row, after) = next_of_block(alloc, body, offsets, &place)?;
-        let is_past = IterationOrder::Ascending.puts_before(row.key.as_slice(), key);
-        drop(row);
-        if !is_past {
-            drop(after);
-            return Ok(place);
+    let mut walk = key_place(alloc, place)?;
+    while !walk.is_at_end(offsets) {
+        if !walk.pass(body, offsets, key)? {
+            return row_place(walk);
         }
-        place = after;
     }
-    Ok(place)
+    row_place(walk)
+}
+
+/// The same place, with the key before it in a buffer.
+fn key_place(alloc: Global, place: BlockPlace) -> Result<KeyPlace, SlateDBError>
+    ensures same { IfOk result (λ walk. as_place walk ≡ place) }
+    ensures cause { IsOkUnless result SlateDBError.OutOfMemory }
+{
+    let BlockPlace { group, next } = place;
+    let copied = Vec::from_slice(alloc, group.previous.as_slice());
+    let (at, end, room, is_last) = (group.at, group.end, group.room, group.is_last);
+    drop(group);
+    Ok(KeyPlace {
+        at,
+        end,
+        room,
+        is_last,
+        previous: copied?,
+        next,
+    })
+}
+
+/// The same place, for rows.
+fn row_place(walk: KeyPlace) -> Result<BlockPlace, SlateDBError>
+    ensures same { IfOk result (λ place. place ≡ as_place walk) }
+    ensures cause { IsOkUnless result SlateDBError.OutOfMemory }
+{
+    let group = RowGroup {
+        at: walk.at,
+        end: walk.end,
+        room: walk.room,
+        is_last: walk.is_last,
+        previous: Bytes::from_vec(walk.previous)?,
+    };
+    Ok(BlockPlace {
+        group,
+        next: walk.next,
+    })
 }
 
 /// The place behind all rows that come before a key, where the rows come in order. It is found by the groups' first keys,

@@ -1,4 +1,4 @@
-mod Lists
+pub mod Lists
 pub mod SharedRuns
 pub mod Handed
 pub mod BeginsLaws
@@ -40,14 +40,14 @@ mod SegmentRuns
 mod Built
 mod Flushes
 mod Installs
-mod Seen
+pub mod Seen
 mod Newest
 mod Walks
 mod Bases
 mod NoMerges
 mod Rises
-mod Gets
-mod Answered
+pub mod Gets
+pub mod Answered
 pub mod Checks
 pub mod PathsApart
 mod Puttings
@@ -55,9 +55,9 @@ mod RunSoFar
 pub mod Filtered
 mod HeldOn
 pub mod Settled
-mod Tables
+pub mod Tables
 mod UnderOwn
-mod RunReads
+pub mod RunReads
 mod Blocks
 mod Damaged
 mod Causes
@@ -107,7 +107,7 @@ mod ScanRises
 mod OpenNotes
 pub mod Opened
 pub mod OpenIds
-mod Readers
+pub mod Readers
 mod ScanMerges
 pub mod RowDamage
 mod Serial
@@ -115,8 +115,8 @@ mod ScansLeft
 mod Places
 mod Behind
 mod KeyBlocks
-mod Needs
-mod Finds
+pub mod Needs
+pub mod Finds
 mod Numbered
 mod PreparedOf
 pub mod Flights

@@ -18,6 +18,7 @@ use slate_types::{KeyValue, RowEntry, RowEntryIterator, SlateDBError, ValueDelet
 use std::alloc::Global;
 
 /// What a reader gets of a row, where it is no tombstone. An operand below which nothing stands is a value.
+#[inline(always)]
 fn value_of(row: RowEntry) -> Option<KeyValue>
     ensures { result ≡ (if has_value row then Some (key_value row) else None) }
 {
@@ -32,6 +33,7 @@ fn value_of(row: RowEntry) -> Option<KeyValue>
 }
 
 /// The next row that is no tombstone, or `None` at the end.
+#[inline(always)]
 pub(crate) fn next_value<E: Operates, I: RowEntryIterator<E>>(
     alloc: Global,
     rows: &mut MergeOperatorIterator<I>,

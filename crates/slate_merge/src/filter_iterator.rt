@@ -109,6 +109,7 @@ impl<E: Outside, I: RowEntryIterator<E>, P: RowPredicate> RowEntryIterator<E>
         self.iterator.init(alloc, env)
     }
 
+    #[inline(always)]
     fn next(&mut self, alloc: Global, env: &mut E) -> Result<Option<RowEntry>, SlateDBError> {
         while let Some(row) = self.iterator.next(alloc, env)? {
             if self.predicate.keep(&row) {

@@ -1,10 +1,78 @@
 //! A source of a merge with the row that it gives next.
-ghost use Rattle.std.specs.Prelude.{◌≡◌};
+ghost use Rattle.std.specs.Prelude.{◌≡◌, IfOk, IsOkUnless};
+ghost use Rattle.slate_types.specs.declared.error.SlateDBError.{SlateDBError};
 ghost use Rattle.slate_types.specs.declared.iter.IterationOrder.{IterationOrder};
 ghost use Rattle.slate_merge.specs.Orders.{order_rank, rising_key, falling_key};
 
-use slate_types::{IterationOrder, RowEntry};
+use slate_types::{IterationOrder, Outside, RowEntry, RowEntryIterator, SlateDBError};
+use std::alloc::Global;
 use std::cmp::Ordering;
+use std::marker::Model;
+
+/// A source in a box, so that a heap moves an address and not the source. Contracts see the source.
+#[derive(Drop)]
+pub struct BoxedSource<I> {
+    source: Box<I>,
+}
+
+impl<I> Model for BoxedSource<I> {
+    ghost Value = { I };
+
+    ghost view = { λ s. s.source.value };
+}
+
+impl<I: Drop> BoxedSource<I> {
+    pub fn new(alloc: Global, source: I) -> Result<BoxedSource<I>, SlateDBError>
+        ensures source { IfOk result (λ s. s ≡ source) }
+        ensures cause { IsOkUnless result SlateDBError.OutOfMemory }
+    {
+        let source = Box::new(alloc, source)?;
+        Ok(BoxedSource { source })
+    }
+}
+
+/// It is read as the source is.
+impl<E: Outside, I: RowEntryIterator<E>> RowEntryIterator<E> for BoxedSource<I> {
+    ghost rest = { I.rest };
+
+    ghost sound = { I.sound };
+
+    ghost order = { I.order };
+
+    ghost bound = { I.bound };
+
+    ghost refuses = { I.refuses };
+
+    ghost begins = { I.begins };
+
+    ghost takes = { I.takes };
+
+    ghost seeks = { I.seeks };
+
+    ghost stays = { I.stays };
+
+    ghost rising = { I.rising };
+
+    ghost more = { I.more };
+
+    ghost whole = { I.whole };
+
+    fn iteration_order(&self) -> IterationOrder {
+        self.source.iteration_order()
+    }
+
+    fn init(&mut self, alloc: Global, env: &mut E) -> Result<(), SlateDBError> {
+        self.source.init(alloc, env)
+    }
+
+    fn next(&mut self, alloc: Global, env: &mut E) -> Result<Option<RowEntry>, SlateDBError> {
+        self.source.next(alloc, env)
+    }
+
+    fn seek(&mut self, alloc: Global, key: &[u8], env: &mut E) -> Result<(), SlateDBError> {
+        self.source.seek(alloc, key, env)
+    }
+}
 
 /// A source that has begun, with its first row, which was taken off.
 #[derive(Drop)]
@@ -19,7 +87,7 @@ pub struct Head<I> {
     pub order: IterationOrder,
 
     /// The source behind its first row.
-    pub source: I,
+    pub source: BoxedSource<I>,
 }
 
 fn rank(order: IterationOrder) -> u8

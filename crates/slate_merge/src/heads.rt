@@ -15,7 +15,7 @@ ghost use Rattle.slate_merge.specs.MergeSteps.{CountsKey, CountsTaken, Goes, Joi
 ghost use Rattle.slate_merge.specs.Merging.{AreHeaped, AreReady, HasRow, begun_sources, blames, has_key, is_before, IsTop, merging_bound, waiting_sources};
 ghost use Rattle.slate_merge.specs.SourceSteps.{AreMerging, left_of_heads, MovesSources, SourcesAddNone, StepsHeads};
 
-use crate::head::Head;
+use crate::head::{BoxedSource, Head};
 use slate_types::{
     IterationOrder, Outside, RowEntry, RowEntryIterator, SlateDBError, ValueDeletable,
 };
@@ -23,9 +23,10 @@ use std::alloc::Global;
 use std::collections::{BinaryHeap, VecDeque};
 
 /// Takes the next row off a source and puts the source with it among the heads, where there is one.
+#[inline(always)]
 pub fn put_back<E: Outside, I: RowEntryIterator<E>>(
     alloc: Global,
-    mut source: I,
+    mut source: BoxedSource<I>,
     behind: usize,
     order: IterationOrder,
     heads: &mut BinaryHeap<Head<I>>,
@@ -52,6 +53,7 @@ pub fn put_back<E: Outside, I: RowEntryIterator<E>>(
 }
 
 /// The first row of a merge.
+#[inline(always)]
 pub fn take_first<E: Outside, I: RowEntryIterator<E>>(
     alloc: Global,
     heads: &mut BinaryHeap<Head<I>>,
@@ -232,8 +234,11 @@ pub fn begin_source<E: Outside, I: RowEntryIterator<E>>(
     ensures reads { OnlyReads (E.reach env.old) (E.reach env.new) }
 {
     match source.init(alloc, env) {
-        Ok(()) => match put_back(alloc, source, behind, order, heads, env) {
-            Ok(()) => Ok(()),
+        Ok(()) => match BoxedSource::new(alloc, source) {
+            Ok(boxed) => match put_back(alloc, boxed, behind, order, heads, env) {
+                Ok(()) => Ok(()),
+                Err(error) => Err(error),
+            },
             Err(error) => Err(error),
         },
         Err(error) => Err(error),
@@ -327,6 +332,7 @@ pub fn begin_again<E: Outside, I: RowEntryIterator<E>>(
 }
 
 /// One step of a merge: its first row, and with dedup the rows that it decides, which are dropped. Their bytes are counted.
+#[inline(always)]
 pub fn take_row<E: Outside, I: RowEntryIterator<E>>(
     alloc: Global,
     dedup: bool,

@@ -77,6 +77,7 @@ impl<I: Drop> MergeIterator<I> {
     /// this. Beside what that says: it takes the first of all rows that are left, and with dedup, where that is no operand, the
     /// older ones of its key, which are dropped; and to `bytes_processed` it adds the lengths of the keys and values of all these
     /// rows, up to `u64::MAX` (`takes`). So a row that dedup drops counts with the row that is handed out before it.
+    #[inline(always)]
     pub fn next_row<E: Outside>(
         &mut self,
         alloc: Global,
@@ -195,6 +196,7 @@ impl<E: Outside, I: RowEntryIterator<E>> RowEntryIterator<E> for MergeIterator<I
         }
     }
 
+    #[inline(always)]
     fn next(&mut self, alloc: Global, env: &mut E) -> Result<Option<RowEntry>, SlateDBError> {
         self.next_row(alloc, env)
     }

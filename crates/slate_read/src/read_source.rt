@@ -82,6 +82,7 @@ impl<S: Store, M: MergeOperator, T: BlockTransformer> RowEntryIterator<Env<'_, S
         }
     }
 
+    #[inline(always)]
     fn next(
         &mut self,
         alloc: Global,

@@ -167,6 +167,7 @@ impl OpenTable {
 }
 
 /// The next row of the table that is open, where one is. A table that is spent is let go of.
+#[inline(always)]
 fn take_row<S: Store, M: MergeOperator, T: BlockTransformer>(
     alloc: Global,
     env: &mut Env<'_, S, M, T>,

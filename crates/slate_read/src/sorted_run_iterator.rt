@@ -98,6 +98,7 @@ impl<S: Store, M: MergeOperator, T: BlockTransformer> RowEntryIterator<Env<'_, S
         self.rows.init(alloc, env)
     }
 
+    #[inline(always)]
     fn next(
         &mut self,
         alloc: Global,

@@ -72,6 +72,7 @@ fn end_upto(index: &SstIndex, key: &[u8]) -> usize
 
 impl Cursor {
     /// The next row of the block that is open, or `None` where it is spent, or none is open.
+    #[inline(always)]
     fn row(&mut self, alloc: Global) -> Result<Option<RowEntry>, SlateDBError>
         ensures took { IfOk result (λ answer. TakesOpen self.old.rows answer self.new.rows) }
         ensures index { self.new.index ≡ self.old.index }
@@ -150,6 +151,7 @@ impl Cursor {
     }
 
     /// The next row in the order, where need be of the next block, which is then opened.
+    #[inline(always)]
     pub(crate) fn advance<S: Store, M: MergeOperator, T: BlockTransformer>(
         &mut self,
         alloc: Global,
