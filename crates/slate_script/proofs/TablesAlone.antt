@@ -5,6 +5,7 @@ use Rattle.std.specs.List.{AllByRecursion}
 use Rattle.std.specs.Ordering.{match_ordering}
 use Rattle.std.proofs.lemmas.Grind.{flat_map-append}
 use Rattle.std.proofs.lemmas.List.{length-append}
+use Rattle.std.proofs.lemmas.List.Elements.{Contains-append_left, Contains-append_right}
 use Rattle.slate_types.specs.declared.types.Ulid.{Ulid}
 use Rattle.slate_types.specs.Fold.{shown}
 use Rattle.slate_types.specs.Keys.{key_cmp}
@@ -33,7 +34,7 @@ use Rattle.slate_db.specs.StoredState.{StoresState}
 use Rattle.slate_db.specs.Layers.{AreRising}
 use Rattle.slate_db.specs.Log.{LIMIT}
 use Rattle.slate_script.specs.Session.{SessionModel, StandsFor, StoresNothing, IsTableUpTo, HasTablesAlone}
-use Rattle.slate_script.specs.StoredState.{IsStoredState, IsTableObject}
+use Rattle.slate_script.specs.StoredState.{IsObjectOf, IsStoredState, IsTableObject}
 use Rattle.slate_script.proofs.BySequence.{one_table_more}
 use Rattle.slate_db.proofs.OneSegment.{InOneSegment, flushed_stand}
 use Rattle.slate_db.proofs.RunsOf.{runs_more, tables_are}
@@ -94,6 +95,7 @@ IsTableBefore m layout n p o = (t : IsTableObject m layout o) × ((t.number < n)
 -- what a store holds while the tables of a flush are put
 record HoldsAlone (m : Meaning) (layout : Layout) (n p : ℕ) (objects : Objects) (ts : List (Ulid × List ℕ)) : Type 0 where
   pub each : AllByRecursion (IsTableBefore m layout n p) objects
+  pub named : AllByRecursion (IsObjectOf ts) objects
   pub layers : List Rows
   pub tables : AreTables m ts layers
   pub rows : Rows
@@ -117,6 +119,12 @@ path_apart m layout n p o fits place (t, h) same = by h
     by (inl below) = let e : n ≡ t.number = is.0 in omega arith
     by (inr (number, below)) = let e : p ≡ t.place = is.1 in omega arith
 
+named_more : (os : Objects) (ts : List (Ulid × List ℕ)) (t : Ulid × List ℕ) (a b after : Objects) → os ≡ a ++ b → after ≡ a ++ ((path_of root t.0.0, t.1) ∷ b) → AllByRecursion (IsObjectOf ts) os → AllByRecursion (IsObjectOf (ts ++ (t ∷ []))) after
+named_more os ts t a b after before then_is h =
+    let each : AllByRecursion (IsObjectOf (ts ++ (t ∷ []))) (a ++ b) = AllByRecursion_weaken (IsObjectOf ts) (IsObjectOf (ts ++ (t ∷ []))) (λ o n. (n.0, Contains-append_left ts (t ∷ []) n.0 n.1, n.2)) (a ++ b) (subst (AllByRecursion (IsObjectOf ts)) before h) in
+    subst (AllByRecursion (IsObjectOf (ts ++ (t ∷ [])))) (sym then_is)
+    (AllByRecursion_append (IsObjectOf (ts ++ (t ∷ []))) a ((path_of root t.0.0, t.1) ∷ b) (AllByRecursion_front _ a b each) ((t, Contains-append_right ts (t ∷ []) t (0, omega arith, refl), refl), AllByRecursion_behind _ a b each))
+
 table_alone : (m : Meaning) (layout : Layout) (n p : ℕ) (os : Objects) (ts : List (Ulid × List ℕ)) (t : Ulid × List ℕ) (here : Rows) → 1 ≤ n → n < 2 ^ 64 → IsTableAt m.encode layout n p here t → InOneSegment layout.segments here → HoldsAlone m layout n p os ts →
     HoldsAlone m layout n (p + 1) (with_object os (path_of root t.0.0) t.1) (ts ++ (t ∷ []))
 table_alone m layout n p os ts t here first fits made one h =
@@ -128,6 +136,7 @@ table_alone m layout n p os ts t here first fits made one h =
     (record { number = n; first = first; fits = fits; place = p; place_fits = made.fits; rows = here; path = ap (path_of root) made.id; built = subst (λ (id : ℕ). IsBuilt m.encode layout.policies layout.min_filter_keys layout.block_size layout.version id t.1 here) made.id made.built; prefix = one.0; one = one.1 }, inr (refl, omega arith)) in
     record {
       each = subst (AllByRecursion (IsTableBefore m layout n (p + 1))) (sym place.after) (AllByRecursion_append _ place.a ((path_of root t.0.0, t.1) ∷ place.b) (AllByRecursion_front _ place.a place.b each) (new, AllByRecursion_behind _ place.a place.b each));
+      named = named_more os ts t place.a place.b (with_object os (path_of root t.0.0) t.1) place.before place.after h.named;
       layers = h.layers ++ (here ∷ []);
       tables = tables_more m ts t layout.version h.layers here h.tables is;
       rows = parts.first ++ (here ++ parts.last);
@@ -153,6 +162,7 @@ run_alone m layout runs us parts before after few made one takes h =
     let size : length (runs ++ (us ∷ [])) ≡ length runs + 1 = length-append runs (us ∷ []) in
     let start : HoldsAlone m layout (length runs + 1) 0 h.os (flat_map (λ ts. ts) runs) = record {
       each = AllByRecursion_weaken (IsTableUpTo m layout (length runs)) _ (λ o b. (b.0, inl (omega (arith, b.1)))) h.os h.each;
+      named = h.named;
       layers = h.layers;
       tables = h.tables;
       rows = h.rows;
@@ -166,6 +176,7 @@ run_alone m layout runs us parts before after few made one takes h =
       os = with_tables h.os us;
       told = subst (λ o. IfSome o (λ os. after ≡ Some (with_tables os us))) h.told takes;
       each = AllByRecursion_weaken _ (IsTableUpTo m layout (length (runs ++ (us ∷ [])))) (λ o b. (b.0, within b.0.number b.0.place (tables_alone m layout (length runs + 1) 0 h.os (flat_map (λ ts. ts) runs) us parts (omega arith) few made one start).0 b.1)) (with_tables h.os us) end.each;
+      named = subst (λ (ts : List (Ulid × List ℕ)). AllByRecursion (IsObjectOf ts) (with_tables h.os us)) (sym flat) end.named;
       layers = end.layers;
       tables = subst (λ (ts : List (Ulid × List ℕ)). AreTables m ts end.layers) (sym flat) end.tables;
       rows = end.rows;
@@ -209,7 +220,7 @@ stays_where n seg (Err x) m layout objects after e new same stores h = tt
 
 pub begins_alone : (m : Meaning) (layout : Layout) (objects : Option Objects) (e : SessionModel) → IsEmpty objects → e.core.events ≡ [] → HasTablesAlone m layout objects (runs_of e.core.events)
 begins_alone m layout objects e empty none = subst (λ es. HasTablesAlone m layout objects (runs_of es)) (sym none)
-    (record { os = []; told = empty; each = tt; layers = []; tables = refl; rows = []; held = refl; sorted = λ k rise. refl })
+    (record { os = []; told = empty; each = tt; named = tt; layers = []; tables = refl; rows = []; held = refl; sorted = λ k rise. refl })
 
 -- ---- the end
 

@@ -3,6 +3,7 @@
 --     Stands script done left      what was given of the script is whole lines, or all of it
 --     IsAt ..      all lines that were given are answered
 --     Took ..      a line was given, and isn't answered yet
+--     lines_meant, lines_stand, lines_grow      the lines that were given of a script
 use Rattle.std.proofs.Common.{◌≡◌, ℕ, suc, ◌+◌, ◌-◌, ◌≤◌, ◌<◌, Bool, true, false, cond, ◌⊎◌, inl, inr, Ok, List, [], ◌∷◌, ◌++◌, length, take, Option, Some, None, MatchOption, IsTrue, refl, sym, ap, subst, ◌∙◌, arith, append_assoc}
 use Rattle.std.proofs.lemmas.List.{append-nil, length-append}
 use Rattle.std.proofs.lemmas.Bool.{lt-ltb, le-ltb, ltb-false}
@@ -314,3 +315,23 @@ pub end_told : {V P : Type 0} {r : Rules} {script : List ℕ} {source told sink 
 end_told {old = old} items o after new tells none at =
     let gave = tells at.left at.rest in
     (gave.0, gave.1, subst (λ p. MatchOption p (IsEnd old at.left new gave.0) (λ l. GivesLine (items l) old at.left new gave.0)) none gave.2)
+
+-- ---- the lines of what was given
+
+pub given_are : {P : Type 0} {r : Rules} {script : List ℕ} {source told sink : Option (List ℕ)} {first tally : Tally} {m : LinesModel} {number : ℕ} {e : SessionModel} (at : IsAt P r script source told sink first tally m number e) → take m.given script ≡ at.done
+given_are {m = m} at = ap (take m.given) at.stands.split ∙ ap (λ n. take n (at.done ++ (m.held ++ at.left))) at.given ∙ take-append_seam at.done (m.held ++ at.left)
+
+pub lines_meant : {P : Type 0} {r : Rules} {script : List ℕ} {source told sink : Option (List ℕ)} {first tally : Tally} {m : LinesModel} {number : ℕ} {e : SessionModel} (at : IsAt P r script source told sink first tally m number e) → AreLines (lines_of (take m.given script))
+lines_meant at = subst (λ (bs : List ℕ). AreLines (lines_of bs)) (sym (given_are at)) at.meant
+
+pub lines_stand : {P : Type 0} {r : Rules} {script : List ℕ} {source told sink : Option (List ℕ)} {first tally : Tally} {m : LinesModel} {number : ℕ} {e : SessionModel} (at : IsAt P r script source told sink first tally m number e) → P → StandsFor e (after_lines r opening (lines_of (take m.given script)))
+lines_stand {r = r} {e = e} at p = subst (λ (bs : List ℕ). StandsFor e (after_lines r opening (lines_of bs))) (sym (given_are at)) (at.session p)
+
+pub lines_grow : {V P : Type 0} {r : Rules} {script : List ℕ} {source told sink : Option (List ℕ)} {first tally : Tally} {old : LinesModel} {number : ℕ} {e : SessionModel} (items : V → List ℕ) (o : Option V) (v : V) (line : List ℕ) (after : Option (List ℕ)) (new : LinesModel)
+    → ((left : List ℕ) → source ≡ Some left → (rest : List ℕ) × (after ≡ Some rest) × MatchOption o (IsEnd old left new rest) (λ l. GivesLine (items l) old left new rest))
+    → new.given + length new.held ≤ script_limit → o ≡ Some v → line ≡ items v → IsAt P r script source told sink first tally old number e → lines_of (take new.given script) ≡ lines_of (take old.given script) ++ (line ∷ [])
+unfolding took_told take_line
+lines_grow {script = script} items o v line after new tells within some is at =
+    let took = took_told items o v line after new tells within some is at in
+    let more : take new.given script ≡ took.more = ap (take new.given) took.stands.split ∙ ap (λ n. take n (took.more ++ (new.held ++ took.left))) took.given ∙ take-append_seam took.more (new.held ++ took.left) in
+    ap lines_of more ∙ took.lines ∙ ap (λ (bs : List ℕ). lines_of bs ++ (line ∷ [])) (sym (given_are at))

@@ -50,7 +50,7 @@ use Rattle.slate_language.specs.declared.reply.Answer.{Answer}
 use Rattle.slate_language.specs.declared.reply.Answer.TheVariants as answers
 use Rattle.slate_language.specs.Answers.{as_shown, reply_of}
 use Rattle.slate_language.specs.Grammar.{is_moment}
-use Rattle.slate_script.specs.StoredState.{IsTableObject}
+use Rattle.slate_script.specs.StoredState.{IsObjectOf, IsTableObject}
 
 -- names, snapshot_names: those of transactions and those of snapshots, rising, each with the id that the core gave
 pub record SessionModel : Type 0 where
@@ -112,6 +112,7 @@ pub record HasTablesAlone (m : Meaning) (layout : Layout) (objects : Option Obje
   pub os : Objects
   pub told : objects ≡ Some os
   pub each : AllByRecursion (IsTableUpTo m layout (length runs)) os
+  pub named : AllByRecursion (IsObjectOf (flat_map (λ ts. ts) runs)) os
   pub layers : List Rows
   pub tables : AreTables m (flat_map (λ ts. ts) runs) layers
   pub rows : Rows

@@ -1,9 +1,11 @@
 -- What the objects of a store hold after a run.
+--     IsObjectOf tables o      an object is one of the tables, at its path
 --     IsTableObject m layout o      an object is a table that a flush put: at the path of one, in the options' version, cut by their blocks' size, with the filters of the policies, and of rows with one segment prefix
 --     IsStoredState m r layout objects s      all objects are such tables, and their rows alone fold to the state at the last flush
-use Rattle.std.specs.Prelude.{◌≡◌, ◌≤◌, ◌<◌, ◌^◌, ℕ, List, Option, Some}
+use Rattle.std.specs.Prelude.{◌≡◌, ◌≤◌, ◌<◌, ◌^◌, ℕ, List, Contains, Option, Some}
 use Rattle.std.specs.List.{AllByRecursion}
 use Rattle.slate_types.specs.declared.types.RowEntry.{RowEntry}
+use Rattle.slate_types.specs.declared.types.Ulid.{Ulid}
 use Rattle.slate_types.specs.Outside.{Objects}
 use Rattle.slate_table.specs.Paths.{path_of, table_id}
 use Rattle.slate_table.specs.Stored.{HoldRows, stored}
@@ -14,6 +16,9 @@ use Rattle.slate_db.specs.Cut.{StandsIn}
 use Rattle.slate_db.specs.Flushed.{Layout}
 use Rattle.slate_db.specs.Installs.{root}
 use Rattle.slate_db.specs.Meaning.{Meaning, combine_of}
+
+abbrev pub IsObjectOf : List (Ulid × List ℕ) → List ℕ × List ℕ → Type 0
+IsObjectOf tables o = (table : Ulid × List ℕ) × Contains tables table × (o ≡ (path_of root table.0.0, table.1))
 
 -- number: that of the flush, from 1; place: that of the table in it, from 0
 pub record IsTableObject (m : Meaning) (layout : Layout) (o : List ℕ × List ℕ) : Type 0 where

@@ -75,7 +75,7 @@ impl Sink for Unwritten {
 /// Runs the script of that many rounds from the seed, counts the replies, and writes one line that says how many there
 /// were, the last sequence, and how many gets found a row. Rows are stored where `env` says.
 ///
-/// What is said of the line and of stored tables holds as in `run_script`. `WriteFault` comes only where the sink's
+/// What is said of the line, of stored tables and of the reads of each line of the script holds as in `run_script`. `WriteFault` comes only where the sink's
 /// count of faults rose, and then a front of the line was written, and not all of it. At another error nothing was
 /// written. The errors are those of parts, want of memory and `WriteFault`, each with its cause as in `run_script`.
 pub fn run_generated<W: Sink, S: Store, M: MergeOperator, T: BlockTransformer, X: PrefixExtractor>(

@@ -28,7 +28,7 @@ ghost use Rattle.slate_db.specs.Sound.{IsKept, IsOperable};
 ghost use Rattle.slate_db.specs.StoredState.{StoresState};
 ghost use Rattle.slate_db.specs.Log.{AreFine};
 ghost use Rattle.slate_language.specs.Answers.{reply_of};
-ghost use Rattle.slate_script.specs.Calls.Line.{Answers, AnswersByRead, AnswersByScan, AnswersWithin, AnswersByWrite};
+ghost use Rattle.slate_script.specs.Calls.Line.{Answers, AnswersByGet, AnswersByRead, AnswersByScan, AnswersWithin, AnswersByWrite};
 ghost use Rattle.slate_script.specs.Session.{StandsFor, Grows, IsDone, IsRefusal, StoresNothing, has_moment, held_load, line_load, reader_id, reader_under};
 ghost use Rattle.slate_script.specs.Scanning.{BeginsWith, EndsBelow, ScansAs};
 
@@ -108,7 +108,8 @@ impl Session {
     /// answered; nor is it where the store's acts tell that each read of this call was answered by those tables. Where they tell
     /// otherwise, the answer is that of the model's step, or one of the reads returned a section of those tables that isn't what
     /// stands there, and whose checksum fits. A part's fault is answered only where its count rose in this call, and `LimitReached`
-    /// only where the journal or memory holds more than a script can bring.
+    /// only where the journal or memory holds more than a script can bring. A line that gets a key asks filters before it reads blocks, and
+    /// reads a block that has the key where its answer rests on a stored row. One that neither gets nor scans, and is answered, reads nothing.
     pub fn answer<S: Store, M: MergeOperator, T: BlockTransformer, X: PrefixExtractor>(
         &mut self,
         line: Line,
@@ -238,7 +239,8 @@ impl Session {
         Ok(Answer::SnapshotAt { name, seq })
     }
 
-    /// The row of the key in the state at the name's start.
+    /// The row of the key in the state at the name's start. No block is read of a table whose filters weren't read before, or deny the key,
+    /// and where the row takes one of a commit that was flushed, a block is read that has the key.
     fn get<S: Store, M: MergeOperator, T: BlockTransformer, X: PrefixExtractor>(
         &mut self,
         name: Bytes,
@@ -248,7 +250,7 @@ impl Session {
     ) -> Result<Answer, SlateDBError>
         ensures { let reach = ⟦<EnvOf<S, M, T> as Outside>⟧.reach in
             let policies = map (λ p. meaning (p.vtable, p.value)) laws.now.policies.items in
-            AnswersByRead policies (Line.Get name key) (reach env.old) (reach env.new) self.old self.new result }
+            AnswersByGet policies name key (reach env.old) (reach env.new) self.old self.new result }
     {
         let Some(id) = self.reader_id(&name) else {
             drop(key);

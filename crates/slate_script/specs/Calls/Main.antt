@@ -22,17 +22,19 @@ use Rattle.slate_language.specs.declared.words.Settings.{Settings}
 use Rattle.slate_language.specs.Generate.{generate, summary}
 use Rattle.slate_language.specs.Replies.{after_lines, IsWellFormed}
 use Rattle.slate_language.specs.Words.{read_generated, read_words, used}
+use Rattle.slate_script.specs.LineReads.{HasReadByLine}
 use Rattle.slate_script.specs.Program.{main_rules, parts_of, segments_of, HasSummed, HasWritten, IsDamageStatus, IsGeneratedStatus, IsShownStatus, IsStatus}
 use Rattle.slate_script.specs.Run.{script_error}
 use Rattle.slate_script.specs.StoredState.{IsStoredState}
-use Rattle.slate_script.specs.Terms.{Storage, Streams}
+use Rattle.slate_script.specs.Terms.{Storage, Streams, terms_of}
 
 -- ---- a script that is read
 
--- said: by the status; stored: to the end of a script of lines; complete: where no count of faults rose
+-- said: by the status; stored: to the end of a script of lines; reads: where the store tells its acts; complete: where no count of faults rose
 pub record HonestScript (s : Settings) (policies : List Policy) (script : List ℕ) (old new : Streams) (before after : Storage) (n : ℕ) : Type 0 where
   pub said : (front : List ℕ) → old.taken ≡ Some front → HasWritten (main_rules s) script new.left front new.taken n
   pub stored : n ≡ 0 → IsStoredState (parts_of s) (main_rules s) (layout_of s.options policies (segments_of s)) after.objects (after_lines (main_rules s) opening (lines_of script))
+  pub reads : n ≡ 0 → HasReadByLine (terms_of s.options (segments_of s) policies (parts_of s)) (lines_of script) before.acts after.acts after.objects
   pub complete : IsWellFormed script → (Rose old.source new.source → ⊥) → (Rose old.sink new.sink → ⊥) → (Rose before.faults after.faults → ⊥) → (n ≡ 0) ⊎ (n ≡ 20)
 
 -- checked: over a store that tells its acts, or a section slipped
@@ -49,6 +51,7 @@ pub record HonestSum (g : Generated) (policies : List Policy) (old new : Streams
   pub said : (front : List ℕ) → old.taken ≡ Some front → HasSummed (summary (main_rules g.settings) (generate g.rounds g.seed)) front new.taken n
   pub stored : n ≡ 0 → IsStoredState (parts_of g.settings) (main_rules g.settings) (layout_of g.settings.options policies (segments_of g.settings)) after.objects
       (after_lines (main_rules g.settings) opening (lines_of (generate g.rounds g.seed)))
+  pub reads : n ≡ 0 → HasReadByLine (terms_of g.settings.options (segments_of g.settings) policies (parts_of g.settings)) (lines_of (generate g.rounds g.seed)) before.acts after.acts after.objects
   pub complete : (Rose old.sink new.sink → ⊥) → (Rose before.faults after.faults → ⊥) → (n ≡ 0) ⊎ (n ≡ 20)
 
 pub record EndsGenerated (g : Generated) (given policies : List Policy) (old new : Streams) (before after : Storage) (n : ℕ) : Type 0 where

@@ -6,7 +6,7 @@
 --     RepliesHonest, RepliesTold, RepliesSound      a line of a session that runs, of one that is settled, and of one whose rows are kept
 --     RepliesLine layout number line before after old new from to first tally result      a line; old, new: the session; from, to: the streams
 --     WritesReply line from to result      what a line does to the sink
-use Rattle.std.specs.Prelude.{◌≡◌, ◌⊎◌, ◌≤◌, ◌+◌, ℕ, List, [], length, false, Some, Result, Err, OnOk, IfErr, IsTrue}
+use Rattle.std.specs.Prelude.{◌≡◌, ◌⊎◌, ◌≤◌, ◌+◌, ℕ, List, [], ◌∷◌, length, false, Some, Result, Err, OnOk, IfErr, IsTrue}
 use Rattle.slate_types.specs.declared.error.SlateDBError.{SlateDBError}
 use Rattle.slate_types.specs.declared.error.SlateDBError.TheVariants as errors
 use Rattle.slate_types.specs.Faults.{Rose}
@@ -28,6 +28,8 @@ use Rattle.slate_language.specs.declared.tally.Tally.{Tally}
 use Rattle.slate_language.specs.Generate.{summary}
 use Rattle.slate_language.specs.Replies.{after_lines, meanings, IsWellFormed}
 use Rattle.slate_language.specs.Tally.{tallied}
+use Rattle.slate_script.specs.Calls.Line.{AsksLine}
+use Rattle.slate_script.specs.LineReads.{HasReadByLine}
 use Rattle.slate_script.specs.Run.{is_line, AnswersLine, HasCause, HasRead, HasSaid, HasTold, IsOutside, IsPartCause, IsPartError, NoneRose, Premises}
 use Rattle.slate_script.specs.Session.{HasTablesAlone, IsLimit, IsRunning, SessionModel, held_load}
 use Rattle.slate_script.specs.StoredState.{IsStoredState}
@@ -36,10 +38,11 @@ use Rattle.slate_script.specs.Told.{Follows, IsShownAtEnd, IsShownBy, IsUntrue, 
 
 -- ---- a run over a script
 
--- complete: where no count of faults rose
+-- reads: where the store tells its acts; complete: where no count of faults rose
 pub record RunsHonest {T : Type 0} (t : Terms) (script : List ℕ) (old new : Streams) (before after : Reach) (result : Result T SlateDBError) : Type 0 where
   pub said : (front : List ℕ) → old.taken ≡ Some front → HasSaid (rules_by t) script new.left front new.taken result
   pub stored : OnOk result (IsStoredState t.parts (rules_by t) (layout_by t) after.objects (after_lines (rules_by t) opening (lines_of script)))
+  pub reads : OnOk result (HasReadByLine t (lines_of script) before.acts after.acts after.objects)
   pub complete : IsWellFormed script → NoneRose (Rose old.source new.source) (Rose old.sink new.sink) before after → IfErr result (λ e. e ≡ errors.OutOfMemory)
 
 -- said: or a section slipped
@@ -72,6 +75,7 @@ pub record CountsReplies {T : Type 0} (t : Terms) (old : Streams) (before after 
 pub record SummedHonest {T : Type 0} (t : Terms) (script : List ℕ) (old new : Streams) (before after : Reach) (result : Result T SlateDBError) : Type 0 where
   pub said : (front : List ℕ) → old.taken ≡ Some front → HasTold (summary (rules_by t) script) front new.taken result
   pub stored : OnOk result (IsStoredState t.parts (rules_by t) (layout_by t) after.objects (after_lines (rules_by t) opening (lines_of script)))
+  pub reads : OnOk result (HasReadByLine t (lines_of script) before.acts after.acts after.objects)
   pub complete : NoneRose ⊥ (Rose old.sink new.sink) before after → IfErr result (λ e. e ≡ errors.OutOfMemory)
 
 -- said: or a section slipped
@@ -122,6 +126,7 @@ pub record RepliesLine {T : Type 0} (layout : Layout) (number : ℕ) (line : Lis
   pub cause : IfErr result (λ e. (e ≡ errors.OutOfMemory) ⊎ (e ≡ errors.WriteFault) ⊎ ((e ≡ errors.ScriptSyntax number) × (is_line line ≡ false)) ⊎ IsPartError e ⊎ IsLimit old e)
   pub part : IfErr result (λ e. IsPartError e → IsPartCause before.faults after.faults e)
   pub tables : OnOk result (PutsTables (tables_of old.core.events) (tables_of new.core.events) before.acts after.acts)
+  pub asked : OnOk result (AsksLine layout.policies (meanings (line ∷ [])) before after old result)
   pub adds : AddsActs before.acts after.acts
   pub puts : Puts before after
 

@@ -32,6 +32,7 @@ returns-in-Ok g c =
       honest = λ premises. record {
         said = λ before told. tells before told (c.in-Ok.ensures.counts.honest script left premises);
         stored = always c.write_tally.result (c.in-Ok.ensures.run.honest script left premises).stored;
+        reads = always c.write_tally.result (c.in-Ok.ensures.run.honest script left premises).reads;
         complete = λ none. only_memory_left _ _ c.write_tally.result c.write_tally.ensures.cause c.write_tally.ensures.write_fault none;
       };
       undamaged = λ premises. writing_no_damage ⊥ c.write_tally.result c.write_tally.ensures.cause;
@@ -63,6 +64,7 @@ returns g c =
       honest = λ premises. record {
         said = λ before told. told_none (summary r script) before (g.W.Sink.content c.args.sink.now) c.in-Err.error (λ is. never_rose (run.cause.write_fault (ap Err is)));
         stored = tt;
+        reads = tt;
         complete = λ none. (run.honest script left premises).complete formed (lines_none _ _ none);
       };
       undamaged = run.undamaged;

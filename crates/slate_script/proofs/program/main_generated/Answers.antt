@@ -1,4 +1,4 @@
-use Rattle.std.proofs.Common.{[], ◌≡◌, ◌⊎◌, ◌≤◌, ◌<◌, ◌++◌, ℕ, Some, None, inl, inr, Err, length, take, sym, ap, subst, refl, ◌∙◌, arith, map}
+use Rattle.std.proofs.Common.{[], ◌⊎◌, ◌≤◌, ℕ, inl, inr, Err, sym, ap, subst, refl, ◌∙◌, arith, map}
 use Rattle.slate_types.specs.declared.error.SlateDBError.TheVariants.{WriteFault}
 use Rattle.slate_types.specs.Faults.{Rose}
 use Rattle.slate_store.specs.Lines.{lines_of}
@@ -8,9 +8,11 @@ use Rattle.slate_db.specs.Flushed.{layout_of}
 use Rattle.slate_db.specs.Meaning.{Meaning}
 use Rattle.slate_language.specs.Generate.{generate, summary}
 use Rattle.slate_language.specs.Replies.{after_lines}
+use Rattle.slate_script.specs.LineReads.{HasReadByLine}
 use Rattle.slate_script.specs.Program.{segments_of, main_rules, parts_of, status, HasSummed, IsShownStatus}
 use Rattle.slate_script.specs.Run.{run_rules}
 use Rattle.slate_script.specs.StoredState.{IsStoredState}
+use Rattle.slate_script.specs.Terms.{terms_of}
 use Rattle.slate_script.specs.Told.{IsShown, IsUntrue}
 use Rattle.slate_script.proofs.Mains.{lawful, premises, none_rose, rules_are, words_are, words_or_slips}
 use Rattle.slate_script.proofs.Written.{cut_or_slips, summed_err, summed_ok, summed_or_slips}
@@ -35,6 +37,14 @@ returns-in-Ok g c =
               subst (λ t. IsStoredState (parts_of c.args.generated.now.settings) (main_rules c.args.generated.now.settings) (layout_of o given (segments_of c.args.generated.now.settings)) (g.S.Store.objects t) (after_lines (main_rules c.args.generated.now.settings) opening (lines_of (generate c.args.generated.now.rounds c.args.generated.now.seed)))) (sym (c.store-1.given.1 (sym c.in-Ok.ensures.puts.store)))
               (subst (λ (x : Meaning). IsStoredState x (run_rules o x (segments_of c.args.generated.now.settings)) (layout_of o given (segments_of c.args.generated.now.settings)) objects (after_lines (run_rules o x (segments_of c.args.generated.now.settings)) opening (lines_of (generate c.args.generated.now.rounds c.args.generated.now.seed)))) (words_are c.args.generated.now.settings c.transformer_of.result c.transformer_of.ensures)
               (c.in-Ok.ensures.honest (premises _ c.args.generated.now.settings.operator c.transformer_of.result _ lawful_policies empty)).stored));
+          reads = λ zero. (let its = c.args.generated.now.settings in
+              let ls = lines_of (generate c.args.generated.now.rounds c.args.generated.now.seed) in
+              let given = map (λ p. (goal.FilterPolicy-dyn g (p.vtable, p.value)).meaning p.value) c.args.policies.items in
+              let acts = g.S.Store.acts in
+              let objects = g.S.Store.objects in
+              subst (λ t. HasReadByLine (terms_of its.options (segments_of its) given (parts_of its)) ls (acts c.args.store.now) (acts t) (objects t)) (sym (c.store-1.given.1 (sym c.in-Ok.ensures.puts.store)))
+              (subst (λ (x : Meaning). HasReadByLine (terms_of its.options (segments_of its) given x) ls (acts c.args.store.now) (acts c.run_generated-ran.new.env.store.now) (objects c.run_generated-ran.new.env.store.now)) (words_are its c.transformer_of.result c.transformer_of.ensures)
+              (c.in-Ok.ensures.honest (premises _ its.operator c.transformer_of.result _ lawful_policies empty)).reads));
           complete = λ no-write no-store. inl refl;
         };
         checked = (λ before told lawful_policies known began.
@@ -71,6 +81,7 @@ returns-in-Err g c =
               let says = λ (r : Rules). HasSummed (summary r script) before content (c.status_of-status.result) in
               subst says (rules_are s c.transformer_of.result c.transformer_of.ensures) (summed_err _ before content c.in-Err.error c.status_of-status.result c.status_of-status.ensures c.in-Err.ensures.cause.kinds ((c.in-Err.ensures.honest (premises _ s.operator c.transformer_of.result _ lawful_policies empty)).said before told)));
           stored = λ zero. absurd (is_ended c.in-Err.error c.in-Err.ensures.cause.kinds (inl (sym c.status_of-status.ensures ∙ zero)));
+          reads = λ zero. absurd (is_ended c.in-Err.error c.in-Err.ensures.cause.kinds (inl (sym c.status_of-status.ensures ∙ zero)));
           complete = λ no-write no-store. inr (c.status_of-status.ensures ∙ ap status ((c.in-Err.ensures.honest (premises _ c.args.generated.now.settings.operator c.transformer_of.result _ lawful_policies empty)).complete (record { source_still = λ h. h; sink_still = no-write; store = λ h. no-store (subst (λ t. Rose (g.S.Store.faults c.args.store.now) (g.S.Store.faults t)) (sym (c.store-1.given.1 (sym c.in-Err.ensures.puts.store))) h); operator = none_rose c.args.generated.now.settings.operator c.run_generated-ran.new.env.operator; transformer = none_rose c.transformer_of.result c.run_generated-ran.new.env.transformer })));
         };
         checked = (λ before told lawful_policies known began.

@@ -1,13 +1,14 @@
-use Rattle.std.proofs.Common.{[], ◌≡◌, ◌⊎◌, ◌≤◌, ◌++◌, ℕ, List, Option, inl, inr, Err, Some, None, sym, ap, subst, refl, ◌∙◌, arith}
+use Rattle.std.proofs.Common.{[], ◌≡◌, ◌⊎◌, ◌≤◌, ℕ, List, Option, inl, inr, Err, Some, sym, ap, subst, refl, ◌∙◌, arith}
 use Rattle.slate_types.specs.declared.error.SlateDBError.TheVariants.{ReadFault, WriteFault}
+use Rattle.slate_script.specs.LineReads.{HasReadByLine}
 use Rattle.slate_script.specs.Program.{segments_of, status}
 use Rattle.slate_script.specs.Run.{run_rules, script_error}
-use Rattle.slate_script.proofs.Statuses.{is_status, is_ended, is_read, is_write, is_store, is_too_long, is_syntax, is_damage, is_part, damage_between, its_own, status_or}
+use Rattle.slate_script.proofs.Statuses.{is_status, is_ended, is_read, is_write, is_store, is_too_long, is_syntax, is_damage, damage_between, its_own, status_or}
 use Rattle.slate_language.specs.declared.words.Settings.{Settings}
 use Rattle.slate_script.specs.Program.{segments_of, main_rules, parts_of, HasSummed, HasWritten, IsShownStatus}
-use Rattle.slate_language.specs.Replies.{after_lines, replies, replies_to}
-use Rattle.slate_script.specs.Run.{lines_taken, HasAnswered, HasAnsweredAll, HasBegun}
+use Rattle.slate_language.specs.Replies.{after_lines}
 use Rattle.slate_script.specs.StoredState.{IsStoredState}
+use Rattle.slate_script.specs.Terms.{terms_of}
 use Rattle.slate_script.specs.Told.{IsShown, IsUntrue}
 use Rattle.slate_store.specs.Lines.{lines_of}
 use Rattle.slate_txn.specs.State.{Rules, opening}
@@ -16,7 +17,7 @@ use Rattle.slate_types.specs.Outside.{Objects}
 use Rattle.slate_db.specs.Checked.{SlipsFrom}
 use Rattle.slate_db.specs.Flushed.{layout_of}
 use Rattle.slate_db.specs.Meaning.{Meaning}
-use Rattle.std.proofs.Common.{◌<◌, length, map, take}
+use Rattle.std.proofs.Common.{map}
 use Rattle.std.specs.String.{string_bytes}
 use Rattle.slate_language.specs.Generate.{generate, summary}
 use Rattle.slate_filter.specs.Laws.{AreValidNames}
@@ -26,7 +27,7 @@ use Rattle.slate_language.specs.declared.words.Generated.{Generated}
 use Rattle.slate_script.proofs.Mains.{generated_not_none, names_fit, names_unfit, one_script, read_as, same_generated}
 use Rattle.slate_script.proofs.Used.{lawful_kept, valid_used}
 use Rattle.slate_script.proofs.Statuses.{generated_not, generated_status}
-use Rattle.slate_script.proofs.Mains.{lawful, premises, none_rose, rules_are, same_settings, status_or_either, words_are, words_or_slips, some_not_none, neither}
+use Rattle.slate_script.proofs.Mains.{lawful, premises, none_rose, rules_are, same_settings, words_are, words_or_slips, some_not_none}
 use Rattle.slate_script.proofs.Written.{refused_or_slips, written_err, written_ok, written_or_slips}
 use Rattle.slate_script.proofs.RunEnds.{unless_error}
 use Rattle.slate_script.proofs.program.run_main.Goals as goal
@@ -72,6 +73,19 @@ returns-in-Ok g c =
                 (subst (λ (t : Settings). ends (parts_of t) t kept objects) same
                 (subst (λ (x : Meaning). IsStoredState x (run_rules c.in-Some-parse_words.settings.options x (segments_of c.in-Some-parse_words.settings)) (layout_of c.in-Some-parse_words.settings.options kept (segments_of c.in-Some-parse_words.settings)) objects (after_lines (run_rules c.in-Some-parse_words.settings.options x (segments_of c.in-Some-parse_words.settings)) opening (lines_of script))) (words_are c.in-Some-parse_words.settings c.transformer_of.result c.transformer_of.ensures)
                 (c.in-Ok.ensures.honest script is (premises _ c.in-Some-parse_words.settings.operator c.transformer_of.result _ (fit lawful_policies) empty)).stored))));
+            reads = λ zero. (let its = c.in-Some-parse_words.settings in
+                let same : its ≡ s = same_settings c.parse_words.result its s c.in-Some-parse_words.is (settings ∙ named) in
+                let given : List Policy = map (λ p. (goal.FilterPolicy-dyn g (p.vtable, p.value)).meaning p.value) c.args.policies.items in
+                let kept : List Policy = map (λ p. (goal.FilterPolicy-dyn g (p.vtable, p.value)).meaning p.value) c.keep_used-kept-2.result.items in
+                let acts = g.S.Store.acts in
+                let objects = g.S.Store.objects in
+                let after = acts c.run_script-ran.new.env.store.now in
+                let left = objects c.run_script-ran.new.env.store.now in
+                subst (λ t. HasReadByLine (terms_of s.options (segments_of s) (used ws given) (parts_of s)) (lines_of script) (acts c.args.store.now) (acts t) (objects t)) (sym (c.store-1.given.1 (sym c.in-Ok.ensures.puts.store)))
+                (subst (λ (ps : List Policy). HasReadByLine (terms_of s.options (segments_of s) ps (parts_of s)) (lines_of script) (acts c.args.store.now) after left) c.keep_used-kept-2.ensures
+                (subst (λ (t : Settings). HasReadByLine (terms_of t.options (segments_of t) kept (parts_of t)) (lines_of script) (acts c.args.store.now) after left) same
+                (subst (λ (x : Meaning). HasReadByLine (terms_of its.options (segments_of its) kept x) (lines_of script) (acts c.args.store.now) after left) (words_are its c.transformer_of.result c.transformer_of.ensures)
+                (c.in-Ok.ensures.honest script is (premises _ its.operator c.transformer_of.result _ (fit lawful_policies) empty)).reads))));
             complete = λ formed no-read no-write no-store. inl refl;
           };
           checked = λ script before is told lawful_policies known began. (let same : c.in-Some-parse_words.settings ≡ s = same_settings c.parse_words.result c.in-Some-parse_words.settings s c.in-Some-parse_words.is (settings ∙ named) in
@@ -92,6 +106,7 @@ returns-in-Ok g c =
           honest = λ lawful_policies empty. record {
             said = λ before told. absurd (no_generated named-g named);
             stored = λ zero. absurd (no_generated named-g named);
+            reads = λ zero. absurd (no_generated named-g named);
             complete = λ no-write no-store. absurd (no_generated named-g named);
           };
           checked = λ before told lawful_policies known began. absurd (no_generated named-g named);
@@ -148,6 +163,7 @@ returns-in-Err g c =
                 subst (λ (t : Settings). says (main_rules t)) same (subst says (rules_are its c.transformer_of.result c.transformer_of.ensures)
                 (written_err _ script left before content c.in-Err.error c.status_of-status.result c.status_of-status.ensures c.in-Err.ensures.cause.kinds (c.in-Err.ensures.read script is).error ((c.in-Err.ensures.honest script is (premises _ its.operator c.transformer_of.result _ (fit lawful_policies) empty)).said before told))));
             stored = λ zero. absurd (is_ended c.in-Err.error c.in-Err.ensures.cause.kinds (inl (sym c.status_of-status.ensures ∙ zero)));
+            reads = λ zero. absurd (is_ended c.in-Err.error c.in-Err.ensures.cause.kinds (inl (sym c.status_of-status.ensures ∙ zero)));
             complete = λ formed no-read no-write no-store. inr (c.status_of-status.ensures ∙ ap status ((c.in-Err.ensures.honest script is (premises _ c.in-Some-parse_words.settings.operator c.transformer_of.result _ (fit lawful_policies) empty)).complete formed (record { source_still = no-read; sink_still = no-write; store = λ h. no-store (subst (λ t. Rose (g.S.Store.faults c.args.store.now) (g.S.Store.faults t)) (sym (c.store-1.given.1 (sym c.in-Err.ensures.puts.store))) h); operator = none_rose c.in-Some-parse_words.settings.operator c.run_script-ran.new.env.operator; transformer = none_rose c.transformer_of.result c.run_script-ran.new.env.transformer })));
           };
           checked = λ script before is told lawful_policies known began. (let same : c.in-Some-parse_words.settings ≡ s = same_settings c.parse_words.result c.in-Some-parse_words.settings s c.in-Some-parse_words.is (settings ∙ named) in
@@ -181,6 +197,7 @@ returns-in-Err g c =
           honest = λ lawful_policies empty. record {
             said = λ before told. absurd (no_generated named-g named);
             stored = λ zero. absurd (no_generated named-g named);
+            reads = λ zero. absurd (no_generated named-g named);
             complete = λ no-write no-store. absurd (no_generated named-g named);
           };
           checked = λ before told lawful_policies known began. absurd (no_generated named-g named);
@@ -238,6 +255,7 @@ returns-then-not-have_valid_names g c =
           honest = λ script is lawful_policies empty. record {
             said = λ before told. absurd (unfit valid);
             stored = λ zero. absurd (omega (arith, zero));
+            reads = λ zero. absurd (omega (arith, zero));
             complete = λ formed no-read no-write no-store. absurd (unfit valid);
           };
           checked = λ script before is told lawful_policies known began. absurd (unfit valid);
@@ -248,6 +266,7 @@ returns-then-not-have_valid_names g c =
           honest = λ lawful_policies empty. record {
             said = λ before told. absurd (unfit valid);
             stored = λ zero. absurd (unfit valid);
+            reads = λ zero. absurd (unfit valid);
             complete = λ no-write no-store. absurd (unfit valid);
           };
           checked = λ before told lawful_policies known began. absurd (unfit valid);
@@ -294,6 +313,7 @@ returns-in_default-parse_words g c =
           honest = λ script is lawful_policies empty. record {
             said = λ before told. absurd (some_not_none c.parse_words.result s (settings ∙ named) c.in_default-parse_words.is);
             stored = λ zero. absurd (omega (arith, zero));
+            reads = λ zero. absurd (omega (arith, zero));
             complete = λ formed no-read no-write no-store. absurd (some_not_none c.parse_words.result s (settings ∙ named) c.in_default-parse_words.is);
           };
           checked = λ script before is told lawful_policies known began. absurd (some_not_none c.parse_words.result s (settings ∙ named) c.in_default-parse_words.is);
@@ -304,6 +324,7 @@ returns-in_default-parse_words g c =
           honest = λ lawful_policies empty. record {
             said = λ before told. absurd (no_generated named-g named);
             stored = λ zero. absurd (no_generated named-g named);
+            reads = λ zero. absurd (no_generated named-g named);
             complete = λ no-write no-store. absurd (no_generated named-g named);
           };
           checked = λ before told lawful_policies known began. absurd (no_generated named-g named);
@@ -354,6 +375,7 @@ returns-in-Some g c =
           honest = λ script is lawful_policies empty. record {
             said = λ before told. one_script handed ws its s read named;
             stored = λ zero. one_script handed ws its s read named;
+            reads = λ zero. one_script handed ws its s read named;
             complete = λ formed no-read no-write no-store. one_script handed ws its s read named;
           };
           checked = λ script before is told lawful_policies known began. one_script handed ws its s read named;
@@ -368,6 +390,11 @@ returns-in-Some g c =
                 let ends = λ (y : Generated) (ps : List Policy). IsStoredState (parts_of y.settings) (main_rules y.settings) (layout_of y.settings.options ps (segments_of y.settings)) (g.S.Store.objects c.main_generated.new.store) (after_lines (main_rules y.settings) opening (lines_of (generate y.rounds y.seed))) in
                 subst (λ (ps : List Policy). ends x ps) c.keep_used-kept.ensures
                 (subst (λ (y : Generated). ends y kept) (same x named) ((c.main_generated.ensures.ends.honest (fit lawful_policies) empty).stored zero)));
+            reads = λ zero. (let given : List Policy = map (λ p. (goal.FilterPolicy-dyn g (p.vtable, p.value)).meaning p.value) c.args.policies.items in
+                let kept : List Policy = map (λ p. (goal.FilterPolicy-dyn g (p.vtable, p.value)).meaning p.value) c.keep_used-kept.result.items in
+                let read = λ (y : Generated) (ps : List Policy). HasReadByLine (terms_of y.settings.options (segments_of y.settings) ps (parts_of y.settings)) (lines_of (generate y.rounds y.seed)) (g.S.Store.acts c.args.store.now) (g.S.Store.acts c.main_generated.new.store) (g.S.Store.objects c.main_generated.new.store) in
+                subst (λ (ps : List Policy). read x ps) c.keep_used-kept.ensures
+                (subst (λ (y : Generated). read y kept) (same x named) ((c.main_generated.ensures.ends.honest (fit lawful_policies) empty).reads zero)));
             complete = (c.main_generated.ensures.ends.honest (fit lawful_policies) empty).complete;
           };
           checked = λ before told lawful_policies known began. (let ends = λ (y : Generated). HasSummed (summary (main_rules y.settings) (generate y.rounds y.seed)) before (g.W.Sink.content c.main_generated.new.sink) c.main_generated.result ⊎ SlipsFrom (parts_of y.settings).encode [] (g.S.Store.acts c.args.store.now) (g.S.Store.acts c.main_generated.new.store) in

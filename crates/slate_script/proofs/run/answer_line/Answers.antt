@@ -1,4 +1,4 @@
-use Rattle.std.proofs.Common.{◌≡◌, ◌≤◌, arith, inl, inr, Option, Some, length, refl, sym, ap, subst, Ok, map}
+use Rattle.std.proofs.Common.{◌≤◌, arith, inl, inr, Option, Some, length, refl, sym, ap, subst, Ok, map}
 use Rattle.slate_types.specs.Outside.{Objects}
 use Rattle.slate_types.proofs.Reaching.{puts_none}
 use Rattle.slate_store.specs.Reach.{reach_of}
@@ -12,6 +12,7 @@ use Rattle.slate_script.specs.Session.{HasTablesAlone, IsRunning, StepsAs, line_
 use Rattle.slate_script.proofs.LineAnswers.{failed_answered, meant_answered, silent_answered, silent_line}
 use Rattle.slate_script.proofs.LineEnds.{parse_error, parse_cause, parse_no_part, parse_no_damage, parse_wrote, session_cause, session_part, session_wrote, writing_cause, writing_no_part, writing_no_damage, writing_no_error, error_of, meant_line}
 use Rattle.slate_script.proofs.LineLoads.{load_of_line}
+use Rattle.slate_script.proofs.LineReads.{reply_asked, silent_asked}
 use Rattle.slate_script.proofs.RunEnds.{is_no_error}
 use Rattle.slate_script.proofs.Slips.{holds_as}
 use Rattle.slate_script.proofs.ToldLaws.{follows_itself, line_shown, stores_itself}
@@ -44,6 +45,7 @@ returns-in-Err-answer g c =
         cause = session_cause _ _ c.args.number c.args.line.now c.args.session.now c.in-Err-answer.error c.in-Err-answer.ensures.cause;
         part = session_part _ _ c.args.session.now c.in-Err-answer.error c.in-Err-answer.ensures.cause;
         tables = tt;
+        asked = tt;
         adds = c.answer.ensures.adds;
         puts = c.answer.ensures.puts;
       };
@@ -88,6 +90,8 @@ returns-in-Ok g c =
         cause = writing_cause c.write_reply.result c.args.number c.args.line.now c.args.session.now c.write_reply.ensures.cause;
         part = writing_no_part (IsPartCause (counts_of (g.S.Store.faults c.args.env.now.store.now) g.M.MergeOperator.faults g.T.BlockTransformer.faults c.args.env.now.operator c.args.env.now.transformer) (counts_of (g.S.Store.faults c.answer.new.env.store.now) g.M.MergeOperator.faults g.T.BlockTransformer.faults c.answer.new.env.operator c.answer.new.env.transformer)) c.write_reply.result c.write_reply.ensures.cause;
         tables = always c.write_reply.result c.in-Ok.ensures.tables;
+        asked = (let means = rw c.in-Ok-Some.field-0-is at c.in-Ok-Some.ensures.meant in
+            reply_asked c.write_reply.result c.in-Ok.answer policies c.args.line.now c.in-Ok-Some.meaning (reach_of g.S.Store g.M.MergeOperator g.T.BlockTransformer c.args.env.now) (reach_of g.S.Store g.M.MergeOperator g.T.BlockTransformer c.answer.new.env) c.args.session.now means.0 means.1 c.in-Ok.ensures.asked);
         adds = c.answer.ensures.adds;
         puts = c.answer.ensures.puts;
       };
@@ -122,6 +126,7 @@ returns-in-Err g c =
         cause = parse_cause c.args.number c.args.line.now c.args.session.now c.at_line.result by;
         part = λ part. absurd (parse_no_part c.args.number c.args.line.now c.at_line.result by part);
         tables = tt;
+        asked = tt;
         adds = adds_same _ _ refl;
         puts = puts_none _;
       };
@@ -155,6 +160,7 @@ returns-in-Ok-None g c =
         cause = tt;
         part = tt;
         tables = stores_itself (tables_of c.args.session.now.core.events) (g.S.Store.acts c.args.env.now.store.now);
+        asked = silent_asked tt policies c.args.line.now (reach_of g.S.Store g.M.MergeOperator g.T.BlockTransformer c.args.env.now) c.args.session.now silent;
         adds = adds_same _ _ refl;
         puts = puts_none _;
       };

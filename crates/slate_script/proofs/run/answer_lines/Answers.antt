@@ -1,4 +1,4 @@
-use Rattle.std.proofs.Common.{◌≤◌, ◌≡◌, ◌⊎◌, ◌<◌, ◌+◌, [], List, IfSome, Some, Result, Ok, Err, length, sym, ap, subst, ◌∙◌, arith, refl, inl, inr, map}
+use Rattle.std.proofs.Common.{◌≤◌, ◌≡◌, ◌⊎◌, ◌<◌, ◌+◌, ℕ, [], List, take, IfSome, Some, Result, Ok, Err, length, sym, ap, subst, ◌∙◌, arith, refl, inl, inr, map}
 use Rattle.slate_types.specs.declared.error.SlateDBError.{SlateDBError}
 use Rattle.slate_types.specs.declared.error.SlateDBError.TheVariants.{ScriptTooLong, ReadFault, WriteFault, StoreFault, Callback, BlockTransformError}
 use Rattle.slate_types.specs.Outside.{Objects}
@@ -16,14 +16,17 @@ use Rattle.slate_db.specs.Settled.{IsSettled}
 use Rattle.slate_language.specs.Replies.{after_lines, meanings}
 use Rattle.slate_language.specs.Tally.{tallied}
 use Rattle.slate_script.specs.Run.{run_rules, AnswersLine, HasSaid, Premises, IsPartError}
+use Rattle.slate_script.specs.LineReads.{IsReadInParts}
 use Rattle.slate_script.specs.Session.{StandsFor}
+use Rattle.slate_script.specs.Terms.{terms_of}
 use Rattle.slate_script.specs.Told.{Follows, IsUntrue, PutsTables}
 use Rattle.slate_script.proofs.RunEnds.{LineError, unless_error, is_no_error, rose_from, line_cause, no_part, only_memory, store_rose, operator_rose, transformer_rose, reader_no_part, reader_not_write, reader_undamaged, reader_error, reader_complete, reader_kinds, reader_read, reader_full, line_not_long, line_not_read, line_kinds, line_read, line_complete, line_error, end_there, end_read, end_formed, end_no_error}
 use Rattle.slate_script.proofs.RunSays.{end_counts, end_says, line_says, reader_says}
-use Rattle.slate_script.proofs.Running.{begins}
+use Rattle.slate_script.proofs.Running.{begins, is_settled}
+use Rattle.slate_script.proofs.ReadSoFar.{IsReadSoFar, few_events, lines_end, read_none, read_on, read_whole}
 use Rattle.slate_script.proofs.Slips.{holds_as, slips_on}
 use Rattle.slate_script.proofs.TablesAlone.{begins_alone, stored_state}
-use Rattle.slate_script.proofs.Taken.{IsAt, begin, answer_it, took_told, end_told}
+use Rattle.slate_script.proofs.Taken.{IsAt, begin, answer_it, took_told, end_told, lines_grow, lines_meant, lines_stand}
 use Rattle.slate_script.proofs.ToldLaws.{follows_itself, follows_on, shown_at_end, stores_itself, stores_on, untrue_on}
 use Rattle.slate_script.proofs.run.answer_lines.Given as given
 use Rattle.slate_script.proofs.run.answer_lines.Goals as goal
@@ -68,6 +71,7 @@ loop-line-init g c =
       followed = λ lawful_policies lawful. follows_itself policies (meaning_of g.M.MergeOperator.combine g.T.BlockTransformer.encoded g.T.BlockTransformer.decoded c.args.env.now.operator c.args.env.now.transformer) (segments_by g.X.PrefixExtractor.lengths c.args.laws.now.segments) [] c.new-session.result (g.S.Store.acts c.args.env.now.store.now)
           (begins policies (meaning_of g.M.MergeOperator.combine g.T.BlockTransformer.encoded g.T.BlockTransformer.decoded c.args.env.now.operator c.args.env.now.transformer) (segments_by g.X.PrefixExtractor.lengths c.args.laws.now.segments) c.args.laws.now.options (Some []) c.new-session.result (record { lawful_policies = lawful_policies; lawful = lawful; empty = refl }) c.new-session.ensures.settings c.new-session.ensures.events c.new-session.ensures.kept c.new-session.ensures.segmented).settled;
       stored = subst (λ (es : List Event). PutsTables [] (tables_of es) (g.S.Store.acts c.args.env.now.store.now) (g.S.Store.acts c.args.env.now.store.now)) (sym c.new-session.ensures.events) (stores_itself [] (g.S.Store.acts c.args.env.now.store.now));
+      reads = λ script is premises known began. read_none (terms_of c.args.laws.now.options (segments_by g.X.PrefixExtractor.lengths c.args.laws.now.segments) policies (meaning_of g.M.MergeOperator.combine g.T.BlockTransformer.encoded g.T.BlockTransformer.decoded c.args.env.now.operator c.args.env.now.transformer)) script c.new-lines.result.given known (g.S.Store.acts c.args.env.now.store.now) (tables_of c.new-session.result.core.events) c.new-lines.ensures.given began;
       source_later = omega arith;
       sink_later = omega arith;
       source_still = refl;
@@ -85,6 +89,7 @@ returns-in-Err g c =
         honest = λ script is premises. record {
           said = λ before told-is. reader_says c.next.new.self before (g.R.Source.left c.next.new.source) c.in-Err.error c.in-Err.ensures.told (λ h. c.in-Err.ensures.too_long (ap Err h)) (λ h. (c.in-Err.ensures.read_fault (ap Err h)).1) c.in-Err.ensures.cause (c.loop-line.invariant.told script is) premises told-is;
           stored = tt;
+          reads = tt;
           complete = λ formed none. (let at = c.loop-line.invariant.told script is in
               let told = c.in-Err.ensures.told at.left at.rest in
               let by = reader_error c.next.new.self told.0 c.in-Err.error at told.2 (λ h. c.in-Err.ensures.too_long (ap Err h)) c.in-Err.ensures.cause in
@@ -157,6 +162,7 @@ returns-in-Err-answer_line g c =
         honest = λ script is premises. record {
           said = λ before told-is. line_says c.answer_line.new.session c.answer_line.new.tally before (g.R.Source.left c.next.new.source) (g.W.Sink.content c.answer_line.new.sink) c.in-Err-answer_line.error (its_cause g c) (λ h. (c.in-Err-answer_line.ensures.sink.write_fault (ap Err h)).1) c.in-Err-answer_line.ensures.sink.unanswered (took_told (λ v. v.items) c.in-Ok-Some.field-0 c.in-Ok-Some.line c.as_slice.result.now (g.R.Source.left c.next.new.source) c.next.new.self c.in-Ok-Some.ensures.told c.in-Ok-Some.ensures.within c.in-Ok-Some.field-0-is c.as_slice.ensures.value (c.loop-line.invariant.told script is)) ((c.in-Err-answer_line.ensures.line.honest m r (c.loop-line.invariant.running premises)).answered) premises told-is;
           stored = tt;
+          reads = tt;
           complete = λ formed none. (let took = took_told (λ v. v.items) c.in-Ok-Some.field-0 c.in-Ok-Some.line c.as_slice.result.now (g.R.Source.left c.next.new.source) c.next.new.self c.in-Ok-Some.ensures.told c.in-Ok-Some.ensures.within c.in-Ok-Some.field-0-is c.as_slice.ensures.value (c.loop-line.invariant.told script is) in
               let by = line_error c.in-Err-answer_line.error took (its_cause g c) in
               (only_memory c.in-Err-answer_line.error (line_complete script c.as_slice.result.now (c.loop-line.number + 1) c.in-Err-answer_line.error by (its_cause g c) formed (λ h. none.sink_still (rose_from _ _ _ c.loop-line.invariant.sink_later (c.in-Err-answer_line.ensures.sink.write_fault (ap Err h)).0)))
@@ -246,6 +252,15 @@ loop-line-preserved g c =
       followed = λ lawful_policies lawful. follows_on policies (meaning_of g.M.MergeOperator.combine g.T.BlockTransformer.encoded g.T.BlockTransformer.decoded c.args.env.now.operator c.args.env.now.transformer) (segments_by g.X.PrefixExtractor.lengths c.args.laws.now.segments) c.loop-line.session c.answer_line.new.session (g.S.Store.acts c.args.env.now.store.now) (g.S.Store.acts c.loop-line.env.store.now) (g.S.Store.acts c.answer_line.new.env.store.now) (c.loop-line.invariant.followed lawful_policies lawful)
           (subst (λ (m : Meaning). (os : Objects) → IsSettled policies m (segments_by g.X.PrefixExtractor.lengths c.args.laws.now.segments) (Some os) c.loop-line.session.core → Follows policies m (segments_by g.X.PrefixExtractor.lengths c.args.laws.now.segments) os c.answer_line.new.session (g.S.Store.acts c.loop-line.env.store.now) (g.S.Store.acts c.answer_line.new.env.store.now)) c.loop-line.invariant.puts.meaning (λ os settled. (c.in-Ok.ensures.line.told os settled).follows));
       stored = stores_on (tables_of c.loop-line.session.core.events) (tables_of c.answer_line.new.session.core.events) _ _ _ c.loop-line.invariant.stored c.in-Ok.ensures.line.tables;
+      reads = λ script is premises known began.
+          let at = c.loop-line.invariant.told script is in
+          let terms = terms_of c.args.laws.now.options seg policies m in
+          let now = reach_of g.S.Store g.M.MergeOperator g.T.BlockTransformer c.loop-line.env in
+          let after = reach_of g.S.Store g.M.MergeOperator g.T.BlockTransformer c.answer_line.new.env in
+          subst (λ (ls : List (List ℕ)). IsReadSoFar terms ls known after.acts (tables_of c.answer_line.new.session.core.events))
+          (sym (lines_grow (λ v. v.items) c.in-Ok-Some.field-0 c.in-Ok-Some.line c.as_slice.result.now (g.R.Source.left c.next.new.source) c.next.new.self c.in-Ok-Some.ensures.told c.in-Ok-Some.ensures.within c.in-Ok-Some.field-0-is c.as_slice.ensures.value at))
+          (read_on tt terms c.as_slice.result.now (lines_of (take c.loop-line.lines.given script)) known m (layout_of c.args.laws.now.options policies seg) seg now after c.loop-line.session c.answer_line.new.session (lines_meant at) c.loop-line.invariant.puts.meaning c.loop-line.invariant.settings
+          (is_settled (c.loop-line.invariant.running premises)) (c.loop-line.invariant.alone premises) (lines_stand at premises) c.answer_line.ensures.line.adds c.in-Ok.ensures.line.tables c.in-Ok.ensures.line.asked (c.loop-line.invariant.reads script is premises known began));
       source_later = omega (arith, c.next.ensures.later);
       sink_later = omega (arith, c.answer_line.ensures.sink.later);
       source_still = unless_error c.in-Ok-Some.field-0 ReadFault c.in-Ok-Some.ensures.still ∙ c.loop-line.invariant.source_still;
@@ -272,6 +287,16 @@ returns g c =
               (c.close-2.ensures.stores m running.settled.lawful running.settled.kept)
               (subst (λ bs. StandsFor c.loop-line.session (after_lines r opening (lines_of bs))) (sym (end_there c.next.new.self end.0 at end.2).0) (at.session premises))
               (c.loop-line.invariant.alone premises));
+          reads = λ known began.
+              let at = c.loop-line.invariant.told script is in
+              let end = end_told (λ v. v.items) c.in-Ok-None.field-0 (g.R.Source.left c.next.new.source) c.next.new.self c.in-Ok-None.ensures.told c.in-Ok-None.field-0-is at in
+              let m = meaning_of g.M.MergeOperator.combine g.T.BlockTransformer.encoded g.T.BlockTransformer.decoded c.args.env.now.operator c.args.env.now.transformer in
+              let seg = segments_by g.X.PrefixExtractor.lengths c.args.laws.now.segments in
+              let terms = terms_of c.args.laws.now.options seg policies m in
+              let now = reach_of g.S.Store g.M.MergeOperator g.T.BlockTransformer c.loop-line.env in
+              subst (λ (bs : List ℕ). IsReadInParts terms (lines_of bs) known now.acts now.objects) (lines_end c.next.new.self end.0 at end.2)
+              (read_whole terms (lines_of (take c.loop-line.lines.given script)) known now.acts m (layout_of c.args.laws.now.options policies seg) now.objects c.loop-line.session (few_events c.loop-line.session.core c.loop-line.number c.loop-line.lines.given c.loop-line.invariant.weighs c.loop-line.invariant.counted c.loop-line.invariant.within) (c.loop-line.invariant.running premises).settled.tables
+              (c.loop-line.invariant.alone premises) (c.loop-line.invariant.reads script is premises known began));
           complete = λ formed none. tt;
         };
         undamaged = λ premises. tt;

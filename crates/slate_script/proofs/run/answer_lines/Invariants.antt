@@ -1,7 +1,7 @@
-use Rattle.std.proofs.Common.{◌≡◌, ◌≤◌, ◌+◌, ◌-◌, ℕ, List, [], Some, map}
-use Rattle.slate_types.specs.Outside.{Puts}
+use Rattle.std.proofs.Common.{◌≡◌, ◌≤◌, ◌+◌, ◌-◌, ℕ, List, [], Some, map, take}
+use Rattle.slate_types.specs.Outside.{Act, Puts}
 use Rattle.slate_store.specs.Reach.{reach_of}
-use Rattle.slate_store.specs.Lines.{script_limit}
+use Rattle.slate_store.specs.Lines.{lines_of, script_limit}
 use Rattle.slate_table.specs.Filtered.{AreLawful}
 use Rattle.slate_txn.specs.Settings.{settings_of}
 use Rattle.slate_db.specs.Checked.{OrSlips}
@@ -12,7 +12,9 @@ use Rattle.slate_db.specs.Meaning.{IsLawfulMeaning, segments_by}
 use Rattle.slate_db.specs.Sound.{IsKept}
 use Rattle.slate_script.specs.Run.{run_rules, Premises}
 use Rattle.slate_script.specs.Session.{HasTablesAlone, IsRunning, held_load}
+use Rattle.slate_script.specs.Terms.{terms_of}
 use Rattle.slate_script.specs.Told.{Follows, PutsTables}
+use Rattle.slate_script.proofs.ReadSoFar.{IsReadSoFar}
 use Rattle.slate_script.proofs.Taken.{IsAt}
 use Rattle.slate_script.proofs.run.answer_lines.Given as goal
 
@@ -45,6 +47,8 @@ invariant-loop-line g l =
           (layout_of l.laws.options policies (segments_by g.X.PrefixExtractor.lengths l.laws.segments)) now.objects (runs_of l.session.core.events);
       followed : AreLawful policies → IsLawfulMeaning before.meaning → Follows policies before.meaning (segments_by g.X.PrefixExtractor.lengths l.laws.segments) [] l.session before.acts now.acts;
       stored : PutsTables [] (tables_of l.session.core.events) before.acts now.acts;
+      reads : (script : List ℕ) → g.R.Source.left l.initial.source ≡ Some script → Premises policies before.meaning before.objects → (known : List Act) → before.acts ≡ Some known
+          → IsReadSoFar (terms_of l.laws.options (segments_by g.X.PrefixExtractor.lengths l.laws.segments) policies before.meaning) (lines_of (take l.lines.given script)) known now.acts (tables_of l.session.core.events);
       source_later : g.R.Source.faults l.initial.source ≤ g.R.Source.faults l.source;
       sink_later : g.W.Sink.faults l.initial.sink ≤ g.W.Sink.faults l.sink;
       source_still : g.R.Source.faults l.source ≡ g.R.Source.faults l.initial.source;

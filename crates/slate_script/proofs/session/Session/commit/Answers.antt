@@ -2,6 +2,7 @@ use Rattle.std.proofs.Common.{◌≡◌, ℕ, ◌⊎◌, List, length, None, Som
 use Rattle.std.specs.Prelude.{IfErr}
 use Rattle.std.specs.Str.{bytes_eq}
 use Rattle.slate_types.specs.Outside.{IsCounted}
+use Rattle.slate_types.proofs.Calls.{call_none}
 use Rattle.slate_types.proofs.Reaching.{reads_none}
 use Rattle.slate_txn.specs.Named.{find_named, without}
 use Rattle.slate_txn.specs.Conflict.{conflict}
@@ -52,6 +53,7 @@ returns-in_default g c =
       grows = (let before : SessionModel = record { core = c.self.inside.core; names = c.self.inside.names.entries; snapshot_names = c.self.inside.snapshot_names.entries; now = c.self.inside.now } in
           subst (λ (v : SessionModel). Grows (lines.Commit c.args.name) v (record before { names = c.remove.new.self.entries })) c.self.view_is (omega arith, omega arith));
       cause = tt;
+      call = call_none _;
       reads = reads_none _;
     }
 
@@ -142,5 +144,6 @@ returns g c =
             | in-Err w ↦ subst (λ (r : Result Answer SlateDBError). IfErr r (λ e. IsCounted old new e ⊎ IsLimit before e)) (sym w.result-is)
                 (commit_cause old new before (conflict before.core.state.commits t.value) m.combine _ _ _ _ _ t.value.ops w.in-Err.error w.refused.result w.refused.ensures.other (w.in-Err.ensures.cause t.value t.is))
           ]));
+      call = c.commit.ensures.call;
       reads = c.commit.ensures.reads;
     }

@@ -1,4 +1,4 @@
-use Rattle.std.proofs.Common.{◌≡◌, ℕ, List, None, Some, Ok, OnOk, refl, sym, subst, ◌∙◌, arith}
+use Rattle.std.proofs.Common.{◌≡◌, ℕ, List, [], None, Some, Ok, OnOk, refl, sym, subst, ◌∙◌, arith}
 use Rattle.slate_mem.specs.declared.WriteOp.TheVariants as ops
 use Rattle.slate_txn.specs.Named.{find_named}
 use Rattle.slate_txn.specs.declared.line.Line.TheVariants as lines
@@ -7,6 +7,8 @@ use Rattle.slate_language.specs.declared.reply.Answer.TheVariants as answers
 use Rattle.slate_types.specs.declared.error.SlateDBError.TheVariants as errors
 use Rattle.slate_types.specs.Outside.{OnlyReads}
 use Rattle.slate_store.specs.Reach.{reach_of}
+use Rattle.slate_types.specs.World.{IsCall}
+use Rattle.slate_types.proofs.Calls.{call_none}
 use Rattle.slate_types.proofs.Reaching.{reads_none}
 use Rattle.slate_script.specs.Session.{SessionModel, StepsAs, Grows, IsLimit, StoresNothing}
 use Rattle.slate_script.proofs.NamesLaws.{find_named_lookup}
@@ -31,6 +33,7 @@ returns-in_default g c seg =
       stores = record { settings = refl; runs = refl; later = omega arith; kept = λ k. k; segmented = λ k. k };
       grows = (omega arith, omega arith);
       cause = tt;
+      call = call_none _;
       reads = reads_none _;
     }
 
@@ -73,5 +76,6 @@ returns g c seg =
           let new = counts_of (g.S.Store.faults c.merge-merge.new.env.store.now) g.M.MergeOperator.faults g.T.BlockTransformer.faults c.merge-merge.new.env.operator c.merge-merge.new.env.transformer in
           memory_or_limit c.done.result old new c.args.self.now (ran_cause (λ e. IsLimit c.args.self.now e) c.merge-merge.result c.done.result c.done.ensures
           (merge_cause ((meaning_of g.M.MergeOperator.combine g.T.BlockTransformer.encoded g.T.BlockTransformer.decoded c.args.env.now.operator c.args.env.now.transformer).combine ≡ None) c.merge-merge.result c.as_slice.result.now (ops.Merge c.as_slice-2.result.now (record { ttl = c.args.ttl })) c.merge-merge.ensures.cause)));
+      call = subst (λ v. IsCall (reach_of g.S.Store g.M.MergeOperator g.T.BlockTransformer c.args.env.now) (reach_of g.S.Store g.M.MergeOperator g.T.BlockTransformer v) []) (sym c.merge-merge.ensures.outside) (call_none _);
       reads = subst (λ v. OnlyReads (reach_of g.S.Store g.M.MergeOperator g.T.BlockTransformer c.args.env.now) (reach_of g.S.Store g.M.MergeOperator g.T.BlockTransformer v)) (sym c.merge-merge.ensures.outside) (reads_none _);
     }

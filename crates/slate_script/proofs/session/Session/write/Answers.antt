@@ -1,6 +1,7 @@
 use Rattle.std.proofs.Common.{◌⊎◌, arith, length, OnOk, Result, sym, subst, refl}
 use Rattle.std.specs.Prelude.{IfErr}
 use Rattle.slate_types.specs.Outside.{IsCounted}
+use Rattle.slate_types.proofs.Calls.{call_none}
 use Rattle.slate_types.proofs.Reaching.{reads_none}
 use Rattle.slate_txn.specs.Reply.{Written}
 use Rattle.slate_db.specs.Meaning.{rules_in, segments_by}
@@ -66,6 +67,7 @@ returns g c =
             | in-Err-write w ↦ subst (λ (r : Result Answer SlateDBError). IfErr r (λ e. IsCounted old new e ⊎ IsLimit before e)) (sym w.result-is)
                 (write_cause old new before m.combine (segments_by g.X.PrefixExtractor.lengths c.args.laws.now.segments) before.core.segments before.core.settings.default_millis _ c.in-Ok.batch w.in-Err-write.error w.refused-in-Err-write.result w.refused-in-Err-write.ensures.other w.in-Err-write.ensures.cause)
           ]));
+      call = c.write.ensures.call;
       reads = c.write.ensures.reads;
     }
 
@@ -77,5 +79,6 @@ returns-in-Err g c =
       grows = always c.refused.result (omega arith, omega arith);
       cause = (let old = counts_of (g.S.Store.faults c.args.env.now.store.now) g.M.MergeOperator.faults g.T.BlockTransformer.faults c.args.env.now.operator c.args.env.now.transformer in
           memory_or_limit c.refused.result old old c.args.self.now (refused_cause (λ e. IsLimit c.args.self.now e) c.args.ops c.in-Err.error c.refused.result c.refused.ensures.other c.in-Err.ensures.refused));
+      call = call_none _;
       reads = reads_none _;
     }
