@@ -1,34 +1,34 @@
 -- A whole add.
-use Rattle.std.proofs.Common.{◌≡◌, ◌≢◌, ◌⊎◌, inl, inr, ℕ, ◌+◌, ◌-◌, ◌^◌, ◌<◌, ◌≤◌, ℤ, List, [], ◌∷◌, ◌++◌, length, Option, Some, None, Result, Ok, Err, refl, sym, ap, subst, ◌∙◌, arith}
-use Rattle.std.specs.Prelude.{IsSome}
+use Rattle.std.proofs.Common.{◌≡◌, ◌≢◌, ◌⊎◌, inl, inr, ℕ, ◌+◌, ◌-◌, ◌^◌, ◌<◌, ◌≤◌, ℤ, List, [], ◌∷◌, ◌++◌, length, Option, Some, Ok, Err, refl, sym, ap, subst, ◌∙◌, arith}
 use Rattle.slate_types.specs.declared.config.IsolationLevel.TheVariants.{SerializableSnapshot}
 use Rattle.slate_types.specs.declared.error.SlateDBError.{SlateDBError}
 use Rattle.slate_types.specs.declared.error.SlateDBError.TheVariants.{SequenceExhausted}
 use Rattle.slate_types.specs.Outside.{IsFault, OnlyReads, Reach}
 use Rattle.slate_types.proofs.Reaching.{reads_none, reads_then}
 use Rattle.slate_filter.specs.Policy.{Policy}
-use Rattle.slate_mem.specs.Batch.{Ops, batch_keys, kept_ops}
+use Rattle.slate_mem.specs.Batch.{batch_keys, kept_ops}
 use Rattle.slate_mem.specs.KeyTests.{Segments}
 use Rattle.slate_mem.proofs.BatchLaws.{keeps_its_keys}
 use Rattle.slate_txn.specs.declared.event.TranscriptStep.{TranscriptStep}
 use Rattle.slate_txn.specs.declared.event.TranscriptStep.TheVariants as steps
 use Rattle.slate_txn.specs.Alone.{own_of}
+use Rattle.slate_txn.specs.State.{last_of}
 use Rattle.slate_db.specs.Meaning.{rules_of}
 use Rattle.slate_db.specs.Model.{CoreModel}
 use Rattle.slate_db.specs.Segmented.{IsSegmented}
 use Rattle.slate_db.specs.Sound.{IsKept}
-use Rattle.slate_steps.specs.Steps.{HasCommitted, HasEnded, IsBeginError, Sees, newest}
+use Rattle.slate_steps.specs.Steps.{HasCommitted, HasEnded, IsBeginError, newest}
 use Rattle.slate_queue.specs.declared.error.QueueError.{QueueError}
 use Rattle.slate_queue.specs.declared.error.QueueError.TheVariants as errors
 use Rattle.slate_queue.specs.Stored.{counter_key}
 use Rattle.slate_queue.specs.Jobs as model
-use Rattle.slate_queue.specs.Jobs.{Queue, Call, longest, queue_step}
-use Rattle.slate_queue.specs.Commits.{IsAdd, added}
+use Rattle.slate_queue.specs.Jobs.{Call, longest}
+use Rattle.slate_queue.specs.Commits.{added}
 use Rattle.slate_queue.specs.CallSteps.{AddStops, Adds, own_steps}
-use Rattle.slate_queue.specs.Calls.{AddRefuses, Attempts, CallsAs, Commits, IsAddOf, StandsIn}
-use Rattle.slate_queue.specs.Script.{keys_of}
-use Rattle.slate_queue.proofs.CallLaws.{answered, commit_of, committed_in, counts_in, has_seq, keeps_committed, not_begun, stopped, uncommitted, untouched}
+use Rattle.slate_queue.specs.Calls.{AddRefuses, Attempts, CallsAs, Commits, IsAddOf}
+use Rattle.slate_queue.proofs.CallLaws.{answered, has_seq, keeps_committed, may_perform, not_begun, performed, stopped, uncommitted, untouched}
 use Rattle.slate_queue.proofs.CallSteps.{add_counter, add_stands, add_step, add_stopped, after_add, too_long}
+use Rattle.slate_queue.proofs.Performing.{Performs}
 
 steps_are : (payload : List ℕ) (id : ℕ) (ts : List TranscriptStep) → (h : Adds payload id ts) → ts ≡ steps.Get counter_key h.counts.answer ∷ own_steps (added id payload)
 steps_are payload id ts h = h.steps ∙ ap (λ us. us ++ own_steps (added id payload)) h.counts.steps
@@ -42,7 +42,7 @@ add_some payload id ts h e = no (sym (add_own payload id ts h) ∙ e)
     no : added id payload ≡ [] → ⊥
     no g = cc
 
-add_form : (payload : List ℕ) (id : ℕ) (ts : List TranscriptStep) → length payload ≤ longest → Adds payload id ts → IsAddOf payload id (kept_ops (own_of ts)) (batch_keys (own_of ts)) ts
+pub add_form : (payload : List ℕ) (id : ℕ) (ts : List TranscriptStep) → length payload ≤ longest → Adds payload id ts → IsAddOf payload id (kept_ops (own_of ts)) (batch_keys (own_of ts)) ts
 add_form payload id ts short h = (
   record {
     payload = payload;
@@ -64,23 +64,16 @@ add_form payload id ts short h = (
 pub add_commits : (payload : List ℕ) (id : ℕ) (tx : List ℕ) (ts : List TranscriptStep) (c d : CoreModel) (seq : ℕ) (now : ℤ) → length payload ≤ longest → Adds payload id ts → HasCommitted c tx SerializableSnapshot ts (Some seq) now d → newest c ≢ 2 ^ 64 - 2 → Commits (IsAddOf payload id) now c d
 add_commits payload id tx ts c d seq now short h committed left = record { id = tx; steps = ts; seq = seq; committed = committed; is = add_form payload id ts short h; left = left }
 
-pub add_done : (before : Reach) (payload : List ℕ) (id : ℕ) (tx : List ℕ) (ts : List TranscriptStep) (c d : CoreModel) (seq : ℕ) (now : ℤ) → length payload ≤ longest → Adds payload id ts → HasCommitted c tx SerializableSnapshot ts (Some seq) now d →
-    (q : Queue) → StandsIn before.meaning c q → Sees before.meaning c ts → (p : Queue) × (queue_step q (Call.Add payload) ≡ Ok (p, model.Answer.Added id)) × StandsIn before.meaning d p
-add_done before payload id tx ts c d seq now short h committed q stands sees =
-    let r = rules_of c.settings before.meaning in
-    let counter : (q.counter < model.last_number) × (id ≡ q.counter + 1) = add_counter r c.state.commits q payload id ts stands sees h in (
-      after_add q payload,
-      add_step q payload id short counter,
-      committed_in before.meaning c d tx ts seq now (after_add q payload) committed
-          (add_stands r c.state.commits (commit_of ts seq now) q payload (counts_in c tx ts (Some seq) now d committed) committed.next.0
-          (ap kept_ops (add_own payload id ts h ∙ ap (λ (n : ℕ). added n payload) counter.1)) counter.0 short stands),
-    )
-
--- whether or not it was committed
-pub add_may : (before : Reach) (payload : List ℕ) (id : ℕ) (ts : List TranscriptStep) (c : CoreModel) → length payload ≤ longest → (q : Queue) → StandsIn before.meaning c q → Sees before.meaning c ts → Adds payload id ts →
-    (p : Queue) × (a : model.Answer) × (queue_step q (Call.Add payload) ≡ Ok (p, a)) × IsSome (keys_of a)
-add_may before payload id ts c short q stands sees h =
-    (after_add q payload, model.Answer.Added id, add_step q payload id short (add_counter (rules_of c.settings before.meaning) c.state.commits q payload id ts stands sees h), refl)
+pub add_performs : (payload : List ℕ) (id : ℕ) (ts : List TranscriptStep) → length payload ≤ longest → Adds payload id ts → Performs (Call.Add payload) (model.Answer.Added id) ts
+add_performs payload id ts short h = record {
+  tells = λ r cs n alone q stands. (after_add q payload, add_step q payload id short (add_counter r cs n q payload id ts stands alone h));
+  places = λ r cs c q counts next ops stands alone.
+      let counter : (q.counter < model.last_number) × (id ≡ q.counter + 1) = add_counter r cs (last_of r.start_seq cs) q payload id ts stands alone h in (
+        after_add q payload,
+        add_step q payload id short counter,
+        add_stands r cs c q payload counts next (ops ∙ ap kept_ops (add_own payload id ts h ∙ ap (λ (n : ℕ). added n payload) counter.1)) counter.0 short stands,
+      );
+}
 
 -- ---- the exits of the call
 
@@ -103,14 +96,14 @@ module _ (payload : List ℕ) (now : ℤ) (policies : List Policy) (seg : Segmen
       HasEnded c id SerializableSnapshot f → CallsAs (λ new. Commits (IsAddOf payload new) now c f) model.Answer.Added (Call.Add payload) (AddRefuses payload) policies seg before after c f (Err e)
   add_stopped_call before after c d f id e short reads h ended =
       stopped (λ new. Commits (IsAddOf payload new) now c f) model.Answer.Added (Call.Add payload) (AddRefuses payload) policies seg AddStops before after c d f id e reads h.refused ended
-      (λ ts s. inr (ts, s)) (λ q ts stands sees s. add_stopped (rules_of c.settings before.meaning) c.state.commits q payload e ts short stands sees s)
+      (λ ts s. inr (ts, s)) (λ q ts stands sees s. add_stopped (rules_of c.settings before.meaning) c.state.commits (newest c) q payload e ts short stands sees s)
 
   pub add_uncommitted : (before middle after : Reach) (c d f : CoreModel) (id : List ℕ) (new : ℕ) (error : SlateDBError) → length payload ≤ longest → OnlyReads before middle → OnlyReads middle after →
       (h : Attempts (Adds payload) AddStops policies before middle c id d (Ok new)) → HasEnded c id SerializableSnapshot f → IsFault middle after error ⊎ ((error ≡ SequenceExhausted) × (newest c ≡ 2 ^ 64 - 2)) →
       CallsAs (λ i. Commits (IsAddOf payload i) now c f) model.Answer.Added (Call.Add payload) (AddRefuses payload) policies seg before after c f (Err (errors.Db error))
   add_uncommitted before middle after c d f id new error short first later h ended why =
       uncommitted (λ i. Commits (IsAddOf payload i) now c f) model.Answer.Added (Call.Add payload) (AddRefuses payload) policies seg (Adds payload new) before middle after c d f id error first (reads_then before middle after first later)
-      h.done ended why (λ q ts stands sees adds. add_may before payload new ts c short q stands sees adds)
+      h.done ended why (λ q ts stands sees adds. may_perform before.meaning (Call.Add payload) (model.Answer.Added new) c ts refl (add_performs payload new ts short adds).tells q stands sees)
 
   pub add_answered : (before middle after : Reach) (c d f : CoreModel) (id : List ℕ) (new : ℕ) (n : Option ℕ) → length payload ≤ longest → OnlyReads before middle → OnlyReads middle after →
       (h : Attempts (Adds payload) AddStops policies before middle c id d (Ok new)) → HasCommitted c id SerializableSnapshot h.done.steps n now f → newest c ≢ 2 ^ 64 - 2 → (IsKept before.meaning c → IsKept before.meaning f) → (IsSegmented seg c → IsSegmented seg f) →
@@ -122,4 +115,4 @@ module _ (payload : List ℕ) (now : ℤ) (policies : List Policy) (seg : Segmen
       (keeps_committed policies seg before after c f id h.done.steps (Some made.0) now (reads_then before middle after first later) made.1 kept segmented (λ s. h.done.sees seg s)
       (record { serializable = refl; does = inl (add_form payload new h.done.steps short h.done.is).0 })
       (let two : length (own_of h.done.steps) ≡ 2 = ap length (add_own payload new h.done.steps h.done.is) in omega arith))
-      (λ q stands sees. add_done before payload new id h.done.steps c f made.0 now short h.done.is made.1 q stands sees)
+      (λ q stands sees. performed before.meaning (Call.Add payload) (model.Answer.Added new) c f id h.done.steps made.0 now (add_performs payload new h.done.steps short h.done.is) made.1 q stands sees)

@@ -1,13 +1,12 @@
 -- Attempts within a transaction, from what its reads and puts say.
-use Rattle.std.proofs.Common.{◌≡◌, ◌⊎◌, inl, inr, ℕ, ◌+◌, ◌<◌, ◌≤◌, ◌≢◌, ℤ, List, [], ◌∷◌, ◌++◌, length, drop, Option, Some, None, Result, Ok, Err, refl, sym, ap, subst, ◌∙◌, Bool, true, false, cond, nat_eq, arith}
+use Rattle.std.proofs.Common.{◌≡◌, ◌⊎◌, inl, inr, ℕ, ◌+◌, ◌<◌, ◌≢◌, List, [], ◌∷◌, ◌++◌, Option, Some, None, Result, Ok, Err, refl, sym, ap, subst, Bool, true, false, cond, nat_eq, arith}
 use Rattle.std.specs.Prelude.{IfOk, IfErr, OnErr, OnOk}
 use Rattle.std.proofs.lemmas.Bool.Decides.{nat_tests}
-use Rattle.std.specs.List.{AllByRecursion}
 use Rattle.slate_types.specs.declared.config.IsolationLevel.TheVariants.{SerializableSnapshot}
 use Rattle.slate_types.specs.declared.error.SlateDBError.{SlateDBError}
 use Rattle.slate_types.specs.declared.error.SlateDBError.TheVariants.{OutOfMemory}
 use Rattle.slate_types.specs.declared.types.KeyValue.{KeyValue}
-use Rattle.slate_types.specs.Outside.{IsFault, OnlyReads, Reach}
+use Rattle.slate_types.specs.Outside.{IsFault, Reach}
 use Rattle.slate_types.proofs.Reaching.{reads_none}
 use Rattle.slate_filter.specs.Policy.{Policy}
 use Rattle.slate_mem.specs.declared.WriteOp.TheVariants.{Delete}
@@ -17,7 +16,7 @@ use Rattle.slate_txn.specs.declared.event.TranscriptStep.{TranscriptStep}
 use Rattle.slate_txn.specs.declared.event.TranscriptStep.TheVariants as steps
 use Rattle.slate_db.specs.Model.{CoreModel}
 use Rattle.slate_db.specs.Settled.{IsSettledIn}
-use Rattle.slate_steps.specs.Reads.{IsReadError, IsReadFault}
+use Rattle.slate_steps.specs.Reads.{IsReadError}
 use Rattle.slate_steps.specs.Steps.{IsWithin, Sees}
 use Rattle.slate_queue.specs.declared.error.QueueError.{QueueError}
 use Rattle.slate_queue.specs.declared.error.QueueError.TheVariants as errors
@@ -25,7 +24,7 @@ use Rattle.slate_queue.specs.Stored.{Job, counter_in, counter_key, job_key}
 use Rattle.slate_queue.specs.Jobs.{last_number}
 use Rattle.slate_queue.specs.Commits.{added}
 use Rattle.slate_queue.specs.CallSteps.{AddStops, Adds, Counts, FinishStops, Finishes, counter_refusal, job_refusal, own_steps, value_of}
-use Rattle.slate_queue.specs.Calls.{Attempts, IsDbRefusal, Took}
+use Rattle.slate_queue.specs.Calls.{Attempts, IsDbRefusal}
 use Rattle.slate_queue.specs.Standing.{job_in}
 use Rattle.slate_queue.proofs.CallLaws.{sees_more}
 
@@ -34,15 +33,15 @@ use Rattle.slate_queue.proofs.CallLaws.{sees_more}
 none_some : {X : Type 0} {A : Type 0} (x : X) → Some x ≡ None → A
 none_some x e = cc
 
-record IsClaimedBy (lease : ℕ) (answer : Option KeyValue) : Type 0 where
-  row : KeyValue
-  is : answer ≡ Some row
-  job : Job
-  stands : job_in (Some row.value) ≡ Some (Some job)
-  named : job.lease ≡ lease
-  claimed : lease ≢ 0
+pub record IsClaimedBy (lease : ℕ) (answer : Option KeyValue) : Type 0 where
+  pub row : KeyValue
+  pub is : answer ≡ Some row
+  pub job : Job
+  pub stands : job_in (Some row.value) ≡ Some (Some job)
+  pub named : job.lease ≡ lease
+  pub claimed : lease ≢ 0
 
-claimed_by : (id lease : ℕ) (answer : Option KeyValue) → job_refusal id lease (job_in (value_of answer)) ≡ None → IsClaimedBy lease answer
+pub claimed_by : (id lease : ℕ) (answer : Option KeyValue) → job_refusal id lease (job_in (value_of answer)) ≡ None → IsClaimedBy lease answer
 claimed_by id lease None e = none_some (errors.NoJob id) e
 claimed_by id lease (Some row) e = by (job_in (Some row.value)) refl e
   where

@@ -1,9 +1,9 @@
 -- A call on a queue, by its steps and by how its transaction ended.
-use Rattle.std.proofs.Common.{◌≡◌, ◌≢◌, ◌⊎◌, inl, inr, ℕ, ◌+◌, ◌-◌, ◌^◌, ◌<◌, ◌≤◌, ℤ, List, [], ◌∷◌, ◌++◌, length, Option, Some, None, Result, Ok, Err, refl, sym, ap, subst, ◌∙◌, arith}
+use Rattle.std.proofs.Common.{◌≡◌, ◌≢◌, ◌⊎◌, inl, inr, ℕ, ◌+◌, ◌-◌, ◌^◌, ◌≤◌, ℤ, List, [], ◌∷◌, ◌++◌, length, Option, Some, None, Ok, Err, refl, sym, ap, subst, arith}
 use Rattle.std.specs.Prelude.{IsSome}
 use Rattle.slate_types.specs.declared.config.IsolationLevel.TheVariants.{SerializableSnapshot}
 use Rattle.slate_types.specs.declared.error.SlateDBError.{SlateDBError}
-use Rattle.slate_types.specs.declared.error.SlateDBError.TheVariants.{LimitReached, OutOfMemory, SequenceExhausted}
+use Rattle.slate_types.specs.declared.error.SlateDBError.TheVariants.{SequenceExhausted}
 use Rattle.slate_types.specs.Outside.{IsFault, Objects, OnlyReads, Reach}
 use Rattle.slate_types.proofs.Reaching.{fault_earlier}
 use Rattle.slate_filter.specs.Policy.{Policy}
@@ -12,19 +12,15 @@ use Rattle.slate_mem.specs.Batch.{Ops, batch_keys, kept_ops}
 use Rattle.slate_txn.specs.declared.event.TranscriptStep.{TranscriptStep}
 use Rattle.slate_txn.specs.Alone.{own_of}
 use Rattle.slate_txn.specs.Laws as txn
-use Rattle.slate_txn.specs.Replay.{IsLegal, replay}
 use Rattle.slate_txn.specs.State.{Commit, opening}
 use Rattle.slate_txn.proofs.SequenceLaws.{legal_counts}
-use Rattle.slate_db.specs.Flushed.{NoPlace}
-use Rattle.slate_db.specs.Log.{LIMIT}
 use Rattle.slate_db.specs.Meaning.{Meaning, rules_of}
 use Rattle.slate_db.specs.Model.{CoreModel}
 use Rattle.slate_db.specs.Load.{load, weight}
 use Rattle.slate_db.specs.Segmented.{IsSegmented}
-use Rattle.slate_db.specs.SerialLaws.{IsVouchedCore}
 use Rattle.slate_db.specs.Settled.{IsSettled, IsSettledIn}
 use Rattle.slate_db.specs.Sound.{IsKept}
-use Rattle.slate_steps.specs.Steps.{HasCommitted, HasEnded, IsBeginError, IsWithin, Sees, newest}
+use Rattle.slate_steps.specs.Steps.{HasCommitted, HasEnded, IsBeginError, Sees, newest}
 use Rattle.slate_steps.proofs.Settling.{committed_kind, committed_settled, committed_vouched, committed_weight, ended_kind, ended_load, ended_settled, ended_vouched, ended_weight}
 use Rattle.slate_queue.specs.declared.error.QueueError.{QueueError}
 use Rattle.slate_queue.specs.declared.error.QueueError.TheVariants as errors
@@ -32,10 +28,11 @@ use Rattle.slate_queue.specs.Jobs as model
 use Rattle.slate_queue.specs.Jobs.{Queue, Call, queue_step}
 use Rattle.slate_queue.specs.Commits.{IsQueueCommit}
 use Rattle.slate_queue.specs.CallSteps.{own_steps}
-use Rattle.slate_queue.specs.Calls.{CallsAs, IsDbRefusal, Keeps, IsRefusal, Leaves, StandsIn, StepRefuses, StepsAs, Took}
+use Rattle.slate_queue.specs.Calls.{CallsAs, IsDbRefusal, Keeps, IsRefusal, StandsIn, StepRefuses, Took}
 use Rattle.slate_queue.specs.Script.{keys_of}
 use Rattle.slate_queue.specs.Standing.{Stands}
 use Rattle.slate_queue.proofs.CallSteps.{own_more_alone}
+use Rattle.slate_queue.proofs.Performing.{Performs, Tells}
 
 -- ---- steps more
 
@@ -181,6 +178,19 @@ commit_of ts seq now = record { seq = seq; now = now; ops = kept_ops (own_of ts)
 pub committed_in : (m : Meaning) (c d : CoreModel) (id : List ℕ) (ts : List TranscriptStep) (seq : ℕ) (now : ℤ) (p : Queue) → HasCommitted c id SerializableSnapshot ts (Some seq) now d →
     Stands (rules_of c.settings m) (c.state.commits ++ (commit_of ts seq now ∷ [])) p → StandsIn m d p
 committed_in m c d id ts seq now p h s = subst (λ (v : CoreModel). StandsIn m v p) (sym h.is) s
+
+pub performed : (m : Meaning) (call : Call) (a : model.Answer) (c d : CoreModel) (id : List ℕ) (ts : List TranscriptStep) (seq : ℕ) (now : ℤ) → Performs call a ts → HasCommitted c id SerializableSnapshot ts (Some seq) now d →
+    (q : Queue) → StandsIn m c q → Sees m c ts → (p : Queue) × (queue_step q call ≡ Ok (p, a)) × StandsIn m d p
+performed m call a c d id ts seq now h committed q stands sees =
+    let made = h.places (rules_of c.settings m) c.state.commits (commit_of ts seq now) q (counts_in c id ts (Some seq) now d committed) committed.next.0 refl stands sees in
+    (made.0, made.1, committed_in m c d id ts seq now made.0 committed made.2)
+
+-- whether or not it was committed
+pub may_perform : (m : Meaning) (call : Call) (a : model.Answer) (c : CoreModel) (ts : List TranscriptStep) → IsSome (keys_of a) → Tells call a ts → (q : Queue) → StandsIn m c q → Sees m c ts →
+    (p : Queue) × (b : model.Answer) × (queue_step q call ≡ Ok (p, b)) × IsSome (keys_of b)
+may_perform m call a c ts some tells q stands sees =
+    let made = tells (rules_of c.settings m) c.state.commits (newest c) sees q stands in
+    (made.0, a, made.1, some)
 
 -- ---- of the call that commits
 

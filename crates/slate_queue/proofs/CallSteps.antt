@@ -1,9 +1,7 @@
 -- What the steps of a call show of the queue that stands, and what stands behind its commit.
-use Rattle.std.proofs.Common.{◌≡◌, ◌≢◌, ℕ, zero, suc, ◌+◌, ◌-◌, ◌<◌, ◌≤◌, ◌^◌, ℤ, pos, Bool, true, false, cond, nat_eq, nat_le, nat_lt, List, [], ◌∷◌, ◌++◌, map, length, bytes_eq, Option, Some, None, option_map, Result, Ok, Err, refl, sym, ap, subst, ◌∙◌, arith, append_assoc, append-nil, SFits, w64}
+use Rattle.std.proofs.Common.{◌≡◌, ◌≢◌, ℕ, zero, suc, ◌+◌, ◌<◌, ◌≤◌, ◌^◌, ℤ, Bool, true, false, cond, nat_eq, nat_le, nat_lt, List, [], ◌∷◌, ◌++◌, map, length, bytes_eq, Option, Some, None, Ok, Err, refl, sym, ap, subst, ◌∙◌, arith, append_assoc, append-nil, SFits, w64}
 use Rattle.std.specs.Prelude.{IsSome}
-use Rattle.std.specs.List.{AllByRecursion}
 use Rattle.std.proofs.lemmas.Bool.Decides.{nat_tests}
-use Rattle.slate_types.specs.declared.iter.IterationOrder.{IterationOrder}
 use Rattle.slate_types.specs.declared.iter.IterationOrder.TheVariants.{Ascending}
 use Rattle.slate_types.specs.declared.types.KeyValue.{KeyValue}
 use Rattle.slate_types.specs.declared.types.RowEntry.{RowEntry}
@@ -11,7 +9,7 @@ use Rattle.slate_types.specs.Keys.{prefix_range}
 use Rattle.slate_types.specs.Rows.{key_value}
 use Rattle.slate_types.specs.Fold.{from_last}
 use Rattle.slate_mem.specs.declared.WriteOp.{WriteOp}
-use Rattle.slate_mem.specs.declared.WriteOp.TheVariants.{Put, Delete, Merge}
+use Rattle.slate_mem.specs.declared.WriteOp.TheVariants.{Delete}
 use Rattle.slate_mem.specs.Batch.{Ops, replaces, kept_ops}
 use Rattle.slate_txn.specs.declared.event.TranscriptStep.{TranscriptStep}
 use Rattle.slate_txn.specs.declared.event.TranscriptStep.TheVariants as steps
@@ -19,24 +17,21 @@ use Rattle.slate_txn.specs.State.{Rules, Commit, last_of}
 use Rattle.slate_txn.specs.Alone.{AloneFrom, IsAlone, Left, first_left}
 use Rattle.slate_txn.specs.Reads.{rows_seen, seen}
 use Rattle.slate_txn.specs.Laws as txn
-use Rattle.slate_txn.proofs.ReadLaws.{alone_front, alone_more}
-use Rattle.slate_queue.specs.declared.claims.Claim.{Claim}
+use Rattle.slate_txn.proofs.ReadLaws.{alone_more}
 use Rattle.slate_queue.specs.declared.error.QueueError.{QueueError}
 use Rattle.slate_queue.specs.declared.error.QueueError.TheVariants as errors
-use Rattle.slate_queue.specs.Stored.{Job, counter_key, counter_in, jobs_prefix, job_bytes, job_key, job_of, number_bytes, number_of}
+use Rattle.slate_queue.specs.Stored.{Job, counter_key, counter_in, jobs_prefix, job_bytes, job_key, number_bytes, number_of}
 use Rattle.slate_queue.specs.Jobs as model
 use Rattle.slate_queue.specs.Jobs.{Queue, Call, claim_step, first_free, first_from, free_or, is_free, last_number, leased, longest, new_job, queue_step, with_job}
-use Rattle.slate_queue.specs.Commits.{IsPassed, added, put_of}
-use Rattle.slate_queue.specs.CallSteps.{AddStops, Adds, ClaimStops, Claims, Counts, FindsNone, FinishStops, Finishes, IsBadRow, Takes, counter_refusal, job_refusal, lease_refusal, nexts, number_refusal, own_steps, scan_of_jobs, value_of}
-use Rattle.slate_queue.specs.FirstFree.{IsFreeRow, rows_of}
-use Rattle.slate_queue.specs.Standing.{IsQueueIn, Stands, job_in, value_at}
+use Rattle.slate_queue.specs.Commits.{added, put_of}
+use Rattle.slate_queue.specs.CallSteps.{AddStops, Adds, ClaimStops, FindsNone, FinishStops, Finishes, Takes, counter_refusal, job_refusal, lease_refusal, nexts, own_steps, scan_of_jobs, value_of}
+use Rattle.slate_queue.specs.Standing.{IsQueueIn, Stands, job_in, value_at, value_from}
 use Rattle.slate_queue.proofs.Changes.{eight, number_again, left_by, IsPlain, leaves, same_bytes}
 use Rattle.slate_queue.proofs.ClaimForm.{end_fits}
 use Rattle.slate_queue.proofs.JobValues.{bytes_in, value_is}
-use Rattle.slate_queue.proofs.FormLaws.{never, le_test, lt_is, lt_test}
-use Rattle.slate_queue.proofs.FirstFree.{first_is_taken, row_at}
-use Rattle.slate_queue.proofs.Stands.{IsPutOrDelete, by_id, keys_apart, left_of, one_left, row_read, value_read}
-use Rattle.slate_txn.proofs.SeenLaws.{IsOfRow, rows_are_seen}
+use Rattle.slate_queue.proofs.FirstFree.{none_is_first, one_is_first, row_at, rows_from}
+use Rattle.slate_queue.proofs.Stands.{IsPutOrDelete, by_id, keys_apart, left_of, one_left, row_seen, value_seen}
+use Rattle.slate_txn.proofs.SeenLaws.{rows_are_seen}
 
 none_some : {X : Type 0} {A : Type 0} (x : X) → None ≡ Some x → A
 none_some x e = cc
@@ -59,15 +54,15 @@ abbrev pub after_add : Queue → List ℕ → Queue
 after_add q payload = with_job (record q { counter = q.counter + 1 }) (q.counter + 1) (Some (new_job payload))
 
 -- the counter that was read is the queue's
-counter_read : (r : Rules) (cs : List Commit) (q : Queue) (answer : Option KeyValue) (more : List TranscriptStep) → Stands r cs q → IsAlone r cs (last_of r.start_seq cs) (steps.Get counter_key answer ∷ more) → counter_in (value_of answer) ≡ Some q.counter
-counter_read r cs q answer more stands alone = ap counter_in (value_read r cs counter_key answer alone.0) ∙ stands.counter
+counter_read : (r : Rules) (cs : List Commit) (n : ℕ) (q : Queue) (answer : Option KeyValue) (more : List TranscriptStep) → IsQueueIn (value_from r cs n) q → IsAlone r cs n (steps.Get counter_key answer ∷ more) → counter_in (value_of answer) ≡ Some q.counter
+counter_read r cs n q answer more stands alone = ap counter_in (value_seen r cs n counter_key answer alone.0) ∙ stands.counter
 
-pub add_counter : (r : Rules) (cs : List Commit) (q : Queue) (payload : List ℕ) (id : ℕ) (ts : List TranscriptStep) → Stands r cs q → IsAlone r cs (last_of r.start_seq cs) ts → Adds payload id ts → (q.counter < last_number) × (id ≡ q.counter + 1)
-add_counter r cs q payload id ts stands alone adds =
+pub add_counter : (r : Rules) (cs : List Commit) (n : ℕ) (q : Queue) (payload : List ℕ) (id : ℕ) (ts : List TranscriptStep) → IsQueueIn (value_from r cs n) q → IsAlone r cs n ts → Adds payload id ts → (q.counter < last_number) × (id ≡ q.counter + 1)
+add_counter r cs n q payload id ts stands alone adds =
     let counts = adds.counts in
-    let whole : IsAlone r cs (last_of r.start_seq cs) (steps.Get counter_key counts.answer ∷ own_steps (added id payload)) = subst (IsAlone r cs (last_of r.start_seq cs)) (adds.steps ∙ ap (λ us. us ++ own_steps (added id payload)) counts.steps) alone in
-    let same : counts.counter ≡ q.counter = both_some counts.counter q.counter (sym counts.read ∙ counter_read r cs q counts.answer (own_steps (added id payload)) stands whole) in
-    (subst (λ (n : ℕ). n < last_number) same counts.left, counts.is ∙ ap (λ (n : ℕ). n + 1) same)
+    let whole : IsAlone r cs n (steps.Get counter_key counts.answer ∷ own_steps (added id payload)) = subst (IsAlone r cs n) (adds.steps ∙ ap (λ us. us ++ own_steps (added id payload)) counts.steps) alone in
+    let same : counts.counter ≡ q.counter = both_some counts.counter q.counter (sym counts.read ∙ counter_read r cs n q counts.answer (own_steps (added id payload)) stands whole) in
+    (subst (λ (k : ℕ). k < last_number) same counts.left, counts.is ∙ ap (λ (k : ℕ). k + 1) same)
 
 not_spent : (n : ℕ) → n < last_number → nat_le last_number n ≡ false
 not_spent n h = grind (arith, nat_tests)
@@ -80,11 +75,11 @@ add_step q payload id short h =
     (λ i. cond (short_payload (length payload) short i) (Err (errors.PayloadTooLong (length payload))) (cond (not_spent q.counter h.0 i) (Err errors.IdsSpent) (Ok (after_add q payload, model.Answer.Added (q.counter + 1)))))
     ∙ ap (λ (n : ℕ). Ok (after_add q payload, model.Answer.Added n)) (sym h.1)
 
-pub add_stopped : (r : Rules) (cs : List Commit) (q : Queue) (payload : List ℕ) (e : QueueError) (ts : List TranscriptStep) → length payload ≤ longest → Stands r cs q → IsAlone r cs (last_of r.start_seq cs) ts → AddStops e ts → queue_step q (Call.Add payload) ≡ Err e
-add_stopped r cs q payload e ts short stands alone stops = by (nat_le last_number q.counter) refl
+pub add_stopped : (r : Rules) (cs : List Commit) (n : ℕ) (q : Queue) (payload : List ℕ) (e : QueueError) (ts : List TranscriptStep) → length payload ≤ longest → IsQueueIn (value_from r cs n) q → IsAlone r cs n ts → AddStops e ts → queue_step q (Call.Add payload) ≡ Err e
+add_stopped r cs n q payload e ts short stands alone stops = by (nat_le last_number q.counter) refl
   where
     read : counter_in (value_of stops.answer) ≡ Some q.counter
-    read = counter_read r cs q stops.answer [] stands (subst (IsAlone r cs (last_of r.start_seq cs)) stops.steps alone)
+    read = counter_read r cs n q stops.answer [] stands (subst (IsAlone r cs n) stops.steps alone)
 
     refusal : counter_refusal (Some q.counter) ≡ Some e
     refusal = sym (ap counter_refusal read) ∙ stops.refusal
@@ -162,12 +157,12 @@ one_stands r cs c q id op j counts next ops plain fits new there s = record { co
 
 -- ---- a finish
 
-job_read : (r : Rules) (cs : List Commit) (q : Queue) (id : ℕ) (answer : Option KeyValue) (more : List TranscriptStep) → id < 2 ^ 64 → Stands r cs q → IsAlone r cs (last_of r.start_seq cs) (steps.Get (job_key id) answer ∷ more) → job_in (value_of answer) ≡ Some (q.job id)
-job_read r cs q id answer more fits stands alone = ap job_in (value_read r cs (job_key id) answer alone.0) ∙ stands.jobs id fits
+job_read : (r : Rules) (cs : List Commit) (n : ℕ) (q : Queue) (id : ℕ) (answer : Option KeyValue) (more : List TranscriptStep) → id < 2 ^ 64 → IsQueueIn (value_from r cs n) q → IsAlone r cs n (steps.Get (job_key id) answer ∷ more) → job_in (value_of answer) ≡ Some (q.job id)
+job_read r cs n q id answer more fits stands alone = ap job_in (value_seen r cs n (job_key id) answer alone.0) ∙ stands.jobs id fits
 
-pub finish_job_is : (r : Rules) (cs : List Commit) (q : Queue) (id lease : ℕ) (ts : List TranscriptStep) → id < 2 ^ 64 → Stands r cs q → IsAlone r cs (last_of r.start_seq cs) ts → (f : Finishes id lease ts) → q.job id ≡ Some f.job
-finish_job_is r cs q id lease ts fits stands alone f =
-    both_some (q.job id) (Some f.job) (sym (job_read r cs q id (Some f.row) (steps.Own (job_key id) Delete ∷ []) fits stands (subst (IsAlone r cs (last_of r.start_seq cs)) f.steps alone)) ∙ f.stands)
+pub finish_job_is : (r : Rules) (cs : List Commit) (n : ℕ) (q : Queue) (id lease : ℕ) (ts : List TranscriptStep) → id < 2 ^ 64 → IsQueueIn (value_from r cs n) q → IsAlone r cs n ts → (f : Finishes id lease ts) → q.job id ≡ Some f.job
+finish_job_is r cs n q id lease ts fits stands alone f =
+    both_some (q.job id) (Some f.job) (sym (job_read r cs n q id (Some f.row) (steps.Own (job_key id) Delete ∷ []) fits stands (subst (IsAlone r cs n) f.steps alone)) ∙ f.stands)
 
 step_by_refusal : (q : Queue) (id lease : ℕ) (o : Option Job) (e : QueueError) → lease_refusal id lease o ≡ Some e → model.finish_step q id lease o ≡ Err e
 step_by_refusal q id lease None e h = ap Err (both_some (errors.NoJob id) e h)
@@ -182,10 +177,10 @@ step_by_refusal q id lease (Some j) e h = by (nat_eq j.lease lease) (nat_eq leas
     by true false g = none_some e g
     by false b g = ap Err (both_some (errors.StaleLease j.lease) e g)
 
-pub finish_stopped : (r : Rules) (cs : List Commit) (q : Queue) (id lease : ℕ) (e : QueueError) (ts : List TranscriptStep) → id < 2 ^ 64 → Stands r cs q → IsAlone r cs (last_of r.start_seq cs) ts → FinishStops id lease e ts → queue_step q (Call.Finish id lease) ≡ Err e
-finish_stopped r cs q id lease e ts fits stands alone stops =
+pub finish_stopped : (r : Rules) (cs : List Commit) (n : ℕ) (q : Queue) (id lease : ℕ) (e : QueueError) (ts : List TranscriptStep) → id < 2 ^ 64 → IsQueueIn (value_from r cs n) q → IsAlone r cs n ts → FinishStops id lease e ts → queue_step q (Call.Finish id lease) ≡ Err e
+finish_stopped r cs n q id lease e ts fits stands alone stops =
     step_by_refusal q id lease (q.job id) e
-    (sym (ap (job_refusal id lease) (job_read r cs q id stops.answer [] fits stands (subst (IsAlone r cs (last_of r.start_seq cs)) stops.steps alone))) ∙ stops.refusal)
+    (sym (ap (job_refusal id lease) (job_read r cs n q id stops.answer [] fits stands (subst (IsAlone r cs n) stops.steps alone))) ∙ stops.refusal)
 
 pub finish_step_is : (q : Queue) (id lease : ℕ) (j : Job) → q.job id ≡ Some j → j.lease ≡ lease → lease ≢ 0 → queue_step q (Call.Finish id lease) ≡ Ok (with_job q id None, model.Answer.Finished)
 finish_step_is q id lease j is named claimed =
@@ -213,20 +208,20 @@ handed_out r cs n (x ∷ rows) (kv ∷ kvs) more h =
     record { left = later.left; is = λ i. sym (both_some kv (key_value x) h.0) i ∷ later.is i; rest = later.rest }
 
 -- the rows behind what was passed
-rows_at : (r : Rules) (cs : List Commit) (passed : List KeyValue) (kv : KeyValue) (more : List TranscriptStep) → IsAlone r cs (last_of r.start_seq cs) (scan_of_jobs ∷ (nexts (passed ++ (kv ∷ [])) ++ more)) →
-    (rest : List KeyValue) × (rows_of r cs ≡ passed ++ (kv ∷ rest))
-rows_at r cs passed kv more alone =
-    let out = handed_out r cs (last_of r.start_seq cs) (rows_seen r cs (last_of r.start_seq cs) [] Ascending (prefix_range jobs_prefix)) (passed ++ (kv ∷ [])) more alone in
+rows_at : (r : Rules) (cs : List Commit) (n : ℕ) (passed : List KeyValue) (kv : KeyValue) (more : List TranscriptStep) → IsAlone r cs n (scan_of_jobs ∷ (nexts (passed ++ (kv ∷ [])) ++ more)) →
+    (rest : List KeyValue) × (rows_from r cs n ≡ passed ++ (kv ∷ rest))
+rows_at r cs n passed kv more alone =
+    let out = handed_out r cs n (rows_seen r cs n [] Ascending (prefix_range jobs_prefix)) (passed ++ (kv ∷ [])) more alone in
     (map key_value out.left, out.is ∙ append_assoc passed (kv ∷ []) (map key_value out.left))
 
 nothing_left : (rows : List RowEntry) → None ≡ first_left rows → map key_value rows ≡ []
 nothing_left [] e = refl
 nothing_left (x ∷ xs) e = none_some (key_value x) e
 
-pub claim_first : (r : Rules) (cs : List Commit) (q : Queue) (now : ℤ) (kv : KeyValue) (id : ℕ) (job : Job) (ts : List TranscriptStep) → Stands r cs q → IsAlone r cs (last_of r.start_seq cs) ts → Takes now kv id job ts → first_free now q ≡ Some (id, job)
-claim_first r cs q now kv id job ts stands alone takes =
-    let rows = rows_at r cs takes.passed kv [] (subst (IsAlone r cs (last_of r.start_seq cs)) (takes.steps ∙ ap (λ us. scan_of_jobs ∷ us) (sym (append-nil (nexts (takes.passed ++ (kv ∷ [])))))) alone) in
-    first_is_taken.one r cs q now takes.passed kv rows.0 id job stands rows.1 takes.passes takes.row
+pub claim_first : (r : Rules) (cs : List Commit) (n : ℕ) (q : Queue) (now : ℤ) (kv : KeyValue) (id : ℕ) (job : Job) (ts : List TranscriptStep) → IsQueueIn (value_from r cs n) q → IsAlone r cs n ts → Takes now kv id job ts → first_free now q ≡ Some (id, job)
+claim_first r cs n q now kv id job ts stands alone takes =
+    let rows = rows_at r cs n takes.passed kv [] (subst (IsAlone r cs n) (takes.steps ∙ ap (λ us. scan_of_jobs ∷ us) (sym (append-nil (nexts (takes.passed ++ (kv ∷ [])))))) alone) in
+    one_is_first r cs n q now takes.passed kv rows.0 id job stands rows.1 takes.passes takes.row
 
 abbrev pub after_claim : Queue → ℤ → ℕ → ℕ → Job → Queue
 after_claim q now ms id job = with_job q id (Some (leased now ms job))
@@ -240,11 +235,11 @@ claim_step_is q now ms id job first left =
     ap (claim_step q now ms) first
     ∙ ap (λ b. cond b (Err (errors.LeasesSpent id)) (Ok (after_claim q now ms id job, model.Answer.Claimed id (job.lease + 1) job.payload))) (not_spent job.lease left)
 
-pub none_step_is : (r : Rules) (cs : List Commit) (q : Queue) (now : ℤ) (ms : ℕ) (ts : List TranscriptStep) → Stands r cs q → IsAlone r cs (last_of r.start_seq cs) ts → FindsNone now ts → queue_step q (Call.Claim now ms) ≡ Ok (q, model.Answer.NoneFree)
-none_step_is r cs q now ms ts stands alone none =
-    let out = handed_out r cs (last_of r.start_seq cs) (rows_seen r cs (last_of r.start_seq cs) [] Ascending (prefix_range jobs_prefix)) none.passed (steps.Next 0 None ∷ []) (subst (IsAlone r cs (last_of r.start_seq cs)) none.steps alone) in
-    let all : rows_of r cs ≡ none.passed = out.is ∙ ap (λ xs. none.passed ++ xs) (nothing_left out.left out.rest.0) ∙ append-nil none.passed in
-    ap (claim_step q now ms) (first_is_taken.none r cs q now none.passed stands all none.passes)
+pub none_step_is : (r : Rules) (cs : List Commit) (n : ℕ) (q : Queue) (now : ℤ) (ms : ℕ) (ts : List TranscriptStep) → IsQueueIn (value_from r cs n) q → IsAlone r cs n ts → FindsNone now ts → queue_step q (Call.Claim now ms) ≡ Ok (q, model.Answer.NoneFree)
+none_step_is r cs n q now ms ts stands alone none =
+    let out = handed_out r cs n (rows_seen r cs n [] Ascending (prefix_range jobs_prefix)) none.passed (steps.Next 0 None ∷ []) (subst (IsAlone r cs n) none.steps alone) in
+    let all : rows_from r cs n ≡ none.passed = out.is ∙ ap (λ xs. none.passed ++ xs) (nothing_left out.left out.rest.0) ∙ append-nil none.passed in
+    ap (claim_step q now ms) (none_is_first r cs n q now none.passed stands all none.passes)
 
 -- the job that is taken stands
 first_stands : (now : ℤ) (job : ℕ → Option Job) (s n id : ℕ) (j : Job) → first_from now job s n ≡ Some (id, j) → job id ≡ Some j
@@ -279,23 +274,26 @@ claim_stands r cs c q now ms id job moment counts next ops fits left first s =
             both_apart h = cc
         by (Some v) e = (value_is v job (sym (ap job_in e) ∙ s.jobs id fits ∙ ap Some is)).carries
 
-pub claim_stopped : (r : Rules) (cs : List Commit) (q : Queue) (now : ℤ) (ms : ℕ) (e : QueueError) (ts : List TranscriptStep) → Stands r cs q → IsAlone r cs (last_of r.start_seq cs) ts → ClaimStops now e ts → queue_step q (Call.Claim now ms) ≡ Err e
-claim_stopped r cs q now ms e ts stands alone (ClaimStops.spent kv id job takes spent is) =
-    ap (claim_step q now ms) (claim_first r cs q now kv id job ts stands alone takes)
+-- the row that a scan handed out behind others stands at its key
+pub handed_stands : (r : Rules) (cs : List Commit) (n : ℕ) (passed : List KeyValue) (kv : KeyValue) (ts : List TranscriptStep) → IsAlone r cs n ts → ts ≡ scan_of_jobs ∷ nexts (passed ++ (kv ∷ [])) → value_from r cs n kv.key ≡ Some kv.value
+handed_stands r cs n passed kv ts alone is =
+    row_seen r cs n kv (record { row = row.0; stands = row.1; is = sym row.2 })
+  where
+    rows : (rest : List KeyValue) × (rows_from r cs n ≡ passed ++ (kv ∷ rest))
+    rows = rows_at r cs n passed kv [] (subst (IsAlone r cs n) (is ∙ ap (λ us. scan_of_jobs ∷ us) (sym (append-nil (nexts (passed ++ (kv ∷ [])))))) alone)
+
+    row : (x : RowEntry) × (seen r cs n [] x.key ≡ Some x) × (key_value x ≡ kv)
+    row = row_at (seen r cs n []) (rows_seen r cs n [] Ascending (prefix_range jobs_prefix)) (rows_are_seen r cs n [] Ascending (prefix_range jobs_prefix)) passed kv rows.0 rows.1
+
+pub claim_stopped : (r : Rules) (cs : List Commit) (n : ℕ) (q : Queue) (now : ℤ) (ms : ℕ) (e : QueueError) (ts : List TranscriptStep) → IsQueueIn (value_from r cs n) q → IsAlone r cs n ts → ClaimStops now e ts → queue_step q (Call.Claim now ms) ≡ Err e
+claim_stopped r cs n q now ms e ts stands alone (ClaimStops.spent kv id job takes spent is) =
+    ap (claim_step q now ms) (claim_first r cs n q now kv id job ts stands alone takes)
     ∙ ap (λ b. cond b (Err (errors.LeasesSpent id)) (Ok (after_claim q now ms id job, model.Answer.Claimed id (job.lease + 1) job.payload))) (spent_test job.lease spent)
     ∙ ap Err (sym is)
-claim_stopped r cs q now ms e ts stands alone (ClaimStops.bad passed kv passes bad is) = no (sym (stands.jobs bad.0 bad.1) ∙ ap job_in there ∙ bad.3)
+claim_stopped r cs n q now ms e ts stands alone (ClaimStops.bad passed kv passes bad is) = no (sym (stands.jobs bad.0 bad.1) ∙ ap job_in there ∙ bad.3)
   where
     no : {A : Type 0} → Some (q.job bad.0) ≡ None → A
     no h = cc
 
-    rows : (rest : List KeyValue) × (rows_of r cs ≡ passed ++ (kv ∷ rest))
-    rows = rows_at r cs passed kv [] (subst (IsAlone r cs (last_of r.start_seq cs)) (is ∙ ap (λ us. scan_of_jobs ∷ us) (sym (append-nil (nexts (passed ++ (kv ∷ [])))))) alone)
-
-    row : (x : RowEntry) × (seen r cs (last_of r.start_seq cs) [] x.key ≡ Some x) × (key_value x ≡ kv)
-    row = row_at (seen r cs (last_of r.start_seq cs) []) (rows_seen r cs (last_of r.start_seq cs) [] Ascending (prefix_range jobs_prefix)) (rows_are_seen r cs (last_of r.start_seq cs) [] Ascending (prefix_range jobs_prefix)) passed kv rows.0 rows.1
-
-    there : value_at r cs (job_key bad.0) ≡ Some kv.value
-    there =
-        ap (value_at r cs) (sym bad.2)
-        ∙ row_read r cs kv (record { row = row.0; stands = row.1; is = sym row.2 })
+    there : value_from r cs n (job_key bad.0) ≡ Some kv.value
+    there = ap (value_from r cs n) (sym bad.2) ∙ handed_stands r cs n passed kv ts alone is

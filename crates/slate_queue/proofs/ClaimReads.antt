@@ -1,7 +1,7 @@
 -- What a claim reads: no key behind that of the job that it takes.
-use Rattle.std.proofs.Common.{◌≡◌, ℕ, ℤ, Bool, true, false, cond, not, ◌&&◌, ◌||◌, List, [], ◌∷◌, ◌++◌, map, filter_map, bytes_eq, Option, Some, None, refl, sym, ap, subst, ◌∙◌, append_assoc, Ordering, Less}
+use Rattle.std.proofs.Common.{◌≡◌, ◌≢◌, ℕ, ◌+◌, ◌<◌, ◌^◌, Bool, true, false, cond, not, ◌&&◌, ◌||◌, List, [], ◌∷◌, ◌++◌, map, filter_map, bytes_eq, Option, Some, None, refl, sym, ap, subst, ◌∙◌, append_assoc, arith}
 use Rattle.std.specs.Ordering.{is_lt}
-use Rattle.std.specs.List.{AllByRecursion, cons_option}
+use Rattle.std.specs.List.{AllByRecursion, cons_option, list_any}
 use Rattle.std.specs.List.Sorted.{IsStrictlySortedBy}
 use Rattle.slate_types.specs.declared.bytes_range.BytesRange.{BytesRange}
 use Rattle.slate_types.specs.declared.iter.IterationOrder.TheVariants.{Ascending}
@@ -11,25 +11,27 @@ use Rattle.slate_types.specs.Keys.{among, in_range, key_cmp, key_lt, prefix_rang
 use Rattle.slate_types.specs.Rows.{key_value}
 use Rattle.slate_types.proofs.KeyOrder.{bytes_eq_same, lt_trans}
 use Rattle.slate_mem.specs.declared.WriteOp.{WriteOp}
-use Rattle.slate_mem.specs.Batch.{Ops}
+use Rattle.slate_mem.specs.Batch.{batch_keys}
 use Rattle.slate_txn.specs.declared.event.TranscriptStep.{TranscriptStep}
 use Rattle.slate_txn.specs.declared.event.TranscriptStep.TheVariants as steps
 use Rattle.slate_txn.specs.declared.reading.Part.{Part}
 use Rattle.slate_txn.specs.declared.reading.Part.TheVariants.{Nothing, UpTo, ToEnd}
-use Rattle.slate_txn.specs.declared.reading.Scanned.{Scanned}
-use Rattle.slate_txn.specs.Alone.{AloneFrom, IsAlone}
-use Rattle.slate_txn.specs.Reads.{keys_seen, rows_seen, seen}
-use Rattle.slate_txn.specs.State.{Commit, Rules}
-use Rattle.slate_txn.specs.Tracking.{Reading, farther, is_read, is_within, reads_of, tracks, with_steps}
+use Rattle.slate_txn.specs.Alone.{IsAlone}
+use Rattle.slate_txn.specs.Reads.{rows_seen, seen}
+use Rattle.slate_txn.specs.Tracking.{farther, is_read, is_within, reads_of, with_steps}
 use Rattle.slate_txn.proofs.PartLaws.{IsOfKeys}
 use Rattle.slate_txn.proofs.PlaceLaws.{own_seen}
-use Rattle.slate_queue.specs.Stored.{jobs_prefix}
-use Rattle.slate_queue.specs.Commits.{IsClaim}
+use Rattle.slate_queue.specs.Stored.{counter_key, job_bytes, job_key, jobs_prefix}
+use Rattle.slate_queue.specs.Jobs.{last_number, leased}
+use Rattle.slate_queue.specs.Commits.{put_of}
 use Rattle.slate_queue.specs.CallSteps.{nexts}
-use Rattle.slate_queue.specs.Laws.{ClaimsReadUpToTheirJob}
+use Rattle.slate_queue.specs.Laws.{ClaimsMeetNoAdd, ClaimsReadUpToTheirJob}
 use Rattle.slate_queue.proofs.CallSteps.{handed_out}
+use Rattle.slate_queue.proofs.Changes.{added_kept, one_kept}
 use Rattle.slate_queue.proofs.FirstFree.{above_is, answers, keys_rise}
 use Rattle.slate_queue.proofs.FormLaws.{first_same, rest_same}
+use Rattle.slate_queue.proofs.JobOrder.{lesser_first}
+use Rattle.slate_queue.proofs.Stands.{keys_apart}
 
 -- ---- rows rise
 
@@ -117,3 +119,38 @@ claims_read r cs n now ops tracked ts claim k alone l =
     rise =
         let out = handed_out r cs n (rows_seen r cs n [] Ascending (prefix_range jobs_prefix)) (claim.passed ++ (claim.row ∷ [])) _ (subst (IsAlone r cs n) claim.by.whole alone) in
         rise_before (seen r cs n []) (own_seen r cs n []) _ (keys_rise cs n (prefix_range jobs_prefix)) claim.passed claim.row (map key_value out.left) (out.is ∙ append_assoc claim.passed (claim.row ∷ []) (map key_value out.left))
+
+-- ---- an add of a greater id
+
+different : (a b : ℕ) → a < b → a ≢ b
+different a b l e = omega arith
+
+neither : (a b : Bool) → a ≡ false → b ≡ false → (a || b) ≡ false
+neither a b e f = λ i. e i || f i
+
+pub claims_meet_no_add : ClaimsMeetNoAdd
+claims_meet_no_add r cs n now ops tracked ts claim c us add alone later =
+    ap (list_any (λ (k : List ℕ). among k tracked || is_read (reads_of ts) k)) keys
+    ∙ neither (among (job_key (add.counter + 1)) tracked || is_read (reads_of ts) (job_key (add.counter + 1))) ((among counter_key tracked || is_read (reads_of ts) counter_key) || false) (missed (job_key (add.counter + 1)) apart unread_job)
+    (neither (among counter_key tracked || is_read (reads_of ts) counter_key) false (missed counter_key (ap (λ (k : List ℕ). bytes_eq k counter_key) claim.is_job) unread_counter) refl)
+  where
+    fits : add.counter + 1 < 2 ^ 64
+    fits = let l : add.counter < last_number = add.left in omega arith
+
+    own : tracked ≡ claim.row.key ∷ []
+    own = claim.by.keys ∙ ap batch_keys (claim.by.kept ∙ one_kept claim.row.key (put_of (job_bytes (leased now claim.ms claim.job))))
+
+    keys : c.tracked ≡ job_key (add.counter + 1) ∷ counter_key ∷ []
+    keys = add.by.keys ∙ ap batch_keys (add.by.kept ∙ added_kept (add.counter + 1) add.payload)
+
+    missed : (k : List ℕ) → bytes_eq claim.row.key k ≡ false → is_read (reads_of ts) k ≡ false → (among k tracked || is_read (reads_of ts) k) ≡ false
+    missed k other unread = neither (among k tracked) (is_read (reads_of ts) k) (ap (among k) own ∙ ap (λ b. b || false) other) unread
+
+    apart : bytes_eq claim.row.key (job_key (add.counter + 1)) ≡ false
+    apart = ap (λ (k : List ℕ). bytes_eq k (job_key (add.counter + 1))) claim.is_job ∙ keys_apart claim.id (add.counter + 1) claim.of_id fits (different claim.id (add.counter + 1) later)
+
+    unread_job : is_read (reads_of ts) (job_key (add.counter + 1)) ≡ false
+    unread_job = claims_read r cs n now ops tracked ts claim (job_key (add.counter + 1)) alone (ap (λ (k : List ℕ). key_lt k (job_key (add.counter + 1))) claim.is_job ∙ ap is_lt (lesser_first claim.id (add.counter + 1) later fits))
+
+    unread_counter : is_read (reads_of ts) counter_key ≡ false
+    unread_counter = claims_read r cs n now ops tracked ts claim counter_key alone (ap (λ (k : List ℕ). key_lt k counter_key) claim.is_job)

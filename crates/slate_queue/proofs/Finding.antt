@@ -1,14 +1,9 @@
 -- The attempt of a claim: its scan, and the put of the job that it takes.
-use Rattle.std.proofs.Common.{◌≡◌, ◌⊎◌, inl, inr, ℕ, ◌+◌, ◌<◌, ◌≤◌, ℤ, List, [], ◌∷◌, ◌++◌, length, drop, Option, Some, None, Result, Ok, Err, refl, sym, ap, subst, ◌∙◌, arith}
+use Rattle.std.proofs.Common.{◌≡◌, ◌⊎◌, inl, inr, ℕ, ◌+◌, ◌<◌, ◌≤◌, ℤ, List, [], ◌∷◌, ◌++◌, Option, Some, None, Result, Ok, Err, refl, sym, ap, subst, ◌∙◌}
 use Rattle.std.specs.Prelude.{IfOk, IfErr}
-use Rattle.std.specs.List.{AllByRecursion}
 use Rattle.slate_types.specs.declared.config.IsolationLevel.TheVariants.{SerializableSnapshot}
-use Rattle.slate_types.specs.declared.error.SlateDBError.{SlateDBError}
-use Rattle.slate_types.specs.declared.iter.IterationOrder.TheVariants.{Ascending}
-use Rattle.slate_types.specs.declared.types.KeyValue.{KeyValue}
 use Rattle.slate_types.specs.declared.types.RowEntry.{RowEntry}
-use Rattle.slate_types.specs.Keys.{prefix_range}
-use Rattle.slate_types.specs.Outside.{IsFault, Meaning, Objects, OnlyReads, Reach}
+use Rattle.slate_types.specs.Outside.{Meaning, Objects, OnlyReads, Reach}
 use Rattle.slate_types.proofs.Reaching.{fault_earlier, reads_none}
 use Rattle.slate_filter.specs.Policy.{Policy}
 use Rattle.slate_mem.specs.KeyTests.{Segments}
@@ -17,20 +12,18 @@ use Rattle.slate_txn.specs.declared.event.TranscriptStep.TheVariants as steps
 use Rattle.slate_db.specs.declared.scan.TxnIterator.{TxnIterator}
 use Rattle.slate_db.specs.Installs.{HoldsTables}
 use Rattle.slate_db.specs.Model.{CoreModel}
-use Rattle.slate_db.specs.Scans.{IsScanOf, id_of}
+use Rattle.slate_db.specs.Scans.{id_of}
 use Rattle.slate_db.specs.Settled.{IsSettledIn}
-use Rattle.slate_steps.specs.Reads.{IsReadError, IsReadFault, IsReading, IsScanSince}
-use Rattle.slate_steps.specs.Steps.{IsWithin, Sees}
+use Rattle.slate_steps.specs.Reads.{IsReading, IsScanSince}
+use Rattle.slate_steps.specs.Steps.{IsWithin}
 use Rattle.slate_queue.specs.declared.claiming.FreeJob.{FreeJob}
 use Rattle.slate_queue.specs.declared.claims.Claim.{Claim}
 use Rattle.slate_queue.specs.declared.error.QueueError.{QueueError}
-use Rattle.slate_queue.specs.declared.error.QueueError.TheVariants as errors
-use Rattle.slate_queue.specs.Stored.{Job, job_bytes, jobs_prefix}
+use Rattle.slate_queue.specs.Stored.{Job, job_bytes}
 use Rattle.slate_queue.specs.Jobs.{last_number, lease_end, leased}
-use Rattle.slate_queue.specs.Commits.{IsPassed, put_of}
-use Rattle.slate_queue.specs.CallSteps.{ClaimStops, Claims, MayClaim, Takes, nexts, own_steps, scan_of_jobs}
+use Rattle.slate_queue.specs.Commits.{put_of}
+use Rattle.slate_queue.specs.CallSteps.{ClaimStops, MayClaim, Takes, nexts, own_steps, scan_of_jobs}
 use Rattle.slate_queue.specs.Calls.{Attempts, IsDbRefusal, Took}
-use Rattle.slate_queue.specs.FirstFree.{IsFreeRow}
 use Rattle.slate_queue.specs.Walks.{FindStops, IsFound, MayFind, RaiseStops, Raises, ScanFails, WalkStops, Walks, WalksTo, raised}
 use Rattle.slate_queue.proofs.Attempting.{for_memory}
 use Rattle.slate_queue.proofs.CallLaws.{sees_more}
@@ -101,10 +94,10 @@ module _ (now : ℤ) (policies : List Policy) (before middle after : Reach) (c d
 
 -- ---- the job that is taken
 
-same_job : (now : ℤ) (ms : ℕ) (j : FreeJob) (found : IsFound now j) → raised now ms j ≡ leased now ms found.job
+pub same_job : (now : ℤ) (ms : ℕ) (j : FreeJob) (found : IsFound now j) → raised now ms j ≡ leased now ms found.job
 same_job now ms j found = λ i. record { lease = found.lease i + 1; ends = lease_end now ms; payload = (ap (λ (k : Job). k.payload) (is_read j.row.value found.job found.row.stands).is) i }
 
-takes_of : (now : ℤ) (j : FreeJob) (ts : List TranscriptStep) (h : MayFind now (Some j) ts) → Takes now j.row j.id h.0.job ts
+pub takes_of : (now : ℤ) (j : FreeJob) (ts : List TranscriptStep) (h : MayFind now (Some j) ts) → Takes now j.row j.id h.0.job ts
 takes_of now j ts h = record { passed = h.1.0; passes = h.1.1; row = h.0.row; steps = h.1.2 }
 
 module _ (now : ℤ) (ms : ℕ) (policies : List Policy) (before after : Reach) (c d : CoreModel) (id : List ℕ) where

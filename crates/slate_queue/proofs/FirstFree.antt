@@ -1,5 +1,5 @@
 -- What a walk over the rows of a scan has passed, and the first that it takes.
-use Rattle.std.proofs.Common.{◌≡◌, ◌≢◌, ℕ, zero, suc, ◌+◌, ◌<◌, ◌≤◌, ◌^◌, ℤ, Bool, true, false, cond, ◌&&◌, ◌||◌, nat_eq, List, [], ◌∷◌, ◌++◌, map, filter, filter_map, length, bytes_eq, Option, Some, None, option_map, refl, sym, ap, subst, ◌∙◌, arith, append-nil, inl, inr, Ordering, Less, Equal, Greater}
+use Rattle.std.proofs.Common.{◌≡◌, ◌≢◌, ℕ, zero, suc, ◌+◌, ◌<◌, ◌≤◌, ◌^◌, ℤ, Bool, true, false, cond, ◌||◌, nat_eq, List, [], ◌∷◌, ◌++◌, map, filter, filter_map, bytes_eq, Option, Some, None, option_map, refl, sym, ap, subst, ◌∙◌, arith, inl, inr, Less}
 use Rattle.std.specs.Prelude.{flat_map, is_some, IsSome}
 use Rattle.std.specs.Ordering.{is_lt}
 use Rattle.std.specs.List.{AllByRecursion, cons_option}
@@ -14,7 +14,7 @@ use Rattle.slate_types.specs.declared.types.RowEntry.{RowEntry}
 use Rattle.slate_types.specs.Fold.{shown}
 use Rattle.slate_types.specs.Keys.{key_cmp, in_range, among, prefix_range}
 use Rattle.slate_types.specs.Rows.{key_value, operand}
-use Rattle.slate_types.proofs.KeyOrder.{bytes_eq_same, lt_trans, lt_irreflexive}
+use Rattle.slate_types.proofs.KeyOrder.{lt_trans, lt_irreflexive}
 use Rattle.slate_types.proofs.KeySetLaws.{AllAbove, set_rises, set_keeps}
 use Rattle.slate_types.proofs.Plain.{neither}
 use Rattle.slate_mem.specs.Batch.{Ops, kept, batch_keys}
@@ -28,8 +28,8 @@ use Rattle.slate_txn.proofs.SeenLaws.{AreSeen, rows_are_seen}
 use Rattle.slate_queue.specs.Stored.{Job, jobs_prefix, job_key, is_job_key, job_of, number_bytes}
 use Rattle.slate_queue.specs.Jobs.{Queue, first_free, first_from, free_or, is_free, last_number}
 use Rattle.slate_queue.specs.Commits.{IsPassed}
-use Rattle.slate_queue.specs.Standing.{IsQueueIn, Stands, job_in, value_at}
-use Rattle.slate_queue.specs.FirstFree.{IsFreeRow, rows_of, FirstIsTaken}
+use Rattle.slate_queue.specs.Standing.{IsQueueIn, job_in, value_from}
+use Rattle.slate_queue.specs.FirstFree.{IsFreeRow, FirstIsTaken}
 use Rattle.slate_queue.proofs.FormLaws.{never, first_same, rest_same}
 use Rattle.slate_queue.proofs.JobOrder.{lesser_first}
 use Rattle.slate_queue.proofs.JobValues.{value_is, value_same}
@@ -209,17 +209,17 @@ pub record HasRow (f : List ℕ → Option RowEntry) (id : ℕ) (job : Job) : Ty
   pub seen : f (job_key id) ≡ Some row
   pub stands : job_of (operand row) ≡ Some job
 
-row_of_job : (r : Rules) (cs : List Commit) (id : ℕ) (job : Job) → job_in (value_at r cs (job_key id)) ≡ Some (Some job) → HasRow (seen r cs (last_of r.start_seq cs) []) id job
-row_of_job r cs id job e = by (state_at r cs (last_of r.start_seq cs) (job_key id)) refl
+row_of_job : (r : Rules) (cs : List Commit) (n : ℕ) (id : ℕ) (job : Job) → job_in (value_from r cs n (job_key id)) ≡ Some (Some job) → HasRow (seen r cs n []) id job
+row_of_job r cs n id job e = by (state_at r cs n (job_key id)) refl
   where
-    by : (o : Option RowEntry) → state_at r cs (last_of r.start_seq cs) (job_key id) ≡ o → HasRow (seen r cs (last_of r.start_seq cs) []) id job
+    by : (o : Option RowEntry) → state_at r cs n (job_key id) ≡ o → HasRow (seen r cs n []) id job
     by None h = no (sym (ap (λ o. job_in (option_map operand o)) h) ∙ e)
       where
         no : {A : Type 0} → Some None ≡ Some (Some job) → A
         no g = cc
     by (Some row) h = record {
       row = row;
-      seen = sees_the_state r cs (last_of r.start_seq cs) (job_key id) ∙ h;
+      seen = sees_the_state r cs n (job_key id) ∙ h;
       stands = (value_is (operand row) job (sym (ap (λ o. job_in (option_map operand o)) h) ∙ e)).stands;
     }
 
@@ -248,64 +248,65 @@ row_at f [] all passed kv rest e = no passed e
 row_at f (x ∷ xs) all [] kv rest e = (x, all.0, first_same (key_value x) kv (map key_value xs) rest e)
 row_at f (x ∷ xs) all (p ∷ ps) kv rest e = row_at f xs all.1 ps kv rest (rest_same (key_value x) p (map key_value xs) (ps ++ (kv ∷ rest)) e)
 
-pub first_is_taken : FirstIsTaken
-first_is_taken = record { one = one; none = none }
+-- the rows of the scan of all jobs, as a reader at a sequence gets them
+abbrev pub rows_from : Rules → List Commit → ℕ → List KeyValue
+rows_from r cs n = map key_value (rows_seen r cs n [] Ascending (prefix_range jobs_prefix))
+
+pub one_is_first : (r : Rules) (cs : List Commit) (n : ℕ) (q : Queue) (now : ℤ) (passed : List KeyValue) (kv : KeyValue) (rest : List KeyValue) (id : ℕ) (job : Job) → IsQueueIn (value_from r cs n) q →
+    rows_from r cs n ≡ passed ++ (kv ∷ rest) → AllByRecursion (IsPassed now) passed → IsFreeRow now kv id job → first_free now q ≡ Some (id, job)
+one_is_first r cs n q now passed kv rest id job stands e all free =
+    first_at now q.job id job is free.free 1 q.counter within.0 (omega (arith, within.1))
+    (λ i g l. skips_by now f (value_from r cs n) q stands own (row_of_job r cs n) i (omega (arith, free.fits))
+    (λ j h. passed_before f (IsPassed now) own keys (keys_rise cs n range) passed kv rest e all (job_key i) h.row h.seen
+    (is_scanned r cs n range (job_key i) h.row h.seen (key_in i)) (ap (key_cmp (job_key i)) free.is_job ∙ lesser_first i id l free.fits)))
   where
-    one : (r : Rules) (cs : List Commit) (q : Queue) (now : ℤ) (passed : List KeyValue) (kv : KeyValue) (rest : List KeyValue) (id : ℕ) (job : Job) → Stands r cs q →
-        rows_of r cs ≡ passed ++ (kv ∷ rest) → AllByRecursion (IsPassed now) passed → IsFreeRow now kv id job → first_free now q ≡ Some (id, job)
-    one r cs q now passed kv rest id job stands e all free =
-        first_at now q.job id job is free.free 1 q.counter within.0 (omega (arith, within.1))
-        (λ i g l. skips_by now f (value_at r cs) q stands own (row_of_job r cs) i (omega (arith, free.fits))
-        (λ j h. passed_before f (IsPassed now) own keys (keys_rise cs n range) passed kv rest e all (job_key i) h.row h.seen
-        (is_scanned r cs n range (job_key i) h.row h.seen (key_in i)) (ap (key_cmp (job_key i)) free.is_job ∙ lesser_first i id l free.fits)))
-      where
-        n : ℕ
-        n = last_of r.start_seq cs
+    range : BytesRange
+    range = prefix_range jobs_prefix
 
-        range : BytesRange
-        range = prefix_range jobs_prefix
+    f : List ℕ → Option RowEntry
+    f = seen r cs n []
 
-        f : List ℕ → Option RowEntry
-        f = seen r cs n []
+    own : IsOfKeys f
+    own = own_seen r cs n []
 
-        own : IsOfKeys f
-        own = own_seen r cs n []
+    keys : List (List ℕ)
+    keys = filter (in_range range) (keys_seen cs n [])
 
-        keys : List (List ℕ)
-        keys = filter (in_range range) (keys_seen cs n [])
+    at : (x : RowEntry) × (f x.key ≡ Some x) × (key_value x ≡ kv)
+    at = row_at f (rows_seen r cs n [] Ascending range) (rows_are_seen r cs n [] Ascending range) passed kv rest e
 
-        at : (x : RowEntry) × (f x.key ≡ Some x) × (key_value x ≡ kv)
-        at = row_at f (rows_seen r cs n [] Ascending range) (rows_are_seen r cs n [] Ascending range) passed kv rest e
+    key : at.0.key ≡ job_key id
+    key = ap (λ (z : KeyValue). z.key) at.2 ∙ free.is_job
 
-        key : at.0.key ≡ job_key id
-        key = ap (λ (z : KeyValue). z.key) at.2 ∙ free.is_job
+    shows : state_at r cs n (job_key id) ≡ Some at.0
+    shows = sym (sees_the_state r cs n (job_key id)) ∙ ap f (sym key) ∙ at.1
 
-        shows : state_at r cs n (job_key id) ≡ Some at.0
-        shows = sym (sees_the_state r cs n (job_key id)) ∙ ap f (sym key) ∙ at.1
+    is : q.job id ≡ Some job
+    is = value_same kv.value job (q.job id) free.stands
+        (ap (λ (z : KeyValue). job_in (Some z.value)) (sym at.2) ∙ sym (ap (λ o. job_in (option_map operand o)) shows) ∙ stands.jobs id free.fits)
 
-        is : q.job id ≡ Some job
-        is = value_same kv.value job (q.job id) free.stands
-            (ap (λ (z : KeyValue). job_in (Some z.value)) (sym at.2) ∙ sym (ap (λ o. job_in (option_map operand o)) shows) ∙ stands.jobs id free.fits)
+    some : IsSome (q.job id)
+    some = subst IsSome (sym is) refl
 
-        some : IsSome (q.job id)
-        some = subst IsSome (sym is) refl
+    within : (1 ≤ id) × (id ≤ q.counter)
+    within = stands.within id some
 
-        within : (1 ≤ id) × (id ≤ q.counter)
-        within = stands.within id some
+pub none_is_first : (r : Rules) (cs : List Commit) (n : ℕ) (q : Queue) (now : ℤ) (passed : List KeyValue) → IsQueueIn (value_from r cs n) q →
+    rows_from r cs n ≡ passed → AllByRecursion (IsPassed now) passed → first_free now q ≡ None
+none_is_first r cs n q now passed stands e all =
+    none_at now q.job 1 q.counter
+    (λ i g l. skips_by now f (value_from r cs n) q stands (own_seen r cs n []) (row_of_job r cs n) i (let most : q.counter ≤ last_number = stands.fits in omega arith)
+    (λ j h. passed_all f (IsPassed now) (filter (in_range range) (keys_seen cs n [])) (subst (AllByRecursion (IsPassed now)) (sym e) all) (job_key i) h.row h.seen
+    (is_scanned r cs n range (job_key i) h.row h.seen (key_in i))))
+  where
+    range : BytesRange
+    range = prefix_range jobs_prefix
 
-    none : (r : Rules) (cs : List Commit) (q : Queue) (now : ℤ) (passed : List KeyValue) → Stands r cs q →
-        rows_of r cs ≡ passed → AllByRecursion (IsPassed now) passed → first_free now q ≡ None
-    none r cs q now passed stands e all =
-        none_at now q.job 1 q.counter
-        (λ i g l. skips_by now f (value_at r cs) q stands (own_seen r cs n []) (row_of_job r cs) i (let most : q.counter ≤ last_number = stands.fits in omega arith)
-        (λ j h. passed_all f (IsPassed now) (filter (in_range range) (keys_seen cs n [])) (subst (AllByRecursion (IsPassed now)) (sym e) all) (job_key i) h.row h.seen
-        (is_scanned r cs n range (job_key i) h.row h.seen (key_in i))))
-      where
-        n : ℕ
-        n = last_of r.start_seq cs
+    f : List ℕ → Option RowEntry
+    f = seen r cs n []
 
-        range : BytesRange
-        range = prefix_range jobs_prefix
-
-        f : List ℕ → Option RowEntry
-        f = seen r cs n []
+pub first_is_taken : FirstIsTaken
+first_is_taken = record {
+  one = λ r cs q now passed kv rest id job stands e all free. one_is_first r cs (last_of r.start_seq cs) q now passed kv rest id job stands e all free;
+  none = λ r cs q now passed stands e all. none_is_first r cs (last_of r.start_seq cs) q now passed stands e all;
+}

@@ -1,5 +1,5 @@
 -- What stands at a job's key.
-use Rattle.std.proofs.Common.{◌≡◌, ℕ, ◌+◌, ◌-◌, ◌<◌, ◌≤◌, ◌^◌, Bool, true, false, cond, nat_le, nat_lt, ◌==◌, List, [], ◌∷◌, ◌++◌, length, drop, Option, Some, None, option_map, refl, sym, ap, subst, ◌∙◌, arith, SFits, w64, length-append, length-drop}
+use Rattle.std.proofs.Common.{◌≡◌, ℕ, ◌+◌, ◌-◌, ◌<◌, ◌≤◌, ◌^◌, Bool, true, false, nat_le, nat_lt, ◌==◌, List, [], ◌∷◌, ◌++◌, length, drop, Option, Some, None, option_map, refl, sym, ap, subst, ◌∙◌, arith, SFits, w64, length-append, length-drop}
 use Rattle.std.specs.Prelude.{IfSome}
 use Rattle.std.specs.Int.{cast_unsigned}
 use Rattle.std.proofs.lemmas.Bool.Decides.{nat_tests}
@@ -14,7 +14,7 @@ use Rattle.slate_queue.specs.Jobs.{longest}
 use Rattle.slate_queue.specs.Standing.{job_by, job_in, longest_value}
 use Rattle.slate_queue.proofs.Changes.{eight}
 use Rattle.slate_queue.proofs.ClaimForm.{job_again}
-use Rattle.slate_queue.proofs.FormLaws.{IsRead, is_read, le_is, le_test}
+use Rattle.slate_queue.proofs.FormLaws.{is_read, le_is, le_test}
 
 pub record IsValue (v : List ℕ) (j : Job) : Type 0 where
   pub stands : job_of v ≡ Some j

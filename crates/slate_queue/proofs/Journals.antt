@@ -31,18 +31,18 @@ use Rattle.slate_queue.proofs.Stands.{Stands, DoesOne, adds_one, claims_one, fin
 
 -- ---- one event
 
-abbrev TrackAll : List Commit → Type 0
+abbrev pub TrackAll : List Commit → Type 0
 TrackAll cs = AllByRecursion (λ c. c.tracked ≡ batch_keys c.ops) cs
 
-track_all : (cs : List Commit) (begin : ℕ) (rs : Reading) → TrackAll cs → TracksReads cs begin rs
+pub track_all : (cs : List Commit) (begin : ℕ) (rs : Reading) → TrackAll cs → TracksReads cs begin rs
 track_all [] begin rs h = tt
 track_all (c ∷ cs) begin rs h = ((λ past k wrote read. subst (λ ks. IsTrue (among k ks)) (sym h.0) wrote), track_all cs begin rs h.1)
 
-more_tracked : (cs : List Commit) (c : Commit) → TrackAll cs → c.tracked ≡ batch_keys c.ops → TrackAll (cs ++ (c ∷ []))
+pub more_tracked : (cs : List Commit) (c : Commit) → TrackAll cs → c.tracked ≡ batch_keys c.ops → TrackAll (cs ++ (c ∷ []))
 more_tracked [] c h e = (e, tt)
 more_tracked (x ∷ cs) c h e = (h.0, more_tracked cs c h.1 e)
 
-all_keys : (now : ℤ) (ops : Ops) (tracked : List (List ℕ)) (ts : List TranscriptStep) → IsAdd ops tracked ts ⊎ IsClaim now ops tracked ts ⊎ IsFinish ops tracked ts → tracked ≡ batch_keys ops
+pub all_keys : (now : ℤ) (ops : Ops) (tracked : List (List ℕ)) (ts : List TranscriptStep) → IsAdd ops tracked ts ⊎ IsClaim now ops tracked ts ⊎ IsFinish ops tracked ts → tracked ≡ batch_keys ops
 all_keys now ops tracked ts (inl h) = h.by.keys
 all_keys now ops tracked ts (inr (inl h)) = h.by.keys
 all_keys now ops tracked ts (inr (inr h)) = h.by.keys

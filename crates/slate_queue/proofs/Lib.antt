@@ -26,3 +26,10 @@ pub mod ProgramLaws
 pub mod WalkSteps
 pub mod RaiseLaws
 pub mod LineLaws
+pub mod Performing
+pub mod PassTruths
+pub mod PassSteps
+pub mod PassWalkLaws
+pub mod PassFinding
+pub mod PassPlace
+pub mod PassCalls

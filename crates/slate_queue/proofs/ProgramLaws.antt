@@ -1,11 +1,10 @@
 -- Runs of lines: what they keep, why one ends, and how they begin.
-use Rattle.std.proofs.Common.{◌≡◌, ◌⊎◌, inl, inr, ℕ, ◌+◌, ◌*◌, ◌-◌, ◌^◌, ◌<◌, ◌≤◌, List, [], length, map, Option, Some, refl, sym, ap, subst, ◌∙◌, arith}
-use Rattle.slate_types.specs.declared.config.IsolationLevel.TheVariants.{SerializableSnapshot}
+use Rattle.std.proofs.Common.{◌≡◌, ◌⊎◌, inl, inr, ℕ, ◌+◌, ◌*◌, ◌<◌, ◌≤◌, List, [], length, map, Option, Some, refl, sym, ap, subst, ◌∙◌, arith}
 use Rattle.slate_types.specs.declared.config.Options.{Options}
 use Rattle.slate_types.specs.declared.error.SlateDBError.{SlateDBError}
 use Rattle.slate_types.specs.declared.error.SlateDBError.TheVariants as errors
 use Rattle.slate_types.specs.declared.error.SlateDBError.TheVariants.{LimitReached, OutOfMemory, StoreFault, Callback, BlockTransformError}
-use Rattle.slate_types.specs.Outside.{IsCounted, IsFault, Counts, Meaning, Objects, OnlyReads, Reach}
+use Rattle.slate_types.specs.Outside.{IsCounted, IsFault, Counts, Meaning, Objects, Reach}
 use Rattle.slate_types.proofs.Reaching.{fault_earlier, reads_none, reads_then}
 use Rattle.slate_store.specs.Lines.{script_limit}
 use Rattle.slate_store.specs.Run.{IsProgramError, IsRunCause, Says}
@@ -27,11 +26,9 @@ use Rattle.slate_db.specs.Segmented.{IsSegmented}
 use Rattle.slate_db.specs.Settled.{HasTables, IsSettledIn}
 use Rattle.slate_db.specs.Sound.{IsKept}
 use Rattle.slate_db.specs.SerialLaws.{IsVouchedCore}
-use Rattle.slate_db.specs.Readable as gets
-use Rattle.slate_db.specs.Scans as scans
 use Rattle.slate_db.proofs.RowDamage.{in_scan_kind}
 use Rattle.slate_db.proofs.Shown.{refused_kind}
-use Rattle.slate_steps.specs.Reads.{IsReadError, IsReadFault}
+use Rattle.slate_steps.specs.Reads.{IsReadError}
 use Rattle.slate_queue.specs.Stored.{counter_in, counter_key, job_key}
 use Rattle.slate_queue.specs.Feed.{feed_of}
 use Rattle.slate_queue.specs.Runs.{AnswersBy, Ends, EndsBy, GoesOn, IsRunAt, WhyEnds}

@@ -1,6 +1,6 @@
 -- A line of the program, by its call on the core.
-use Rattle.std.proofs.Common.{◌≡◌, ◌≢◌, ◌⊎◌, inl, inr, ℕ, ◌+◌, ◌-◌, ◌*◌, ◌^◌, ◌<◌, ◌≤◌, ℤ, Bool, true, false, cond, nat_le, nat_lt, List, [], ◌∷◌, ◌++◌, map, filter, filter_map, length, Option, Some, None, Result, Ok, Err, refl, sym, ap, subst, ◌∙◌, arith, append-nil}
-use Rattle.std.specs.Prelude.{IfOk, IfErr, IsSome}
+use Rattle.std.proofs.Common.{◌≡◌, ◌≢◌, ◌⊎◌, inl, inr, ℕ, ◌+◌, ◌-◌, ◌^◌, ◌<◌, ◌≤◌, ℤ, Bool, true, false, cond, nat_le, nat_lt, List, [], ◌∷◌, ◌++◌, map, filter, length, Option, Some, None, Result, Ok, refl, sym, ap, subst, ◌∙◌, arith, append-nil}
+use Rattle.std.specs.Prelude.{IsSome}
 use Rattle.std.specs.List.{cons_option}
 use Rattle.std.proofs.lemmas.Bool.Decides.{nat_tests}
 use Rattle.slate_types.specs.declared.config.IsolationLevel.TheVariants.{SerializableSnapshot}
@@ -13,14 +13,12 @@ use Rattle.slate_mem.specs.KeyTests.{Segments}
 use Rattle.slate_txn.specs.declared.event.Event.{Event}
 use Rattle.slate_txn.specs.declared.event.Event.TheVariants as events
 use Rattle.slate_txn.specs.Alone.{own_of}
-use Rattle.slate_txn.specs.State.{last_of}
 use Rattle.slate_txn.proofs.Growing.{last_more}
 use Rattle.slate_db.specs.Flushed.{NoPlace}
 use Rattle.slate_db.specs.Load.{weight}
 use Rattle.slate_db.specs.Log.{LIMIT}
 use Rattle.slate_db.specs.Model.{CoreModel}
-use Rattle.slate_db.specs.Settled.{IsSettledIn}
-use Rattle.slate_steps.specs.Steps.{HasCommitted, HasEnded, IsBeginError, newest}
+use Rattle.slate_steps.specs.Steps.{IsBeginError, newest}
 use Rattle.slate_steps.specs.Reads.{IsReadFault}
 use Rattle.slate_steps.proofs.Settling.{ended_weight}
 use Rattle.slate_queue.specs.declared.entries.FeedEntry.{FeedEntry}
@@ -28,10 +26,10 @@ use Rattle.slate_queue.specs.declared.error.QueueError.{QueueError}
 use Rattle.slate_queue.specs.declared.error.QueueError.TheVariants as errors
 use Rattle.slate_queue.specs.Jobs as model
 use Rattle.slate_queue.specs.Jobs.{Queue, Call, queue_step}
-use Rattle.slate_queue.specs.Calls.{CallsAs, Commits, Form, IsRefusal, Keeps, Leaves, StandsIn, StepRefuses}
+use Rattle.slate_queue.specs.Calls.{Commits, Form, IsRefusal, Keeps, Leaves, StandsIn, StepRefuses}
 use Rattle.slate_queue.specs.Feed.{entry_above, feed_of}
 use Rattle.slate_queue.specs.Runs.{Ends, GoesOn, IsReply, IsRunAt, WhyEnds}
-use Rattle.slate_queue.specs.Script.{Reply, Run, called, committed, fed_above, keys_of, last_seq, reply_line}
+use Rattle.slate_queue.specs.Script.{Reply, Run, called, committed, fed_above, keys_of, last_seq}
 use Rattle.slate_queue.specs.Words.{fed_pair}
 
 -- ---- feeds

@@ -24,6 +24,7 @@ use Rattle.slate_queue.specs.Stored.{Job, counter_key, jobs_prefix, job_key, id_
 use Rattle.slate_queue.specs.Jobs.{new_job, leased, last_number}
 use Rattle.slate_queue.specs.Commits.{put_of, added, IsAdd, IsClaim, IsFinish}
 use Rattle.slate_queue.specs.Deeds.{Deed, Jobs, with_lease, Does, done_by, deed_by, lease_read}
+use Rattle.slate_queue.specs.Standing.{value_from}
 use Rattle.slate_queue.proofs.Changes.{number_again, eight, lease_again, id_again, apart_keys, same_bytes, one_kept, added_kept, value_at, left_by, IsPlain, leaves}
 
 abbrev pub lease_in : Option (List ℕ) → Option ℕ
@@ -49,18 +50,24 @@ pub sees_the_state : (r : Rules) (cs : List Commit) (n : ℕ) (k : List ℕ) →
 sees_the_state r cs n k = ap (shown (combine_at r k)) (append-nil (key_rows r k (up_to n cs)))
 
 -- a get of a reader that has nothing of its own
-pub value_read : (r : Rules) (cs : List Commit) (k : List ℕ) (answer : Option KeyValue) → answer ≡ option_map key_value (seen r cs (last_of r.start_seq cs) [] k) → option_map (λ kv. kv.value) answer ≡ value_at r cs k
-value_read r cs k answer e = ap (option_map (λ kv. kv.value)) (e ∙ ap (option_map key_value) (sees_the_state r cs (last_of r.start_seq cs) k)) ∙ by (state_at r cs (last_of r.start_seq cs) k)
+pub value_seen : (r : Rules) (cs : List Commit) (n : ℕ) (k : List ℕ) (answer : Option KeyValue) → answer ≡ option_map key_value (seen r cs n [] k) → option_map (λ kv. kv.value) answer ≡ value_from r cs n k
+value_seen r cs n k answer e = ap (option_map (λ kv. kv.value)) (e ∙ ap (option_map key_value) (sees_the_state r cs n k)) ∙ by (state_at r cs n k)
   where
     by : (o : Option RowEntry) → option_map (λ kv. kv.value) (option_map key_value o) ≡ option_map operand o
     by None = refl
     by (Some row) = refl
 
+pub value_read : (r : Rules) (cs : List Commit) (k : List ℕ) (answer : Option KeyValue) → answer ≡ option_map key_value (seen r cs (last_of r.start_seq cs) [] k) → option_map (λ kv. kv.value) answer ≡ value_at r cs k
+value_read r cs k answer e = value_seen r cs (last_of r.start_seq cs) k answer e
+
 -- a row of a scan stands at its key
-pub row_read : (r : Rules) (cs : List Commit) (row : KeyValue) → IsOfRow (seen r cs (last_of r.start_seq cs) []) row → value_at r cs row.key ≡ Some row.value
-row_read r cs row h =
-    ap (option_map operand) (sym (sees_the_state r cs (last_of r.start_seq cs) row.key) ∙ ap (seen r cs (last_of r.start_seq cs) []) (ap (λ kv. kv.key) h.is) ∙ h.stands)
+pub row_seen : (r : Rules) (cs : List Commit) (n : ℕ) (row : KeyValue) → IsOfRow (seen r cs n []) row → value_from r cs n row.key ≡ Some row.value
+row_seen r cs n row h =
+    ap (option_map operand) (sym (sees_the_state r cs n row.key) ∙ ap (seen r cs n []) (ap (λ kv. kv.key) h.is) ∙ h.stands)
     ∙ ap (λ kv. Some kv.value) (sym h.is)
+
+pub row_read : (r : Rules) (cs : List Commit) (row : KeyValue) → IsOfRow (seen r cs (last_of r.start_seq cs) []) row → value_at r cs row.key ≡ Some row.value
+row_read r cs row h = row_seen r cs (last_of r.start_seq cs) row h
 
 last_of_rows : (P : KeyValue → Type 0) (kvs : List KeyValue) (kv : KeyValue) → AllByRecursion P (kvs ++ (kv ∷ [])) → P kv
 last_of_rows P [] kv h = h.0

@@ -1,26 +1,22 @@
 -- Walks over the rows of a scan, one behind another.
-use Rattle.std.proofs.Common.{◌≡◌, ◌⊎◌, inl, inr, ℕ, ◌≤◌, ℤ, List, [], ◌∷◌, ◌++◌, length, drop, Option, Some, None, refl, sym, ap, subst, ◌∙◌, append_assoc, append-nil}
+use Rattle.std.proofs.Common.{◌≡◌, inl, ℕ, ℤ, List, [], ◌∷◌, ◌++◌, Some, refl, sym, ap, subst, ◌∙◌, append_assoc, append-nil}
 use Rattle.std.specs.List.{AllByRecursion}
-use Rattle.slate_types.specs.declared.config.IsolationLevel.{IsolationLevel}
-use Rattle.slate_types.specs.declared.error.SlateDBError.{SlateDBError}
 use Rattle.slate_types.specs.declared.error.SlateDBError.TheVariants.{OutOfMemory}
 use Rattle.slate_types.specs.declared.types.KeyValue.{KeyValue}
 use Rattle.slate_types.specs.declared.types.RowEntry.{RowEntry}
-use Rattle.slate_types.specs.Outside.{IsFault, Meaning, Objects, OnlyReads, Reach}
+use Rattle.slate_types.specs.Outside.{Meaning, OnlyReads, Reach}
 use Rattle.slate_types.proofs.Reaching.{fault_earlier, reads_none, reads_then}
-use Rattle.slate_filter.specs.Policy.{Policy}
 use Rattle.slate_txn.specs.declared.event.TranscriptStep.{TranscriptStep}
 use Rattle.slate_txn.specs.declared.event.TranscriptStep.TheVariants as steps
-use Rattle.slate_txn.specs.Alone.{first_left}
 use Rattle.slate_db.specs.declared.scan.TxnIterator.{TxnIterator}
 use Rattle.slate_db.specs.Model.{CoreModel}
-use Rattle.slate_db.specs.Scans.{IsScanOf, id_of, number_of, scan_of}
-use Rattle.slate_steps.specs.Reads.{IsReadError, IsReading, IsScanSince}
+use Rattle.slate_db.specs.Scans.{id_of}
+use Rattle.slate_steps.specs.Reads.{IsReadError, IsReading}
 use Rattle.slate_steps.specs.Steps.{IsWithin, Sees}
 use Rattle.slate_queue.specs.declared.error.QueueError.{QueueError}
 use Rattle.slate_queue.specs.declared.error.QueueError.TheVariants as errors
 use Rattle.slate_queue.specs.Commits.{IsPassed}
-use Rattle.slate_queue.specs.CallSteps.{IsBadRow, nexts}
+use Rattle.slate_queue.specs.CallSteps.{nexts}
 use Rattle.slate_queue.specs.Walks.{ScanFails, StopsAt, WalkStops, Walked, Walks}
 
 pub nexts_more : (kvs more : List KeyValue) → nexts (kvs ++ more) ≡ nexts kvs ++ nexts more

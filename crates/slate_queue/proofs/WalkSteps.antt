@@ -1,5 +1,5 @@
 -- One step of a claim's walk, from what the scan and its row say.
-use Rattle.std.proofs.Common.{◌≡◌, ◌⊎◌, inl, inr, ℕ, ◌<◌, ◌≤◌, ◌^◌, ℤ, true, false, List, [], ◌∷◌, ◌++◌, length, drop, Option, Some, None, option_map, Result, Ok, Err, refl, sym, ap, subst, ◌∙◌, append-nil}
+use Rattle.std.proofs.Common.{◌≡◌, ◌⊎◌, inl, inr, ℕ, ◌<◌, ◌^◌, ℤ, true, false, List, [], ◌∷◌, ◌++◌, drop, Option, Some, None, Result, Ok, Err, refl, sym, ap, subst, ◌∙◌}
 use Rattle.std.specs.Prelude.{IfOk, IfErr}
 use Rattle.std.specs.List.{AllByRecursion}
 use Rattle.slate_types.specs.declared.config.IsolationLevel.{IsolationLevel}
@@ -24,12 +24,11 @@ use Rattle.slate_queue.specs.declared.error.QueueError.{QueueError}
 use Rattle.slate_queue.specs.declared.error.QueueError.TheVariants as errors
 use Rattle.slate_queue.specs.declared.stored.LeaseHead.{LeaseHead}
 use Rattle.slate_queue.specs.Stored.{is_job_key, job_key}
-use Rattle.slate_queue.specs.Jobs.{is_free}
 use Rattle.slate_queue.specs.Commits.{IsPassed}
 use Rattle.slate_queue.specs.CallSteps.{HasLease, IsBadRow, nexts}
 use Rattle.slate_queue.specs.Forms.{frees}
 use Rattle.slate_queue.specs.Standing.{job_in}
-use Rattle.slate_queue.specs.Walks.{GoesTo, IsFound, IsStepAt, ScanFails, StopsAt, WalkStops, Walked, Walks, WalksTo}
+use Rattle.slate_queue.specs.Walks.{GoesTo, IsFound, IsStepAt, StopsAt, WalkStops, Walked, Walks, WalksTo}
 use Rattle.slate_queue.proofs.FirstFree.{key_is_job}
 use Rattle.slate_queue.proofs.JobValues.{value_is}
 use Rattle.slate_queue.proofs.WalkLaws.{stays}

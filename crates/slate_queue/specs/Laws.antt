@@ -4,19 +4,21 @@
 --     ClaimedOnce, AddedOnce, FinishedOnce      no commit before did the same
 --     FinishesNameTheLastLease      a finish names the lease of the last claim before it
 --     ClaimsReadUpToTheirJob      a claim that was answered as a reader is reads no key behind that of the job that it takes
-use Rattle.std.specs.Prelude.{◌≡◌, ◌≢◌, ℕ, ℤ, false, true, List, ◌∷◌, ◌++◌, Some, IsSome}
+--     ClaimsMeetNoAdd      so no add of a greater id conflicts with it
+use Rattle.std.specs.Prelude.{◌≡◌, ◌≢◌, ℕ, ◌+◌, ◌<◌, ℤ, false, true, List, ◌∷◌, ◌++◌, Some, IsSome}
 use Rattle.slate_mem.specs.Batch.{Ops}
 use Rattle.slate_txn.specs.declared.event.Event.{Event}
 use Rattle.slate_txn.specs.declared.event.Event.TheVariants as events
 use Rattle.slate_txn.specs.declared.event.TranscriptStep.{TranscriptStep}
 use Rattle.slate_types.specs.Keys.{key_lt}
 use Rattle.slate_txn.specs.Alone.{IsAlone}
+use Rattle.slate_txn.specs.Conflict.{meets}
 use Rattle.slate_txn.specs.State.{Commit, Rules}
 use Rattle.slate_txn.specs.Tracking.{is_read, reads_of}
 use Rattle.slate_txn.specs.Replay.{IsLegal}
 use Rattle.slate_txn.specs.Vouched.{AreVouched}
 use Rattle.slate_txn.specs.Audited.{AreOfKind}
-use Rattle.slate_queue.specs.Commits.{IsClaim, IsQueueCommit}
+use Rattle.slate_queue.specs.Commits.{IsAdd, IsClaim, IsQueueCommit}
 use Rattle.slate_queue.specs.Deeds.{Deed, deed_of, deeds_of, adds, claims, finishes, any_deed, last_lease}
 
 pub record IsAudited (n0 : ℕ) (es : List Event) : Type 0 where
@@ -55,3 +57,8 @@ FinishesNameTheLastLease = (r : Rules) (before : List Event) (id lease : ℕ) �
 abbrev pub ClaimsReadUpToTheirJob : Type 0
 ClaimsReadUpToTheirJob = (r : Rules) (cs : List Commit) (n : ℕ) (now : ℤ) (ops : Ops) (tracked : List (List ℕ)) (ts : List TranscriptStep) (claim : IsClaim now ops tracked ts) (k : List ℕ) →
     IsAlone r cs n ts → key_lt claim.row.key k ≡ true → is_read (reads_of ts) k ≡ false
+
+-- A commit that adds a job of a greater id tracks no key that such a claim reads or writes, so that neither conflicts with the other.
+abbrev pub ClaimsMeetNoAdd : Type 0
+ClaimsMeetNoAdd = (r : Rules) (cs : List Commit) (n : ℕ) (now : ℤ) (ops : Ops) (tracked : List (List ℕ)) (ts : List TranscriptStep) (claim : IsClaim now ops tracked ts) (c : Commit) (us : List TranscriptStep) (add : IsAdd c.ops c.tracked us) →
+    IsAlone r cs n ts → claim.id < add.counter + 1 → meets tracked (reads_of ts) c ≡ false

@@ -13,3 +13,5 @@ pub mod Calls
 pub mod Walks
 pub mod Runs
 pub mod Words
+pub mod OnPass
+pub mod PassWalks

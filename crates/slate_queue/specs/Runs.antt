@@ -5,7 +5,7 @@
 --     WhyEnds, Ends policies seg before after c d e      why a line ends a run: a fault, a read that was refused by damage or want of an operator, or no place in the journal
 --     EndsBy policies before after e      a line ended the run by a fault, or a read that was refused so
 --     IsReply e      a refusal that is a reply
-use Rattle.std.specs.Prelude.{◌≡◌, ◌⊎◌, ℕ, ◌+◌, ◌-◌, ◌*◌, ◌≤◌, ◌^◌, List, map}
+use Rattle.std.specs.Prelude.{◌≡◌, ◌⊎◌, ℕ, ◌+◌, ◌*◌, ◌≤◌, List, map}
 use Rattle.slate_types.specs.declared.config.IsolationLevel.TheVariants.{SerializableSnapshot}
 use Rattle.slate_types.specs.declared.error.SlateDBError.{SlateDBError}
 use Rattle.slate_types.specs.declared.error.SlateDBError.TheVariants.{LimitReached, SequenceExhausted}

@@ -10,7 +10,7 @@
 --     reply_words a, reply_line a      the words of a reply, and its bytes
 --     after r line, said r line      of a line's bytes: the run behind it, and what is written for it
 --     says r lines      what is written for lines
-use Rattle.std.specs.Prelude.{ℕ, ◌+◌, ◌-◌, ◌^◌, ℤ, Bool, true, false, ◌||◌, if◌then◌else◌, nat_le, nat_lt, List, [], ◌∷◌, ◌++◌, filter, flat_map, length, Option, Some, None, option_map, is_some, Result, Ok, Err, bytes_eq, codes, decimal}
+use Rattle.std.specs.Prelude.{ℕ, ◌+◌, ◌-◌, ◌^◌, Bool, true, false, ◌||◌, if◌then◌else◌, nat_le, nat_lt, List, [], ◌∷◌, ◌++◌, filter, flat_map, length, Option, Some, None, option_map, is_some, Result, Ok, Err, bytes_eq, codes, decimal}
 use Rattle.std.specs.List.{join_with_byte}
 use Rattle.slate_types.specs.declared.error.SlateDBError.TheVariants.{SequenceExhausted}
 use Rattle.slate_language.specs.Parse.{both, read_bytes, read_moment, read_number, tokens_of}

@@ -1,5 +1,6 @@
 -- The queue that stands behind commits.
---     value_at r cs k      the bytes that stand at a key behind all commits
+--     value_from r cs n k      the bytes that stand at a key at a sequence
+--     value_at r cs k      those behind all commits
 --     longest_value      the longest value that a put stores
 --     job_in o      what stands at a job's key is no job, or one; none where it is shorter than a job, or longer than a value
 --     IsQueueIn value q      such bytes at each key are those of the queue
@@ -11,8 +12,11 @@ use Rattle.slate_txn.specs.State.{Rules, Commit, last_of}
 use Rattle.slate_queue.specs.Stored.{Job, counter_key, counter_in, job_key, job_of}
 use Rattle.slate_queue.specs.Jobs.{Queue, last_number}
 
+abbrev pub value_from : Rules → List Commit → ℕ → List ℕ → Option (List ℕ)
+value_from r cs n k = option_map operand (state_at r cs n k)
+
 abbrev pub value_at : Rules → List Commit → List ℕ → Option (List ℕ)
-value_at r cs k = option_map operand (state_at r cs (last_of r.start_seq cs) k)
+value_at r cs k = value_from r cs (last_of r.start_seq cs) k
 
 abbrev pub longest_value : ℕ
 longest_value = 2 ^ 32 - 1

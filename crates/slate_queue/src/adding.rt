@@ -78,7 +78,7 @@ fn next_id<S: Store, M: MergeOperator, T: BlockTransformer, X: PrefixExtractor>(
 }
 
 /// The id behind the counter that was read.
-fn id_behind(alloc: Global, answer: Option<KeyValue>) -> Result<u64, QueueError>
+pub(crate) fn id_behind(alloc: Global, answer: Option<KeyValue>) -> Result<u64, QueueError>
     ensures id { IfOk result (λ id. (counter : ℕ) × (counter_in (value_of answer) ≡ Some counter) × (counter < last_number) × (id ≡ counter + 1)) }
     ensures refused { IfErr result (λ e. (e ≡ QueueError.Db SlateDBError.OutOfMemory) ⊎ (counter_refusal (counter_in (value_of answer)) ≡ Some e)) }
 {

@@ -19,7 +19,7 @@ use slate_types::{BlockTransformer, IsolationLevel, MergeOperator, Outside, Pref
 use uuid::Uuid;
 
 /// The longest payload.
-const LONGEST: usize = 4_294_967_279;
+pub(crate) const LONGEST: usize = 4_294_967_279;
 
 /// Adds a job, at a moment, and gives its id. It begins with lease number 0 and lease's end 0.
 ///

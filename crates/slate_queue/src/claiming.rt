@@ -34,15 +34,15 @@ use uuid::Uuid;
 
 /// A job that is free: its id, its lease's number, and its row.
 #[derive(Drop)]
-struct FreeJob {
-    id: u64,
-    lease: u64,
-    row: KeyValue,
+pub(crate) struct FreeJob {
+    pub(crate) id: u64,
+    pub(crate) lease: u64,
+    pub(crate) row: KeyValue,
 }
 
 /// What a claim does at the next row.
 #[derive(Drop)]
-enum Step {
+pub(crate) enum Step {
     /// It passes over it.
     Passed,
     /// It takes the job.
@@ -165,7 +165,7 @@ fn walk_on<S: Store, M: MergeOperator, T: BlockTransformer>(
 }
 
 /// What a claim at the moment does at the row.
-fn at_row(alloc: Global, now: i64, row: KeyValue) -> Result<Step, QueueError>
+pub(crate) fn at_row(alloc: Global, now: i64, row: KeyValue) -> Result<Step, QueueError>
     ensures step { IfOk result (IsStepAt now row) }
     ensures bad { IfErr result (λ e. (e ≡ QueueError.Db SlateDBError.OutOfMemory) ⊎ IsBadRow row e) }
 {

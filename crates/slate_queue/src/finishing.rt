@@ -58,7 +58,7 @@ pub(crate) fn finish_job<S: Store, M: MergeOperator, T: BlockTransformer, X: Pre
 }
 
 /// Whether what was read at the key is a job that was claimed under this lease.
-fn test_lease(
+pub(crate) fn test_lease(
     alloc: Global,
     answer: &Option<KeyValue>,
     key: &[u8],

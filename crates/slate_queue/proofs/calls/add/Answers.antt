@@ -1,4 +1,4 @@
-use Rattle.std.proofs.Common.{map, arith, refl, ap, ◌∙◌, [], ◌∷◌, w64}
+use Rattle.std.proofs.Common.{map, arith, ap, w64}
 use Rattle.std.proofs.lemmas.Int.{to_z-of_z}
 use Rattle.slate_types.specs.declared.config.IsolationLevel.TheVariants.{SerializableSnapshot}
 use Rattle.slate_types.specs.declared.error.SlateDBError.TheVariants.{OutOfMemory, SequenceExhausted}

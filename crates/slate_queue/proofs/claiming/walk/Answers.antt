@@ -9,7 +9,6 @@ use Rattle.slate_queue.specs.Commits.{IsPassed}
 use Rattle.slate_queue.specs.CallSteps.{nexts}
 use Rattle.slate_queue.proofs.WalkLaws.{all_more, passes_then, stays, stops_then, takes_then, too_many, walks_then}
 use Rattle.slate_queue.proofs.WalkSteps.{goes_at, passed_at}
-use Rattle.slate_queue.proofs.claiming.walk.Given as given
 use Rattle.slate_queue.proofs.claiming.walk.Goals as goal
 
 pub loop-init : goal.loop-init

@@ -1,4 +1,4 @@
-use Rattle.std.proofs.Common.{◌≡◌, ◌<◌, ◌+◌, IfSome, Err, map, sym, ap, subst, ◌∙◌, arith, refl, inr}
+use Rattle.std.proofs.Common.{◌≡◌, ◌<◌, ◌+◌, IfSome, Err, map, ap, subst, ◌∙◌, arith, refl, inr}
 use Rattle.slate_types.specs.declared.error.SlateDBError.TheVariants.{ReadFault, WriteFault}
 use Rattle.slate_store.specs.Reach.{reach_of}
 use Rattle.slate_store.proofs.RunLaws.{begins, takes_line, answered_line, stop_of, end_of, stopped_read, stopped_says, refused_read, refused_says, ended_read, ended_says, LineError, reader_cause, line_error, line_cause, rose_from, error_or, unless_error}
@@ -6,7 +6,6 @@ use Rattle.slate_db.specs.Meaning.{segments_by}
 use Rattle.slate_queue.specs.Runs.{AnswersBy, Ends}
 use Rattle.slate_queue.specs.Script.{takes}
 use Rattle.slate_queue.proofs.ProgramLaws.{ends_later, goes_none, goes_then, nothing_said, program_error}
-use Rattle.slate_queue.proofs.run.write_lines.Given as given
 use Rattle.slate_queue.proofs.run.write_lines.Goals as goal
 
 pub loop-line-init : goal.loop-line-init

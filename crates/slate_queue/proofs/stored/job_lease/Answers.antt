@@ -1,4 +1,4 @@
-use Rattle.std.proofs.Common.{◌≤◌, length, arith}
+use Rattle.std.proofs.Common.{arith}
 use Rattle.slate_queue.proofs.JobValues.{lease_read}
 use Rattle.slate_queue.proofs.stored.job_lease.Goals as goal
 

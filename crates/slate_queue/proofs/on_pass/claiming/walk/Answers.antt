@@ -1,0 +1,87 @@
+use Rattle.std.proofs.Common.{[], ◌∷◌, ◌++◌, ◌∙◌, None, of_z, refl, to_z, w64}
+use Rattle.std.proofs.lemmas.Int.{to_z-of_z}
+use Rattle.slate_types.proofs.Reaching.{reads_then}
+use Rattle.slate_store.specs.Reach.{reach_of}
+use Rattle.slate_txn.specs.declared.event.TranscriptStep.TheVariants as steps
+use Rattle.slate_queue.specs.declared.claiming.Step.TheVariants as step
+use Rattle.slate_queue.specs.Commits.{IsPassed}
+use Rattle.slate_queue.specs.CallSteps.{nexts}
+use Rattle.slate_queue.proofs.PassWalkLaws.{goes_on_at, halts_then, passes_then_on, stays_on, takes_then_on, too_many_on, walks_then_on}
+use Rattle.slate_queue.proofs.WalkLaws.{all_more}
+use Rattle.slate_queue.proofs.WalkSteps.{passed_at}
+use Rattle.slate_queue.proofs.on_pass.claiming.walk.Goals as goal
+
+pub loop-init : goal.loop-init
+loop-init g c =
+    let before = reach_of g.S.Store g.M.MergeOperator g.T.BlockTransformer c.args.env.now in
+    record { walking = c.requires.walking; walk = ([], tt, stays_on g.P.Parts.options g.P.Parts.meaning before c.args.txn.now c.args.scan.now); table = refl }
+
+pub loop-preserved : goal.loop-preserved
+loop-preserved g c =
+    let before = reach_of g.S.Store g.M.MergeOperator g.T.BlockTransformer c.args.env.now in
+    let now = reach_of g.S.Store g.M.MergeOperator g.T.BlockTransformer c.loop.env in
+    let after = reach_of g.S.Store g.M.MergeOperator g.T.BlockTransformer c.walk_on.new.env in
+    let walk = c.loop.invariant.walk in
+    let more = rw c.in-Ok-Passed.field-0-is at c.in-Ok-Passed.ensures.goes in
+    record {
+      walking = c.walk_on.ensures.walking;
+      walk = (
+        walk.0 ++ (more.0 ∷ []),
+        all_more (IsPassed (to_z w64 (of_z w64 c.args.now))) walk.0 more.0 walk.1 more.1,
+        passes_then_on g.P.Parts.options g.P.Parts.meaning before now after c.args.txn.now c.loop.txn c.walk_on.new.txn c.args.scan.now c.loop.scan c.walk_on.new.scan walk.0 more.0 walk.2 more.2,
+      );
+      table = c.walk_on.ensures.table ∙ c.loop.invariant.table;
+    }
+
+pub returns-in-Ok-Free : goal.returns-in-Ok-Free
+returns-in-Ok-Free g c =
+    let before = reach_of g.S.Store g.M.MergeOperator g.T.BlockTransformer c.args.env.now in
+    let now = reach_of g.S.Store g.M.MergeOperator g.T.BlockTransformer c.loop.env in
+    let after = reach_of g.S.Store g.M.MergeOperator g.T.BlockTransformer c.walk_on.new.env in
+    let walk = c.loop.invariant.walk in
+    let more = goes_on_at g.P.Parts.options g.P.Parts.meaning _ c.args.now now after c.loop.txn c.walk_on.new.txn c.loop.scan c.walk_on.new.scan (step.Free c.in-Ok-Free.found) (to_z-of_z w64 c.args.now c.ranges.now) (rw c.in-Ok-Free.field-0-is at c.in-Ok-Free.ensures.goes) in
+    record {
+      to = (walk.0, passed_at _ c.args.now walk.0 (to_z-of_z w64 c.args.now c.ranges.now) walk.1, more.0, takes_then_on g.P.Parts.options g.P.Parts.meaning before now after c.args.txn.now c.loop.txn c.walk_on.new.txn c.args.scan.now c.loop.scan c.walk_on.new.scan walk.0 c.in-Ok-Free.found.row walk.2 more.1);
+      halts = tt;
+      table = c.walk_on.ensures.table ∙ c.loop.invariant.table;
+      reads = reads_then before now after walk.2.reads c.walk_on.ensures.reads;
+    }
+
+pub returns-in-Ok-End : goal.returns-in-Ok-End
+returns-in-Ok-End g c =
+    let before = reach_of g.S.Store g.M.MergeOperator g.T.BlockTransformer c.args.env.now in
+    let now = reach_of g.S.Store g.M.MergeOperator g.T.BlockTransformer c.loop.env in
+    let after = reach_of g.S.Store g.M.MergeOperator g.T.BlockTransformer c.walk_on.new.env in
+    let walk = c.loop.invariant.walk in
+    let more = goes_on_at g.P.Parts.options g.P.Parts.meaning _ c.args.now now after c.loop.txn c.walk_on.new.txn c.loop.scan c.walk_on.new.scan step.End (to_z-of_z w64 c.args.now c.ranges.now) (rw c.in-Ok-End.field-0-is at c.in-Ok-End.ensures.goes) in
+    record {
+      to = (walk.0, passed_at _ c.args.now walk.0 (to_z-of_z w64 c.args.now c.ranges.now) walk.1, walks_then_on g.P.Parts.options g.P.Parts.meaning before now after c.args.txn.now c.loop.txn c.walk_on.new.txn c.args.scan.now c.loop.scan (nexts walk.0) (steps.Next 0 None ∷ []) walk.2 more.reads more.walks);
+      halts = tt;
+      table = c.walk_on.ensures.table ∙ c.loop.invariant.table;
+      reads = reads_then before now after walk.2.reads c.walk_on.ensures.reads;
+    }
+
+pub returns-in-Err : goal.returns-in-Err
+returns-in-Err g c =
+    let before = reach_of g.S.Store g.M.MergeOperator g.T.BlockTransformer c.args.env.now in
+    let now = reach_of g.S.Store g.M.MergeOperator g.T.BlockTransformer c.loop.env in
+    let after = reach_of g.S.Store g.M.MergeOperator g.T.BlockTransformer c.walk_on.new.env in
+    let walk = c.loop.invariant.walk in
+    record {
+      to = tt;
+      halts = halts_then g.P.Parts.options g.P.Parts.meaning c.args.now before now after c.args.txn.now c.loop.txn c.walk_on.new.txn c.args.scan.now c.loop.scan c.walk_on.new.scan walk.0 c.in-Err.error (passed_at _ c.args.now walk.0 (to_z-of_z w64 c.args.now c.ranges.now) walk.1) walk.2 c.in-Err.ensures.halts;
+      table = c.walk_on.ensures.table ∙ c.loop.invariant.table;
+      reads = reads_then before now after walk.2.reads c.walk_on.ensures.reads;
+    }
+
+pub returns : goal.returns
+returns g c =
+    let before = reach_of g.S.Store g.M.MergeOperator g.T.BlockTransformer c.args.env.now in
+    let now = reach_of g.S.Store g.M.MergeOperator g.T.BlockTransformer c.loop.env in
+    let walk = c.loop.invariant.walk in
+    record {
+      to = tt;
+      halts = too_many_on g.P.Parts.options g.P.Parts.meaning c.args.now before now c.args.txn.now c.loop.txn c.args.scan.now c.loop.scan walk.0 walk.2;
+      table = c.loop.invariant.table;
+      reads = walk.2.reads;
+    }
