@@ -38,13 +38,13 @@ first_commit ops tracked = record { seq = 1; now = pos 0; ops = ops; tracked = t
 kept_one : (k v : List ℕ) → kept (put_op k v) k ≡ plain_put v ∷ []
 kept_one k v = ap (λ b. from_last replaces (map (λ (o : List ℕ × WriteOp). o.1) (cond b (put_op k v) []))) (bytes_eq_refl k)
 
-kept_first : (k v : List ℕ) (ops : Ops) → ops ≡ kept_ops (put_op k v) → kept ops k ≡ plain_put v ∷ []
+pub kept_first : (k v : List ℕ) (ops : Ops) → ops ≡ kept_ops (put_op k v) → kept ops k ≡ plain_put v ∷ []
 kept_first k v ops is = ap (λ os. kept os k) is ∙ keeps_what_is_kept (put_op k v) k ∙ kept_one k v
 
 abbrev plain_combine : Combine
 plain_combine u v = v
 
-seen_first : (k v : List ℕ) (ops : Ops) (tracked : List (List ℕ)) → kept ops k ≡ plain_put v ∷ [] → option_map key_value (seen plain (first_commit ops tracked ∷ []) 1 [] k) ≡ Some (first_put k v)
+pub seen_first : (k v : List ℕ) (ops : Ops) (tracked : List (List ℕ)) → kept ops k ≡ plain_put v ∷ [] → option_map key_value (seen plain (first_commit ops tracked ∷ []) 1 [] k) ≡ Some (first_put k v)
 seen_first k v ops tracked e =
     subst (λ (ps : List WriteOp). option_map key_value (shown plain_combine (filter_map (λ (c : Commit). fold_rows plain_combine (map (op_row k 1 None (pos 0)) ps)) (first_commit ops tracked ∷ []) ++ [])) ≡ Some (first_put k v)) (sym e) refl
 

@@ -1,2 +1,3 @@
 pub mod FirstSteps
 pub mod Turns
+pub mod ReadBack

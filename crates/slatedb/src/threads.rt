@@ -1,11 +1,18 @@
 //! A database that threads share: a service of two threads, and one thread with one pass.
-ghost use Rattle.std.specs.Prelude.{◌≡◌, None};
+ghost use Rattle.std.specs.Prelude.{◌≡◌, ℕ, [], None, List, Some, IfOk};
+ghost use Rattle.slate_types.specs.Outside.{Objects, no_parts};
+ghost use Rattle.slate_mem.specs.BatchModel.{no_ops, plain_put, with_op};
+ghost use Rattle.slate_txn.specs.declared.event.Event.{Event};
 ghost use Rattle.slate_shared.specs.Given.{ArePlain};
+ghost use Rattle.slatedb.specs.FirstSteps.{first_put};
+ghost use Rattle.slatedb.specs.ReadBack.{IsAllOwn, IsReadBy};
 
 use crate::{
-    Database, DbTransaction, Env, IsolationLevel, Laws, NoExtractor, NoOperator, NoTransformer,
-    Pass, Plain, SlateDBError, Store, WriteBatch, counter_value,
+    Database, DbTransaction, Env, IsolationLevel, KeyValue, Laws, NoExtractor, NoOperator,
+    NoTransformer, Pass, Plain, SlateDBError, Store, WriteBatch, counter_value,
 };
+use slate_store::EnvOf;
+use slate_types::Outside;
 use std::alloc::Global;
 use std::sync::Wait;
 use std::thread;
@@ -235,4 +242,81 @@ fn store_rows<R: Wait, S: Store>(
         pass.flush(rt, db, &mut env, laws)?;
     }
     Ok(())
+}
+
+/// Writes a row, stores it, and gives what a transaction reads at its key, all by one pass: of a store that tells its objects, that
+/// row. That nobody else wrote or stored anything is known at the end, since the pass has all parts.
+pub fn write_and_read<R: Wait, S: Store>(
+    rt: &R,
+    alloc: Global,
+    store: &mut S,
+    key: &[u8],
+    value: &[u8],
+) -> Result<Option<KeyValue>, SlateDBError>
+    ensures found { (os : Objects) → S.objects store.old ≡ Some os →
+        IfOk result (λ found. found ≡ Some (first_put key.now value.now)) }
+{
+    let laws = Plain::laws(alloc);
+    let (db, mut pass) = Database::<Plain>::new(alloc, &laws.options)?;
+    let mut batch = WriteBatch::new(alloc);
+    batch.put(key, value)?;
+    let mut env: Lent<'_, S> = Env {
+        store,
+        operator: None,
+        transformer: None,
+    };
+    let found = store_and_read(rt, &db, &mut pass, batch, key, &mut env, &laws);
+    let core = db.close(rt, pass);
+    core.close();
+    found
+}
+
+/// Writes a batch, stores it, and reads a key.
+fn store_and_read<R: Wait, S: Store>(
+    rt: &R,
+    db: &Database<Plain>,
+    pass: &mut Pass<Plain>,
+    batch: WriteBatch,
+    key: &[u8],
+    env: &mut Lent<'_, S>,
+    laws: &Laws<NoExtractor>,
+) -> Result<Option<KeyValue>, SlateDBError>
+    requires table { pass.old.table ≡ db.now }
+    requires unused { (pass.old.seen ≡ []) × (pass.old.own ≡ []) }
+    requires laws { ArePlain laws.now.options laws.now.segments laws.now.policies.items }
+    requires meaning { let reach = ⟦<EnvOf<S, NoOperator, NoTransformer> as Outside>⟧.reach in
+        (reach env.old).meaning ≡ no_parts }
+    ensures same { (pass.new.table ≡ pass.old.table) × (pass.new.parts ≡ pass.old.parts) }
+    ensures found { let reach = ⟦<EnvOf<S, NoOperator, NoTransformer> as Outside>⟧.reach in
+        (value : List ℕ) (journal : List Event) (os : Objects) →
+        batch ≡ with_op no_ops key.now (plain_put value) → IsAllOwn pass.new journal →
+        (reach env.old).objects ≡ Some os → IfOk result (λ found. found ≡ Some (first_put key.now value)) }
+{
+    pass.write(rt, db, batch, 0, env, laws)?;
+    pass.flush(rt, db, env, laws)?;
+    read_once(rt, db, pass, key, env, laws)
+}
+
+/// What a transaction of its own reads at a key.
+fn read_once<R: Wait, S: Store>(
+    rt: &R,
+    db: &Database<Plain>,
+    pass: &mut Pass<Plain>,
+    key: &[u8],
+    env: &mut Lent<'_, S>,
+    laws: &Laws<NoExtractor>,
+) -> Result<Option<KeyValue>, SlateDBError>
+    requires table { pass.old.table ≡ db.now }
+    requires laws { ArePlain laws.now.options laws.now.segments laws.now.policies.items }
+    requires meaning { let reach = ⟦<EnvOf<S, NoOperator, NoTransformer> as Outside>⟧.reach in
+        (reach env.old).meaning ≡ no_parts }
+    ensures same { (pass.new.table ≡ pass.old.table) × (pass.new.parts ≡ pass.old.parts) }
+    ensures own { pass.new.own ≡ pass.old.own }
+    ensures read { let reach = ⟦<EnvOf<S, NoOperator, NoTransformer> as Outside>⟧.reach in
+        IfOk result (IsReadBy key.now pass.old pass.new (reach env.old) (reach env.new)) }
+{
+    let mut txn = pass.begin(rt, db, IsolationLevel::Snapshot)?;
+    let found = txn.get_key_value(rt, db, key, env, laws);
+    txn.rollback(rt, db, pass);
+    found
 }

@@ -1,0 +1,14 @@
+use Rattle.std.proofs.Common.{◌∙◌}
+use Rattle.std.proofs.lemmas.Result.{IfOk-weaker}
+use Rattle.slatedb.proofs.ReadBack.{found_put, still_objects}
+use Rattle.slatedb.proofs.threads.store_and_read.Goals as goal
+
+pub returns-clause-found : goal.returns-clause-found
+returns-clause-found g c = λ value journal os batch all told.
+    let q = c.write.new.self in
+    let s = c.flush.new.self in
+    let own = still_objects q.own s.own c.write.new.env c.flush.new.env (λ e. g.S.Store.objects e.store.now) _ c.in_ok-flush.ensures.own in
+    IfOk-weaker c.read_once.result _ _
+    (found_put _ _ c.args.batch c.args.pass.now q s c.read_once.new.pass c.write.result _ _ _ c.in_ok-flush.field-0 c.args.key.now value journal
+    c.requires.unused.0 c.requires.unused.1 batch c.write.ensures.written c.flush.ensures.seen own all c.read_once.ensures.own os (c.write.ensures.reads.objects ∙ told) c.in_ok-write.field-0 c.in_ok-write.was)
+    c.read_once.ensures.read
