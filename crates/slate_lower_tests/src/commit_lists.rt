@@ -5,7 +5,7 @@ ghost use Rattle.slate_types.specs.declared.error.SlateDBError.{SlateDBError};
 ghost use Rattle.slate_types.specs.Keys.{in_range};
 ghost use Rattle.slate_txn.specs.Managers.{IsCommitOf, conflict_among, is_tracked, untracked, later as the_later};
 ghost use Rattle.slate_txn.specs.State.{Commit};
-ghost use Rattle.slate_lower_tests.specs.CommitList.{Lists, newest_of as the_newest};
+ghost use Rattle.slate_lower_tests.specs.CommitList.{Lists, newest_tracked as the_newest};
 
 use crate::listing::one;
 use bytes::Bytes;

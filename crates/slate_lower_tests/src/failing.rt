@@ -2,7 +2,7 @@
 ghost use Rattle.std.specs.Prelude.{◌≡◌, ◌≤◌, ◌↔◌, true, false, option_copied, IfOk, IsOkUnless, IsTrue};
 ghost use Rattle.slate_types.specs.Faults.{Rose};
 ghost use Rattle.slate_store.specs.Plan.{is_planned, next_call};
-ghost use Rattle.slate_lower_tests.specs.Parts.{appended, appended_short};
+ghost use Rattle.slate_lower_tests.specs.Parts.{appended_cut, appended_short};
 
 use bytes::Bytes;
 use slate_language::Xor;
@@ -65,7 +65,7 @@ impl FailingConcat {
 }
 
 impl MergeOperator for FailingConcat {
-    ghost combine = { λ _ _. appended };
+    ghost combine = { λ _ _. appended_cut };
 
     ghost faults = { λ o. o.calls.faults };
 
@@ -87,7 +87,7 @@ impl MergeOperator for FailingConcat {
 }
 
 fn joined(alloc: Global, existing: Option<&Bytes>, value: &Bytes) -> Result<Bytes, AllocError>
-    ensures { IfOk result (λ made. made ≡ appended (option_copied existing.entry) value.now) }
+    ensures { IfOk result (λ made. made ≡ appended_cut (option_copied existing.entry) value.now) }
 {
     let mut bytes = Vec::new(alloc);
     if let Some(existing) = existing {
@@ -107,7 +107,8 @@ pub struct FailingXor {
 
 impl FailingXor {
     pub fn new(mask: u8, failing: Vec<u64>) -> FailingXor
-        ensures { result.calls.failing.items ≡ failing.items }
+        ensures mask { result.xor.mask ≡ mask }
+        ensures failing { result.calls.failing.items ≡ failing.items }
     {
         FailingXor {
             xor: Xor { mask },

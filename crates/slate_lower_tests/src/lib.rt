@@ -10,6 +10,8 @@ pub mod careless;
 mod commit_lists;
 pub mod failing;
 #[cfg(test)]
+mod file_calls;
+#[cfg(test)]
 mod folded;
 pub mod listing;
 #[cfg(test)]
@@ -28,6 +30,7 @@ mod parts;
 mod ranges;
 #[cfg(test)]
 mod read_tables;
+pub mod refusals;
 #[cfg(test)]
 mod stores;
 #[cfg(test)]

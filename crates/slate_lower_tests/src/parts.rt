@@ -1,5 +1,5 @@
 // An operator of one's own.
-ghost use Rattle.slate_lower_tests.specs.Parts.{appended, appended_short};
+ghost use Rattle.slate_lower_tests.specs.Parts.{appended_cut, appended_short};
 
 use crate::listing::{is_bytes, one};
 use bytes::Bytes;
@@ -11,7 +11,7 @@ use std::alloc::Global;
 pub struct Concat;
 
 impl MergeOperator for Concat {
-    ghost combine = { λ _ _. appended };
+    ghost combine = { λ _ _. appended_cut };
 
     ghost faults = { λ _. 0 };
 

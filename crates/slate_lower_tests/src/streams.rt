@@ -1,7 +1,8 @@
-// What a real reader is asked for: a byte at a time, with interrupts.
-use slate_store::{Lines, ReaderSource};
+// What a real reader and a real writer are asked for: a byte at a time, with interrupts.
+use slate_store::{Lines, ReaderSource, WriterSink, write_all};
 use std::alloc::Global;
-use std::io::{self, ErrorKind, Read};
+use std::cell::Cell;
+use std::io::{self, ErrorKind, Read, Write};
 
 // Gives one byte at a time, and is interrupted before each.
 #[derive(Drop)]
@@ -86,4 +87,67 @@ fn are_trickled(alloc: Global) -> bool {
 #[test]
 fn reads_a_byte_at_a_time(rt: HostRuntime) {
     assert!(rt; are_trickled(rt.alloc()));
+}
+
+// Takes one byte at a time, is interrupted before each, and takes nothing behind so many. What was taken is a number, a byte for each.
+#[derive(Drop)]
+struct Sips<'a> {
+    taken: &'a Cell<u64>,
+    left: usize,
+    is_interrupted: bool,
+}
+
+impl Write for Sips<'_> {
+    fn write(&mut self, buf: &[u8]) -> io::Result<usize> {
+        self.is_interrupted = !self.is_interrupted;
+        if self.is_interrupted {
+            return Err(ErrorKind::Interrupted.into());
+        }
+        match buf {
+            [byte, ..] if self.left > 0 => {
+                self.left -= 1;
+                self.taken.set((self.taken.get() << 8) | u64::from(*byte));
+                Ok(1)
+            }
+            _ => Ok(0),
+        }
+    }
+
+    fn flush(&mut self) -> io::Result<()> {
+        Ok(())
+    }
+}
+
+// How many bytes are taken of a line, whether it is written, and the bytes that were taken.
+const SIPS: &[(usize, bool, u64)] = &[
+    (9, true, 0x6f_6e_65_0a),
+    (4, true, 0x6f_6e_65_0a),
+    (3, false, 0x6f_6e_65),
+    (0, false, 0),
+];
+
+fn is_sipped(left: usize, is_written: bool, taken: u64) -> bool {
+    let all = Cell::new(0);
+    let mut sink = WriterSink::new(Sips {
+        taken: &all,
+        left,
+        is_interrupted: false,
+    });
+    let written = write_all(&mut sink, b"one\n").is_ok();
+    drop(sink);
+    written == is_written && all.get() == taken
+}
+
+fn are_sipped() -> bool {
+    for (left, is_written, taken) in SIPS {
+        if !is_sipped(*left, *is_written, *taken) {
+            return false;
+        }
+    }
+    true
+}
+
+#[test]
+fn writes_a_byte_at_a_time(rt: HostRuntime) {
+    assert!(rt; are_sipped());
 }

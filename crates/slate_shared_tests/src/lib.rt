@@ -6,7 +6,11 @@ mod calls;
 #[cfg(test)]
 mod encoding;
 #[cfg(test)]
+mod failing;
+#[cfg(test)]
 mod flushes;
+#[cfg(test)]
+mod folders;
 #[cfg(test)]
 mod gates;
 #[cfg(test)]
@@ -14,4 +18,8 @@ mod operands;
 #[cfg(test)]
 mod rows;
 #[cfg(test)]
+mod scans;
+#[cfg(test)]
 mod threads;
+#[cfg(test)]
+mod views;

@@ -51,8 +51,8 @@ fn a_transaction_reads_at_its_start(rt: HostRuntime) {
     assert!(rt; is_read_at_its_start(&rt, rt.alloc()));
 }
 
-// Whether a commit was refused for a conflict with the commit of this sequence.
-fn is_conflict<T: Drop>(ended: Result<T, SlateDBError>, seq: u64) -> bool {
+/// Whether a commit was refused for a conflict with the commit of this sequence.
+pub fn is_conflict<T: Drop>(ended: Result<T, SlateDBError>, seq: u64) -> bool {
     match ended {
         Err(SlateDBError::TransactionConflict { seq: other }) => other == seq,
         _ => false,

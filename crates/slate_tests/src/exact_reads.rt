@@ -1,8 +1,8 @@
 // Which reads a run leaves behind: a get reads an index and a block, and where a filter denies its key that filter alone.
 use crate::filters::prefixes;
 use crate::generated::words_of;
-use slate_script::run_main;
-use slate_store::{LyingStore, MemorySink, MemorySource, StoreRead};
+use slate_script::run_recorded;
+use slate_store::{MemorySink, MemorySource, StoreRead};
 use slate_types::SlateDBError;
 use std::alloc::Global;
 
@@ -47,15 +47,7 @@ fn leaves(alloc: Global, run: &Run) -> Result<bool, SlateDBError> {
     let policies = prefixes(alloc)?;
     let mut source = MemorySource::new(run.1.to_vec(alloc)?, Vec::new(alloc));
     let mut sink = MemorySink::new(alloc, Vec::new(alloc));
-    let mut store = LyingStore::new(alloc, Vec::new(alloc));
-    let status = run_main(
-        alloc,
-        words.as_slice(),
-        &mut source,
-        &mut sink,
-        &mut store,
-        policies,
-    );
+    let (status, store) = run_recorded(alloc, words.as_slice(), &mut source, &mut sink, policies);
     let leaves = status == 0 && sink.taken() == run.2 && are_reads(store.reads(), run.3);
     drop((words, source, sink, store));
     Ok(leaves)

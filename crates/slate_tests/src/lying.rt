@@ -129,6 +129,17 @@ const OTHER_FLAGS: &[u8] = b"\
 const OTHER_VALUE: &[u8] = b"\
 \x00\x00\x00\x01a\x00\x00\x00\x00\x00\x00\x00\x01\x04\x00\x00\x00\x00\x00\x00\x00\x00\x00\x00\x00\x012\x00\x00\x00\x01\xa3\x8a\xe8\xd8";
 
+// The block with the row as an operand, whose checksum fits.
+const OPERAND: &[u8] = b"\
+\x00\x00\x00\x01a\x00\x00\x00\x00\x00\x00\x00\x01\x0c\x00\x00\x00\x00\x00\x00\x00\x00\x00\x00\x00\x011\x00\x00\x00\x01\xf3{<\x04";
+
+// Two commits of one key that a reader keeps apart, and the block of their rows with the older one first, whose checksum fits.
+const TWO_OPERANDS: &[u8] =
+    b"begin z si\nwrite merge 'a '1\nwrite merge 'a '2\nflush\nbegin t si\nscan t asc * *\n";
+
+const RISING: &[u8] = b"\
+\x00\x00\x00\x01a\x00\x00\x00\x00\x00\x00\x00\x01\x0c\x00\x00\x00\x00\x00\x00\x00\x00\x00\x00\x00\x011\x00\x01\x00\x00\x00\x00\x00\x00\x00\x00\x00\x02\x0c\x00\x00\x00\x00\x00\x00\x00\x00\x00\x00\x00\x012\x00\x00\x00\x1b\x00\x02\x1d0n\x93";
+
 const LIES: &[Lie] = &[
     (
         &["filter=_bf:p=fixed4:wh=0"],
@@ -152,6 +163,15 @@ const LIES: &[Lie] = &[
     (V1, ONE_ROW, 2, Some(INDEX), 16, BEGUN),
     (V1, ONE_ROW, 2, Some(OTHER_KEY), 12, BEGUN),
     (V1, ONE_ROW, 2, Some(OTHER_FLAGS), 14, BEGUN),
+    (V1, ONE_ROW, 2, Some(OPERAND), 19, BEGUN),
+    (
+        &["format=v1", "filter=none", "op=concat"],
+        TWO_OPERANDS,
+        2,
+        Some(RISING),
+        18,
+        b"begun z 0\nwritten 1\nwritten 2\nflushed 2\nbegun t 2\n",
+    ),
 ];
 
 // Checksums that fit, so that nothing is refused, and the replies aren't what was written. In versions 1 and 2 that of another table's block

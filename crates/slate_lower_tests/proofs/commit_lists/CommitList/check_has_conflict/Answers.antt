@@ -1,6 +1,6 @@
 use Rattle.std.proofs.Common.{ap, ◌∙◌}
 use Rattle.slate_txn.specs.Managers.{Active, is_tracked}
-use Rattle.slate_lower_tests.specs.CommitList.{newest_of as the_newest}
+use Rattle.slate_lower_tests.specs.CommitList.{newest_tracked as the_newest}
 use Rattle.slate_lower_tests.proofs.CommitListLaws.{conflict_is}
 use Rattle.slate_lower_tests.proofs.commit_lists.CommitList.check_has_conflict.Goals as goal
 
