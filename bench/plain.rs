@@ -1,11 +1,11 @@
 //! The work of `slate_bench` and of `slate` in plain Rust, for comparison: the same bytes, by the standard library alone.
 //!
 //! With no word it prints what was done, and with the word `time` how long it took too. Lines and figures are those of
-//! `slate_bench`, and so are those of `threads THREADS ROUNDS`. Six more words are there for scripts: `make NAME` prints one of them, `run -` and `run FOLDER` answer one
-//! as `slate` does, `keep -` and `keep FOLDER` do so and keep a journal, `reads -` and `reads FOLDER` answer one too, and print no
-//! replies, but how much of tables they read, `gen ROUNDS SEED` answers as `slate - gen ROUNDS SEED`, with a journal too, and
-//! `index` answers lines of records as the program of that name, with a journal too, and `measure FILE PROGRAM WORDS..` runs a program and appends to the file what it took. Behind a store may stand the words
-//! `filter=none`, `seg=colon` and `op=max`, as for `slate`.
+//! `slate_bench`, and so are those of `threads THREADS ROUNDS`. More words are there for scripts: `make NAME` prints one of them, `run -` and
+//! `run FOLDER` answer one as `slate` does, `keep -` and `keep FOLDER` do so and keep a journal, `reads -` and `reads FOLDER` answer one too, and
+//! print no replies, but how much of tables they read, `gen ROUNDS SEED` answers as `slate - gen ROUNDS SEED`, with a journal too, and `index`,
+//! `stock` and `queue` answer lines as the programs of these names, with a journal too. `measure FILE PROGRAM WORDS..` runs a program and appends
+//! to the file what it took. Behind a store may stand the words `filter=none`, `seg=colon` and `op=max`, as for `slate`.
 
 use block::{decode_block, walk_v1, walk_v2, Builder, Row, Sums, Version};
 use script::{Journal, Settings, Store};
@@ -196,6 +196,7 @@ fn main() {
         ["reads", store, words @ ..] => run_for_reads(store, words),
         ["index"] => status_of(index::run(&mut io::stdin().lock(), &mut io::stdout().lock())),
         ["stock"] => stock::run(io::stdin(), io::stdout()),
+        ["queue"] => queue::run(io::stdin(), io::stdout()),
         ["gen", rounds, seed] => script::run_generated(rounds, seed, io::stdout()),
         ["threads", threads, rounds] => share_rounds(threads, rounds, false),
         ["threads", threads, rounds, "time"] => share_rounds(threads, rounds, true),
@@ -2581,6 +2582,277 @@ mod stock {
     }
 }
 
+/// A queue of jobs with leases, in memory, and the journal of all commits.
+mod queue {
+    use std::cmp::Reverse;
+    use std::collections::BTreeMap;
+    use std::fmt::Write as _;
+    use std::io::{BufRead, BufReader, Read, Write};
+    use std::str::{from_utf8, FromStr};
+
+    /// How many bytes of lines are read at once.
+    const PIECE: usize = 65536;
+
+    /// The key of the counter, under which the last id stands.
+    const COUNTER: &[u8] = b"n";
+
+    /// What the keys of all jobs begin with.
+    const JOBS: &[u8] = b"j";
+
+    /// By which rows are ordered: by key upwards, and the newest of a key first.
+    type RowKey = (Vec<u8>, Reverse<u64>);
+
+    /// A put of a value, or a delete.
+    type Op = (Vec<u8>, Option<Vec<u8>>);
+
+    /// One thing that a transaction did or saw. It is kept, and nothing asks for it.
+    #[allow(dead_code)]
+    enum Step {
+        Get(Vec<u8>, Option<Vec<u8>>),
+        Scan(Vec<u8>),
+        Next(Option<(Vec<u8>, Vec<u8>)>),
+        Own(Op),
+    }
+
+    /// A transaction began, ended, or was committed. The feed asks for commits; all else is kept, and nothing asks for it.
+    #[allow(dead_code)]
+    enum Event {
+        Begin {
+            id: u64,
+            seq: u64,
+        },
+        End {
+            id: u64,
+        },
+        Commit {
+            id: u64,
+            seq: u64,
+            now: i64,
+            ops: Vec<Op>,
+            tracked: Vec<Vec<u8>>,
+            transcript: Vec<Step>,
+        },
+    }
+
+    /// The lease of a job: its number, 0 where the job was never claimed, and its end.
+    struct Lease {
+        number: u64,
+        ends: i64,
+    }
+
+    impl Lease {
+        fn of(job: &[u8]) -> Option<Lease> {
+            let (number, rest) = job.split_first_chunk()?;
+            Some(Lease {
+                number: u64::from_be_bytes(*number),
+                ends: i64::from_be_bytes(*rest.first_chunk()?),
+            })
+        }
+
+        fn is_free(&self, now: i64) -> bool {
+            self.number == 0 || self.ends <= now
+        }
+
+        /// The job under this lease.
+        fn job(&self, payload: &[u8]) -> Vec<u8> {
+            [&self.number.to_be_bytes()[..], &self.ends.to_be_bytes(), payload].concat()
+        }
+    }
+
+    /// All versions of all keys, and what was done.
+    #[derive(Default)]
+    struct Queue {
+        rows: BTreeMap<RowKey, Option<Vec<u8>>>,
+        seq: u64,
+        ids: u64,
+        journal: Vec<Event>,
+    }
+
+    /// Answers each line of the source, and gives the status.
+    pub fn run(source: impl Read, mut sink: impl Write) -> i32 {
+        let mut queue = Queue::default();
+        let mut source = BufReader::with_capacity(PIECE, source);
+        let mut line = Vec::new();
+        loop {
+            line.clear();
+            match source.read_until(b'\n', &mut line) {
+                Ok(0) => return 0,
+                Ok(_) => {}
+                Err(_) => return 5,
+            }
+            let line = line.strip_suffix(b"\n").unwrap_or(&line);
+            if line.first().is_none_or(|byte| *byte == b'#') {
+                continue;
+            }
+            let Some(reply) = queue.answer(line) else {
+                return 3;
+            };
+            if sink.write_all(&reply).is_err() {
+                return 6;
+            }
+        }
+    }
+
+    fn job_key(id: u64) -> Vec<u8> {
+        [JOBS, &id.to_be_bytes()].concat()
+    }
+
+    fn id_of(key: &[u8]) -> Option<u64> {
+        Some(u64::from_be_bytes(*key.strip_prefix(JOBS)?.first_chunk()?))
+    }
+
+    fn number<T: FromStr + ToString>(token: &[u8]) -> Option<T> {
+        let text = from_utf8(token).ok()?;
+        let number: T = text.parse().ok()?;
+        (number.to_string() == text).then_some(number)
+    }
+
+    impl Queue {
+        /// The reply to the line; nothing where it is none.
+        fn answer(&mut self, line: &[u8]) -> Option<Vec<u8>> {
+            let tokens: Vec<&[u8]> = line.split(|byte| *byte == b' ').collect();
+            match tokens.as_slice() {
+                [b"add", payload] => self.add(payload.strip_prefix(b"'")?),
+                [b"claim", now, ms] => self.claim(number(now)?, number(ms)?),
+                [b"finish", id, lease] => self.finish(number(id)?, number(lease)?),
+                [b"feed", after] => Some(self.feed(number(after)?)),
+                _ => None,
+            }
+        }
+
+        fn add(&mut self, payload: &[u8]) -> Option<Vec<u8>> {
+            let tx = self.begin();
+            let counter = self.get(COUNTER);
+            let last = match &counter {
+                Some(number) => u64::from_be_bytes(*number.first_chunk()?),
+                None => 0,
+            };
+            let id = last + 1;
+            let job = Lease { number: 0, ends: 0 }.job(payload);
+            let ops = vec![
+                (COUNTER.to_vec(), Some(id.to_be_bytes().to_vec())),
+                (job_key(id), Some(job)),
+            ];
+            self.commit(tx, 0, ops, vec![Step::Get(COUNTER.to_vec(), counter)]);
+            Some(format!("added {id}\n").into_bytes())
+        }
+
+        /// Claims the free job with the least id.
+        fn claim(&mut self, now: i64, ms: u64) -> Option<Vec<u8>> {
+            let tx = self.begin();
+            let mut transcript = vec![Step::Scan(JOBS.to_vec())];
+            let Some((key, job)) = self.find_free(now, &mut transcript) else {
+                self.journal.push(Event::End { id: tx });
+                return Some(b"none\n".to_vec());
+            };
+            let id = id_of(&key)?;
+            let lease = Lease {
+                number: Lease::of(&job)?.number + 1,
+                ends: now.saturating_add_unsigned(ms),
+            };
+            let payload = &job[16..];
+            let mut reply = format!("claimed {id} {} '", lease.number).into_bytes();
+            reply.extend_from_slice(payload);
+            reply.push(b'\n');
+            let ops = vec![(key, Some(lease.job(payload)))];
+            self.commit(tx, now, ops, transcript);
+            Some(reply)
+        }
+
+        /// The first job that is free at the moment. What it reads is added to the transcript.
+        fn find_free(&self, now: i64, transcript: &mut Vec<Step>) -> Option<(Vec<u8>, Vec<u8>)> {
+            let from = (JOBS.to_vec(), Reverse(u64::MAX));
+            let mut last: &[u8] = b"";
+            for ((key, _), job) in self.rows.range(from..) {
+                if !key.starts_with(JOBS) {
+                    break;
+                }
+                let is_newest = key != last;
+                last = key;
+                if let (true, Some(job)) = (is_newest, job) {
+                    transcript.push(Step::Next(Some((key.clone(), job.clone()))));
+                    if Lease::of(job)?.is_free(now) {
+                        return Some((key.clone(), job.clone()));
+                    }
+                }
+            }
+            transcript.push(Step::Next(None));
+            None
+        }
+
+        /// Deletes a job that was last claimed under this lease.
+        fn finish(&mut self, id: u64, lease: u64) -> Option<Vec<u8>> {
+            let tx = self.begin();
+            let key = job_key(id);
+            let job = self.get(&key);
+            let refusal = match &job {
+                None => Some(format!("refused NoJob {id}\n")),
+                Some(job) => match Lease::of(job)?.number {
+                    current if current == lease && lease != 0 => None,
+                    current => Some(format!("refused StaleLease {current}\n")),
+                },
+            };
+            if let Some(refusal) = refusal {
+                self.journal.push(Event::End { id: tx });
+                return Some(refusal.into_bytes());
+            }
+            self.commit(tx, 0, vec![(key.clone(), None)], vec![Step::Get(key, job)]);
+            Some(b"ok\n".to_vec())
+        }
+
+        /// Of each commit above the number its own, and how many keys it has.
+        fn feed(&self, after: u64) -> Vec<u8> {
+            let mut entries = String::new();
+            let mut count = 0;
+            for event in &self.journal {
+                match event {
+                    Event::Commit { seq, ops, .. } if *seq > after => {
+                        count += 1;
+                        let _ = write!(entries, " {seq} {}", ops.len());
+                    }
+                    _ => {}
+                }
+            }
+            format!("feed {count}{entries}\n").into_bytes()
+        }
+
+        /// Begins a transaction, and gives its id.
+        fn begin(&mut self) -> u64 {
+            self.ids += 1;
+            self.journal.push(Event::Begin {
+                id: self.ids,
+                seq: self.seq,
+            });
+            self.ids
+        }
+
+        fn get(&self, key: &[u8]) -> Option<Vec<u8>> {
+            let newest = (key.to_vec(), Reverse(u64::MAX));
+            let (found, value) = self.rows.range(newest..).next()?;
+            (found.0 == key).then(|| value.clone())?
+        }
+
+        /// Commits operations of different keys, behind what the transcript has.
+        fn commit(&mut self, id: u64, now: i64, mut ops: Vec<Op>, mut transcript: Vec<Step>) {
+            self.seq += 1;
+            transcript.extend(ops.iter().cloned().map(Step::Own));
+            ops.sort();
+            for (key, value) in &ops {
+                let row = (key.clone(), Reverse(self.seq));
+                self.rows.insert(row, value.clone());
+            }
+            self.journal.push(Event::Commit {
+                id,
+                seq: self.seq,
+                now,
+                tracked: ops.iter().map(|(key, _)| key.clone()).collect(),
+                ops,
+                transcript,
+            });
+        }
+    }
+}
+
 mod scripts {
     use std::fmt::{Result, Write};
 
@@ -2686,6 +2958,7 @@ mod scripts {
             "segments" => write_and_scan_segments(&mut text, sizes),
             "records" => put_and_find(&mut text, many, few),
             "payments" => pay_many(&mut text, many),
+            "jobs" => add_and_claim(&mut text, many, few),
             _ => return None,
         };
         made.ok().map(|()| text)
@@ -2726,6 +2999,13 @@ mod scripts {
             }
         }
         writeln!(text, "total money")
+    }
+
+    /// Lines of a queue: many jobs are added, and so many of them claimed and finished in turn; then the feed of all commits.
+    fn add_and_claim(text: &mut String, many: u64, claims: u64) -> Result {
+        (1..=many).try_for_each(|id| writeln!(text, "add 'letter-{id:08}"))?;
+        (1..=claims).try_for_each(|id| writeln!(text, "claim {id} 1000\nfinish {id} 1"))?;
+        writeln!(text, "feed 0")
     }
 
     /// Many writes with a flush behind each so many, and scans of all rows.
