@@ -5,3 +5,4 @@ pub mod FirstCalls
 pub mod Turning
 pub mod OneWrite
 pub mod ReadBack
+mod Undone

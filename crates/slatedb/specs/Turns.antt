@@ -2,11 +2,14 @@
 --     AreBoth m c x y      two open scans of one transaction, and not the same one
 --     Stands policies r os c      the store tells these objects, over which the core is readable, and the core is vouched for
 --     IsBare m c it      what a scan has left, in a world without objects, as that of an opening over an empty store is
+--     ChangesAlone id old new      nothing was committed, and of the open transactions only that of this id may have changed
+--     IsUndone old new      nothing was committed, and the open transactions are those that were open, as they were
 use Rattle.std.specs.Prelude.{◌≡◌, ◌≢◌, ℕ, List, Some}
 use Rattle.slate_types.specs.declared.types.RowEntry.{RowEntry}
 use Rattle.slate_types.specs.Outside.{Objects, Reach}
 use Rattle.slate_types.specs.World.{Kept, World}
 use Rattle.slate_filter.specs.Policy.{Policy}
+use Rattle.slate_txn.specs.Named.{without}
 use Rattle.slate_db.specs.declared.scan.TxnIterator.{TxnIterator}
 use Rattle.slate_db.specs.LeftLaws.{IsLeft}
 use Rattle.slate_db.specs.Meaning.{Meaning}
@@ -35,3 +38,11 @@ pub record IsBare (m : Meaning) (c : CoreModel) (it : TxnIterator) : Type 0 wher
   pub bare : (path : List ℕ) (kept : Kept) → world.holds path ≡ Some kept → ⊥
   pub meant : world.meaning ≡ m
   pub leaves : Leaves (scan_of it) world rows
+
+pub record ChangesAlone (id : List ℕ) (old new : CoreModel) : Type 0 where
+  pub commits : new.state.commits ≡ old.state.commits
+  pub others : without id new.state.txns ≡ without id old.state.txns
+
+pub record IsUndone (old new : CoreModel) : Type 0 where
+  pub commits : new.state.commits ≡ old.state.commits
+  pub transactions : new.state.txns ≡ old.state.txns

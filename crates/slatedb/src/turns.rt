@@ -1,5 +1,5 @@
 //! Two scans of one serializable transaction, read by turns.
-ghost use Rattle.std.specs.Prelude.{◌≡◌, List, [], OnOk, map};
+ghost use Rattle.std.specs.Prelude.{◌≡◌, List, [], OnOk, OnErr, map};
 ghost use Rattle.slate_types.specs.Config.{IsValid};
 ghost use Rattle.slate_types.specs.declared.types.RowEntry.{RowEntry};
 ghost use Rattle.slate_types.specs.Outside.{Objects};
@@ -11,7 +11,7 @@ ghost use Rattle.slate_db.specs.Meaning.{rules_of};
 ghost use Rattle.slate_db.specs.Opened.{HasTransaction, StayOpen};
 ghost use Rattle.slate_db.specs.Scans.{id_of};
 ghost use Rattle.slate_db.specs.SerialLaws.{IsVouchedCore};
-ghost use Rattle.slatedb.specs.Turns.{AreBoth, IsBare, Stands};
+ghost use Rattle.slatedb.specs.Turns.{AreBoth, ChangesAlone, IsBare, IsUndone, Stands};
 
 use crate::{
     BlockTransformer, BytesRange, Core, Env, IsolationLevel, IterationOrder, Laws, MergeOperator,
@@ -39,6 +39,7 @@ pub fn read_by_turns<S: Store, M: MergeOperator, T: BlockTransformer, X: PrefixE
     ensures at_their_places { let reach = ⟦<EnvOf<S, M, T> as Outside>⟧.reach in
         let policies = map (λ p. meaning (p.vtable, p.value)) laws.now.policies.items in
         Stands policies (reach env.old) [] core.old → OnOk result (AreAlone (rules_of core.new.settings (reach env.old).meaning) core.new.events) }
+    ensures undone { OnErr result (IsUndone core.old core.new) }
 {
     transactions();
     let (id, _begin) = core.begin(IsolationLevel::SerializableSnapshot)?;
@@ -66,6 +67,7 @@ fn open_up<S: Store, M: MergeOperator, T: BlockTransformer, X: PrefixExtractor>(
     requires names { AreValidNames (map (λ p. (meaning (p.vtable, p.value)).name) laws.now.policies.items) }
     requires begun { HasTransaction core.old id.now }
     ensures stay { StayOpen core.old core.new }
+    ensures alone { ChangesAlone id.now core.old core.new }
     ensures meant { let reach = ⟦<EnvOf<S, M, T> as Outside>⟧.reach in (reach env.new).meaning ≡ (reach env.old).meaning }
     ensures vouched { let reach = ⟦<EnvOf<S, M, T> as Outside>⟧.reach in
         let policies = map (λ p. meaning (p.vtable, p.value)) laws.now.policies.items in
@@ -96,6 +98,7 @@ fn open_down<S: Store, M: MergeOperator, T: BlockTransformer, X: PrefixExtractor
     requires named { id_of up.old ≡ id.now }
     requires left { let reach = ⟦<EnvOf<S, M, T> as Outside>⟧.reach in (rows : List RowEntry) × IsLeft (reach env.old).meaning core.old up.old rows }
     ensures stay { StayOpen core.old core.new }
+    ensures alone { ChangesAlone id.now core.old core.new }
     ensures meant { let reach = ⟦<EnvOf<S, M, T> as Outside>⟧.reach in (reach env.new).meaning ≡ (reach env.old).meaning }
     ensures vouched { let reach = ⟦<EnvOf<S, M, T> as Outside>⟧.reach in
         let m = (reach env.old).meaning in
@@ -130,6 +133,7 @@ fn take_turns<S: Store, M: MergeOperator, T: BlockTransformer, X: PrefixExtracto
     requires both { let reach = ⟦<EnvOf<S, M, T> as Outside>⟧.reach in AreBoth (reach env.old).meaning core.old up.old down.old }
     requires named { id_of up.old ≡ id.now }
     ensures stay { StayOpen core.old core.new }
+    ensures alone { ChangesAlone id.now core.old core.new }
     ensures meant { let reach = ⟦<EnvOf<S, M, T> as Outside>⟧.reach in (reach env.new).meaning ≡ (reach env.old).meaning }
     ensures vouched { let reach = ⟦<EnvOf<S, M, T> as Outside>⟧.reach in
         let m = (reach env.old).meaning in
@@ -155,6 +159,7 @@ fn turn<S: Store, M: MergeOperator, T: BlockTransformer>(
 ) -> Result<(), SlateDBError>
     requires both { let reach = ⟦<EnvOf<S, M, T> as Outside>⟧.reach in AreBoth (reach env.old).meaning core.old up.old down.old }
     ensures stay { StayOpen core.old core.new }
+    ensures alone { ChangesAlone (id_of up.old) core.old core.new }
     ensures meant { let reach = ⟦<EnvOf<S, M, T> as Outside>⟧.reach in (reach env.new).meaning ≡ (reach env.old).meaning }
     ensures both { let reach = ⟦<EnvOf<S, M, T> as Outside>⟧.reach in OnOk result (AreBoth (reach env.old).meaning core.new up.new down.new × (id_of up.new ≡ id_of up.old)) }
     ensures stands { let reach = ⟦<EnvOf<S, M, T> as Outside>⟧.reach in

@@ -6,6 +6,7 @@ use Rattle.slate_db.proofs.Opened.{stay_on}
 use Rattle.slatedb.specs.Turns.{AreBoth}
 use Rattle.slatedb.proofs.OpenIds.{transaction_reads}
 use Rattle.slatedb.proofs.Turning.{bare_beside, bare_meant, opened_bare, opened_beside, opened_both, opened_left, scan_stands}
+use Rattle.slatedb.proofs.Undone.{changes_none, changes_noted, changes_then}
 use Rattle.slatedb.proofs.turns.open_down.Goals as goal
 
 pub scan-requires-clause-open : goal.scan-requires-clause-open
@@ -20,6 +21,7 @@ take_turns-ended-requires-clause-both g c κs lives =
 
 pub returns-in_err-down : goal.returns-in_err-down
 returns-in_err-down g c = record {
+  alone = changes_none _ _ _ c.in_err-down.ensures.same;
   stay = c.scan.ensures.stay;
   meant = c.scan.ensures.reads.meaning;
   vouched = λ stands x. IfOk-from_err c.from_residual.result _ c.from_residual.ensures.0;
@@ -30,6 +32,7 @@ returns g c =
     let policies = map (λ p. (goal.FilterPolicy-dyn g (p.vtable, p.value)).meaning p.value) c.args.laws.now.policies.items in
     let left = opened_left _ c.args.core.now c.scan.new.self c.args.id.now _ _ c.in_ok-down.down c.open_scans.ensures.steps c.requires.begun c.in_ok-down.ensures.noted c.in_ok-down.ensures.names c.in_ok-down.ensures.left in
     record {
+      alone = changes_then _ c.args.core.now c.scan.new.self c.take_turns-ended.new.core (changes_noted _ _ _ _ c.in_ok-down.ensures.noted) c.take_turns-ended.ensures.alone;
       stay = stay_on c.args.core.now c.scan.new.self c.take_turns-ended.new.core c.scan.ensures.stay c.take_turns-ended.ensures.stay;
       meant = c.take_turns-ended.ensures.meant ∙ c.scan.ensures.reads.meaning;
       vouched = λ stands x.

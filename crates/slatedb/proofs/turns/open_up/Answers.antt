@@ -7,6 +7,7 @@ use Rattle.slate_db.specs.SerialLaws.{IsVouchedCore}
 use Rattle.slate_db.proofs.Opened.{stay_on}
 use Rattle.slatedb.proofs.OpenIds.{transaction_reads}
 use Rattle.slatedb.proofs.Turning.{bare_meant, opened_bare, opened_left, opened_named, scan_stands}
+use Rattle.slatedb.proofs.Undone.{changes_none, changes_noted, changes_then}
 use Rattle.slatedb.proofs.turns.open_up.Goals as goal
 
 pub scan-requires-clause-open : goal.scan-requires-clause-open
@@ -25,6 +26,7 @@ open_down-ended-requires-clause-left g c κs lives =
 
 pub returns-in_err-up : goal.returns-in_err-up
 returns-in_err-up g c = record {
+  alone = changes_none _ _ _ c.in_err-up.ensures.same;
   stay = c.scan.ensures.stay;
   meant = c.scan.ensures.reads.meaning;
   vouched = λ stands. IfOk-from_err c.from_residual.result _ c.from_residual.ensures.0;
@@ -35,6 +37,7 @@ returns g c =
     let policies = map (λ p. (goal.FilterPolicy-dyn g (p.vtable, p.value)).meaning p.value) c.args.laws.now.policies.items in
     let left = opened_left _ c.args.core.now c.scan.new.self c.args.id.now _ _ c.in_ok-up.up c.open_scans.ensures.steps c.requires.begun c.in_ok-up.ensures.noted c.in_ok-up.ensures.names c.in_ok-up.ensures.left in
     record {
+      alone = changes_then _ c.args.core.now c.scan.new.self c.open_down-ended.new.core (changes_noted _ _ _ _ c.in_ok-up.ensures.noted) c.open_down-ended.ensures.alone;
       stay = stay_on c.args.core.now c.scan.new.self c.open_down-ended.new.core c.scan.ensures.stay c.open_down-ended.ensures.stay;
       meant = c.open_down-ended.ensures.meant ∙ c.scan.ensures.reads.meaning;
       vouched = λ stands.

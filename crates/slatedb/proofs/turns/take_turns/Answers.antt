@@ -1,4 +1,4 @@
-use Rattle.std.proofs.Common.{◌∙◌, ap, map, subst, sym}
+use Rattle.std.proofs.Common.{◌∙◌, ℕ, List, ap, map, subst, sym}
 use Rattle.std.proofs.lemmas.Result.{IfOk-from_err, on_ok_weaker}
 use Rattle.slate_types.specs.Outside.{Meaning}
 use Rattle.slate_db.specs.LeftLaws.{taken}
@@ -6,9 +6,10 @@ use Rattle.slate_db.specs.Model.{CoreModel}
 use Rattle.slate_db.specs.Opened.{HasTransaction}
 use Rattle.slate_db.specs.SerialLaws.{IsVouchedCore}
 use Rattle.slate_db.proofs.Opened.{stay_on}
-use Rattle.slatedb.specs.Turns.{AreBoth}
+use Rattle.slatedb.specs.Turns.{AreBoth, ChangesAlone}
 use Rattle.slatedb.proofs.OpenIds.{transaction_reads}
 use Rattle.slatedb.proofs.Turning.{bare_meant, between_bare, between_both, flush_beside, flush_stands, get_beside, get_stands, put_stands}
+use Rattle.slatedb.proofs.Undone.{changes_flushed, changes_none, changes_noted, changes_operated, changes_then, changes_unflushed}
 use Rattle.slatedb.proofs.turns.take_turns.Goals as goal
 
 pub get-requires-after_bounds : goal.get-requires-after_bounds
@@ -30,6 +31,7 @@ turn-requires-2 g c =
 
 pub returns-in_err-turn : goal.returns-in_err-turn
 returns-in_err-turn g c = record {
+  alone = subst (λ (id : List ℕ). ChangesAlone id c.args.core.now c.turn.new.core) c.requires.named c.turn.ensures.alone;
   stay = c.turn.ensures.stay;
   meant = c.turn.ensures.meant;
   vouched = λ stands x y. IfOk-from_err c.from_residual.result _ c.from_residual.ensures.0;
@@ -37,6 +39,8 @@ returns-in_err-turn g c = record {
 
 pub returns-in_err-get : goal.returns-in_err-get
 returns-in_err-get g c = record {
+  alone = changes_then _ c.args.core.now c.turn.new.core c.get.new.self (subst (λ (id : List ℕ). ChangesAlone id c.args.core.now c.turn.new.core) c.requires.named c.turn.ensures.alone)
+      (changes_none _ _ _ c.in_err-get.ensures.same);
   stay = stay_on c.args.core.now c.turn.new.core c.get.new.self c.turn.ensures.stay c.get.ensures.stay;
   meant = c.get.ensures.read.reads.meaning ∙ c.turn.ensures.meant;
   vouched = λ stands x y. IfOk-from_err c.from_residual-in_err-get.result _ c.from_residual-in_err-get.ensures.0;
@@ -44,6 +48,9 @@ returns-in_err-get g c = record {
 
 pub returns-in_err-put : goal.returns-in_err-put
 returns-in_err-put g c = record {
+  alone = changes_then _ c.args.core.now c.get.new.self c.put.new.self (changes_then _ c.args.core.now c.turn.new.core c.get.new.self (subst (λ (id : List ℕ). ChangesAlone id c.args.core.now c.turn.new.core) c.requires.named c.turn.ensures.alone)
+      (changes_noted _ _ _ _ c.in_ok-get.ensures.noted))
+      (changes_none _ _ _ c.in_err-put.ensures.same);
   stay = stay_on c.args.core.now c.get.new.self c.put.new.self (stay_on c.args.core.now c.turn.new.core c.get.new.self c.turn.ensures.stay c.get.ensures.stay) c.put.ensures.stay;
   meant = c.get.ensures.read.reads.meaning ∙ c.turn.ensures.meant;
   vouched = λ stands x y. IfOk-from_err c.from_residual-in_err-put.result _ c.from_residual-in_err-put.ensures.0;
@@ -51,6 +58,10 @@ returns-in_err-put g c = record {
 
 pub returns-in_err-flush : goal.returns-in_err-flush
 returns-in_err-flush g c = record {
+  alone = changes_then _ c.args.core.now c.put.new.self c.flush.new.self (changes_then _ c.args.core.now c.get.new.self c.put.new.self (changes_then _ c.args.core.now c.turn.new.core c.get.new.self (subst (λ (id : List ℕ). ChangesAlone id c.args.core.now c.turn.new.core) c.requires.named c.turn.ensures.alone)
+      (changes_noted _ _ _ _ c.in_ok-get.ensures.noted))
+      (changes_operated _ _ _ _ c.in_ok-put.ensures.taken))
+      (changes_unflushed _ _ c.in_err-flush.ensures.refused.0 _ c.in_err-flush.ensures.refused.1 c.in_err-flush.ensures.refused.2);
   stay = stay_on c.args.core.now c.put.new.self c.flush.new.self
       (stay_on c.args.core.now c.get.new.self c.put.new.self (stay_on c.args.core.now c.turn.new.core c.get.new.self c.turn.ensures.stay c.get.ensures.stay) c.put.ensures.stay) c.flush.ensures.stay;
   meant = c.flush.ensures.puts.meaning ∙ c.get.ensures.read.reads.meaning ∙ c.turn.ensures.meant;
@@ -62,6 +73,11 @@ returns g c =
     let policies = map (λ p. (goal.FilterPolicy-dyn g (p.vtable, p.value)).meaning p.value) c.args.laws.now.policies.items in
     let meant = c.flush.ensures.puts.meaning ∙ c.get.ensures.read.reads.meaning ∙ c.turn.ensures.meant in
     record {
+      alone = changes_then _ c.args.core.now c.flush.new.self c.turn-2.new.core (changes_then _ c.args.core.now c.put.new.self c.flush.new.self (changes_then _ c.args.core.now c.get.new.self c.put.new.self (changes_then _ c.args.core.now c.turn.new.core c.get.new.self (subst (λ (id : List ℕ). ChangesAlone id c.args.core.now c.turn.new.core) c.requires.named c.turn.ensures.alone)
+          (changes_noted _ _ _ _ c.in_ok-get.ensures.noted))
+          (changes_operated _ _ _ _ c.in_ok-put.ensures.taken))
+          (changes_flushed _ _ _ _ c.in_ok-flush.ensures.step))
+          (subst (λ (id : List ℕ). ChangesAlone id c.flush.new.self c.turn-2.new.core) ((c.in_ok-turn.ensures.both.1) ∙ c.requires.named) c.turn-2.ensures.alone);
       stay = stay_on c.args.core.now c.flush.new.self c.turn-2.new.core
           (stay_on c.args.core.now c.put.new.self c.flush.new.self
           (stay_on c.args.core.now c.get.new.self c.put.new.self (stay_on c.args.core.now c.turn.new.core c.get.new.self c.turn.ensures.stay c.get.ensures.stay) c.put.ensures.stay) c.flush.ensures.stay) c.turn-2.ensures.stay;
