@@ -18,6 +18,8 @@ mod generated;
 #[cfg(test)]
 mod listing;
 #[cfg(test)]
+mod long;
+#[cfg(test)]
 mod lying;
 #[cfg(test)]
 mod runs;
