@@ -2367,14 +2367,47 @@ mod script {
     }
 }
 
-/// The scripts that `slate` and plain Rust answer. `docs/SCRIPT.md` has their language.
-/// Accounts and stock: lines of orders, answered from a map of amounts, with a journal of all orders and what they read.
-mod stock {
-    use std::collections::BTreeMap;
+/// Lines of a program, answered one by one.
+mod lines {
     use std::io::{BufRead, BufReader, Read, Write};
 
     /// How many bytes of lines are read at once.
     const PIECE: usize = 65536;
+
+    /// Writes the reply to each line of the source that is no comment and not empty, and gives the status: 3 at a line that has none.
+    pub fn answer_each(
+        source: impl Read,
+        mut sink: impl Write,
+        mut reply_to: impl FnMut(&[u8]) -> Option<Vec<u8>>,
+    ) -> i32 {
+        let mut source = BufReader::with_capacity(PIECE, source);
+        let mut line = Vec::new();
+        loop {
+            line.clear();
+            match source.read_until(b'\n', &mut line) {
+                Ok(0) => return 0,
+                Ok(_) => {}
+                Err(_) => return 5,
+            }
+            let line = line.strip_suffix(b"\n").unwrap_or(&line);
+            if line.first().is_none_or(|byte| *byte == b'#') {
+                continue;
+            }
+            let Some(reply) = reply_to(line) else {
+                return 3;
+            };
+            if sink.write_all(&reply).is_err() {
+                return 6;
+            }
+        }
+    }
+}
+
+/// Accounts and stock: lines of orders, answered from a map of amounts, with a journal of all orders and what they read.
+mod stock {
+    use crate::lines::answer_each;
+    use std::collections::BTreeMap;
+    use std::io::{Read, Write};
 
     /// What an order read or put. It is kept, and nothing asks for it.
     #[allow(dead_code)]
@@ -2419,30 +2452,13 @@ mod stock {
     use Refusal::{Said, Syntax};
 
     /// Answers each line of the source, and gives the status.
-    pub fn run(source: impl Read, mut sink: impl Write) -> i32 {
+    pub fn run(source: impl Read, sink: impl Write) -> i32 {
         let mut books = Books::default();
-        let mut source = BufReader::with_capacity(PIECE, source);
-        let mut line = Vec::new();
-        loop {
-            line.clear();
-            match source.read_until(b'\n', &mut line) {
-                Ok(0) => return 0,
-                Ok(_) => {}
-                Err(_) => return 5,
-            }
-            let line = line.strip_suffix(b"\n").unwrap_or(&line);
-            if line.first().is_none_or(|byte| *byte == b'#') {
-                continue;
-            }
-            let reply = match books.answer(line) {
-                Ok(reply) => reply,
-                Err(Said(why)) => format!("refused {why}\n"),
-                Err(Syntax) => return 3,
-            };
-            if sink.write_all(reply.as_bytes()).is_err() {
-                return 6;
-            }
-        }
+        answer_each(source, sink, |line| match books.answer(line) {
+            Ok(reply) => Some(reply.into_bytes()),
+            Err(Said(why)) => Some(format!("refused {why}\n").into_bytes()),
+            Err(Syntax) => None,
+        })
     }
 
     fn balance_key(asset: &[u8], name: &[u8]) -> Vec<u8> {
@@ -2584,14 +2600,12 @@ mod stock {
 
 /// A queue of jobs with leases, in memory, and the journal of all commits.
 mod queue {
+    use crate::lines::answer_each;
     use std::cmp::Reverse;
     use std::collections::BTreeMap;
     use std::fmt::Write as _;
-    use std::io::{BufRead, BufReader, Read, Write};
+    use std::io::{Read, Write};
     use std::str::{from_utf8, FromStr};
-
-    /// How many bytes of lines are read at once.
-    const PIECE: usize = 65536;
 
     /// The key of the counter, under which the last id stands.
     const COUNTER: &[u8] = b"n";
@@ -2669,28 +2683,9 @@ mod queue {
     }
 
     /// Answers each line of the source, and gives the status.
-    pub fn run(source: impl Read, mut sink: impl Write) -> i32 {
+    pub fn run(source: impl Read, sink: impl Write) -> i32 {
         let mut queue = Queue::default();
-        let mut source = BufReader::with_capacity(PIECE, source);
-        let mut line = Vec::new();
-        loop {
-            line.clear();
-            match source.read_until(b'\n', &mut line) {
-                Ok(0) => return 0,
-                Ok(_) => {}
-                Err(_) => return 5,
-            }
-            let line = line.strip_suffix(b"\n").unwrap_or(&line);
-            if line.first().is_none_or(|byte| *byte == b'#') {
-                continue;
-            }
-            let Some(reply) = queue.answer(line) else {
-                return 3;
-            };
-            if sink.write_all(&reply).is_err() {
-                return 6;
-            }
-        }
+        answer_each(source, sink, |line| queue.answer(line))
     }
 
     fn job_key(id: u64) -> Vec<u8> {
@@ -2853,6 +2848,7 @@ mod queue {
     }
 }
 
+/// The scripts that `slate` and plain Rust answer. `docs/SCRIPT.md` has their language.
 mod scripts {
     use std::fmt::{Result, Write};
 
