@@ -44,7 +44,7 @@ impl KeyPlace {
         self.is_over() && self.next >= offsets.len()
     }
 
-    /// PassesFirst behind the next row where that comes before the key, and says whether it did.
+    /// Goes behind the next row where that comes before the key, and says whether it did.
     pub fn pass(&mut self, body: &Bytes, offsets: &[u16], key: &[u8]) -> Result<bool, SlateDBError>
         requires { is_over (as_place self.old).group ≡ true → self.old.next < length offsets.now }
         ensures goes { IfOk result (λ passed. PassesFirst key.now (left_v2 body.now offsets.now (as_place self.old)) (left_v2 body.now offsets.now (as_place self.new)) passed) }

@@ -1,10 +1,13 @@
 -- Names pass their tests exactly where they are valid.
+--     says_text      a call that tests for text says whether bytes are
 --     names_valid      names that are few are valid exactly where the test of each and of no two alike says so
-use Rattle.std.proofs.Common.{◌≡◌, ◌<◌, ◌≤◌, ◌^◌, ℕ, Bool, true, false, ◌&&◌, not, List, [], ◌∷◌, length, map, refl, sym, ◌∙◌, arith, lt-ltb, ltb-true}
-use Rattle.std.specs.Prelude.{◌↔◌, nat_lt}
+use Rattle.std.proofs.Common.{◌≡◌, ◌<◌, ◌≤◌, ◌^◌, ℕ, Bool, true, false, ◌&&◌, not, List, [], ◌∷◌, length, map, Ok, Err, refl, sym, ◌∙◌, arith, lt-ltb, ltb-true}
+use Rattle.std.specs.Prelude.{◌↔◌, nat_lt, Result, is_ok, MatchResult, IsUtf8}
+use Rattle.std.specs.Str.{is_utf8}
 use Rattle.std.specs.List.{AllByRecursion}
 use Rattle.std.proofs.lemmas.Bool.{and_from, false≢true}
 use Rattle.std.proofs.lemmas.List.{length-map}
+use Rattle.std.proofs.lemmas.Str.{is_utf8-from_IsUtf8, IsUtf8-from_is_utf8}
 use Rattle.slate_types.specs.Keys.{among}
 use Rattle.slate_filter.specs.Laws.{AreDistinct, AreValidNames}
 use Rattle.slate_filter.specs.Names.{are_apart}
@@ -45,3 +48,14 @@ names_valid xs name b is few = (
   λ valid. record { few = omega (arith, few, length-map xs name); short = names_short (map name xs) (sym is ∙ valid); distinct = names_distinct (map name xs) (sym is ∙ valid) },
   λ valid. is ∙ names_apart (map name xs) valid.short valid.distinct,
 )
+
+-- ---- text
+
+-- a call that tests for text says whether bytes are
+pub says_text : {A E : Type 0} (P : A → Type 0) (Q : E → Type 0) (r : Result A E) (bytes : List ℕ) → MatchResult r (λ s. P s × IsUtf8 bytes) (λ e. (IsUtf8 bytes → ⊥) × Q e) → is_ok r ≡ is_utf8 bytes
+says_text P Q (Ok s) bytes h = sym (is_utf8-from_IsUtf8 bytes h.1)
+says_text P Q (Err e) bytes h = by (is_utf8 bytes) refl
+  where
+    by : (t : Bool) → is_utf8 bytes ≡ t → false ≡ t
+    by true is = absurd (h.0 (IsUtf8-from_is_utf8 bytes is))
+    by false is = refl

@@ -32,23 +32,30 @@ fn asked(
     ensures { result ≡ asked (map (λ p. meaning p) policies.now) (map named_pair filters.now) query.now }
 {
     for filter in filters {
-        if !asked_by(policies, filter, query)? {
+        if !asked_by(
+            policies,
+            filter.name.as_bytes(),
+            filter.filter.as_slice(),
+            query,
+        )? {
             return Some(false);
         }
     }
     Some(true)
 }
 
-/// What the policies of a filter's name answer over it.
-fn asked_by(
+/// What the policies of a filter's name answer over its bytes, up to the first that denies the query. `None` where one that is
+/// asked refuses the bytes. Policies of other names let the query through.
+pub fn asked_by(
     policies: &[Box<dyn FilterPolicy>],
-    filter: &NamedFilter,
+    name: &[u8],
+    filter: &[u8],
     query: &FilterQuery,
 ) -> Option<bool>
-    ensures { result ≡ asked_by (map (λ p. meaning p) policies.now) query.now (named_pair filter.now) }
+    ensures { result ≡ asked_by (map (λ p. meaning p) policies.now) query.now (name.now, filter.now) }
 {
     for policy in policies {
-        if !answer_of(policy, filter, query)? {
+        if !answer_of(policy, name, filter, query)? {
             return Some(false);
         }
     }
@@ -58,13 +65,14 @@ fn asked_by(
 /// What a policy answers over a filter. One of another name it lets through.
 fn answer_of(
     policy: &Box<dyn FilterPolicy>,
-    filter: &NamedFilter,
+    name: &[u8],
+    filter: &[u8],
     query: &FilterQuery,
 ) -> Option<bool>
-    ensures { result ≡ answer_of (meaning policy.now) query.now (named_pair filter.now) }
+    ensures { result ≡ answer_of (meaning policy.now) query.now (name.now, filter.now) }
 {
-    if policy.name() == filter.name.as_str() {
-        policy.might_match(filter.filter.as_slice(), query).ok()
+    if policy.name().as_bytes() == name {
+        policy.might_match(filter, query).ok()
     } else {
         Some(true)
     }

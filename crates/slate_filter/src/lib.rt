@@ -24,7 +24,7 @@ pub mod names;
 pub mod probes;
 pub mod vectors;
 
-pub use asking::let_through;
+pub use asking::{asked_by, let_through};
 pub use bloom_builder::BloomFilterBuilder;
 pub use bloom_filter::BloomFilter;
 pub use bloom_policy::BloomFilterPolicy;
@@ -33,7 +33,7 @@ pub use filter_policy::FilterPolicy;
 pub use filters::build_filters;
 pub use hash::filter_hash;
 pub use named_filter::NamedFilter;
-pub use names::have_valid_names;
+pub use names::{have_valid_names, is_text};
 pub use probes::{check_bit, optimal_num_probes, probes_for_key, set_bit};
 
 fn crosses<T: Send + Sync>() {}

@@ -1,10 +1,12 @@
 //! The names of the policies that a caller hands in.
 ghost use Rattle.std.specs.Prelude.{◌≡◌, ◌↔◌, bytes_eq, map, true};
+ghost use Rattle.std.specs.Str.{is_utf8};
 ghost use Rattle.slate_types.specs.Keys.{among};
 ghost use Rattle.slate_filter.specs.Laws.{AreValidNames};
 ghost use Rattle.slate_filter.specs.Names.{are_apart};
 
 use crate::filter_policy::FilterPolicy;
+use std::str;
 
 /// The most policies that a store may have, and the most bytes of a policy's name.
 const MAX: usize = 65_535;
@@ -15,6 +17,18 @@ pub fn have_valid_names(policies: &[Box<dyn FilterPolicy>]) -> bool
     ensures { (result ≡ true) ↔ AreValidNames (map (λ p. (meaning p).name) policies.now) }
 {
     policies.len() <= MAX && are_apart(policies)
+}
+
+/// Whether a name is UTF-8. The name of a policy is, so it isn't read.
+pub fn is_text(policies: &[Box<dyn FilterPolicy>], name: &[u8]) -> bool
+    ensures { result ≡ is_utf8 name.now }
+{
+    for policy in policies {
+        if policy.name().as_bytes() == name {
+            return true;
+        }
+    }
+    str::from_utf8(name).is_ok()
 }
 
 /// Whether each name is short, and none stands twice.

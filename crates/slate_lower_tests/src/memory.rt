@@ -1,10 +1,11 @@
 // Batches and frozen rows in memory: calls that no run makes, and what they give.
-use crate::listing::{Row, are_rows, one, row, walked};
+use crate::listing::{Row, are_rows, are_same_rows, one, row, walked};
 use crate::memory_lists::put_in_table;
 use bytes::Bytes;
 use slate_mem::{ImmutableMemtable, MemTable, WriteBatch, WriteBatchIterator};
 use slate_types::{
     BytesRange, IterationOrder, NoExtractor, PutOptions, RowEntry, SlateDBError, Ttl,
+    ValueDeletable,
 };
 use std::alloc::Global;
 use std::collections::BTreeSet;
@@ -116,6 +117,72 @@ fn later_rows(alloc: Global) -> Option<Vec<RowEntry>> {
 #[test]
 fn later_rows_stay(rt: HostRuntime) {
     assert!(rt; are_rows(rt.alloc(), later_rows(rt.alloc()), &[*NEW]));
+}
+
+// Puts a row whose key is one byte.
+fn put_numbered(alloc: Global, table: &mut MemTable, n: u8) -> Option<()> {
+    let key = Bytes::copy_from_slice(alloc, &[n]).ok()?;
+    let row = RowEntry {
+        key,
+        value: ValueDeletable::Tombstone,
+        seq: 1,
+        create_ts: None,
+        expire_ts: None,
+    };
+    table.put_all(one(alloc, row), BTreeSet::new(alloc)).ok()
+}
+
+// A shared table of 70 rows, more than an iterator copies at once.
+fn shared(alloc: Global) -> Option<ImmutableMemtable> {
+    let mut table = MemTable::new(alloc);
+    let mut put = Some(());
+    for n in 0..70 {
+        put = put.and(put_numbered(alloc, &mut table, n));
+    }
+    let frozen = table.freeze().ok();
+    drop(table);
+    let mut frozen = frozen?;
+    let shared = frozen.share().ok();
+    drop(frozen);
+    put.and(shared)
+}
+
+// The rows of a walk over such a table, keys rising, behind a seek where there is a key.
+fn walked_share(
+    alloc: Global,
+    table: &ImmutableMemtable,
+    key: Option<&[u8]>,
+) -> Option<Vec<RowEntry>> {
+    let order = IterationOrder::Ascending;
+    let rows = table.range(alloc, &BytesRange::unbounded(), order);
+    walked(alloc, rows, key)
+}
+
+fn walks_all(alloc: Global) -> bool {
+    let Some(table) = shared(alloc) else {
+        return false;
+    };
+    let all = table.rows(alloc).ok();
+    let walk = walked_share(alloc, &table, None);
+    drop(table);
+    are_same_rows(walk, all)
+}
+
+fn seeks_past_copies(alloc: Global) -> bool {
+    let Some(table) = shared(alloc) else {
+        return false;
+    };
+    let left = walked_share(alloc, &table, Some(&[66]));
+    drop(table);
+    let count = left.as_ref().map(Vec::len);
+    drop(left);
+    count == Some(4)
+}
+
+#[test]
+fn shared_tables_are_walked(rt: HostRuntime) {
+    assert!(rt; walks_all(rt.alloc()));
+    assert!(rt; seeks_past_copies(rt.alloc()));
 }
 
 // Four writes to a batch.

@@ -1,5 +1,5 @@
 -- The rows that the operations of a batch fold to, key by key.
-use Rattle.std.proofs.Common.{◌≡◌, ℕ, Bool, true, false, cond, ◌||◌, List, [], ◌∷◌, ◌++◌, map, filter_map, reverse, Option, Some, None, option_to_list, ℤ, refl, sym, ap, subst, ◌∙◌, append_assoc, arith, inl, inr}
+use Rattle.std.proofs.Common.{◌≡◌, ℕ, Bool, true, false, cond, ◌||◌, List, [], ◌∷◌, ◌++◌, length, map, filter_map, reverse, Option, Some, None, option_to_list, ℤ, refl, sym, ap, subst, ◌∙◌, append_assoc, arith, inl, inr}
 use Rattle.std.specs.Prelude.{◌⊎◌, Result, Ok, Err, IfErr, IsOkUnless}
 use Rattle.std.specs.List.{list_any, cons_option, AllByRecursion}
 use Rattle.std.specs.Map.{keys_of}
@@ -84,12 +84,18 @@ own_rows s k ops own is kept = record {
     turned : reverse own ≡ map (stamped s k) ops
     turned = ap reverse is ∙ turned_map (stamped s k) ops
 
+-- the row of a lone operation
+pub lone_row : (c : Combine) (s : Stamps) (k : List ℕ) (ops : List WriteOp) → length ops ≡ 1 → map (stamped s k) (reverse ops) ≡ option_to_list (fold_rows c (map (stamped s k) ops))
+lone_row c s k [] one = absurd cc
+lone_row c s k (op ∷ []) one = refl
+lone_row c s k (a ∷ b ∷ ops) one = absurd (omega (arith, one))
+
 -- ---- one key more
 
-pub one_key : (c : List ℕ → Combine) (s : Stamps) (e : List ℕ × SmallVec WriteOp) (es : Entries) (before after own : List RowEntry) → OwnRows s e.0 e.1.items own → after ≡ before ++ option_to_list (fold_rows (c e.0) (reverse own)) →
+pub one_key : (c : List ℕ → Combine) (s : Stamps) (e : List ℕ × SmallVec WriteOp) (es : Entries) (before after : List RowEntry) → after ≡ before ++ option_to_list (fold_rows (c e.0) (map (stamped s e.0) e.1.items)) →
     after ++ folded_entries c s es ≡ before ++ folded_entries c s (e ∷ es)
-one_key c s e es before after own rows is =
-    ap (λ xs. xs ++ folded_entries c s es) (is ∙ ap (λ xs. before ++ option_to_list (fold_rows (c e.0) xs)) rows.turned)
+one_key c s e es before after is =
+    ap (λ xs. xs ++ folded_entries c s es) is
     ∙ append_assoc before (option_to_list (fold_rows (c e.0) (map (stamped s e.0) e.1.items))) (folded_entries c s es)
     ∙ ap (λ xs. before ++ xs) (listed_option (fold_rows (c e.0) (map (stamped s e.0) e.1.items)) (folded_entries c s es))
   where

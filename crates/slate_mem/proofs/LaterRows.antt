@@ -12,8 +12,8 @@ use Rattle.slate_types.proofs.KeySetLaws.{set_rises}
 use Rattle.slate_mem.specs.KeyTests.{Segments, prefix_by}
 use Rattle.slate_mem.specs.Segments.{row_prefixes}
 use Rattle.slate_mem.specs.Table.{put_row, put_rows}
-use Rattle.slate_mem.specs.Tied.{TableEntries, IsRows}
-use Rattle.slate_mem.proofs.TableLaws.{AreKeyed, set_of_set, tied_keyed}
+use Rattle.slate_mem.specs.Tied.{TableEntries, IsRows, insert_rows}
+use Rattle.slate_mem.proofs.TableLaws.{AreKeyed, rows_put_all, set_of_set, tied_keyed}
 
 abbrev pub Rise : List RowEntry → Type 0
 Rise rows = IsStrictlySortedBy sequenced_cmp (map sequenced rows)
@@ -68,3 +68,19 @@ put_rising (r ∷ rest) done h =
 -- prefixes of rows that are recorded by themselves
 pub prefixes_alone : (segments : Segments) (rows : List RowEntry) → keys_set (row_prefixes segments rows) ≡ row_prefixes segments rows
 prefixes_alone segments rows = set_of_set (row_prefixes segments rows) (set_rises (filter_map (λ r. prefix_by segments r.key) rows))
+
+-- ---- rows that are put one by one into an empty table
+
+pub no_entries : IsRows []
+unfolding IsStrictlySortedBy
+no_entries = record { tied = tt; rising = tt }
+
+pub put_kept : (p : RowEntry → Bool) (es : TableEntries) (r : RowEntry) (rows : List RowEntry) → insert_rows (insert_rows es (filter p (r ∷ []))) (filter p rows) ≡ insert_rows es (filter p (r ∷ rows))
+put_kept p es r rows = by (p r)
+  where
+    by : (b : Bool) → insert_rows (insert_rows es (cond b (r ∷ []) [])) (filter p rows) ≡ insert_rows es (cond b (r ∷ filter p rows) (filter p rows))
+    by true = refl
+    by false = refl
+
+pub put_alike : (p q : RowEntry → Bool) (es : TableEntries) → IsRows es → values_of (insert_rows [] (filter p (filter q (values_of es)))) ≡ filter p (filter q (values_of es))
+put_alike p q es w = rows_put_all (filter p (filter q (values_of es))) [] tt ∙ put_rising (filter p (filter q (values_of es))) [] (rises_filtered p (filter q (values_of es)) (rises_filtered q (values_of es) (table_rises es w)))

@@ -1,10 +1,11 @@
 -- What a walk over rows finds of a key.
-use Rattle.std.proofs.Common.{◌≡◌, ℕ, Bool, true, false, cond, ◌&&◌, List, [], ◌∷◌, Option, Some, refl, sym, ap, subst, ◌∙◌, bytes_eq, nat_le, Ordering, Less, Equal, Greater}
+use Rattle.std.proofs.Common.{◌≡◌, ℕ, ◌<◌, Bool, true, false, cond, ◌&&◌, List, [], ◌∷◌, length, Option, Some, None, arith, refl, sym, ap, subst, ◌∙◌, bytes_eq, nat_le, Ordering, Less, Equal, Greater}
 use Rattle.std.specs.Ordering.{is_lt, ordering_reverse}
 use Rattle.std.proofs.lemmas.Slice.Eq.{bytes_eq-Decides}
 use Rattle.slate_types.specs.declared.types.RowEntry.{RowEntry}
+use Rattle.slate_types.specs.declared.iter.IterationOrder.{IterationOrder}
 use Rattle.slate_types.specs.declared.iter.IterationOrder.TheVariants.{Ascending}
-use Rattle.slate_types.specs.Iteration.{NoneBefore, IsInOrder, TakesRow, drop_before}
+use Rattle.slate_types.specs.Iteration.{NoneBefore, IsInOrder, TakesRow, begins_before, drop_before}
 use Rattle.slate_types.specs.Keys.{key_cmp, key_lt, key_le}
 use Rattle.slate_types.specs.Rows.{is_base}
 use Rattle.slate_types.proofs.IterationLaws.{none_before_earlier}
@@ -78,3 +79,20 @@ dropped_same k n (r ∷ rs) = by (key_lt r.key k) refl (bytes_eq r.key k) refl (
 
 pub takes : (rows : List RowEntry) (o : Option RowEntry) (row : RowEntry) (after : List RowEntry) → o ≡ Some row → TakesRow rows o after → rows ≡ row ∷ after
 takes rows o row after is h = subst (λ (x : Option RowEntry). TakesRow rows x after) is h
+
+-- a row that is taken in a seek
+pub record Passed (order : IterationOrder) (key : List ℕ) (before after : List RowEntry) : Type 0 where
+  pub same : drop_before order key after ≡ drop_before order key before
+  pub fewer : length after < length before
+  pub sorted : IsInOrder order before → IsInOrder order after
+
+pub passes : (order : IterationOrder) (key : List ℕ) (before after : List RowEntry) (answer : Option RowEntry) → begins_before order key before ≡ true → TakesRow before answer after → Passed order key before after
+passes order key [] after answer h taken = cc
+passes order key (r ∷ rows) after None h taken = let none : r ∷ rows ≡ [] = taken.0 in cc
+passes order key (r ∷ rows) after (Some row) h taken =
+    let rest : rows ≡ after = cc in
+    record {
+      same = ap (drop_before order key) (sym rest) ∙ sym (ap (λ b. cond b (drop_before order key rows) (r ∷ rows)) h);
+      fewer = subst (λ xs. length xs < length (r ∷ rows)) rest (omega arith);
+      sorted = λ k. subst (IsInOrder order) rest k.1;
+    }

@@ -1,5 +1,5 @@
 //! A batch of operations, which are to become one commit.
-ghost use Rattle.std.specs.Prelude.{◌≡◌, ◌⊎◌, ◌≤◌, ◌-◌, ◌^◌, ◌↔◌, ◌++◌, ◌∷◌, ℕ, List, [], true, false, min, length, filter_map, option_map, option_copied, Some, None, is_some, IsSome, IsTrue, OnOk, OnErr, IfOk, IfErr, IsOkUnless};
+ghost use Rattle.std.specs.Prelude.{◌≡◌, ◌⊎◌, ◌≤◌, ◌-◌, ◌^◌, ◌↔◌, ◌++◌, ◌∷◌, ℕ, List, [], true, false, min, length, map, filter_map, option_map, option_to_list, option_copied, Some, None, is_some, IsSome, IsTrue, OnOk, OnErr, IfOk, IfErr, IsOkUnless};
 ghost use Rattle.std.specs.BTreeMap as map;
 ghost use Rattle.std.specs.BTreeMap.{insert_entry, IsUnchanged};
 ghost use Rattle.slate_types.specs.declared.error.SlateDBError.{SlateDBError};
@@ -10,10 +10,11 @@ ghost use Rattle.slate_mem.specs.Batch.{Ops, replaces, batch_keys, kept_ops};
 ghost use Rattle.slate_mem.specs.Refusals.{first_refusal, key_refusals, value_refusal, op_refusal};
 ghost use Rattle.slate_mem.specs.BatchModel.{no_ops, with_op, plain_put, plain_merge, holds_merge, IsBatchOf};
 ghost use Rattle.slate_types.specs.Faults.{faults_of};
-ghost use Rattle.slate_types.specs.Fold.{Combine, operator_at};
+ghost use Rattle.slate_types.specs.Fold.{Combine, fold_rows, operator_at};
+ghost use Rattle.slate_types.specs.Outside.{IsOperatorStill};
 ghost use Rattle.slate_mem.specs.CommitRows.{commit_rows, row_bytes};
-ghost use Rattle.slate_mem.specs.Kept.{listed, tagged, AreKept, HasMore, IsWhole};
-ghost use Rattle.slate_mem.specs.BatchRows.{folded_entries};
+ghost use Rattle.slate_mem.specs.Kept.{listed, tagged, AreKept, HasMore, IsKept, IsWhole};
+ghost use Rattle.slate_mem.specs.BatchRows.{folded_entries, stamped};
 ghost use Rattle.slate_mem.specs.KeyTests.{entry_refusals, merges_refusal, point_lengths, prefix_by, prefixes, test_refusals};
 ghost use Rattle.slate_mem.specs.Lookup.{IsCallback};
 
@@ -278,6 +279,7 @@ impl WriteBatch {
         ensures uncalled { (e : SlateDBError) → first_refusal (test_refusals (is_some operator.old) self.now.held_merge (point_lengths (option_map X.lengths (option_copied extractor.entry))) default_ttl_millis now self.now.ops) ≡ Some e → operator.new ≡ operator.old }
         ensures same { option_map M.combine operator.new ≡ option_map M.combine operator.old }
         ensures later { faults_of M.faults operator.old ≤ faults_of M.faults operator.new }
+        ensures still { IsOperatorStill (faults_of M.faults operator.old) (faults_of M.faults operator.new) result }
         ensures cause { IfErr result (λ e. (e ≡ SlateDBError.OutOfMemory) ⊎ ((first_refusal (test_refusals (is_some operator.old) self.now.held_merge (point_lengths (option_map X.lengths (option_copied extractor.entry))) default_ttl_millis now self.now.ops) ≡ Some e) ⊎ IsCallback (faults_of M.faults operator.old) (faults_of M.faults operator.new) e)) }
     {
         let has_operator = operator.is_some();
@@ -305,6 +307,7 @@ impl WriteBatch {
         ensures bytes { IfOk result (λ e. e.1 ≡ min (row_bytes e.0.items) (2 ^ 64 - 1)) }
         ensures same { option_map M.combine operator.new ≡ option_map M.combine operator.old }
         ensures later { faults_of M.faults operator.old ≤ faults_of M.faults operator.new }
+        ensures still { IsOperatorStill (faults_of M.faults operator.old) (faults_of M.faults operator.new) result }
         ensures cause { IfErr result (λ e. (e ≡ SlateDBError.OutOfMemory) ⊎ IsCallback (faults_of M.faults operator.old) (faults_of M.faults operator.new) e) }
         ensures alone { operator.old ≡ None → IsOkUnless result SlateDBError.OutOfMemory }
     {
@@ -590,6 +593,7 @@ fn folded_by<M: MergeOperator>(
     ensures rows { IfOk result (λ rows. rows.items ≡ folded_entries (operator_at (option_map M.combine operator.old)) stamps.now ops.now.entries) }
     ensures same { option_map M.combine operator.new ≡ option_map M.combine operator.old }
     ensures later { faults_of M.faults operator.old ≤ faults_of M.faults operator.new }
+    ensures still { IsOperatorStill (faults_of M.faults operator.old) (faults_of M.faults operator.new) result }
     ensures cause { IfErr result (λ e. (e ≡ SlateDBError.OutOfMemory) ⊎ IsCallback (faults_of M.faults operator.old) (faults_of M.faults operator.new) e) }
     ensures alone { operator.old ≡ None → IsOkUnless result SlateDBError.OutOfMemory }
 {
@@ -610,15 +614,52 @@ fn folded_rows<M: MergeOperator>(
     ensures rows { IfOk result (λ rows. rows.items ≡ folded_entries (M.combine operator.old) stamps.now ops.now.entries) }
     ensures same { M.combine operator.new ≡ M.combine operator.old }
     ensures later { M.faults operator.old ≤ M.faults operator.new }
+    ensures still { IsOperatorStill (M.faults operator.old) (M.faults operator.new) result }
     ensures cause { IfErr result (λ e. (e ≡ SlateDBError.OutOfMemory) ⊎ IsCallback (M.faults operator.old) (M.faults operator.new) e) }
 {
     let mut rows = Vec::with_capacity(alloc, ops.len())?;
     let mut own = Vec::new(alloc);
     for (key, list) in ops {
-        add_rows(&mut own, key, list.as_slice(), stamps)?;
-        add_folded(alloc, &mut rows, &mut own, operator)?;
+        add_key(
+            alloc,
+            &mut rows,
+            &mut own,
+            key,
+            list.as_slice(),
+            stamps,
+            operator,
+        )?;
     }
     Ok(rows)
+}
+
+/// Adds the row that the operations of a key fold to. That of a lone operation is its own. The rows of more stand in a list on the
+/// way, which is left empty.
+fn add_key<M: MergeOperator>(
+    alloc: Global,
+    rows: &mut Vec<RowEntry>,
+    own: &mut Vec<RowEntry>,
+    key: &Bytes,
+    ops: &[WriteOp],
+    stamps: &Stamps,
+    operator: &mut M,
+) -> Result<(), SlateDBError>
+    requires kept { IsKept ops.now }
+    requires none { own.old.items ≡ [] }
+    ensures row { OnOk result (rows.new.items ≡ rows.old.items
+        ++ option_to_list (fold_rows (M.combine operator.old key.now) (map (stamped stamps.now key.now) ops.now))) }
+    ensures none { OnOk result (own.new.items ≡ []) }
+    ensures same { M.combine operator.new ≡ M.combine operator.old }
+    ensures later { M.faults operator.old ≤ M.faults operator.new }
+    ensures still { IsOperatorStill (M.faults operator.old) (M.faults operator.new) result }
+    ensures cause { IfErr result (λ e. (e ≡ SlateDBError.OutOfMemory)
+        ⊎ IsCallback (M.faults operator.old) (M.faults operator.new) e) }
+{
+    if ops.len() == 1 {
+        return add_rows(rows, key, ops, stamps);
+    }
+    add_rows(own, key, ops, stamps)?;
+    add_folded(alloc, rows, own, operator)
 }
 
 /// The bytes of keys and values, or the greatest number where they are more.

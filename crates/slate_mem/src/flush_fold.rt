@@ -5,6 +5,7 @@ ghost use Rattle.slate_types.specs.declared.iter.IterationOrder.{IterationOrder}
 ghost use Rattle.slate_types.specs.Faults.{faults_of};
 ghost use Rattle.slate_types.specs.Fold.{operator_at};
 ghost use Rattle.slate_types.specs.Iteration.{IsInOrder};
+ghost use Rattle.slate_types.specs.Outside.{IsOperatorStill};
 ghost use Rattle.slate_types.specs.Rows.{of_key};
 ghost use Rattle.slate_mem.specs.Lookup.{is_merge_among, IsCallback};
 ghost use Rattle.slate_mem.specs.FlushRows.{kept_and_folded, is_ended, ended, left, above, waits, IsGroup};
@@ -29,6 +30,7 @@ pub fn fold_for_flush<M: MergeOperator>(
     ensures order { IsInOrder IterationOrder.Ascending rows.items → IfOk result (λ out. IsInOrder IterationOrder.Ascending out.items) }
     ensures same { option_map M.combine operator.new ≡ option_map M.combine operator.old }
     ensures later { faults_of M.faults operator.old ≤ faults_of M.faults operator.new }
+    ensures still { IsOperatorStill (faults_of M.faults operator.old) (faults_of M.faults operator.new) result }
     ensures cause { IfErr result (λ e. (e ≡ SlateDBError.OutOfMemory) ⊎ IsCallback (faults_of M.faults operator.old) (faults_of M.faults operator.new) e) }
     ensures alone { operator.old ≡ None → IsOkUnless result SlateDBError.OutOfMemory }
 {
@@ -49,6 +51,7 @@ fn fold_keys<M: MergeOperator>(
     ensures order { IsInOrder IterationOrder.Ascending rows.items → IfOk result (λ out. IsInOrder IterationOrder.Ascending out.items) }
     ensures same { M.combine operator.new ≡ M.combine operator.old }
     ensures later { M.faults operator.old ≤ M.faults operator.new }
+    ensures still { IsOperatorStill (M.faults operator.old) (M.faults operator.new) result }
     ensures cause { IfErr result (λ e. (e ≡ SlateDBError.OutOfMemory) ⊎ IsCallback (M.faults operator.old) (M.faults operator.new) e) }
 {
     let mut folded = Vec::new(alloc);
@@ -73,6 +76,7 @@ fn end_key<M: MergeOperator>(
     ensures low { OnOk result (low.new.items ≡ left low.old.items row.now) }
     ensures same { M.combine operator.new ≡ M.combine operator.old }
     ensures later { M.faults operator.old ≤ M.faults operator.new }
+    ensures still { IsOperatorStill (M.faults operator.old) (M.faults operator.new) result }
     ensures cause { IfErr result (λ e. (e ≡ SlateDBError.OutOfMemory) ⊎ IsCallback (M.faults operator.old) (M.faults operator.new) e) }
 {
     if !is_ended(low, row) {

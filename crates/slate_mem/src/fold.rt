@@ -4,6 +4,7 @@ ghost use Rattle.slate_types.specs.declared.error.SlateDBError.{SlateDBError};
 ghost use Rattle.slate_types.specs.declared.types.ValueDeletable.{ValueDeletable};
 ghost use Rattle.slate_types.specs.Fold.{Combine, IsLawful, KeepsShort, fold_rows};
 ghost use Rattle.slate_types.specs.Join.{AreOf, join, join_value};
+ghost use Rattle.slate_types.specs.Outside.{IsOperatorStill};
 ghost use Rattle.slate_types.specs.Rows.{earliest, hide_tombstone, key_value, latest};
 ghost use Rattle.slate_mem.specs.Lookup.{is_merge_among, IsCallback};
 
@@ -35,6 +36,7 @@ fn join_value<M: MergeOperator>(
     ensures value { IfOk result (λ made. made ≡ join_value (M.combine operator.old key.now) value.now (ValueDeletable.Merge operand.now)) }
     ensures same { M.combine operator.new ≡ M.combine operator.old }
     ensures later { M.faults operator.old ≤ M.faults operator.new }
+    ensures still { IsOperatorStill (M.faults operator.old) (M.faults operator.new) result }
     ensures cause { IfErr result (λ e. (e ≡ SlateDBError.OutOfMemory) ⊎ IsCallback (M.faults operator.old) (M.faults operator.new) e) }
 {
     let made = operator.merge(alloc, key, value.as_bytes(), operand)?;
@@ -54,6 +56,7 @@ fn join<M: MergeOperator>(
     ensures row { IfOk result (λ row. row ≡ join (M.combine operator.old older.key) older newer) }
     ensures same { M.combine operator.new ≡ M.combine operator.old }
     ensures later { M.faults operator.old ≤ M.faults operator.new }
+    ensures still { IsOperatorStill (M.faults operator.old) (M.faults operator.new) result }
     ensures cause { IfErr result (λ e. (e ≡ SlateDBError.OutOfMemory) ⊎ IsCallback (M.faults operator.old) (M.faults operator.new) e) }
 {
     let ValueDeletable::Merge(operand) = &newer.value else {
@@ -97,6 +100,7 @@ pub fn join_all<M: MergeOperator>(
     ensures row { (k : List ℕ) → IsLawful (M.combine operator.old k) → KeepsShort (M.combine operator.old k) → AreOf k (reverse found.items) → IfOk result (λ row. row ≡ fold_rows (M.combine operator.old k) (reverse found.items)) }
     ensures same { M.combine operator.new ≡ M.combine operator.old }
     ensures later { M.faults operator.old ≤ M.faults operator.new }
+    ensures still { IsOperatorStill (M.faults operator.old) (M.faults operator.new) result }
     ensures cause { IfErr result (λ e. (e ≡ SlateDBError.OutOfMemory) ⊎ IsCallback (M.faults operator.old) (M.faults operator.new) e) }
 {
     let mut rows = found;

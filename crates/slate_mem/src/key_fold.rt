@@ -3,6 +3,7 @@ ghost use Rattle.std.specs.Prelude.{◌≡◌, ◌⊎◌, ◌<◌, ◌≤◌, �
 ghost use Rattle.std.specs.List.{AllByRecursion};
 ghost use Rattle.slate_types.specs.declared.error.SlateDBError.{SlateDBError};
 ghost use Rattle.slate_types.specs.Fold.{value_of_taken, greatest_seq, latest_creation, earliest_expiry, fold_taken, fold_rows};
+ghost use Rattle.slate_types.specs.Outside.{IsOperatorStill};
 ghost use Rattle.slate_types.specs.Rows.{operand};
 ghost use Rattle.slate_mem.specs.Table.{to_base};
 ghost use Rattle.slate_mem.specs.Lookup.{IsCallback};
@@ -25,6 +26,7 @@ pub(crate) fn add_folded<M: MergeOperator>(
     ensures none { OnOk result (rows.new.items ≡ []) }
     ensures same { M.combine operator.new ≡ M.combine operator.old }
     ensures later { M.faults operator.old ≤ M.faults operator.new }
+    ensures still { IsOperatorStill (M.faults operator.old) (M.faults operator.new) result }
     ensures cause { IfErr result (λ e. (e ≡ SlateDBError.OutOfMemory) ⊎ IsCallback (M.faults operator.old) (M.faults operator.new) e) }
 {
     let Some(oldest) = rows.pop() else {
@@ -47,6 +49,7 @@ fn fold_onto<M: MergeOperator>(
     ensures row { IfOk result (λ row. fold_taken (M.combine operator.old oldest.key) (oldest ∷ newer.now) ≡ Some row) }
     ensures same { M.combine operator.new ≡ M.combine operator.old }
     ensures later { M.faults operator.old ≤ M.faults operator.new }
+    ensures still { IsOperatorStill (M.faults operator.old) (M.faults operator.new) result }
     ensures cause { IfErr result (λ e. (e ≡ SlateDBError.OutOfMemory) ⊎ IsCallback (M.faults operator.old) (M.faults operator.new) e) }
 {
     if newer.is_empty() {
@@ -86,6 +89,7 @@ fn fold_value<M: MergeOperator>(
     ensures value { IfOk result (λ value. value ≡ value_of_taken (M.combine operator.old key.now) oldest newer.now) }
     ensures same { M.combine operator.new ≡ M.combine operator.old }
     ensures later { M.faults operator.old ≤ M.faults operator.new }
+    ensures still { IsOperatorStill (M.faults operator.old) (M.faults operator.new) result }
     ensures cause { IfErr result (λ e. (e ≡ SlateDBError.OutOfMemory) ⊎ IsCallback (M.faults operator.old) (M.faults operator.new) e) }
 {
     let mut operands = Vec::with_capacity(alloc, newer.len())?;

@@ -1,5 +1,5 @@
 //! Rows in memory, until a flush.
-ghost use Rattle.std.specs.Prelude.{◌≡◌, ◌<◌, ◌^◌, ◌++◌, ◌↔◌, ◌&&◌, ◌⊎◌, filter, List, [], length, None, Some, option_copied, option_map, IsTrue, OnOk, OnErr, IfOk, IfErr, IsOkUnless, Ok, ℕ, ◌-◌, ◌==◌, min, not};
+ghost use Rattle.std.specs.Prelude.{◌≡◌, ◌∷◌, false, nat_le, ◌<◌, ◌^◌, ◌++◌, ◌↔◌, ◌&&◌, ◌⊎◌, filter, List, [], length, None, Some, option_copied, option_map, IsTrue, OnOk, OnErr, IfOk, IfErr, IsOkUnless, Ok, ℕ, ◌-◌, ◌==◌, min, not};
 ghost use Rattle.std.specs.Arc.{arc_value};
 ghost use Rattle.std.specs.BTreeMap.{IsUnchanged};
 ghost use Rattle.std.specs.BTreeMap.Range.{IsLeBy, IsLtBy, entries_between};
@@ -11,8 +11,10 @@ ghost use Rattle.std.specs.List.{sum_by};
 ghost use Rattle.std.specs.Map.{set_value, values_of};
 ghost use Rattle.slate_types.specs.declared.error.SlateDBError.{SlateDBError};
 ghost use Rattle.slate_types.specs.Rows.{sequenced_cmp, estimated_size, of_key};
-ghost use Rattle.slate_types.specs.Keys.{key_cmp, keys_set, among};
+ghost use Rattle.slate_types.specs.Keys.{key_cmp, keys_set, among, is_refused};
 ghost use Rattle.slate_types.specs.Fold.{greatest_seq};
+ghost use Rattle.slate_types.specs.declared.iter.IterationOrder.{IterationOrder};
+ghost use Rattle.slate_types.specs.declared.types.RowEntry.{RowEntry};
 ghost use Rattle.slate_types.specs.Iteration.{IsInOrder};
 ghost use Rattle.slate_types.specs.RowTurns.{AreInTurn, row_before};
 ghost use Rattle.slate_mem.specs.Frozen.{table_in};
@@ -20,16 +22,18 @@ ghost use Rattle.slate_mem.specs.KeyTests.{nest_refusal, point_lengths};
 ghost use Rattle.slate_mem.specs.Refusals.{first_refusal};
 ghost use Rattle.slate_mem.specs.Segments.{row_prefixes, row_refusals};
 ghost use Rattle.slate_mem.specs.Table.{after_seq, no_rows, put_rows, ranged, newest, last_tick, first_seq};
+ghost use Rattle.slate_mem.specs.Unread.{AreForward, IsPage, standing_between};
 ghost use Rattle.slate_mem.specs.Tied.{IsRows, insert_row, insert_rows, undone, all_undone, taken};
 
 use crate::key_range::KVTableInternalKeyRange;
 use crate::key_tests::prefixes_of;
 use crate::lookup::is_merge;
+use crate::mem_iterator::MemTableIterator;
 use crate::metadata::{KVTableMetadata, count_rows};
 use crate::segments::{least_nesting, test_other};
 use bytes::Bytes;
 use slate_types::{
-    BytesRange, IterationOrder, PrefixExtractor, RowEntry, RowsIterator, SequencedKey, SlateDBError,
+    BytesRange, IterationOrder, PrefixExtractor, RowEntry, SequencedKey, SlateDBError,
 };
 use std::alloc::{AllocError, Global};
 use std::cmp::Ordering;
@@ -130,7 +134,35 @@ impl MemTable {
     {
         let rows = rows_in(alloc, &self.rows, range)?;
         let rows = ordered(rows, order)?;
-        Ok(RowsIterator::new(rows, order))
+        Ok(MemTableIterator::of_rows(rows, order))
+    }
+
+    /// The places of the rows whose keys are in the range. The one error is `OutOfMemory`.
+    fn places_in(&self, range: &BytesRange) -> Result<KVTableInternalKeyRange, SlateDBError>
+        requires { is_refused range.now.start range.now.end ≡ false }
+        ensures forward { IfOk result (λ places. AreForward places.start places.end) }
+        ensures rows { IfOk result (λ places. standing_between places.start places.end self.now.rows ≡ ranged range.now self.now.rows) }
+        ensures in_order { OnOk result (IsInOrder IterationOrder.Ascending (ranged range.now self.now.rows)) }
+        ensures turn { OnOk result (AreInTurn (row_before IterationOrder.Ascending) (ranged range.now self.now.rows)) }
+        ensures cause { IsOkUnless result SlateDBError.OutOfMemory }
+    {
+        let _count = self.rows.len();
+        KVTableInternalKeyRange::from_range(range)
+    }
+
+    /// Copies of the first rows between two places: some, where there are any. The one error is `OutOfMemory`.
+    pub(crate) fn page(
+        &self,
+        alloc: Global,
+        start: &Bound<SequencedKey>,
+        end: &Bound<SequencedKey>,
+    ) -> Result<Vec<RowEntry>, SlateDBError>
+        requires { AreForward start.now end.now }
+        ensures page { IfOk result (λ page. IsPage start.now end.now self.now.rows page.items) }
+        ensures cause { IsOkUnless result SlateDBError.OutOfMemory }
+    {
+        let entries = self.rows.range((start.as_ref(), end.as_ref()));
+        Ok(first_rows(alloc, entries)?)
     }
 
     /// All rows, by key upwards and within a key by sequence downwards. They share keys and values. The one error is
@@ -160,6 +192,27 @@ impl MemTable {
         table.put_all(rows, segments)?;
         Ok(ImmutableMemtable {
             table: Frozen::Owned(table),
+        })
+    }
+
+    /// A table of the rows with sequences of at most `seq` whose keys are in the range. It records no prefixes. The rows share keys
+    /// and values. The one error is `OutOfMemory`.
+    pub fn upto(
+        &self,
+        alloc: Global,
+        range: &BytesRange,
+        seq: u64,
+    ) -> Result<MemTable, SlateDBError>
+        ensures rows { IfOk result (λ t. t.rows ≡ filter (λ r. nat_le r.seq seq) (ranged range.now self.now.rows)) }
+        ensures segments { IfOk result (λ t. t.segments ≡ []) }
+        ensures cause { IsOkUnless result SlateDBError.OutOfMemory }
+    {
+        let rows = rows_upto(alloc, &self.rows, range, seq)?;
+        let segments = BTreeSet::new(alloc);
+        Ok(MemTable {
+            alloc,
+            rows,
+            segments,
         })
     }
 
@@ -273,7 +326,7 @@ impl ImmutableMemtable {
         self.table().rows_of_key(alloc, key, max_seq)
     }
 
-    /// As `MemTable::range`.
+    /// As `MemTable::range`. Upwards over a table that is shared, rows are copied as the iterator comes to them.
     pub fn range(
         &self,
         alloc: Global,
@@ -286,7 +339,10 @@ impl ImmutableMemtable {
         ensures order { IfOk result (λ it. it.order ≡ order) }
         ensures cause { IsOkUnless result SlateDBError.OutOfMemory }
     {
-        self.table().range(alloc, range, order)
+        match (&self.table, order) {
+            (Frozen::Shared(table), IterationOrder::Ascending) => walk(alloc, table, range),
+            (_, order) => self.table().range(alloc, range, order),
+        }
     }
 
     /// All rows, by key upwards and within a key by sequence downwards. They share keys and values. The one error is
@@ -333,8 +389,34 @@ impl ImmutableMemtable {
     }
 }
 
-/// An iterator over rows of a table, which it owns.
-pub type MemTableIterator = RowsIterator;
+/// How many rows an iterator copies at once from a table that it shares.
+const PAGE_ROWS: usize = 32;
+
+/// An iterator over the rows of a shared table whose keys are in the range, keys upwards.
+fn walk(
+    alloc: Global,
+    table: &Arc<MemTable, Global>,
+    range: &BytesRange,
+) -> Result<MemTableIterator, SlateDBError>
+    ensures rows { IfOk result (λ it. it.rows ≡ ranged range.now (arc_value table.now).rows) }
+    ensures in_order { IfOk result (λ it. IsInOrder IterationOrder.Ascending it.rows) }
+    ensures turn { IfOk result (λ it. AreInTurn (row_before IterationOrder.Ascending) it.rows) }
+    ensures order { IfOk result (λ it. it.order ≡ IterationOrder.Ascending) }
+    ensures cause { IsOkUnless result SlateDBError.OutOfMemory }
+{
+    if range.leaves_none() {
+        let none = Vec::new(alloc);
+        return Ok(MemTableIterator::of_rows(none, IterationOrder::Ascending));
+    }
+    let places = table.places_in(range)?;
+    match Arc::try_clone(table) {
+        Ok(table) => Ok(MemTableIterator::of_table(alloc, table, places)),
+        Err(error) => {
+            drop(places);
+            Err(error.into())
+        }
+    }
+}
 
 /// One owner more of the table, which is moved behind an `Arc` before where it stands behind none.
 fn another(frozen: &mut Frozen) -> Result<Arc<MemTable, Global>, AllocError>
@@ -452,8 +534,47 @@ fn undo_all(rows: &mut BTreeMap<SequencedKey, RowEntry>, mut steps: Vec<Step>)
 }
 
 /// Puts all rows, or none.
-#[tactic(auto, using(crate::proofs::TableLaws::undone_last))]
 fn put_each(
+    alloc: Global,
+    table: &mut BTreeMap<SequencedKey, RowEntry>,
+    mut rows: Vec<RowEntry>,
+) -> Result<(), AllocError>
+    ensures put { OnOk result (table.new.entries ≡ insert_rows table.old.entries rows.items) }
+    ensures kept { OnOk result (IsRows table.old.entries → IsRows table.new.entries) }
+    ensures same { OnErr result (IsUnchanged table.old table.new) }
+{
+    if rows.len() > 1 {
+        return put_many(alloc, table, rows);
+    }
+    let row = rows.pop();
+    drop(rows);
+    match row {
+        Some(row) => put_alone(table, row),
+        None => Ok(()),
+    }
+}
+
+/// Puts a row under its own key. Nothing is kept to take it back by.
+fn put_alone(rows: &mut BTreeMap<SequencedKey, RowEntry>, row: RowEntry) -> Result<(), AllocError>
+    ensures put { OnOk result (rows.new.entries ≡ insert_row rows.old.entries row) }
+    ensures kept { OnOk result (IsRows rows.old.entries → IsRows rows.new.entries) }
+    ensures same { OnErr result (IsUnchanged rows.old rows.new) }
+{
+    let key = match row.key.clone() {
+        Ok(key) => key,
+        Err(error) => {
+            drop(row);
+            return Err(error);
+        }
+    };
+    let before = rows.insert(SequencedKey::new(key, row.seq), row)?;
+    drop(before);
+    Ok(())
+}
+
+/// Puts all rows, or none: those that were put are taken back where memory is wanting.
+#[tactic(auto, using(crate::proofs::TableLaws::undone_last))]
+fn put_many(
     alloc: Global,
     table: &mut BTreeMap<SequencedKey, RowEntry>,
     rows: Vec<RowEntry>,
@@ -504,18 +625,26 @@ fn rows_between(
     ensures rows { IfOk result (λ found. found.items ≡ taken is_to_base (values_of (entries_between sequenced_cmp start end rows.now.entries))) }
     ensures cause { IsOkUnless result SlateDBError.OutOfMemory }
 {
-    Ok(copies(alloc, rows.range((start, end)), is_to_base)?)
+    let room = if is_to_base {
+        0
+    } else {
+        rows.range((start.as_ref(), end.as_ref())).count()
+    };
+    let entries = rows.range((start, end));
+    Ok(copies(alloc, room, entries, is_to_base)?)
 }
 
-/// Copies of the rows of entries, and of no more than those to the first that is no merge where that is asked for.
+/// Copies of the rows of entries, and of no more than those to the first that is no merge where that is asked for, in a
+/// list with room for so many.
 fn copies(
     alloc: Global,
+    room: usize,
     entries: Range<'_, SequencedKey, RowEntry>,
     is_to_base: bool,
 ) -> Result<Vec<RowEntry>, AllocError>
     ensures rows { IfOk result (λ found. found.items ≡ taken is_to_base (values_of entries.entry)) }
 {
-    let mut found = Vec::new(alloc);
+    let mut found = Vec::with_capacity(alloc, room)?;
     for (_, row) in entries {
         found.push(row.clone()?)?;
         if is_to_base && !is_merge(row) {
@@ -523,6 +652,74 @@ fn copies(
         }
     }
     Ok(found)
+}
+
+/// Copies of the first rows of entries: some, where there are any.
+fn first_rows(
+    alloc: Global,
+    entries: Range<'_, SequencedKey, RowEntry>,
+) -> Result<Vec<RowEntry>, AllocError>
+    ensures { IfOk result (λ page. (more : List RowEntry) × (values_of entries.entry ≡ page.items ++ more) × (page.items ≡ [] → more ≡ [])) }
+{
+    let mut page = Vec::with_capacity(alloc, PAGE_ROWS)?;
+    for (_, row) in entries {
+        page.push(row.clone()?)?;
+        if page.len() == PAGE_ROWS {
+            return Ok(page);
+        }
+    }
+    Ok(page)
+}
+
+/// The rows with sequences of at most `seq` whose keys are in the range, under their own keys.
+fn rows_upto(
+    alloc: Global,
+    rows: &BTreeMap<SequencedKey, RowEntry>,
+    range: &BytesRange,
+    seq: u64,
+) -> Result<BTreeMap<SequencedKey, RowEntry>, SlateDBError>
+    requires { IsRows rows.now.entries }
+    ensures rows { IfOk result (λ found. values_of found.entries ≡ filter (λ r. nat_le r.seq seq) (ranged range.now (values_of rows.now.entries))) }
+    ensures whole { IfOk result (λ found. IsRows found.entries) }
+    ensures cause { IsOkUnless result SlateDBError.OutOfMemory }
+{
+    let mut found = BTreeMap::new(alloc);
+    if range.leaves_none() {
+        return Ok(found);
+    }
+    let KVTableInternalKeyRange { start, end } = KVTableInternalKeyRange::from_range(range)?;
+    put_upto(&mut found, rows.range((start, end)), seq)?;
+    Ok(found)
+}
+
+/// Puts copies of the rows of entries with sequences of at most `seq`.
+fn put_upto(
+    rows: &mut BTreeMap<SequencedKey, RowEntry>,
+    entries: Range<'_, SequencedKey, RowEntry>,
+    seq: u64,
+) -> Result<(), AllocError>
+    ensures put { OnOk result (rows.new.entries ≡ insert_rows rows.old.entries (filter (λ r. nat_le r.seq seq) (values_of entries.entry))) }
+    ensures kept { OnOk result (IsRows rows.old.entries → IsRows rows.new.entries) }
+{
+    for (_, row) in entries {
+        put_low(rows, row, seq)?;
+    }
+    Ok(())
+}
+
+/// Puts a copy of the row where its sequence is at most `seq`.
+fn put_low(
+    rows: &mut BTreeMap<SequencedKey, RowEntry>,
+    row: &RowEntry,
+    seq: u64,
+) -> Result<(), AllocError>
+    ensures put { OnOk result (rows.new.entries ≡ insert_rows rows.old.entries (filter (λ r. nat_le r.seq seq) (row.now ∷ []))) }
+    ensures kept { OnOk result (IsRows rows.old.entries → IsRows rows.new.entries) }
+{
+    if row.seq > seq {
+        return Ok(());
+    }
+    put_alone(rows, row.clone()?)
 }
 
 /// Copies of the rows with greater sequences.

@@ -1,11 +1,13 @@
--- The laws of lines that a reader of scripts rests on, and those of objects.
+-- The laws of lines that a reader of scripts rests on, those of objects, and those of their files.
 --     TakenLineIsFirst, LinesHaveNoEnd      on the lines of bytes
 --     WholeLinesJoin, WholePartsJoin, WholePartIsWhole, PartialLineIsNotWhole, EndMakesWhole      on the bytes up to the last end
 --     PutIsThere, OthersStay      on objects after a put
-use Rattle.std.specs.Prelude.{◌≡◌, ℕ, List, [], ◌∷◌, ◌++◌, Some}
+--     PlacesDiffer, NoPlaceIsBeside      on the files of a folder's objects
+use Rattle.std.specs.Prelude.{◌≡◌, ℕ, true, List, [], ◌∷◌, ◌++◌, Some}
 use Rattle.std.specs.List.{AllByRecursion}
 use Rattle.slate_types.specs.Outside.{Objects}
 use Rattle.slate_store.specs.Store.{object_at, with_object}
+use Rattle.slate_store.specs.Places.{file_of, has_place, unfinished}
 use Rattle.slate_store.specs.Lines.{lines_of, whole_part, HasNoEnd, TakesLine}
 
 -- What a call takes as a line is the first of the lines that are left.
@@ -43,3 +45,11 @@ PutIsThere = (os : Objects) (path bytes : List ℕ) → object_at (with_object o
 -- A put changes no other object.
 abbrev pub OthersStay : Type 0
 OthersStay = (os : Objects) (path bytes other : List ℕ) → ¬ (path ≡ other) → object_at (with_object os path bytes) other ≡ object_at os other
+
+-- Two objects of a folder have two files.
+abbrev pub PlacesDiffer : Type 0
+PlacesDiffer = (folder path other : List ℕ) → file_of folder path ≡ file_of folder other → path ≡ other
+
+-- None of them is the file as which an object is written.
+abbrev pub NoPlaceIsBeside : Type 0
+NoPlaceIsBeside = (folder path other : List ℕ) → has_place folder path ≡ true → file_of folder path ≡ file_of folder other ++ unfinished → ⊥

@@ -1,5 +1,5 @@
-// The laws of lines and of objects. Each is proved of all bytes, and no call does anything.
-ghost use Rattle.slate_store.specs.Laws.{EndMakesWhole, LinesHaveNoEnd, OthersStay, PartialLineIsNotWhole, PutIsThere, TakenLineIsFirst, WholeLinesJoin, WholePartIsWhole, WholePartsJoin};
+// The laws of lines, of objects and of their files. Each is proved of all bytes, and no call does anything.
+ghost use Rattle.slate_store.specs.Laws.{EndMakesWhole, LinesHaveNoEnd, NoPlaceIsBeside, OthersStay, PartialLineIsNotWhole, PlacesDiffer, PutIsThere, TakenLineIsFirst, WholeLinesJoin, WholePartIsWhole, WholePartsJoin};
 
 /// Of lines. What a call takes as a line is the first of the lines that are left; behind whole lines the lines go on; and no line has
 /// an end in it.
@@ -21,4 +21,10 @@ pub fn whole_parts()
 pub fn objects()
     ensures put_is_there { PutIsThere }
     ensures others_stay { OthersStay }
+{}
+
+/// Of the files of a folder's objects. Two objects have two files, and none of them is the file as which an object is written.
+pub fn places()
+    ensures places_differ { PlacesDiffer }
+    ensures no_place_is_beside { NoPlaceIsBeside }
 {}

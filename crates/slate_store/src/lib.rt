@@ -4,12 +4,14 @@
 pub mod env;
 mod faults;
 pub mod file_store;
+mod folder;
 pub mod laws;
 pub mod lines;
 pub mod lying_store;
 pub mod memory;
 pub mod memory_store;
 pub mod path_text;
+mod place;
 pub mod run;
 pub mod sink;
 pub mod source;

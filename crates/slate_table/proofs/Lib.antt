@@ -41,4 +41,5 @@ pub mod Damaged
 pub mod PolicyReads
 pub mod FilteredLaws
 mod FiltersReads
+mod FilterAnswers
 mod FiltersCalls

@@ -1,13 +1,12 @@
 -- Where a call that reads leaves its transformer alone.
-use Rattle.std.proofs.Common.{◌≡◌, ◌∙◌, ◌⊎◌, ℕ, ◌-◌, ◌<◌, ◌≤◌, List, [], ◌∷◌, Option, Some, None, Result, Ok, Err, length, inl, inr, ap, subst, arith}
-use Rattle.std.specs.Prelude.{Bool, IfErr, IsErrAnd}
+use Rattle.std.proofs.Common.{◌≡◌, ◌∙◌, ◌⊎◌, ℕ, ◌-◌, ◌≤◌, List, [], ◌∷◌, Option, Some, Result, Ok, Err, length, inl, inr, ap, subst, arith}
+use Rattle.std.specs.Prelude.{IfErr, IsErrAnd}
 use Rattle.slate_types.specs.declared.error.SlateDBError.{SlateDBError}
 use Rattle.slate_types.specs.declared.error.SlateDBError.TheVariants.{BlockTransformError, OutOfMemory, StoreFault}
 use Rattle.slate_types.specs.Outside.{Objects}
 use Rattle.slate_store.specs.Store.{Act}
 use Rattle.slate_block.specs.declared.block.Block.{Block}
 use Rattle.slate_block.specs.RowReading.{refusal}
-use Rattle.slate_filter.specs.Asking.{told}
 use Rattle.slate_table.specs.declared.info.SsTableHandle.{SsTableHandle}
 use Rattle.slate_table.specs.IndexReading.{index_of}
 use Rattle.slate_table.specs.Parts.{Encode}
@@ -46,10 +45,6 @@ no_stats_fault part refused = refused_damage (stats_in part) StoreFault (stats_d
 pub no_blocks_fault : (decode : Encode) (sections : ℕ → SectionRead) (first stop old new : ℕ) → FailsBlocks decode sections first stop old new StoreFault ⊎ RefusesBlocks decode sections first stop StoreFault → ⊥
 no_blocks_fault decode sections first stop old new (inl (at, from, below, fails, each)) = let is : StoreFault ≡ BlockTransformError = fails.0 in cc
 no_blocks_fault decode sections first stop old new (inr (at, from, below, refuses, each)) = block_refusal decode (sections at) StoreFault refuses
-
-pub told_no_fault : (r : Result Bool SlateDBError) (len : ℕ) (answer : Option Bool) → r ≡ told len answer → r ≡ Err StoreFault → ⊥
-told_no_fault r len None is failed = cc
-told_no_fault r len (Some passes) is failed = cc
 
 -- ---- blocks, one after the other
 

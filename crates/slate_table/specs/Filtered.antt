@@ -1,5 +1,7 @@
 -- What the filters of a stored table say to a query. The statement is proved in src/filtered_laws.rt.
 --     asks_filters policies len      a reader with these policies reads a filter section of this length
+--     AnswersPart policies query part passes      the filters of a part let the query through or deny it
+--     RefusesPart policies query part e      a part is no list of filters, or the bytes of one that was asked are refused
 --     IsAsked decode policies query section passes      filters are read, and let the query through or deny it
 --     RefusesQuery decode policies query section e      the filters are refused, or the bytes of one that was asked
 --     AreLawful policies      their names are distinct, and each is lawful
@@ -25,7 +27,7 @@ use Rattle.slate_filter.specs.Policy.{Policy, IsLawfulPolicy, filters_of}
 use Rattle.slate_table.specs.Decoded.{Info, IsFilters}
 use Rattle.slate_table.specs.Finding.{IsTableWith}
 use Rattle.slate_table.specs.Parts.{Encode, filters_kind}
-use Rattle.slate_table.specs.Reading.{SectionRead, section_read, AreFiltersRead, IsPart, RefusesFilters}
+use Rattle.slate_table.specs.Reading.{SectionRead, section_read, AreFiltersRead, AreNoFilters, IsPart, RefusesFilters}
 use Rattle.slate_table.specs.Table.{IsTableOf}
 
 -- ---- filters, asked
@@ -33,6 +35,13 @@ use Rattle.slate_table.specs.Table.{IsTableOf}
 abbrev pub asks_filters : List Policy → ℕ → Bool
 asks_filters [] len = false
 asks_filters (p ∷ ps) len = nat_lt 0 len
+
+abbrev pub AnswersPart : List Policy → FilterQuery → List ℕ → Bool → Type 0
+AnswersPart policies query part passes = (filters : List (List ℕ × List ℕ)) × IsFilters part filters × (asked policies filters query ≡ Some passes)
+
+abbrev pub RefusesPart : List Policy → FilterQuery → List ℕ → SlateDBError → Type 0
+RefusesPart policies query part e =
+    AreNoFilters part e ⊎ ((filters : List (List ℕ × List ℕ)) × IsFilters part filters × (asked policies filters query ≡ None) × (e ≡ InvalidFilterBlock (length part)))
 
 abbrev pub IsAsked : Encode → List Policy → FilterQuery → SectionRead → Bool → Type 0
 IsAsked decode policies query s passes =

@@ -3,17 +3,18 @@
 --     filter_field bytes at      a name and the bytes of its filter, or the refusal of the first field that fails
 --     filters_from count bytes at      so many filters
 --     filters_in bytes      the filters, or the refusal
---     AreFiltersIn decode section filters len      filters are read from a part of this length
+--     answers policies query filters      what the filters answer that were read, or why they weren't
+--     answered policies query answer filters      what so many filters answer behind an answer so far
 --     in_filters len e      a refusal of the fields of a part as the part's own, with its length; want of memory stays
-use Rattle.std.specs.Prelude.{◌≡◌, ℕ, zero, suc, if◌then◌else◌, ◌==◌, List, [], ◌∷◌, length, slice_range, Option, Result, Ok, Err}
+use Rattle.std.specs.Prelude.{ℕ, zero, suc, Bool, if◌then◌else◌, ◌==◌, List, [], ◌∷◌, length, slice_range, Option, Result, Ok, Err}
 use Rattle.std.specs.Int.{w16, w64}
 use Rattle.std.specs.Str.{is_utf8}
 use Rattle.slate_types.specs.declared.error.SlateDBError.{SlateDBError}
 use Rattle.slate_types.specs.declared.error.SlateDBError.TheVariants.{CorruptTable, InvalidFilterBlock, OutOfMemory}
+use Rattle.slate_types.specs.declared.filter_policy.FilterQuery.{FilterQuery}
 use Rattle.slate_block.specs.Damage.{◌>>=◌, Field, number_field, block_field}
-use Rattle.slate_table.specs.Decoded.{IsFilters}
-use Rattle.slate_table.specs.Parts.{Encode}
-use Rattle.slate_table.specs.Reading.{SectionRead, IsPart}
+use Rattle.slate_filter.specs.Asking.{also, asked}
+use Rattle.slate_filter.specs.Policy.{Policy}
 
 unfoldable pub name_field : List ℕ → ℕ → Field (List ℕ)
 name_field bytes at = do
@@ -39,10 +40,14 @@ filters_in bytes = do
   filters ← filters_from count.0 bytes count.1
   if filters.1 == length bytes then Ok filters.0 else Err (CorruptTable filters.1)
 
+-- filters that were read, asked
+abbrev pub answers : List Policy → FilterQuery → Result (List (List ℕ × List ℕ)) SlateDBError → Result (Option Bool) SlateDBError
+answers policies query filters = filters >>= λ fs. Ok (asked policies fs query)
+
+abbrev pub answered : List Policy → FilterQuery → Option Bool → Field (List (List ℕ × List ℕ)) → Field (Option Bool)
+answered policies query answer filters = filters >>= λ fs. Ok (also answer (asked policies fs.0 query), fs.1)
+
 -- where a field of a part is refused, the part is
 abbrev pub in_filters : ℕ → SlateDBError → SlateDBError
 in_filters len OutOfMemory = OutOfMemory
 in_filters len e = InvalidFilterBlock len
-
-abbrev pub AreFiltersIn : Encode → SectionRead → List (List ℕ × List ℕ) → ℕ → Type 0
-AreFiltersIn decode s filters len = (part : List ℕ) × IsPart decode s part × IsFilters part filters × (len ≡ length part)

@@ -1,34 +1,32 @@
 //! The filters of a table, from the bytes of their part.
-ghost use Rattle.std.specs.Prelude.{◌≡◌, ◌≤◌, ◌<◌, ◌⊎◌, ℕ, Ok, Err, length, map, slice_index, IfOk, IfErr};
+ghost use Rattle.std.specs.Prelude.{◌≡◌, ◌≤◌, ◌<◌, ◌⊎◌, ℕ, Ok, Err, Some, true, length, map, slice_index, IfOk, IfErr};
 ghost use Rattle.std.specs.Int.{w16};
 ghost use Rattle.slate_block.specs.Damage.{number_field};
+ghost use Rattle.slate_filter.specs.Asking.{also, asked_by};
 ghost use Rattle.slate_filter.specs.Named.{named_pair};
 ghost use Rattle.slate_table.specs.Decoded.{IsFilters};
-ghost use Rattle.slate_table.specs.FiltersReading.{name_field, filter_field, filters_from, filters_in, in_filters};
+ghost use Rattle.slate_table.specs.Filtered.{AnswersPart, RefusesPart};
+ghost use Rattle.slate_table.specs.FiltersReading.{name_field, filter_field, filters_from, filters_in, in_filters, answers, answered};
 ghost use Rattle.slate_table.specs.Reading.{AreNoFilters};
 
 use bytes::Bytes;
 use slate_block::fields::{block_field, corrupt, u16_field, u64_field};
-use slate_filter::NamedFilter;
-use slate_types::SlateDBError;
+use slate_filter::{FilterPolicy, NamedFilter, asked_by, is_text};
+use slate_types::{FilterQuery, SlateDBError};
 use std::alloc::Global;
 use std::str;
 
-/// The filters of a part, whose bytes share the part's buffer, and the part's length. `InvalidFilterBlock` with that length exactly
-/// where the part is no list of filters: it is cut, or a name isn't UTF-8, or something is left over; or `OutOfMemory`.
-pub(crate) fn decode_filters(
-    alloc: Global,
-    part: Bytes,
-) -> Result<(Vec<NamedFilter>, u64), SlateDBError>
-    ensures found { IfOk result (λ found. IsFilters part (map named_pair found.0.items)) }
-    ensures len { IfOk result (λ found. found.1 ≡ length part) }
+/// The filters of a part, whose bytes share the part's buffer. `InvalidFilterBlock` with the part's length exactly where the part is
+/// no list of filters: it is cut, or a name isn't UTF-8, or something is left over; or `OutOfMemory`.
+pub(crate) fn decode_filters(alloc: Global, part: Bytes) -> Result<Vec<NamedFilter>, SlateDBError>
+    ensures found { IfOk result (λ filters. IsFilters part (map named_pair filters.items)) }
     ensures cause { IfErr result (λ e. (e ≡ SlateDBError.OutOfMemory) ⊎ AreNoFilters part e) }
 {
     let len = part.len() as u64;
     let filters = filters_in(alloc, &part);
     drop(part);
     match filters {
-        Ok(filters) => Ok((filters, len)),
+        Ok(filters) => Ok(filters),
         Err(error) => Err(in_filters(len, error)),
     }
 }
@@ -123,4 +121,114 @@ fn name_field(bytes: &[u8], at: usize) -> Result<(&str, usize), SlateDBError>
         Ok(name) => Ok((name, end)),
         Err(_) => Err(corrupt(start)),
     }
+}
+
+/// Whether no filter of a part denies the query. The filters are asked where they stand. `InvalidFilterBlock` with the part's length
+/// where the part is no list of filters, or else where the bytes of one that is asked are refused.
+pub(crate) fn ask_filters(
+    policies: &[Box<dyn FilterPolicy>],
+    part: &[u8],
+    query: &FilterQuery,
+) -> Result<bool, SlateDBError>
+    ensures answer { IfOk result (AnswersPart (map (λ p. meaning p) policies.now) query.now part.now) }
+    ensures cause { IfErr result (RefusesPart (map (λ p. meaning p) policies.now) query.now part.now) }
+{
+    let answer = answer_in(policies, part, query).unwrap_or(None);
+    answer.ok_or(SlateDBError::InvalidFilterBlock {
+        len: part.len() as u64,
+    })
+}
+
+/// What the filters of a part answer, where none that is asked is refused.
+fn answer_in(
+    policies: &[Box<dyn FilterPolicy>],
+    bytes: &[u8],
+    query: &FilterQuery,
+) -> Result<Option<bool>, SlateDBError>
+    ensures answer { result ≡ answers (map (λ p. meaning p) policies.now) query.now (filters_in bytes.now) }
+    ensures bytes { IfOk result (λ _. (i : ℕ) → slice_index bytes.now i < 256) }
+{
+    let (count, at) = counted(bytes)?;
+    let (answer, at) = answers_from(policies, count, bytes, at, query)?;
+    if at == bytes.len() {
+        return Ok(answer);
+    }
+    Err(corrupt(at))
+}
+
+/// What so many filters from a place on answer, and the place behind them.
+fn answers_from(
+    policies: &[Box<dyn FilterPolicy>],
+    count: u16,
+    bytes: &[u8],
+    at: usize,
+    query: &FilterQuery,
+) -> Result<(Option<bool>, usize), SlateDBError>
+    requires { at ≤ length bytes.now }
+    ensures { result ≡ answered (map (λ p. meaning p) policies.now) query.now (Some true)
+        (filters_from count bytes.now at) }
+{
+    let mut answer = Some(true);
+    let mut at = at;
+    for _ in 0..count {
+        let (name, filter, next) = filter_at(policies, bytes, at)?;
+        answer = answer_also(answer, policies, name, filter, query);
+        at = next;
+    }
+    Ok((answer, at))
+}
+
+/// What a filter answers behind an answer so far. It is asked where nothing was denied or refused.
+fn answer_also(
+    answer: Option<bool>,
+    policies: &[Box<dyn FilterPolicy>],
+    name: &[u8],
+    filter: &[u8],
+    query: &FilterQuery,
+) -> Option<bool>
+    ensures { result ≡ also answer (asked_by (map (λ p. meaning p) policies.now) query.now (name.now, filter.now)) }
+{
+    match answer {
+        Some(true) => asked_by(policies, name, filter, query),
+        _ => answer,
+    }
+}
+
+/// The name and the bytes of the filter that stands at a place, and the place behind it.
+#[tactic(auto, unfolding(crate::specs::FiltersReading::filter_field))]
+fn filter_at<'a>(
+    policies: &[Box<dyn FilterPolicy>],
+    bytes: &'a [u8],
+    at: usize,
+) -> Result<(&'a [u8], &'a [u8], usize), SlateDBError>
+    requires { at ≤ length bytes.now }
+    ensures found { IfOk result (λ field. filter_field bytes.now at ≡ Ok ((field.0.now, field.1.now), field.2)) }
+    ensures cause { IfErr result (λ e. filter_field bytes.now at ≡ Err e) }
+    ensures within { IfOk result (λ field. field.2 ≤ length bytes.now) }
+{
+    let (name, at) = name_at(policies, bytes, at)?;
+    let (len, at) = u64_field(bytes, at)?;
+    let (start, end) = block_field(len as usize, bytes, at)?;
+    Ok((name, &bytes[start..end], end))
+}
+
+/// The name that stands at a place, and the place behind it. A policy's own name isn't tested for text.
+#[tactic(auto, unfolding(crate::specs::FiltersReading::name_field))]
+fn name_at<'a>(
+    policies: &[Box<dyn FilterPolicy>],
+    bytes: &'a [u8],
+    at: usize,
+) -> Result<(&'a [u8], usize), SlateDBError>
+    requires { at ≤ length bytes.now }
+    ensures found { IfOk result (λ field. name_field bytes.now at ≡ Ok (field.0.now, field.1)) }
+    ensures cause { IfErr result (λ e. name_field bytes.now at ≡ Err e) }
+    ensures within { IfOk result (λ field. field.1 ≤ length bytes.now) }
+{
+    let (len, at) = u16_field(bytes, at)?;
+    let (start, end) = block_field(len as usize, bytes, at)?;
+    let name = &bytes[start..end];
+    if is_text(policies, name) {
+        return Ok((name, end));
+    }
+    Err(corrupt(start))
 }

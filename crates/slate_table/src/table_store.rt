@@ -6,7 +6,6 @@ ghost use Rattle.slate_store.specs.Store.{Act, AddsAct, RefusesPut, TakesPut, pa
 ghost use Rattle.slate_block.specs.RowReading.{refusal};
 ghost use Rattle.slate_filter.specs.Named.{named_pair};
 ghost use Rattle.slate_table.specs.Filtered.{asks_filters, IsAsked, RefusesQuery};
-ghost use Rattle.slate_table.specs.FiltersReading.{AreFiltersIn};
 ghost use Rattle.slate_table.specs.Paths.{path_of};
 ghost use Rattle.slate_table.specs.SectionReading.{changed_by};
 ghost use Rattle.slate_table.specs.Asking.{Reaches, Stays};
@@ -44,7 +43,7 @@ ghost use Rattle.slate_table.specs.Reading.{
 };
 
 use crate::encoded_table::EncodedSsTable;
-use crate::filters_reading::decode_filters;
+use crate::filters_reading::{ask_filters, decode_filters};
 use crate::info::SsTableHandle;
 use crate::paths::table_path;
 use crate::section::{BLOCK_KIND, FILTERS_KIND, INDEX_KIND, SectionPlace, open_section};
@@ -52,7 +51,7 @@ use crate::sst_index::SstIndex;
 use bytes::Bytes;
 use slate_block::Block;
 use slate_block::fields::corrupt;
-use slate_filter::{FilterPolicy, NamedFilter, let_through};
+use slate_filter::{FilterPolicy, NamedFilter};
 use slate_store::Store;
 use slate_types::{BlockTransformer, FilterQuery, SlateDBError, Ulid};
 use std::alloc::Global;
@@ -171,8 +170,9 @@ impl TableStore {
         if table.info.filter_len == 0 {
             return Ok(Vec::new(alloc));
         }
-        let (filters, _) = filters_of(alloc, store, root, table, transformer)?;
-        Ok(filters)
+        let place = (table.info.filter_offset, table.info.filter_len);
+        let part = read_part(alloc, store, root, table, FILTERS_KIND, place, transformer)?;
+        decode_filters(alloc, part)
     }
 
     /// Whether no filter of a table denies the query. Where there are policies and the table has a filter section, that is read,
@@ -212,9 +212,10 @@ impl TableStore {
         if !asks_filters(policies, table.info.filter_len) {
             return Ok(true);
         }
-        let (filters, part_len) = filters_of(alloc, store, root, table, transformer)?;
-        let passes = let_through(policies, &filters, part_len, query);
-        drop(filters);
+        let place = (table.info.filter_offset, table.info.filter_len);
+        let part = read_part(alloc, store, root, table, FILTERS_KIND, place, transformer)?;
+        let passes = ask_filters(policies, part.as_slice(), query);
+        drop(part);
         passes
     }
 
@@ -357,35 +358,6 @@ pub(crate) fn read_part<S: Store, T: BlockTransformer>(
 {
     let answer = read(alloc, store, root, table.id, place)?;
     opened(alloc, answer, place_in(table, kind, place.0), transformer)
-}
-
-/// The filters of a table, by one read of their section, and the length of the part that they were read from.
-fn filters_of<S: Store, T: BlockTransformer>(
-    alloc: Global,
-    store: &mut S,
-    root: &str,
-    table: &SsTableHandle,
-    transformer: &mut Option<T>,
-) -> Result<(Vec<NamedFilter>, u64), SlateDBError>
-    ensures found { let reads = ReadsFilters (S.objects store.old) (S.acts store.old) (S.acts store.new) root.now table.now in
-        IfOk result (λ found. reads (λ answer. AreFiltersIn (changed_by T.decoded transformer.old) (of_filters table.now answer) (map named_pair found.0.items) found.1)) }
-    ensures cause { let reads = ReadsFilters (S.objects store.old) (S.acts store.old) (S.acts store.new) root.now table.now in
-        IfErr result (λ e. IsStoreFault (S.faults store.old) (S.faults store.new) e
-        ⊎ reads (λ answer. FailsDecoding (faults_of T.faults transformer.old) (faults_of T.faults transformer.new) (of_filters table.now answer) e)
-        ⊎ reads (λ answer. RefusesFilters (changed_by T.decoded transformer.old) (of_filters table.now answer) e)) }
-    ensures once { let reads = ReadsFilters (S.objects store.old) (S.acts store.old) (S.acts store.new) root.now table.now in
-        OnErr result ((S.acts store.new ≡ S.acts store.old)
-        ⊎ reads (λ _. Unit {0})) }
-    ensures unasked { let reads = ReadsFilters (S.objects store.old) (S.acts store.old) (S.acts store.new) root.now table.now in
-        (transformer.new ≡ transformer.old)
-        ⊎ reads (λ answer. Fits (of_filters table.now answer)) }
-    ensures unanswered { result ≡ Err SlateDBError.StoreFault → transformer.new ≡ transformer.old }
-    ensures reaches { Reaches S.objects S.faults store.old store.new result }
-    ensures stays { Stays T.encoded T.decoded T.faults transformer.old transformer.new result }
-{
-    let place = (table.info.filter_offset, table.info.filter_len);
-    let part = read_part(alloc, store, root, table, FILTERS_KIND, place, transformer)?;
-    decode_filters(alloc, part)
 }
 
 /// Whether a reader with these policies reads a filter section of this length.

@@ -4,6 +4,7 @@ ghost use Rattle.slate_types.specs.declared.error.SlateDBError.{SlateDBError};
 ghost use Rattle.slate_types.specs.Faults.{faults_of};
 ghost use Rattle.slate_types.specs.Fold.{Combine, IsLawful, KeepsShort, fold_rows, operator_at};
 ghost use Rattle.slate_types.specs.Join.{AreOf};
+ghost use Rattle.slate_types.specs.Outside.{IsOperatorStill};
 ghost use Rattle.slate_store.specs.Env.{combine_of};
 ghost use Rattle.slate_mem.specs.Lookup.{is_merge_among, IsCallback};
 
@@ -24,6 +25,7 @@ pub fn fold_found<M: MergeOperator>(
     ensures missing { combine_of M.combine operator.old ≡ None → is_merge_among rows.items ≡ true → result ≡ Err SlateDBError.MergeOperatorMissing }
     ensures same { combine_of M.combine operator.new ≡ combine_of M.combine operator.old }
     ensures later { faults_of M.faults operator.old ≤ faults_of M.faults operator.new }
+    ensures still { IsOperatorStill (faults_of M.faults operator.old) (faults_of M.faults operator.new) result }
     ensures cause { IfErr result (λ e. (e ≡ SlateDBError.OutOfMemory) ⊎ ((e ≡ SlateDBError.MergeOperatorMissing) × (combine_of M.combine operator.old ≡ None) × (is_merge_among rows.items ≡ true)) ⊎ IsCallback (faults_of M.faults operator.old) (faults_of M.faults operator.new) e) }
 {
     if !has_merge(&rows) {

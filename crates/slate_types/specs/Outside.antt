@@ -11,10 +11,13 @@
 --     IsLater before after      no count fell
 --     IsCounted before after e      e is a fault that came between the counts, or want of memory
 --     IsFault before after e      e is a fault that came in the call, or want of memory
+--     StillBut stays before after result      a count is as it was, and at an error what stays says
+--     IsStoreStill, IsOperatorStill, IsTransformerStill before after result      the part's count is as it was, but where the result is its fault
+--     IsStill before after result      each count is as it was, but where the result is a fault of that part
 --     PutsNothing act, AddsReads before after      the act is no put; the acts from before are still told, and behind them more of which none is a put
 --     OnlyReads before after      a call puts nothing in the store and changes no part; no count of faults fell
 --     Puts before after      a call that may put: it changes no part, and no count of faults fell
-use Rattle.std.specs.Prelude.{◌≡◌, ℕ, ◌+◌, ◌≤◌, nat_le, if◌then◌else◌, List, [], ◌∷◌, ◌++◌, length, take, drop, Option, Some, None, bytes_eq}
+use Rattle.std.specs.Prelude.{◌≡◌, ℕ, ◌+◌, ◌≤◌, nat_le, if◌then◌else◌, List, [], ◌∷◌, ◌++◌, length, take, drop, Option, Some, None, Result, Ok, Err, bytes_eq}
 use Rattle.std.specs.List.{AllByRecursion}
 use Rattle.slate_types.specs.declared.error.SlateDBError.{SlateDBError}
 use Rattle.slate_types.specs.declared.error.SlateDBError.TheVariants.{StoreFault, Callback, BlockTransformError, OutOfMemory}
@@ -85,6 +88,38 @@ IsCounted before after _ = ⊥
 
 abbrev pub IsFault : Reach → Reach → SlateDBError → Type 0
 IsFault before after e = IsCounted before.faults after.faults e
+
+-- ---- a fault isn't passed over
+
+abbrev pub StoreStays : ℕ → ℕ → SlateDBError → Type 0
+StoreStays before after StoreFault = Unit {0}
+StoreStays before after _ = after ≡ before
+
+abbrev pub OperatorStays : ℕ → ℕ → SlateDBError → Type 0
+OperatorStays before after (Callback m) = Unit {0}
+OperatorStays before after _ = after ≡ before
+
+abbrev pub TransformerStays : ℕ → ℕ → SlateDBError → Type 0
+TransformerStays before after BlockTransformError = Unit {0}
+TransformerStays before after _ = after ≡ before
+
+abbrev pub StillBut : {A : Type 0} → (ℕ → ℕ → SlateDBError → Type 0) → ℕ → ℕ → Result A SlateDBError → Type 0
+StillBut stays before after (Ok x) = after ≡ before
+StillBut stays before after (Err e) = stays before after e
+
+abbrev pub IsStoreStill : {A : Type 0} → ℕ → ℕ → Result A SlateDBError → Type 0
+IsStoreStill before after result = StillBut StoreStays before after result
+
+abbrev pub IsOperatorStill : {A : Type 0} → ℕ → ℕ → Result A SlateDBError → Type 0
+IsOperatorStill before after result = StillBut OperatorStays before after result
+
+abbrev pub IsTransformerStill : {A : Type 0} → ℕ → ℕ → Result A SlateDBError → Type 0
+IsTransformerStill before after result = StillBut TransformerStays before after result
+
+pub record IsStill {A : Type 0} (before after : Counts) (result : Result A SlateDBError) : Type 0 where
+  pub store : IsStoreStill before.store after.store result
+  pub operator : IsOperatorStill before.operator after.operator result
+  pub transformer : IsTransformerStill before.transformer after.transformer result
 
 -- ---- what a call leaves
 

@@ -23,6 +23,7 @@ loop-row-preserved g c =
     record {
       same = c.end_key.ensures.same ∙ was.same;
       later = omega (arith, was.later, c.end_key.ensures.later);
+      still = c.in_ok-end_key.ensures.still ∙ was.still;
       count = omega (arith, c.in-Some.ensures.steps.1, size, was.count);
       group = subst IsGroup (sym waiting) (group_waits b low r was.group);
       rows =

@@ -16,6 +16,7 @@ loop-newer-preserved g c =
     record {
       same = c.join.ensures.same ∙ c.loop-newer.invariant.same;
       later = omega (arith, c.loop-newer.invariant.later, c.join.ensures.later);
+      still = c.in_ok-row.ensures.still ∙ c.loop-newer.invariant.still;
       are = λ k law keeps h. (one k law keeps h).are;
       fold = λ k law keeps h. (one k law keeps h).fold ∙ c.loop-newer.invariant.fold k law keeps h;
     }

@@ -34,7 +34,7 @@ loop-row-preserved c =
 pub returns-in_err-clone : goal.returns-in_err-clone
 returns-in_err-clone c =
     record {
-      rows = IfOk-from_err c.from_residual.result _ c.from_residual.ensures.0;
+      rows = IfOk-from_err c.from_residual-in_err-clone.result _ c.from_residual-in_err-clone.ensures.0;
     }
 
 pub returns-in_err-push : goal.returns-in_err-push

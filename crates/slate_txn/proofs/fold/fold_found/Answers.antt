@@ -1,4 +1,4 @@
-use Rattle.std.proofs.Common.{Some, inl, inr, ap, sym, ◌∙◌}
+use Rattle.std.proofs.Common.{Some, inl, inr, refl, ap, sym, ◌∙◌}
 use Rattle.std.proofs.lemmas.Result.{IfErr-weaker}
 use Rattle.slate_store.specs.Env.{combine_of}
 use Rattle.slate_types.specs.Fold.{operator_at}
@@ -24,6 +24,12 @@ returns-in-Some-clause-same g c = rw c.in-Some.is (ap Some c.join_all.ensures.sa
 
 pub returns-in-Some-clause-later : goal.returns-in-Some-clause-later
 returns-in-Some-clause-later g c = rw c.in-Some.is c.join_all.ensures.later
+
+pub returns-then-not-has_merge-clause-still : goal.returns-then-not-has_merge-clause-still
+returns-then-not-has_merge-clause-still g c = refl
+
+pub returns-in-Some-clause-still : goal.returns-in-Some-clause-still
+returns-in-Some-clause-still g c = rw c.in-Some.is c.join_all.ensures.still
 
 pub returns-in-None-clause-row : goal.returns-in-None-clause-row
 returns-in-None-clause-row g c k law keeps are = tt

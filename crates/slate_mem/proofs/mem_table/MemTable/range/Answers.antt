@@ -38,6 +38,6 @@ returns-in_err-rows-2 c =
 
 pub returns-clause-turn : goal.returns-clause-turn
 returns-clause-turn c =
-    subst (λ (it : RowList). AreInTurn (row_before c.args.order) it.rows) (sym c.new.ensures)
+    subst (λ (it : RowList). AreInTurn (row_before c.args.order) it.rows) (sym c.of_rows.ensures)
     (ranged_in_turn c.args.range.now _ c.args.order c.in_ok-rows-2.rows.items c.self.invariant.rows c.in_ok-rows-2.ensures.in_order
     (λ k. c.in_ok-rows-2.ensures.keys k ∙ ap (of_key k) c.in_ok-rows.ensures.rows))

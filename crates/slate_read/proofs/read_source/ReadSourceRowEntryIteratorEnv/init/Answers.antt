@@ -70,3 +70,6 @@ returns-in-Batch-clause-begun g c = rw c.in-Batch.is (on_ok_weaker c.init-in-Bat
 
 pub returns-in-Memory-clause-begun : goal.returns-in-Memory-clause-begun
 returns-in-Memory-clause-begun g c = rw c.in-Memory.is (on_ok_weaker c.init-in-Memory.result (λ k. (k.0, k.1, ((list_begun c.in-Memory.rows c.init-in-Memory.new.self k.0 k.2.0, ap (λ (l : RowList). l.rows) k.2.0), k.2.1))) c.init-in-Memory.ensures.begun)
+
+pub returns-in-Memory-clause-cause : goal.returns-in-Memory-clause-cause
+returns-in-Memory-clause-cause g c = rw c.in-Memory.is (IfErr-weaker c.init-in-Memory.result _ _ (λ e k. (k.0, k.1, (k.2.0, tt, k.2.2))) c.init-in-Memory.ensures.cause)

@@ -68,3 +68,6 @@ returns-in-Batch-clause-taken g c = rw c.in-Batch.is (IfOk-weaker c.next-in-Batc
 
 pub returns-in-Memory-clause-taken : goal.returns-in-Memory-clause-taken
 returns-in-Memory-clause-taken g c = rw c.in-Memory.is (IfOk-weaker c.next-in-Memory.result _ _ (λ answer k. (k.0, k.1, ((list_handed c.in-Memory.rows c.next-in-Memory.new.self k.0 answer k.2.0, k.2.0), k.2.1))) c.next-in-Memory.ensures.taken)
+
+pub returns-in-Memory-clause-cause : goal.returns-in-Memory-clause-cause
+returns-in-Memory-clause-cause g c = rw c.in-Memory.is (IfErr-weaker c.next-in-Memory.result _ _ (λ e k. (k.0, k.1, (k.2.0, tt, k.2.2))) c.next-in-Memory.ensures.cause)

@@ -70,3 +70,6 @@ returns-in-Batch-clause-sought g c = rw c.in-Batch.is (on_ok_weaker c.seek-in-Ba
 
 pub returns-in-Memory-clause-sought : goal.returns-in-Memory-clause-sought
 returns-in-Memory-clause-sought g c = rw c.in-Memory.is (on_ok_weaker c.seek-in-Memory.result (λ k. (k.0, k.1, ((list_sought c.in-Memory.rows c.seek-in-Memory.new.self k.0 c.args.key.now k.2.0, (c.in-Memory.rows.order, k.2.0)), k.2.1))) c.seek-in-Memory.ensures.sought)
+
+pub returns-in-Memory-clause-cause : goal.returns-in-Memory-clause-cause
+returns-in-Memory-clause-cause g c = rw c.in-Memory.is (IfErr-weaker c.seek-in-Memory.result _ _ (λ e k. (k.0, k.1, (k.2.0, tt, k.2.2))) c.seek-in-Memory.ensures.cause)
