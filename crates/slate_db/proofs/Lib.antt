@@ -112,6 +112,7 @@ mod ScanMerges
 pub mod RowDamage
 mod Serial
 mod ScansLeft
+mod Stills
 mod Places
 mod Behind
 mod KeyBlocks

@@ -1,31 +1,25 @@
 -- The rows of a range up to a sequence, among others of a memtable.
-use Rattle.std.proofs.Common.{◌≡◌, ℕ, ◌<◌, ◌≤◌, Bool, true, false, cond, ◌&&◌, List, [], ◌∷◌, ◌++◌, map, filter, Some, refl, sym, ap, subst, ◌∙◌, arith, append-nil, bytes_eq, nat_le, nat_lt, Less}
-use Rattle.std.specs.Prelude.{Contains, IsTrue}
+use Rattle.std.proofs.Common.{◌≡◌, ℕ, ◌<◌, ◌≤◌, Bool, true, false, cond, ◌&&◌, List, [], ◌∷◌, ◌++◌, map, filter, Some, refl, sym, ap, subst, ◌∙◌, arith, append-nil, bytes_eq, nat_le, nat_lt}
+use Rattle.std.specs.Prelude.{Contains}
 use Rattle.std.specs.List.{AllByRecursion}
-use Rattle.std.specs.List.Sorted.{IsStrictlySortedBy}
 use Rattle.std.proofs.lemmas.Bool.Decides.{nat_tests}
 use Rattle.std.proofs.lemmas.Grind.{flat_map-append}
 use Rattle.std.proofs.lemmas.List.Elements.{filter-append}
 use Rattle.slate_types.specs.declared.bytes_range.BytesRange.{BytesRange}
-use Rattle.slate_types.specs.declared.iter.IterationOrder.TheVariants.{Ascending}
 use Rattle.slate_types.specs.declared.types.RowEntry.{RowEntry}
-use Rattle.slate_types.specs.Iteration.{IsInOrder}
 use Rattle.slate_types.specs.Keys.{in_range}
-use Rattle.slate_types.specs.Rows.{of_key, row_lt, sequenced, sequenced_cmp}
-use Rattle.slate_mem.specs.Table.{newest, put_rows, ranged, to_base, up_to}
-use Rattle.slate_mem.proofs.LaterRows.{Rise, put_rising, rises_filtered}
+use Rattle.slate_types.specs.Rows.{of_key}
+use Rattle.slate_mem.specs.Table.{newest, ranged, to_base, up_to}
 use Rattle.slate_mem.proofs.LayerLaws.{both}
 use Rattle.slate_merge.specs.Filtering.{upto_seq}
 use Rattle.slate_txn.proofs.PartLaws.{filter_swap}
-use Rattle.slate_table.specs.Table.{AreInOrder}
 use Rattle.slate_db.specs.Layers.{AreRising}
 use Rattle.slate_db.specs.Model.{Rows, versions, versions_in}
 use Rattle.slate_db.specs.RangeShares.{HasUpto, IsPart}
 use Rattle.slate_db.specs.Scanned.{BringEach, Brings}
 use Rattle.slate_db.specs.Sound.{at_most, later}
-use Rattle.slate_db.proofs.FlushRows.{AreFalling, falling, in_order}
+use Rattle.slate_db.proofs.FlushRows.{AreFalling}
 use Rattle.slate_db.proofs.MemoryRows.{rising_behind}
-use Rattle.slate_db.proofs.Puts.{stood}
 use Rattle.slate_db.proofs.ScanBringings.{kept_among, of_its_key}
 use Rattle.slate_db.proofs.ScanLists.{ranged_key}
 
@@ -76,23 +70,7 @@ falls_split n (r ∷ rs) h = by (nat_lt n r.seq) refl (falls_split n rs h.1)
         ∙ ap (λ xs. r ∷ (xs ++ at_most n rs)) (sym none)
         ∙ ap (λ xs. r ∷ xs) rest
 
--- ---- rows that are put into an empty memtable
-
-past_all : (r : RowEntry) (rs : Rows) → AllByRecursion (λ s. IsTrue (row_lt r s)) rs → AllByRecursion (λ k. sequenced_cmp (sequenced r) k ≡ Less) (map sequenced rs)
-past_all r [] h = tt
-past_all r (s ∷ rs) h = (stood r s h.0, past_all r rs h.1)
-
-rises : (rows : Rows) → AreInOrder rows → Rise rows
-unfolding IsStrictlySortedBy
-rises [] h = tt
-rises (r ∷ rs) h = (past_all r rs h.0, rises rs h.1)
-
-pub put_copied : (range : BytesRange) (p : RowEntry → Bool) (table within : Rows) → ((k : List ℕ) → AreRising (versions k table)) → ((k : List ℕ) → of_key k within ≡ of_key k (ranged range table)) → IsInOrder Ascending within → put_rows [] (filter p within) ≡ filter p within
-put_copied range p table within rise same order = put_rising (filter p within) [] (rises_filtered p within (rises within (in_order within order (λ k. subst AreFalling (sym (same k ∙ ranged_key range k table)) (by k (in_range range k))))))
-  where
-    by : (k : List ℕ) (b : Bool) → AreFalling (cond b (of_key k table) [])
-    by k true = falling (of_key k table) (rise k)
-    by k false = tt
+-- ---- rows that aren't frozen
 
 -- those of a key that aren't frozen rise
 pub active_rises : (frozen : List Rows) (active : Rows) → ((k : List ℕ) → AreRising (versions_in k (frozen ++ (active ∷ [])))) → (k : List ℕ) → AreRising (versions k active)

@@ -5,6 +5,7 @@ ghost use Rattle.slate_types.specs.declared.error.SlateDBError.{SlateDBError};
 ghost use Rattle.slate_types.specs.Faults.{faults_of};
 ghost use Rattle.slate_types.specs.Fold.{operator_at};
 ghost use Rattle.slate_types.specs.Keys.{keys_set};
+ghost use Rattle.slate_types.specs.Outside.{IsOperatorStill};
 ghost use Rattle.slate_mem.specs.CommitRows.{commit_rows};
 ghost use Rattle.slate_mem.specs.KeyTests.{prefixes};
 ghost use Rattle.slate_mem.specs.Lookup.{IsCallback};
@@ -85,6 +86,7 @@ pub(crate) fn make<M: MergeOperator, X: PrefixExtractor>(
     ensures full { (cs : List Commit) → StandsFor manager.old cs → conflict cs owned ≡ None → owned.ops ≢ [] → last ≡ 18446744073709551614 → (result ≡ Err SlateDBError.SequenceExhausted) ⊎ (result ≡ Err SlateDBError.OutOfMemory) }
     ensures same { option_map M.combine operator.new ≡ option_map M.combine operator.old }
     ensures later { faults_of M.faults operator.old ≤ faults_of M.faults operator.new }
+    ensures still { IsOperatorStill (faults_of M.faults operator.old) (faults_of M.faults operator.new) result }
     ensures cause { (cs : List Commit) → StandsFor manager.old cs → IfErr result (λ e. (e ≡ SlateDBError.OutOfMemory) ⊎ (IsConflict (conflict cs owned) e ⊎ IsFull last (conflict cs owned) owned.ops e)
         ⊎ IsTestRefusal (option_map M.combine operator.old) (segments_by X.lengths extractor.now) segments.old default_millis now last (conflict cs owned) owned.ops e ⊎ IsCallback (faults_of M.faults operator.old) (faults_of M.faults operator.new) e) }
     ensures unasked { (cs : List Commit) → StandsFor manager.old cs → IsUnasked (conflict cs owned) last owned.ops (test_refusal (option_map M.combine operator.old) (segments_by X.lengths extractor.now) segments.old default_millis now owned.ops) → operator.new ≡ operator.old }
@@ -185,6 +187,7 @@ pub(crate) fn put_commit<M: MergeOperator, X: PrefixExtractor>(
     ensures same { OnErr result (manager.new ≡ manager.old) }
     ensures same_operator { option_map M.combine operator.new ≡ option_map M.combine operator.old }
     ensures later { faults_of M.faults operator.old ≤ faults_of M.faults operator.new }
+    ensures still { IsOperatorStill (faults_of M.faults operator.old) (faults_of M.faults operator.new) result }
     ensures cause { IfErr result (λ e. (e ≡ SlateDBError.OutOfMemory) ⊎ (batch_refusal (option_map M.combine operator.old) (segments_by X.lengths extractor.now) segments.old default_millis now batch.now ≡ Some e) ⊎ IsCallback (faults_of M.faults operator.old) (faults_of M.faults operator.new) e) }
     ensures unasked { (e : SlateDBError) → batch_refusal (option_map M.combine operator.old) (segments_by X.lengths extractor.now) segments.old default_millis now batch.now ≡ Some e → operator.new ≡ operator.old }
     ensures plain { batch.now.held_merge ≡ false → operator.new ≡ operator.old }

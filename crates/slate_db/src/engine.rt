@@ -4,7 +4,8 @@ ghost use Rattle.std.specs.List.{AllByRecursion};
 ghost use Rattle.slate_types.specs.Config.{IsValid};
 ghost use Rattle.slate_types.specs.declared.error.SlateDBError.{SlateDBError};
 ghost use Rattle.slate_filter.specs.Laws.{AreValidNames};
-ghost use Rattle.slate_types.specs.Outside.{IsFault, OnlyReads, Puts};
+ghost use Rattle.slate_types.specs.Faults.{faults_of};
+ghost use Rattle.slate_types.specs.Outside.{IsFault, IsOperatorStill, IsStill, OnlyReads, Puts};
 ghost use Rattle.slate_types.specs.World.{IsCall, Made};
 ghost use Rattle.slate_mem.specs.Lookup.{is_merge_among, newest_first};
 ghost use Rattle.slate_mem.specs.Table.{newest};
@@ -325,6 +326,7 @@ impl Core {
             ⊎ ((e ≡ SlateDBError.LimitReached LIMIT) × NoPlace 1 self.old)
             ⊎ (batch_refusal m.combine g self.old.segments self.old.settings.default_millis now batch ≡ Some e)) }
         ensures outside { env.new ≡ record env.old { operator = env.new.operator } }
+        ensures still { IsOperatorStill (faults_of M.faults env.old.operator) (faults_of M.faults env.new.operator) result }
         ensures call { let reach = ⟦<EnvOf<S, M, T> as Outside>⟧.reach in IsCall (reach env.old) (reach env.new) [] }
         ensures reads { let reach = ⟦<EnvOf<S, M, T> as Outside>⟧.reach in OnlyReads (reach env.old) (reach env.new) }
         ensures stay { StayOpen self.old self.new }
@@ -379,8 +381,8 @@ impl Core {
     /// Freezes, stores the rows that wait as tables with the filters of the policies, and gives the newest sequence. Each segment that
     /// the rows touch gets a run of tables of just its rows, in the order of the prefixes. Of each key the rows at or below the
     /// barrier, which is the least begin of an open transaction or sequence of an open snapshot, or else the newest sequence,
-    /// become their fold. Where no rows are in memory nothing is stored. Refuses by `LimitReached` where the journal has no place
-    /// for the events, and then nothing is changed, or where a table would pass a limit; by `StoreFault`, `BlockTransformError` and
+    /// become their fold. Where no rows are in memory no part is asked. Refuses by `LimitReached` where the journal has no place
+    /// for the events, and then nothing is changed and no part is asked, or where a table would pass a limit; by `StoreFault`, `BlockTransformError` and
     /// `Callback`, each only where its count of faults rose, and then the rows are frozen; by `MergeOperatorMissing`, only where a
     /// row in memory is an operand and there is no operator; and by `OutOfMemory`. Else the rows are in memory as before, or frozen,
     /// and the store's objects are as they were, or have some first of the tables, which no event names.
@@ -400,7 +402,7 @@ impl Core {
         ensures refused { let reach = ⟦<EnvOf<S, M, T> as Outside>⟧.reach in OnErr result ((between : CoreModel) × (IsSame self.old between ⊎ IsFrozen self.old between) × IsSame between self.new × MayPut (layout_of laws.now.options (map (λ p. meaning p) laws.now.policies.items) (segments_by X.lengths laws.now.segments)) (reach env.old) (reach env.new) between) }
         ensures frozen { (result ≡ Err SlateDBError.StoreFault) ⊎ (result ≡ Err SlateDBError.BlockTransformError) ⊎ (result ≡ Err SlateDBError.MergeOperatorMissing) ⊎ ((message : List ℕ) × (result ≡ Err (SlateDBError.Callback message))) → (between : CoreModel) × IsFrozen self.old between × IsSame between self.new }
         ensures full { NoPlaceToFlush self.old → self.new ≡ self.old }
-        ensures full_objects { let reach = ⟦<EnvOf<S, M, T> as Outside>⟧.reach in NoPlaceToFlush self.old → (reach env.new).objects ≡ (reach env.old).objects }
+        ensures unasked { NoPlaceToFlush self.old ⊎ ((self.old.active ≡ []) × (self.old.frozen ≡ [])) → env.new ≡ env.old }
         ensures vouched { OnOk result ((m : Meaning) (other : List ℕ) → IsVouchedFor m self.old other → IsVouchedFor m self.new other) }
         ensures runs { let reach = ⟦<EnvOf<S, M, T> as Outside>⟧.reach in
             let m = (reach env.old).meaning in
@@ -420,6 +422,7 @@ impl Core {
         ensures limit { NoPlaceToFlush self.old → result ≡ Err (SlateDBError.LimitReached LIMIT) }
         ensures cause { let reach = ⟦<EnvOf<S, M, T> as Outside>⟧.reach in IfErr result (IsFlushError (layout_of laws.now.options (map (λ p. meaning p) laws.now.policies.items) (segments_by X.lengths laws.now.segments)) (reach env.old) (reach env.new) self.old) }
         ensures puts { let reach = ⟦<EnvOf<S, M, T> as Outside>⟧.reach in Puts (reach env.old) (reach env.new) }
+        ensures still { let reach = ⟦<EnvOf<S, M, T> as Outside>⟧.reach in IsStill (reach env.old).faults (reach env.new).faults result }
         ensures stay { StayOpen self.old self.new }
         ensures held { let reach = ⟦<EnvOf<S, M, T> as Outside>⟧.reach in HoldsOn (reach env.old) (reach env.new) self.old self.new }
         ensures told { let reach = ⟦<EnvOf<S, M, T> as Outside>⟧.reach in OnOk result (TellsOn (reach env.old) (reach env.new) self.old self.new) }
@@ -469,6 +472,7 @@ impl Core {
             let m = (reach env.old).meaning in
             IfErr result (λ e. IsFault (reach env.old) (reach env.new) e ⊎ TooLarge m (layout_of laws.now.options (map (λ p. meaning p) laws.now.policies.items) (segments_by X.lengths laws.now.segments)) self.old e ⊎ WantsOperator m (memory self.old) e) }
         ensures puts { let reach = ⟦<EnvOf<S, M, T> as Outside>⟧.reach in Puts (reach env.old) (reach env.new) }
+        ensures still { let reach = ⟦<EnvOf<S, M, T> as Outside>⟧.reach in IsStill (reach env.old).faults (reach env.new).faults result }
         ensures held { let reach = ⟦<EnvOf<S, M, T> as Outside>⟧.reach in HoldsOn (reach env.old) (reach env.new) self.old self.new }
         ensures told { let reach = ⟦<EnvOf<S, M, T> as Outside>⟧.reach in OnOk result (TellsOn (reach env.old) (reach env.new) self.old self.new) }
     {
@@ -643,6 +647,7 @@ impl Core {
             ⊎ ((e ≡ SlateDBError.SequenceExhausted) × (last_of self.old.settings.start_seq self.old.state.commits ≡ 2 ^ 64 - 2))
             ⊎ IsTestRefusal m.combine g self.old.segments self.old.settings.default_millis now (last_of self.old.settings.start_seq self.old.state.commits) (conflict self.old.state.commits t) t.ops e) }
         ensures outside { env.new ≡ record env.old { operator = env.new.operator } }
+        ensures still { IsOperatorStill (faults_of M.faults env.old.operator) (faults_of M.faults env.new.operator) result }
         ensures call { let reach = ⟦<EnvOf<S, M, T> as Outside>⟧.reach in IsCall (reach env.old) (reach env.new) [] }
         ensures reads { let reach = ⟦<EnvOf<S, M, T> as Outside>⟧.reach in OnlyReads (reach env.old) (reach env.new) }
         ensures stay { StayOpenBut id.now self.old self.new }

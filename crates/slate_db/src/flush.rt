@@ -3,7 +3,7 @@ ghost use Rattle.std.specs.Prelude.{◌≡◌, ◌≤◌, ◌<◌, ◌⊎◌, �
 ghost use Rattle.std.specs.List.{AllByRecursion};
 ghost use Rattle.slate_types.specs.Config.{IsValid};
 ghost use Rattle.slate_types.specs.Faults.{faults_of};
-ghost use Rattle.slate_types.specs.Outside.{IsFault, Puts};
+ghost use Rattle.slate_types.specs.Outside.{IsFault, IsStill, IsStoreStill, IsTransformerStill, Puts};
 ghost use Rattle.slate_block.specs.ReadingLaws.{EachIsAByte};
 ghost use Rattle.slate_filter.specs.Laws.{AreValidNames};
 ghost use Rattle.slate_table.specs.InfoReading.{seen_info};
@@ -68,6 +68,7 @@ pub fn stored<S: Store, M: MergeOperator, T: BlockTransformer, X: PrefixExtracto
         ⊎ WantsOperator (reach env.old).meaning (map (λ t. t.rows) frozen.now) e) }
     ensures wanted { let reach = ⟦<EnvOf<S, M, T> as Outside>⟧.reach in (reach env.old).meaning.combine ≡ None → is_merge_among (newest_first (map (λ t. t.rows) frozen.now)) ≡ true → IfOk result (λ _. ⊥) }
     ensures puts { let reach = ⟦<EnvOf<S, M, T> as Outside>⟧.reach in Puts (reach env.old) (reach env.new) }
+    ensures still { let reach = ⟦<EnvOf<S, M, T> as Outside>⟧.reach in IsStill (reach env.old).faults (reach env.new).faults result }
 {
     let rows = rows_of_flush(alloc, frozen, barrier, &mut env.operator)?;
     let parts = cut_tables(alloc, rows, laws.options.table_bytes, &laws.segments)?;
@@ -93,6 +94,7 @@ fn stored_runs<S: Store, M: MergeOperator, T: BlockTransformer, X: PrefixExtract
     ensures cause { let reach = ⟦<EnvOf<S, M, T> as Outside>⟧.reach in IfErr result (λ e. IsFault (reach env.old) (reach env.new) e ⊎ IsPartTooLarge (layout_of laws.now.options (map (λ p. meaning p) laws.now.policies.items) (segments_by X.lengths laws.now.segments)) (map (λ t. t.rows.items) parts.items) e) }
     ensures operator { env.new.operator ≡ env.old.operator }
     ensures puts { let reach = ⟦<EnvOf<S, M, T> as Outside>⟧.reach in Puts (reach env.old) (reach env.new) }
+    ensures still { let reach = ⟦<EnvOf<S, M, T> as Outside>⟧.reach in IsStill (reach env.old).faults (reach env.new).faults result }
 {
     let mut tables = Vec::with_capacity(alloc, parts.len())?;
     let mut runs = Vec::new(alloc);
@@ -158,6 +160,7 @@ fn stored_table<S: Store, M: MergeOperator, T: BlockTransformer, X: PrefixExtrac
     ensures cause { let reach = ⟦<EnvOf<S, M, T> as Outside>⟧.reach in IfErr result (λ e. IsFault (reach env.old) (reach env.new) e ⊎ IsTooLarge (layout_of laws.now.options (map (λ p. meaning p) laws.now.policies.items) (segments_by X.lengths laws.now.segments)) rows.items e) }
     ensures operator { env.new.operator ≡ env.old.operator }
     ensures puts { let reach = ⟦<EnvOf<S, M, T> as Outside>⟧.reach in Puts (reach env.old) (reach env.new) }
+    ensures still { let reach = ⟦<EnvOf<S, M, T> as Outside>⟧.reach in IsStill (reach env.old).faults (reach env.new).faults result }
 {
     let table = built(alloc, id, rows, laws, &mut env.transformer)?;
     let kept = put(alloc, id, &table, env.store);
@@ -180,6 +183,7 @@ fn put<S: Store>(
     ensures refused { (encode : Encode) (layout : Layout) (number place : ℕ) (rows : Rows) → IsTableAt encode layout number place rows (id, table.now.bytes) → OnErr result (MayTakeTables (IsOneTable encode layout number place rows) (S.objects store.old) (S.objects store.new)) }
     ensures cause { IfErr result (λ e. IsStoreFault (S.faults store.old) (S.faults store.new) e) }
     ensures later { S.faults store.old ≤ S.faults store.new }
+    ensures still { IsStoreStill (S.faults store.old) (S.faults store.new) result }
 {
     let bytes = bytes_of(table)?;
     let handle = TableStore::put_table(alloc, store, ROOT, id, table)?;
@@ -216,6 +220,7 @@ pub fn built<T: BlockTransformer, X: PrefixExtractor>(
     ensures same_encoded { changed_by T.encoded transformer.new ≡ changed_by T.encoded transformer.old }
     ensures same_decoded { changed_by T.decoded transformer.new ≡ changed_by T.decoded transformer.old }
     ensures later { faults_of T.faults transformer.old ≤ faults_of T.faults transformer.new }
+    ensures still { IsTransformerStill (faults_of T.faults transformer.old) (faults_of T.faults transformer.new) result }
 {
     let options = &laws.options;
     let format = SsTableFormat {

@@ -4,6 +4,7 @@ ghost use Rattle.std.specs.List.{AllByRecursion};
 ghost use Rattle.slate_types.specs.declared.error.SlateDBError.{SlateDBError};
 ghost use Rattle.slate_table.specs.Table.{AreInOrder};
 ghost use Rattle.slate_types.specs.Faults.{faults_of};
+ghost use Rattle.slate_types.specs.Outside.{IsOperatorStill};
 ghost use Rattle.slate_mem.specs.Lookup.{is_merge_among, newest_first, IsCallback};
 ghost use Rattle.slate_db.specs.Flushed.{IsFolded, CanFlush, WantsOperator};
 ghost use Rattle.slate_db.specs.Meaning.{Meaning};
@@ -34,6 +35,7 @@ pub fn rows_of_flush<M: MergeOperator>(
     ensures wanted { option_map M.combine operator.old ≡ None → is_merge_among (newest_first (map (λ t. t.rows) frozen.now)) ≡ true → IfOk result (λ _. ⊥) }
     ensures same { option_map M.combine operator.new ≡ option_map M.combine operator.old }
     ensures later { faults_of M.faults operator.old ≤ faults_of M.faults operator.new }
+    ensures still { IsOperatorStill (faults_of M.faults operator.old) (faults_of M.faults operator.new) result }
     ensures cause { IfErr result (λ e. (e ≡ SlateDBError.OutOfMemory) ⊎ (e ≡ SlateDBError.MergeOperatorMissing) ⊎ IsCallback (faults_of M.faults operator.old) (faults_of M.faults operator.new) e) }
 {
     let rows = gathered(alloc, frozen)?;

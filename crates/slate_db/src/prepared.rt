@@ -5,6 +5,7 @@ ghost use Rattle.slate_types.specs.declared.error.SlateDBError.{SlateDBError};
 ghost use Rattle.slate_types.specs.Faults.{faults_of};
 ghost use Rattle.slate_types.specs.Fold.{operator_at};
 ghost use Rattle.slate_types.specs.Keys.{keys_set};
+ghost use Rattle.slate_types.specs.Outside.{IsOperatorStill};
 ghost use Rattle.slate_mem.specs.CommitRows.{commit_rows};
 ghost use Rattle.slate_mem.specs.KeyTests.{prefixes};
 ghost use Rattle.slate_mem.specs.Lookup.{IsCallback};
@@ -65,6 +66,7 @@ pub fn prepare<M: MergeOperator, X: PrefixExtractor>(
     ensures prepared { IfOk result (IsPrepared (prepared_for (option_map M.combine operator.old) (segments_by X.lengths extractor.now) default_millis now batch.now)) }
     ensures same { option_map M.combine operator.new ≡ option_map M.combine operator.old }
     ensures later { faults_of M.faults operator.old ≤ faults_of M.faults operator.new }
+    ensures still { IsOperatorStill (faults_of M.faults operator.old) (faults_of M.faults operator.new) result }
     ensures unasked { (e : SlateDBError) → lone_refusal (prepared_for (option_map M.combine operator.old) (segments_by X.lengths extractor.now) default_millis now batch.now) ≡ Some e → operator.new ≡ operator.old }
     ensures plain { batch.now.held_merge ≡ false → operator.new ≡ operator.old }
     ensures cause { IfErr result (λ e. (e ≡ SlateDBError.OutOfMemory) ⊎ IsCallback (faults_of M.faults operator.old) (faults_of M.faults operator.new) e) }
@@ -91,6 +93,7 @@ fn fold_alone<M: MergeOperator, X: PrefixExtractor>(
     ensures fit { AreFine batch.now.ops → IfOk result (λ r. IfOk r (λ f. AllByRecursion FitsMemory f.rows.items)) }
     ensures same { option_map M.combine operator.new ≡ option_map M.combine operator.old }
     ensures later { faults_of M.faults operator.old ≤ faults_of M.faults operator.new }
+    ensures still { IsOperatorStill (faults_of M.faults operator.old) (faults_of M.faults operator.new) result }
     ensures unasked { (e : SlateDBError) → lone_refusal (prepared_for (option_map M.combine operator.old) (segments_by X.lengths extractor.now) default_millis now batch.now) ≡ Some e → operator.new ≡ operator.old }
     ensures plain { batch.now.held_merge ≡ false → operator.new ≡ operator.old }
     ensures cause { IfErr result (λ e. (e ≡ SlateDBError.OutOfMemory) ⊎ IsCallback (faults_of M.faults operator.old) (faults_of M.faults operator.new) e) }

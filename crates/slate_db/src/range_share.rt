@@ -1,5 +1,5 @@
 //! Reads of the keys in a range over what was taken of layers, which change meanwhile.
-ghost use Rattle.std.specs.Prelude.{◌≡◌, ◌++◌, ◌∷◌, [], ℕ, List, IfOk, IsOkUnless, OnOk, Some, false, filter, map, nat_eq, true};
+ghost use Rattle.std.specs.Prelude.{◌≡◌, [], ℕ, List, IfOk, IsOkUnless, Some, false, map, nat_eq, true};
 ghost use Rattle.std.specs.List.{starts_with};
 ghost use Rattle.slate_types.specs.declared.bytes_range.BytesRange.{BytesRange};
 ghost use Rattle.slate_types.specs.declared.error.SlateDBError.{SlateDBError};
@@ -8,12 +8,10 @@ ghost use Rattle.slate_types.specs.Keys.{in_range, is_refused};
 ghost use Rattle.slate_types.specs.Outside.{OnlyReads};
 ghost use Rattle.slate_mem.specs.Lookup.{newest_first};
 ghost use Rattle.slate_mem.specs.Table.{newest};
-ghost use Rattle.slate_merge.specs.Filtering.{upto_seq};
 ghost use Rattle.slate_read.specs.SstOptions.{CanFetch};
 ghost use Rattle.slate_txn.specs.Step.{Reader};
 ghost use Rattle.slate_db.specs.KeyShares.{IsSeen};
-ghost use Rattle.slate_db.specs.Layers.{AreRising};
-ghost use Rattle.slate_db.specs.Model.{CoreModel, versions};
+ghost use Rattle.slate_db.specs.Model.{CoreModel};
 ghost use Rattle.slate_db.specs.RangeShares.{HasUpto, IsOpened, IsPart, IsRangeShare, IsReaderOf};
 ghost use Rattle.slate_db.specs.ScanFilters.{scan_query};
 ghost use Rattle.slate_db.specs.Shown.{Asking};
@@ -25,15 +23,13 @@ use crate::scan::DbIterator;
 use bytes::Bytes;
 use slate_filter::FilterPolicy;
 use slate_mem::lookup::newest_of_memory;
-use slate_mem::{ImmutableMemtable, MemTable, MemTableIterator, WriteBatchIterator};
+use slate_mem::{ImmutableMemtable, MemTable, WriteBatchIterator};
 use slate_read::SstIteratorOptions;
 use slate_store::{Env, EnvOf, Store};
 use slate_types::{
-    BlockTransformer, BytesRange, FilterQuery, IterationOrder, MergeOperator, Outside, RowEntry,
-    RowEntryIterator, SlateDBError,
+    BlockTransformer, BytesRange, FilterQuery, MergeOperator, Outside, RowEntry, SlateDBError,
 };
-use std::alloc::{AllocError, Global};
-use std::collections::BTreeSet;
+use std::alloc::Global;
 use std::marker::Model;
 
 /// What reads of the keys in a range at a sequence take of layers: a copy of the range's rows up to there that weren't frozen, the
@@ -128,42 +124,8 @@ pub(crate) fn copy_upto(
     range: &BytesRange,
     at: u64,
 ) -> Result<MemTable, SlateDBError>
-    requires { (k : List ℕ) → AreRising (versions k table.now.rows) }
     ensures rows { IfOk result (λ copy. HasUpto range.now at table.now.rows copy.rows) }
     ensures cause { IsOkUnless result SlateDBError.OutOfMemory }
 {
-    let within = table.range(alloc, range, IterationOrder::Ascending)?;
-    let rows = rows_upto(alloc, within, at)?;
-    let mut copy = MemTable::new(alloc);
-    copy.put_all(rows, BTreeSet::new(alloc))?;
-    Ok(copy)
-}
-
-/// The rows up to a sequence. The one error is `OutOfMemory`.
-fn rows_upto(
-    alloc: Global,
-    within: MemTableIterator,
-    at: u64,
-) -> Result<Vec<RowEntry>, SlateDBError>
-    ensures rows { IfOk result (λ rows. rows.items ≡ filter (upto_seq (Some at)) within.rows) }
-    ensures cause { IsOkUnless result SlateDBError.OutOfMemory }
-{
-    let mut within = within;
-    let mut rows = Vec::new(alloc);
-    while let Some(row) = within.next(alloc, &mut ())? {
-        keep_upto(&mut rows, row, at)?;
-    }
-    Ok(rows)
-}
-
-/// Keeps a row where its sequence is at most this.
-fn keep_upto(rows: &mut Vec<RowEntry>, row: RowEntry, at: u64) -> Result<(), AllocError>
-    ensures { OnOk result (rows.new.items ≡ rows.old.items ++ filter (upto_seq (Some at)) (row ∷ [])) }
-{
-    if row.seq > at {
-        drop(row);
-        return Ok(());
-    }
-    rows.push(row)?;
-    Ok(())
+    table.upto(alloc, range, at)
 }

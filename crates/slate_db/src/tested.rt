@@ -5,6 +5,7 @@ ghost use Rattle.slate_types.specs.declared.error.SlateDBError.{SlateDBError};
 ghost use Rattle.slate_types.specs.Faults.{faults_of};
 ghost use Rattle.slate_types.specs.Fold.{Combine, operator_at};
 ghost use Rattle.slate_types.specs.Keys.{keys_set};
+ghost use Rattle.slate_types.specs.Outside.{IsOperatorStill};
 ghost use Rattle.slate_mem.specs.CommitRows.{commit_rows};
 ghost use Rattle.slate_mem.specs.KeyTests.{merges_refusal, prefixes};
 ghost use Rattle.slate_mem.specs.Lookup.{IsCallback};
@@ -62,6 +63,7 @@ pub(crate) fn rows_of_batch<M: MergeOperator>(
     ensures fit { AreFine batch.now.ops → IfOk result (λ rows. AllByRecursion FitsMemory rows.items) }
     ensures same { option_map M.combine operator.new ≡ option_map M.combine operator.old }
     ensures later { faults_of M.faults operator.old ≤ faults_of M.faults operator.new }
+    ensures still { IsOperatorStill (faults_of M.faults operator.old) (faults_of M.faults operator.new) result }
     ensures plain { batch.now.held_merge ≡ false → operator.new ≡ operator.old }
     ensures cause { IfErr result (λ e. (e ≡ SlateDBError.OutOfMemory) ⊎ IsCallback (faults_of M.faults operator.old) (faults_of M.faults operator.new) e) }
 {

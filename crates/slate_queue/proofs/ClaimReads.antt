@@ -129,28 +129,40 @@ neither : (a b : Bool) → a ≡ false → b ≡ false → (a || b) ≡ false
 neither a b e f = λ i. e i || f i
 
 pub claims_meet_no_add : ClaimsMeetNoAdd
-claims_meet_no_add r cs n now ops tracked ts claim c us add alone later =
-    ap (list_any (λ (k : List ℕ). among k tracked || is_read (reads_of ts) k)) keys
-    ∙ neither (among (job_key (add.counter + 1)) tracked || is_read (reads_of ts) (job_key (add.counter + 1))) ((among counter_key tracked || is_read (reads_of ts) counter_key) || false) (missed (job_key (add.counter + 1)) apart unread_job)
-    (neither (among counter_key tracked || is_read (reads_of ts) counter_key) false (missed counter_key (ap (λ (k : List ℕ). bytes_eq k counter_key) claim.is_job) unread_counter) refl)
+claims_meet_no_add r cs n d ts claim c us add alone later = (
+  ap (list_any (λ (k : List ℕ). among k d.tracked || is_read (reads_of ts) k)) keys
+      ∙ neither (among (job_key (add.counter + 1)) d.tracked || is_read (reads_of ts) (job_key (add.counter + 1))) ((among counter_key d.tracked || is_read (reads_of ts) counter_key) || false) (missed (job_key (add.counter + 1)) apart unread_job)
+      (neither (among counter_key d.tracked || is_read (reads_of ts) counter_key) false (missed counter_key (ap (λ (k : List ℕ). bytes_eq k counter_key) claim.is_job) unread_counter) refl),
+  ap (list_any (λ (k : List ℕ). among k c.tracked || is_read (reads_of us) k)) own ∙ neither (among claim.row.key c.tracked || is_read (reads_of us) claim.row.key) false (neither (among claim.row.key c.tracked) (is_read (reads_of us) claim.row.key) unwritten unread_row) refl,
+)
   where
     fits : add.counter + 1 < 2 ^ 64
     fits = let l : add.counter < last_number = add.left in omega arith
 
-    own : tracked ≡ claim.row.key ∷ []
-    own = claim.by.keys ∙ ap batch_keys (claim.by.kept ∙ one_kept claim.row.key (put_of (job_bytes (leased now claim.ms claim.job))))
+    own : d.tracked ≡ claim.row.key ∷ []
+    own = claim.by.keys ∙ ap batch_keys (claim.by.kept ∙ one_kept claim.row.key (put_of (job_bytes (leased d.now claim.ms claim.job))))
 
     keys : c.tracked ≡ job_key (add.counter + 1) ∷ counter_key ∷ []
     keys = add.by.keys ∙ ap batch_keys (add.by.kept ∙ added_kept (add.counter + 1) add.payload)
 
-    missed : (k : List ℕ) → bytes_eq claim.row.key k ≡ false → is_read (reads_of ts) k ≡ false → (among k tracked || is_read (reads_of ts) k) ≡ false
-    missed k other unread = neither (among k tracked) (is_read (reads_of ts) k) (ap (among k) own ∙ ap (λ b. b || false) other) unread
+    missed : (k : List ℕ) → bytes_eq claim.row.key k ≡ false → is_read (reads_of ts) k ≡ false → (among k d.tracked || is_read (reads_of ts) k) ≡ false
+    missed k other unread = neither (among k d.tracked) (is_read (reads_of ts) k) (ap (among k) own ∙ ap (λ b. b || false) other) unread
 
     apart : bytes_eq claim.row.key (job_key (add.counter + 1)) ≡ false
     apart = ap (λ (k : List ℕ). bytes_eq k (job_key (add.counter + 1))) claim.is_job ∙ keys_apart claim.id (add.counter + 1) claim.of_id fits (different claim.id (add.counter + 1) later)
 
     unread_job : is_read (reads_of ts) (job_key (add.counter + 1)) ≡ false
-    unread_job = claims_read r cs n now ops tracked ts claim (job_key (add.counter + 1)) alone (ap (λ (k : List ℕ). key_lt k (job_key (add.counter + 1))) claim.is_job ∙ ap is_lt (lesser_first claim.id (add.counter + 1) later fits))
+    unread_job = claims_read r cs n d.now d.ops d.tracked ts claim (job_key (add.counter + 1)) alone (ap (λ (k : List ℕ). key_lt k (job_key (add.counter + 1))) claim.is_job ∙ ap is_lt (lesser_first claim.id (add.counter + 1) later fits))
 
     unread_counter : is_read (reads_of ts) counter_key ≡ false
-    unread_counter = claims_read r cs n now ops tracked ts claim counter_key alone (ap (λ (k : List ℕ). key_lt k counter_key) claim.is_job)
+    unread_counter = claims_read r cs n d.now d.ops d.tracked ts claim counter_key alone (ap (λ (k : List ℕ). key_lt k counter_key) claim.is_job)
+
+    unwritten : among claim.row.key c.tracked ≡ false
+    unwritten =
+        ap (among claim.row.key) keys
+        ∙ neither (bytes_eq (job_key (add.counter + 1)) claim.row.key) (bytes_eq counter_key claim.row.key || false)
+        (ap (bytes_eq (job_key (add.counter + 1))) claim.is_job ∙ keys_apart (add.counter + 1) claim.id fits claim.of_id (λ e. different claim.id (add.counter + 1) later (sym e)))
+        (ap (λ (k : List ℕ). bytes_eq counter_key k || false) claim.is_job)
+
+    unread_row : is_read (reads_of us) claim.row.key ≡ false
+    unread_row = ap (λ (ws : List TranscriptStep). is_read (reads_of ws) claim.row.key) add.by.whole ∙ ap (is_read (record { keys = counter_key ∷ []; scans = []; views = [] })) claim.is_job

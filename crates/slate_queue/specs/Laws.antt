@@ -4,7 +4,7 @@
 --     ClaimedOnce, AddedOnce, FinishedOnce      no commit before did the same
 --     FinishesNameTheLastLease      a finish names the lease of the last claim before it
 --     ClaimsReadUpToTheirJob      a claim that was answered as a reader is reads no key behind that of the job that it takes
---     ClaimsMeetNoAdd      so no add of a greater id conflicts with it
+--     ClaimsMeetNoAdd      so neither it nor an add of a greater id conflicts with the other
 use Rattle.std.specs.Prelude.{◌≡◌, ◌≢◌, ℕ, ◌+◌, ◌<◌, ℤ, false, true, List, ◌∷◌, ◌++◌, Some, IsSome}
 use Rattle.slate_mem.specs.Batch.{Ops}
 use Rattle.slate_txn.specs.declared.event.Event.{Event}
@@ -58,7 +58,7 @@ abbrev pub ClaimsReadUpToTheirJob : Type 0
 ClaimsReadUpToTheirJob = (r : Rules) (cs : List Commit) (n : ℕ) (now : ℤ) (ops : Ops) (tracked : List (List ℕ)) (ts : List TranscriptStep) (claim : IsClaim now ops tracked ts) (k : List ℕ) →
     IsAlone r cs n ts → key_lt claim.row.key k ≡ true → is_read (reads_of ts) k ≡ false
 
--- A commit that adds a job of a greater id tracks no key that such a claim reads or writes, so that neither conflicts with the other.
+-- A commit that adds a job of a greater id tracks no key that such a claim reads or writes, and its steps read no key that the claim writes: neither conflicts with the other.
 abbrev pub ClaimsMeetNoAdd : Type 0
-ClaimsMeetNoAdd = (r : Rules) (cs : List Commit) (n : ℕ) (now : ℤ) (ops : Ops) (tracked : List (List ℕ)) (ts : List TranscriptStep) (claim : IsClaim now ops tracked ts) (c : Commit) (us : List TranscriptStep) (add : IsAdd c.ops c.tracked us) →
-    IsAlone r cs n ts → claim.id < add.counter + 1 → meets tracked (reads_of ts) c ≡ false
+ClaimsMeetNoAdd = (r : Rules) (cs : List Commit) (n : ℕ) (d : Commit) (ts : List TranscriptStep) (claim : IsClaim d.now d.ops d.tracked ts) (c : Commit) (us : List TranscriptStep) (add : IsAdd c.ops c.tracked us) →
+    IsAlone r cs n ts → claim.id < add.counter + 1 → (meets d.tracked (reads_of ts) c ≡ false) × (meets c.tracked (reads_of us) d ≡ false)

@@ -12,8 +12,8 @@ pub fn history()
     ensures named { FinishesNameTheLastLease }
 {}
 
-/// Of what a claim reads. Where it was answered as a reader is, it reads no key behind that of the job that it takes, so that no add of a
-/// greater id conflicts with it.
+/// Of what a claim reads. Where it was answered as a reader is, it reads no key behind that of the job that it takes, and an add of a
+/// greater id reads and writes none that it writes, so that neither conflicts with the other.
 pub fn claims()
     ensures reads { ClaimsReadUpToTheirJob }
     ensures adds { ClaimsMeetNoAdd }

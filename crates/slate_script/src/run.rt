@@ -159,7 +159,8 @@ fn answer_line<W: Sink, S: Store, M: MergeOperator, T: BlockTransformer, X: Pref
         let sunk = sink_of W.content W.faults in
         RepliesLine layout number line.now (reach env.old) (reach env.new) session.old session.new
         (sunk sink.old) (sunk sink.new) tally.old tally.new result }
-    ensures sink { let sunk = sink_of W.content W.faults in WritesReply line.now (sunk sink.old) (sunk sink.new) result }
+    ensures sink { let sunk = sink_of W.content W.faults in
+        WritesReply line.now (sunk sink.old) (sunk sink.new) result }
 {
     let meaning = match parse_line(alloc, line) {
         Ok(None) => return Ok(()),

@@ -1,7 +1,8 @@
 //! Commits of transactions.
 ghost use Rattle.std.specs.Prelude.{◌≡◌, [], false, map, Some};
 ghost use Rattle.slate_types.specs.declared.error.SlateDBError.{SlateDBError};
-ghost use Rattle.slate_types.specs.Outside.{IsFault, OnlyReads};
+ghost use Rattle.slate_types.specs.Faults.{faults_of};
+ghost use Rattle.slate_types.specs.Outside.{IsFault, IsOperatorStill, OnlyReads};
 ghost use Rattle.slate_types.specs.World.{IsCall};
 ghost use Rattle.slate_mem.specs.BatchModel.{holds_merge};
 ghost use Rattle.slate_txn.specs.Replay.{IsLegal};
@@ -50,6 +51,7 @@ impl<P: Parts> DbTransaction<P> {
         ensures ended { let reach = ⟦<EnvOf<S, M, T> as Outside>⟧.reach in HasEnded (IsFault (reach env.old) (reach env.new)) P.meaning P.segments (settings_of P.options) now self pass.old pass.new result }
         ensures legal { IsLegal P.options.start_seq pass.new.seen }
         ensures outside { env.new ≡ record env.old { operator = env.new.operator } }
+        ensures still { IsOperatorStill (faults_of M.faults env.old.operator) (faults_of M.faults env.new.operator) result }
         ensures call { let reach = ⟦<EnvOf<S, M, T> as Outside>⟧.reach in IsCall (reach env.old) (reach env.new) [] }
         ensures reads { let reach = ⟦<EnvOf<S, M, T> as Outside>⟧.reach in OnlyReads (reach env.old) (reach env.new) }
         ensures unasked { (e : SlateDBError) → lone_refusal (prepared_for P.meaning.combine P.segments P.options.default_ttl_millis now (own_batch self.tx.ops)) ≡ Some e → env.new ≡ env.old }
@@ -95,6 +97,7 @@ impl<P: Parts> DbTransaction<P> {
         ensures ended { let reach = ⟦<EnvOf<S, M, T> as Outside>⟧.reach in HasEnded (IsFault (reach env.old) (reach env.new)) P.meaning P.segments (settings_of P.options) options.entry.now.now self pass.old pass.new result }
         ensures legal { IsLegal P.options.start_seq pass.new.seen }
         ensures outside { env.new ≡ record env.old { operator = env.new.operator } }
+        ensures still { IsOperatorStill (faults_of M.faults env.old.operator) (faults_of M.faults env.new.operator) result }
         ensures call { let reach = ⟦<EnvOf<S, M, T> as Outside>⟧.reach in IsCall (reach env.old) (reach env.new) [] }
         ensures reads { let reach = ⟦<EnvOf<S, M, T> as Outside>⟧.reach in OnlyReads (reach env.old) (reach env.new) }
         ensures unasked { (e : SlateDBError) → lone_refusal (prepared_for P.meaning.combine P.segments P.options.default_ttl_millis options.entry.now.now (own_batch self.tx.ops)) ≡ Some e → env.new ≡ env.old }

@@ -128,7 +128,7 @@ impl<P: Parts> Pass<P> {
         ensures same { (self.new.table ≡ self.old.table) × (self.new.parts ≡ self.old.parts) × (self.new.own ≡ self.old.own) }
         ensures frozen { IfOk result (λ n. IsQuiet self.new.seen × ((before : List Event) × IsPrefix self.old.seen before × ((self.new.seen ≡ before) ⊎ (self.new.seen ≡ before ++ Freeze ∷ [])) × (n ≡ last_of P.options.start_seq (replay before).commits))) }
         ensures err { OnErr result (IsPrefix self.old.seen self.new.seen) }
-        ensures cause { IfErr result (λ e. (e ≡ SlateDBError.OutOfMemory) ⊎ ((e ≡ SlateDBError.LimitReached LIMIT) × ((before : List Event) × IsPrefix self.old.seen before × IsFull 1 before))) }
+        ensures cause { IfErr result (λ e. (e ≡ SlateDBError.OutOfMemory) ⊎ ((e ≡ SlateDBError.LimitReached LIMIT) × IsFull 1 self.new.seen)) }
     {
         let top = &db.board.shared;
         let mut locked = take(rt, top, &mut self.seat);

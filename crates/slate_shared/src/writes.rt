@@ -1,7 +1,8 @@
 //! Writes of batches by themselves.
 ghost use Rattle.std.specs.Prelude.{◌≡◌, [], false, map, None, Some, Ok};
 ghost use Rattle.slate_types.specs.declared.error.SlateDBError.{SlateDBError};
-ghost use Rattle.slate_types.specs.Outside.{IsFault, OnlyReads};
+ghost use Rattle.slate_types.specs.Faults.{faults_of};
+ghost use Rattle.slate_types.specs.Outside.{IsFault, IsOperatorStill, OnlyReads};
 ghost use Rattle.slate_types.specs.World.{IsCall};
 ghost use Rattle.slate_mem.specs.BatchModel.{BatchModel};
 ghost use Rattle.slate_txn.specs.Settings.{settings_of};
@@ -46,6 +47,7 @@ impl<P: Parts> Pass<P> {
         ensures written { let reach = ⟦<EnvOf<S, M, T> as Outside>⟧.reach in HasWritten (IsFault (reach env.old) (reach env.new)) P.meaning P.segments (settings_of P.options) now batch self.old self.new result }
         ensures idle { batch.ops ≡ [] → (result ≡ Ok None) × (self.new ≡ self.old) }
         ensures outside { env.new ≡ record env.old { operator = env.new.operator } }
+        ensures still { IsOperatorStill (faults_of M.faults env.old.operator) (faults_of M.faults env.new.operator) result }
         ensures call { let reach = ⟦<EnvOf<S, M, T> as Outside>⟧.reach in IsCall (reach env.old) (reach env.new) [] }
         ensures reads { let reach = ⟦<EnvOf<S, M, T> as Outside>⟧.reach in OnlyReads (reach env.old) (reach env.new) }
         ensures unasked { (e : SlateDBError) → lone_refusal (prepared_for P.meaning.combine P.segments P.options.default_ttl_millis now batch) ≡ Some e → env.new ≡ env.old }

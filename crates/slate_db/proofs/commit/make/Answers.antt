@@ -19,6 +19,7 @@ use Rattle.slate_db.proofs.Plain.{empty_kept}
 use Rattle.slate_types.specs.declared.error.SlateDBError.TheVariants.{OutOfMemory}
 use Rattle.slate_db.proofs.Tests.{first_moved, free_or_short, met_or_short, none_number, none_some, test_as}
 use Rattle.slate_db.proofs.Unasked.{asked_put}
+use Rattle.slate_types.proofs.StillLaws.{stays_at}
 use Rattle.slate_db.proofs.commit.make.Goals as goal
 
 pub returns-then-is_empty-clause-next : goal.returns-then-is_empty-clause-next
@@ -148,3 +149,14 @@ returns-in-Ok-clause-plain g c none = c.put_commit-put.ensures.plain (c.in_ok-te
 
 pub returns-in-Err-clause-plain : goal.returns-in-Err-clause-plain
 returns-in-Err-clause-plain g c none = c.put_commit-put.ensures.plain (c.in_ok-tested.ensures.commits.batch.1 ∙ none)
+
+pub returns-in_err-tested-clause-still : goal.returns-in_err-tested-clause-still
+returns-in_err-tested-clause-still g c =
+    let p = err_from_is_err_and c.from_residual.result c.from_residual.ensures.1 in
+    rw (p.1, p.2) (stays_at _ _ c.in_err-tested.field-0.0 refl)
+
+pub returns-in-Ok-clause-still : goal.returns-in-Ok-clause-still
+returns-in-Ok-clause-still g c = c.in-Ok.ensures.still
+
+pub returns-in-Err-clause-still : goal.returns-in-Err-clause-still
+returns-in-Err-clause-still g c = c.in-Err.ensures.still

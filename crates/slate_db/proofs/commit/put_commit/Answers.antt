@@ -1,4 +1,4 @@
-use Rattle.std.proofs.Common.{◌≡◌, ℕ, ℤ, ◌+◌, ◌∷◌, ◌++◌, [], List, None, option_map, ap, sym, subst, ◌∙◌, arith, w64}
+use Rattle.std.proofs.Common.{◌≡◌, ℕ, ℤ, ◌+◌, ◌∷◌, ◌++◌, [], List, None, option_map, refl, ap, sym, subst, ◌∙◌, arith, w64}
 use Rattle.std.specs.List.{AllByRecursion}
 use Rattle.std.proofs.lemmas.Int.{to_z-of_z}
 use Rattle.slate_types.specs.Fold.{Combine, operator_at}
@@ -14,6 +14,8 @@ use Rattle.slate_db.specs.Meaning.{segments_by}
 use Rattle.slate_db.proofs.MemoryRows.{rise_more}
 use Rattle.slate_db.proofs.Tests.{tested_merges}
 use Rattle.slate_db.proofs.TakenBack.{commit_seqs, older_rows}
+use Rattle.std.proofs.lemmas.Result.{err_from_is_err_and}
+use Rattle.slate_types.proofs.StillLaws.{stays_at}
 use Rattle.slate_db.proofs.commit.put_commit.Goals as goal
 
 -- a core of these layers
@@ -42,3 +44,26 @@ put_own-requires g c =
       older = older_rows (core_of y) c.args.last c.requires.within;
       later = omega (arith, c.requires.newest);
     }
+
+pub returns-in_err-prefixes-clause-still : goal.returns-in_err-prefixes-clause-still
+returns-in_err-prefixes-clause-still g c =
+    let p = err_from_is_err_and c.from_residual.result c.from_residual.ensures.1 in
+    rw (p.1, p.2) (stays_at _ _ c.in_err-prefixes.field-0.0 refl)
+
+pub returns-in_err-rows-clause-still : goal.returns-in_err-rows-clause-still
+returns-in_err-rows-clause-still g c =
+    let p = err_from_is_err_and c.from_residual-in_err-rows.result c.from_residual-in_err-rows.ensures.1 in
+    rw (p.1, p.2) c.in_err-rows.ensures.still
+
+pub returns-in_err-ops-clause-still : goal.returns-in_err-ops-clause-still
+returns-in_err-ops-clause-still g c =
+    let p = err_from_is_err_and c.from_residual-in_err-ops.result c.from_residual-in_err-ops.ensures.1 in
+    rw (p.1, p.2) (stays_at _ _ c.in_err-ops.field-0.0 c.in_ok-rows.ensures.still)
+
+pub returns-in_err-put_own-clause-still : goal.returns-in_err-put_own-clause-still
+returns-in_err-put_own-clause-still g c =
+    let p = err_from_is_err_and c.from_residual-in_err-put_own.result c.from_residual-in_err-put_own.ensures.1 in
+    rw (p.1, p.2) (stays_at _ _ c.in_err-put_own.field-0.0 c.in_ok-rows.ensures.still)
+
+pub returns-clause-still : goal.returns-clause-still
+returns-clause-still g c = c.in_ok-rows.ensures.still

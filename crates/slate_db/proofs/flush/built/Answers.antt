@@ -14,6 +14,9 @@ use Rattle.slate_db.specs.Flushed.{layout_of, IsTooLarge}
 use Rattle.slate_db.specs.Meaning.{segments_by}
 use Rattle.slate_db.specs.Model.{Rows}
 use Rattle.slate_db.proofs.Built.{can_take, begun_encoded, one_more, row_fits, row_order, all_taken, add_refused, built_as, wider_fault}
+use Rattle.slate_types.specs.Outside.{TransformerStays}
+use Rattle.slate_types.proofs.StillLaws.{stays_behind}
+use Rattle.slate_db.proofs.Stills.{transformer_at, transformer_then, transformer_told}
 use Rattle.slate_db.proofs.flush.built.Goals as goal
 
 pub loop-row-init : goal.loop-row-init
@@ -30,6 +33,7 @@ loop-row-init g c =
       same_encoded = λ i. changed_by g.T.BlockTransformer.encoded c.args.transformer.now;
       same_decoded = λ i. changed_by g.T.BlockTransformer.decoded c.args.transformer.now;
       later = omega arith;
+      still = refl;
     }
 
 pub loop-row-preserved : goal.loop-row-preserved
@@ -45,6 +49,7 @@ loop-row-preserved g c =
       same_encoded = c.add.ensures.same_encoded ∙ was.same_encoded;
       same_decoded = c.add.ensures.same_decoded ∙ was.same_decoded;
       later = omega (arith, c.add.ensures.later, was.later);
+      still = (let one : faults_of g.T.BlockTransformer.faults c.add.new.transformer ≡ faults_of g.T.BlockTransformer.faults c.loop-row.transformer = transformer_told _ _ _ c.in_ok-add.ensures.still in one ∙ was.still);
     }
 
 pub add-requires : goal.add-requires
@@ -83,6 +88,7 @@ returns-in_err-add g c =
       same_encoded = c.add.ensures.same_encoded ∙ c.loop-row.invariant.same_encoded;
       same_decoded = c.add.ensures.same_decoded ∙ c.loop-row.invariant.same_decoded;
       later = omega (arith, c.loop-row.invariant.later, c.add.ensures.later);
+      still = rw (p.1, p.2) (stays_behind TransformerStays _ _ _ c.in_err-add.field-0.0 c.loop-row.invariant.still (transformer_told _ _ _ c.in_err-add.ensures.still));
     }
 
 pub returns : goal.returns
@@ -106,6 +112,7 @@ returns g c =
       same_encoded = c.build.ensures.same_encoded ∙ c.loop-row.invariant.same_encoded;
       same_decoded = c.build.ensures.same_decoded ∙ c.loop-row.invariant.same_decoded;
       later = omega (arith, c.loop-row.invariant.later, c.build.ensures.later);
+      still = transformer_then _ _ _ c.build.result c.loop-row.invariant.still (transformer_told _ _ c.build.result c.build.ensures.still);
     }
 
 pub returns-in_err-builder-clause-built : goal.returns-in_err-builder-clause-built
@@ -128,3 +135,6 @@ returns-in_err-builder-clause-same_decoded g c = refl
 
 pub returns-in_err-builder-clause-later : goal.returns-in_err-builder-clause-later
 returns-in_err-builder-clause-later g c = omega arith
+
+pub returns-in_err-builder-clause-still : goal.returns-in_err-builder-clause-still
+returns-in_err-builder-clause-still g c = transformer_at _ _ c.from_residual.result refl

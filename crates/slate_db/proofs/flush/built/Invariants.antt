@@ -17,4 +17,5 @@ invariant-loop-row g l = record {
   same_encoded : changed_by g.T.BlockTransformer.encoded l.transformer ≡ changed_by g.T.BlockTransformer.encoded l.initial.transformer;
   same_decoded : changed_by g.T.BlockTransformer.decoded l.transformer ≡ changed_by g.T.BlockTransformer.decoded l.initial.transformer;
   later : faults_of g.T.BlockTransformer.faults l.initial.transformer ≤ faults_of g.T.BlockTransformer.faults l.transformer;
+  still : faults_of g.T.BlockTransformer.faults l.transformer ≡ faults_of g.T.BlockTransformer.faults l.initial.transformer;
 }

@@ -1,4 +1,4 @@
-use Rattle.std.proofs.Common.{ℕ, List, [], ◌∷◌, inl, arith, refl, sym, subst}
+use Rattle.std.proofs.Common.{ℕ, List, [], ◌∷◌, Ok, Err, inl, arith, refl, sym, subst}
 use Rattle.std.proofs.lemmas.Result.{err_from_is_err_and, IfOk-from_err}
 use Rattle.slate_types.specs.declared.types.Ulid.{Ulid}
 use Rattle.slate_block.specs.ReadingLaws.{EachIsAByte}
@@ -6,6 +6,7 @@ use Rattle.slate_db.specs.Answered.{AddsPuts}
 use Rattle.slate_db.specs.StoredParts.{IsOneTable, IsTablePut}
 use Rattle.slate_db.proofs.Adding.{adds_act, adds_refused, adds_same}
 use Rattle.slate_db.proofs.Built.{takes, may_take, may_keep, handle_of}
+use Rattle.slate_db.proofs.Stills.{store_stays, store_told}
 use Rattle.slate_db.proofs.flush.put.Goals as goal
 
 pub returns : goal.returns
@@ -26,6 +27,7 @@ returns g c =
       refused = λ encode layout number place rows is. tt;
       cause = tt;
       later = c.put_table.ensures.later;
+      still = store_told _ _ (Ok c.in_ok-handle.handle) c.in_ok-handle.ensures.still;
     }
 
 pub returns-in_err-handle : goal.returns-in_err-handle
@@ -41,6 +43,7 @@ returns-in_err-handle g c =
           (may_take (IsOneTable encode layout number place rows) g.S.Store.objects g.S.Store.acts (c.args.id, c.args.table.now.bytes) c.args.store.now c.put_table.new.store ((c.args.id, c.args.table.now.bytes), refl, is) c.in_err-handle.ensures.refused));
       cause = rw (p.1, p.2) c.in_err-handle.ensures.cause;
       later = c.put_table.ensures.later;
+      still = rw (p.1, p.2) (store_told _ _ (Err c.in_err-handle.field-0.0) c.in_err-handle.ensures.still);
     }
 
 pub returns-in_err-bytes : goal.returns-in_err-bytes
@@ -55,4 +58,5 @@ returns-in_err-bytes g c =
           rw p.1 (may_keep _ _ _ (λ i. g.S.Store.objects c.args.store.now)));
       cause = rw (p.1, p.2) (inl c.in_err-bytes.ensures.cause);
       later = omega arith;
+      still = rw (p.1, p.2) (store_stays _ _ c.in_err-bytes.field-0.0 refl);
     }

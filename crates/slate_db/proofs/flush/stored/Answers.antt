@@ -1,4 +1,4 @@
-use Rattle.std.proofs.Common.{map, inl, subst, sym, refl, arith, ◌∙◌}
+use Rattle.std.proofs.Common.{◌≡◌, map, inl, subst, sym, refl, arith, ◌∙◌}
 use Rattle.std.proofs.lemmas.Result.{IfOk-from_err, err_from_is_err_and, IfErr-weaker}
 use Rattle.slate_types.specs.Outside.{IsCounted, IsLater}
 use Rattle.slate_types.proofs.Reaching.{puts_of, puts_then}
@@ -9,6 +9,7 @@ use Rattle.slate_db.proofs.Adding.{adds_same}
 use Rattle.slate_db.proofs.Built.{may_keep}
 use Rattle.slate_db.proofs.Operands.{combine_is}
 use Rattle.slate_db.proofs.RunSoFar.{can_build, has_too_large, rows_cause, run_cause, run_is_put, some_of_flush}
+use Rattle.slate_db.proofs.Stills.{still_then, store_stays, transformer_stays, unasked_still}
 use Rattle.slate_db.proofs.flush.stored.Goals as goal
 use Rattle.slate_types.proofs.Exits.{if_ok_both, on_err_weaker}
 
@@ -45,6 +46,7 @@ returns g c =
       cause = IfErr-weaker c.stored_runs.result _ _ (λ e h. run_cause before now after e later (λ large. (c.in_ok-rows.rows.items, rows.folded m operator, rows.order, has_too_large layout c.in_ok-rows.rows.items parts e c.in_ok-parts.ensures.cut large)) h) c.stored_runs.ensures.cause;
       wanted = λ none among. absurd (rows.wanted (sym operator ∙ none) among);
       puts = puts_then before now after (puts_of before now same refl refl later refl) c.stored_runs.ensures.puts;
+      still = (let asked : now.faults.operator ≡ before.faults.operator = rows.still in still_then before.faults now.faults after.faults c.stored_runs.result (λ i. record before.faults { operator = asked i }) c.stored_runs.ensures.still);
     }
 
 pub returns-in_err-rows : goal.returns-in_err-rows
@@ -63,6 +65,7 @@ returns-in_err-rows g c =
       cause = rw (p.1, p.2) (rows_cause before.faults now.faults m (map (λ t. t.rows) c.args.frozen.now) c.in_err-rows.field-0.0 (c.in_err-rows.ensures.missing m operator) c.in_err-rows.ensures.cause);
       wanted = λ none among. IfOk-from_err c.from_residual.result _ c.from_residual.ensures.0;
       puts = puts_of before now same refl refl (record { store = omega arith; operator = c.in_err-rows.ensures.later; transformer = omega arith }) refl;
+      still = rw (p.1, p.2) (record { store = store_stays _ _ c.in_err-rows.field-0.0 refl; operator = c.in_err-rows.ensures.still; transformer = transformer_stays _ _ c.in_err-rows.field-0.0 refl });
     }
 
 pub returns-in_err-parts : goal.returns-in_err-parts
@@ -80,4 +83,5 @@ returns-in_err-parts g c =
       cause = rw (p.1, p.2) (inl (subst (IsCounted before.faults now.faults) (sym c.in_err-parts.ensures.cause) tt));
       wanted = λ none among. IfOk-from_err c.from_residual-in_err-parts.result _ c.from_residual-in_err-parts.ensures.0;
       puts = puts_of before now same refl refl (record { store = omega arith; operator = c.in_ok-rows.ensures.later; transformer = omega arith }) refl;
+      still = (let asked : now.faults.operator ≡ before.faults.operator = c.in_ok-rows.ensures.still in still_then before.faults now.faults now.faults c.from_residual-in_err-parts.result (λ i. record before.faults { operator = asked i }) (unasked_still now.faults c.from_residual-in_err-parts.result));
     }

@@ -19,4 +19,5 @@ invariant-loop-part g l =
       room_tables : length l.tables.items + length (into_iter_items l.part-iterator) ≤ vec_capacity l.tables;
       operator : l.env.operator ≡ l.initial.env.operator;
       puts : Puts before now;
+      still : now.faults ≡ before.faults;
     }

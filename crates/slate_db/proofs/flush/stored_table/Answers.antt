@@ -10,6 +10,8 @@ use Rattle.slate_db.specs.StoredParts.{IsPlace}
 use Rattle.slate_db.proofs.Adding.{adds_same}
 use Rattle.slate_db.proofs.Causes.{store_fault, transform_fault}
 use Rattle.slate_db.proofs.Built.{read_again, version_known, may_keep}
+use Rattle.slate_db.proofs.Stills.{store_stays, transformer_at}
+use Rattle.slate_types.proofs.StillLaws.{stays_at, still_at}
 use Rattle.slate_db.proofs.flush.stored_table.Goals as goal
 use Rattle.slate_db.proofs.flush.stored_table.Given as given
 
@@ -36,6 +38,7 @@ returns g c =
       cause = IfErr-weaker c.put-kept.result _ _ (λ e h. inl (store_fault _ _ e h)) c.put-kept.ensures.cause;
       operator = refl;
       puts = puts_of _ _ refl c.built.ensures.same_encoded c.built.ensures.same_decoded (record { store = c.put-kept.ensures.later; operator = omega arith; transformer = c.built.ensures.later }) refl;
+      still = record { store = c.put-kept.ensures.still; operator = still_at _ _ c.put-kept.result refl; transformer = transformer_at _ _ c.put-kept.result c.in_ok-table.ensures.still };
     }
 
 pub returns-in_err-table : goal.returns-in_err-table
@@ -49,4 +52,5 @@ returns-in_err-table g c =
       cause = rw (p.1, p.2) (or_large _ _ _ c.in_err-table.ensures.cause);
       operator = refl;
       puts = puts_of _ _ refl c.built.ensures.same_encoded c.built.ensures.same_decoded (record { store = omega arith; operator = omega arith; transformer = c.built.ensures.later }) refl;
+      still = rw (p.1, p.2) (record { store = store_stays _ _ c.in_err-table.field-0.0 refl; operator = stays_at _ _ c.in_err-table.field-0.0 refl; transformer = c.in_err-table.ensures.still });
     }

@@ -15,6 +15,7 @@ use Rattle.slate_db.proofs.FlushRows.{flush_folds, flush_order, flush_fits, flus
 use Rattle.slate_db.proofs.Newest.{all_versions_are}
 use Rattle.slate_db.proofs.gather.rows_of_flush.Goals as goal
 use Rattle.slate_types.proofs.Exits.{if_ok_both}
+use Rattle.slate_types.proofs.StillLaws.{stays_at}
 
 keys : (layers : List Rows) (out : Rows) → IsGathered layers out → (k : List ℕ) → versions k out ≡ versions_in k layers
 keys layers out g k = ap reverse (g.same k) ∙ all_versions_are k layers
@@ -72,6 +73,7 @@ returns g c =
           (merge_still layers rows same among));
       same = c.fold_for_flush.ensures.same;
       later = c.fold_for_flush.ensures.later;
+      still = c.fold_for_flush.ensures.still;
       cause = IfErr-weaker c.fold_for_flush.result _ _ (λ e h. or_missing h) c.fold_for_flush.ensures.cause;
     }
 
@@ -87,6 +89,7 @@ returns-then-wants_operator g c =
       wanted = λ none among. tt;
       same = refl;
       later = omega arith;
+      still = refl;
       cause = inr (inl refl);
     }
 
@@ -102,5 +105,6 @@ returns-in_err-rows g c =
       wanted = λ none among. IfOk-from_err c.from_residual.result _ c.from_residual.ensures.0;
       same = refl;
       later = omega arith;
+      still = rw (p.1, p.2) (stays_at _ _ c.in_err-rows.field-0.0 refl);
       cause = rw (p.1, p.2) (inl c.in_err-rows.ensures.cause);
     }

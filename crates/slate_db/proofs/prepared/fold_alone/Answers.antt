@@ -1,4 +1,4 @@
-use Rattle.std.proofs.Common.{◌≡◌, ◌⊎◌, inl, inr, None, option_map, w64, ap, sym, ◌∙◌, ℤ}
+use Rattle.std.proofs.Common.{◌≡◌, ◌⊎◌, inl, inr, None, option_map, w64, refl, ap, sym, ◌∙◌, ℤ}
 use Rattle.std.proofs.lemmas.Int.{to_z-of_z}
 use Rattle.slate_types.specs.Fold.{operator_at}
 use Rattle.slate_types.specs.Keys.{keys_set}
@@ -8,6 +8,7 @@ use Rattle.slate_db.specs.Meaning.{segments_by}
 use Rattle.slate_db.specs.Prepared.{prepared_for}
 use Rattle.slate_db.proofs.PreparedOf.{alone_as, lone_merges}
 use Rattle.slate_db.proofs.Tests.{is_some_map, none_some}
+use Rattle.std.proofs.lemmas.Result.{err_from_is_err_and}
 use Rattle.slate_db.proofs.prepared.fold_alone.Goals as goal
 
 pub rows_of_batch-requires : goal.rows_of_batch-requires
@@ -49,3 +50,14 @@ returns-in_err-rows-in-Ok-clause-unasked g c = λ e is.
     let w = prepared_for (option_map g.M.MergeOperator.combine c.args.operator.now) (segments_by g.X.PrefixExtractor.lengths c.args.extractor.now) c.args.default_millis c.args.now c.args.batch.now in
     let same = alone_as w _ _ c.is_some.result (c.is_some.ensures ∙ sym (is_some_map g.M.MergeOperator.combine c.args.operator.now)) (ap (segments_by g.X.PrefixExtractor.lengths) c.as_ref.ensures.value) (to_z-of_z w64 c.args.now c.ranges.now) in
     none_some e (sym (sym same ∙ c.in-Ok.ensures.fine) ∙ is)
+
+pub returns-in-Err-clause-still : goal.returns-in-Err-clause-still
+returns-in-Err-clause-still g c = refl
+
+pub returns-in_err-rows-in-Ok-clause-still : goal.returns-in_err-rows-in-Ok-clause-still
+returns-in_err-rows-in-Ok-clause-still g c =
+    let p = err_from_is_err_and c.from_residual.result c.from_residual.ensures.1 in
+    rw (p.1, p.2) c.in_err-rows-in-Ok.ensures.still
+
+pub returns-in_ok-rows-in-Ok-clause-still : goal.returns-in_ok-rows-in-Ok-clause-still
+returns-in_ok-rows-in-Ok-clause-still g c = c.in_ok-rows-in-Ok.ensures.still

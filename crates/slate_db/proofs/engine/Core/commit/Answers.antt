@@ -272,6 +272,12 @@ returns-in-Err-clause-reads g c = asked_reads g.S.Store g.M.MergeOperator g.T.Bl
 pub returns-in-Ok-clause-outside : goal.returns-in-Ok-clause-outside
 returns-in-Ok-clause-outside g c = refl
 
+pub returns-in-Ok-clause-still : goal.returns-in-Ok-clause-still
+returns-in-Ok-clause-still g c = c.in-Ok.ensures.still
+
+pub returns-in-Err-clause-still : goal.returns-in-Err-clause-still
+returns-in-Err-clause-still g c = c.in-Err.ensures.still
+
 pub returns-in-Ok-clause-kept_refused : goal.returns-in-Ok-clause-kept_refused
 returns-in-Ok-clause-kept_refused g c = tt
 

@@ -12,7 +12,7 @@ use Rattle.slate_db.specs.declared.engine.Core.TheInside.{Inside}
 use Rattle.slate_db.specs.Answered.{AddsTables}
 use Rattle.slate_db.specs.Installs.{tables_of}
 use Rattle.slate_db.specs.Frozen.{IsFrozen}
-use Rattle.slate_db.specs.Flushed.{IsFlushError, Layout, TooLarge, WantsOperator, idle, layout_of}
+use Rattle.slate_db.specs.Flushed.{IsFlushError, Layout, NoPlaceToFlush, TooLarge, WantsOperator, idle, layout_of}
 use Rattle.slate_db.specs.Meaning.{segments_by}
 use Rattle.slate_db.specs.Model.{CoreModel, memory}
 use Rattle.slate_db.specs.Readable.{AreFiltered}
@@ -32,6 +32,7 @@ use Rattle.slate_db.proofs.Vouches.{vouched_flushed}
 use Rattle.slate_db.proofs.Wholes.{whole_flushed}
 use Rattle.slate_txn.proofs.NamedLaws.{both_err}
 use Rattle.slate_db.proofs.Puttings.{frozen_tables}
+use Rattle.slate_db.proofs.Stills.{unasked_still}
 use Rattle.slate_db.proofs.engine.Core.flush.Goals as goal
 
 pub note_flush-requires : goal.note_flush-requires
@@ -79,7 +80,7 @@ returns-in_err-place_for_flush g c =
           let p = err_from_is_err_and c.from_residual.result c.from_residual.ensures.1 in
           no_fault LIMIT c.from_residual.result _ (p.1 ∙ ap Err p.2) (λ x. x) (inr c.in_err-place_for_flush.ensures.limit.0) h);
       full = λ h. refl;
-      full_objects = λ h. refl;
+      unasked = λ h. refl;
       stay = stay_same c.args.self.now _ refl;
       held = held_still c.args.self.now.events _ _ _ refl refl;
       told = IfOk-from_err c.from_residual.result _ c.from_residual.ensures.0;
@@ -97,6 +98,7 @@ returns-in_err-place_for_flush g c =
           rw (p.1, p.2) (never_missing (layout_of c.args.laws.now.options (map (λ p. (goal.FilterPolicy-dyn g (p.vtable, p.value)).meaning p.value) c.args.laws.now.policies.items) (segments_by g.X.PrefixExtractor.lengths c.args.laws.now.segments)) here here c.args.self.now c.in_err-place_for_flush.field-0.0 k (place_cause LIMIT c.args.self.now c.in_err-place_for_flush.field-0.0 c.in_err-place_for_flush.ensures.limit)));
       cause = rw (p.1, p.2) (place_cause LIMIT c.args.self.now c.in_err-place_for_flush.field-0.0 c.in_err-place_for_flush.ensures.limit);
       puts = puts_none _;
+      still = unasked_still _ c.from_residual.result;
     }
 
 -- ---- no freeze
@@ -116,7 +118,7 @@ returns-in_err-freeze g c =
           let p = err_from_is_err_and c.from_residual-in_err-freeze.result c.from_residual-in_err-freeze.ensures.1 in
           no_fault LIMIT c.from_residual-in_err-freeze.result _ (p.1 ∙ ap Err p.2) (λ x. x.0) c.in_err-freeze.ensures.cause h);
       full = λ h. c.in_err-freeze.ensures.same;
-      full_objects = λ h. refl;
+      unasked = λ h. refl;
       stay = stay_same c.args.self.now _ c.in_err-freeze.ensures.same;
       held = held_still c.args.self.now.events _ _ _ (ap (λ (v : CoreModel). tables_of v.events) c.in_err-freeze.ensures.same) refl;
       told = IfOk-from_err c.from_residual-in_err-freeze.result _ c.from_residual-in_err-freeze.ensures.0;
@@ -134,6 +136,7 @@ returns-in_err-freeze g c =
           rw (p.1, p.2) (never_missing (layout_of c.args.laws.now.options (map (λ p. (goal.FilterPolicy-dyn g (p.vtable, p.value)).meaning p.value) c.args.laws.now.policies.items) (segments_by g.X.PrefixExtractor.lengths c.args.laws.now.segments)) here here c.args.self.now c.in_err-freeze.field-0.0 k (freeze_cause LIMIT _ _ c.args.self.now c.in_err-freeze.field-0.0 (λ e. let t : false ≡ true = c.in_err-freeze.ensures.idle e in cc) c.in_err-freeze.ensures.cause)));
       cause = rw (p.1, p.2) (freeze_cause LIMIT _ _ c.args.self.now c.in_err-freeze.field-0.0 (λ e. let t : false ≡ true = c.in_err-freeze.ensures.idle e in cc) c.in_err-freeze.ensures.cause);
       puts = puts_none _;
+      still = unasked_still _ c.from_residual-in_err-freeze.result;
     }
 
 -- ---- no rows
@@ -188,8 +191,8 @@ returns-then-is_empty-clause-taken g c = (
 pub returns-then-is_empty-clause-full : goal.returns-then-is_empty-clause-full
 returns-then-is_empty-clause-full g c h = absurd (omega (arith, c.in_ok-place_for_flush.ensures.place, h))
 
-pub returns-then-is_empty-clause-full_objects : goal.returns-then-is_empty-clause-full_objects
-returns-then-is_empty-clause-full_objects g c h = refl
+pub returns-then-is_empty-clause-unasked : goal.returns-then-is_empty-clause-unasked
+returns-then-is_empty-clause-unasked g c h = refl
 
 pub returns-then-is_empty-clause-limit : goal.returns-then-is_empty-clause-limit
 returns-then-is_empty-clause-limit g c h = absurd (omega (arith, c.in_ok-place_for_flush.ensures.place, h))
@@ -251,6 +254,14 @@ behind layout before after old between e froze (inl fault) = inl fault
 behind layout before after old between e froze (inr (inl large)) = inr (inr (inl (too_large_before before.meaning layout old between e froze large)))
 behind layout before after old between e froze (inr (inr wants)) = inr (inr (inr (wants_before before.meaning old between e froze wants)))
 
+-- frozen rows were in memory before the freeze
+asks_for_rows : (old between : CoreModel) (Full : Type 0) → IsFrozen old between → (Full → ⊥) → 0 < length between.frozen → Full ⊎ ((old.active ≡ []) × (old.frozen ≡ [])) → ⊥
+asks_for_rows old between Full froze place some (inl full) = place full
+asks_for_rows old between Full (inl (none, is)) place some (inr calm) =
+    let empty : length between.frozen ≡ 0 = ap (λ (v : CoreModel). length v.frozen) is ∙ ap length calm.1 in
+    omega (arith, some, empty)
+asks_for_rows old between Full (inr (rows, is)) place some (inr calm) = rows calm.0
+
 pub returns : goal.returns
 returns g c =
     let before = reach_of g.S.Store g.M.MergeOperator g.T.BlockTransformer c.args.env.now in
@@ -270,7 +281,8 @@ returns g c =
       refused = both_err c.install.result (λ same may. (c.freeze.new.self, inr c.in_ok-freeze.ensures.event, same, may)) c.install.ensures.same c.install.ensures.refused;
       frozen = frozen_at_fault c.install.result c.args.self.now c.freeze.new.self c.install.new.self c.in_ok-freeze.ensures.event c.install.ensures.same;
       full = λ h. absurd (omega (arith, c.in_ok-place_for_flush.ensures.place, h));
-      full_objects = λ h. absurd (omega (arith, c.in_ok-place_for_flush.ensures.place, h));
+      unasked = λ h. absurd (asks_for_rows c.args.self.now c.freeze.new.self (NoPlaceToFlush c.args.self.now) c.in_ok-freeze.ensures.event (λ full. omega (arith, c.in_ok-place_for_flush.ensures.place, full))
+          (some_frozen c.frozen.result.now c.frozen.result.now c.is_empty.result c.freeze.new.self.frozen c.is_empty.ensures c.if-is_empty.false refl (c.frozen.ensures ∙ ap (λ (v : CoreModel). v.frozen) c.self.view_is)) h);
       held = held_behind c.args.self.now.events c.freeze.new.self.events c.install.new.self.events (g.S.Store.objects c.args.env.now.store.now) (g.S.Store.objects c.install.new.env.store.now) (frozen_tables c.args.self.now c.freeze.new.self c.in_ok-freeze.ensures.event) c.install.ensures.held;
       told = tells_behind c.install.result c.args.self.now.events c.freeze.new.self.events c.install.new.self.events (g.S.Store.acts c.args.env.now.store.now) (g.S.Store.acts c.install.new.env.store.now) (frozen_tables c.args.self.now c.freeze.new.self c.in_ok-freeze.ensures.event) c.install.ensures.told;
       filtered = filters_either c.install.result layout before after c.args.self.now c.freeze.new.self c.install.new.self c.in_ok-freeze.ensures.event c.install.ensures.installed c.install.ensures.same;
@@ -289,4 +301,8 @@ returns g c =
       operable = λ k. cause_after c.install.result (IsFlushError layout before after c.args.self.now) (λ e. e ≡ errors.MergeOperatorMissing → ⊥) (λ e h. never_missing layout before after c.args.self.now e k h) cause;
       cause = cause;
       puts = c.install.ensures.puts;
+      still = c.install.ensures.still;
     }
+
+pub returns-then-is_empty-clause-still : goal.returns-then-is_empty-clause-still
+returns-then-is_empty-clause-still g c = unasked_still _ _

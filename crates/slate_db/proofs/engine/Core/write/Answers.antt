@@ -26,6 +26,7 @@ use Rattle.slate_db.specs.Vouched.{IsVouchedFor}
 use Rattle.slate_db.specs.Layers.{AreLayers, LayersModel, FitsMemory, AreRising}
 use Rattle.slate_db.specs.Log.{IsLog, LogModel, IsWhollyKept, with_write}
 use Rattle.slate_db.specs.Written.{IsWritten, after_write}
+use Rattle.slate_types.proofs.StillLaws.{stays_at}
 use Rattle.slate_types.specs.Outside.{Meaning}
 use Rattle.slate_types.proofs.Reaching.{reads_none}
 use Rattle.slate_store.specs.Reach.{reach_of}
@@ -70,6 +71,7 @@ returns-then-is_empty g c =
       unasked = λ h. refl;
       plain = λ h. refl;
       outside = refl;
+      still = refl;
       call = call_none _;
       reads = reads_none _;
       exhausted = λ some full. absurd (some (c.is_empty.ensures.0 c.if-is_empty.true));
@@ -104,6 +106,7 @@ returns-then-last-ge18446744073709551614 g c =
       unasked = λ h. refl;
       plain = λ h. refl;
       outside = refl;
+      still = refl;
       call = call_none _;
       reads = reads_none _;
       cause = (let fits : c.self.inside.log.last ≤ 2 ^ 64 - 2 = c.self.invariant.log.last_fits in let last : c.self.inside.log.last ≡ 2 ^ 64 - 2 = omega (arith, fits, c.last.ensures) in inr (inl (refl, sym (c.self.invariant.log.last ∙ ap (λ (v : CoreModel). last_of v.settings.start_seq v.state.commits) c.self.view_is) ∙ last)));
@@ -246,6 +249,7 @@ returns g c =
           (sym (batch_refusal_as (option_map g.M.MergeOperator.combine c.args.env.now.operator) (reach_of g.S.Store g.M.MergeOperator g.T.BlockTransformer c.args.env.now).meaning.combine (segments_by g.X.PrefixExtractor.lengths c.args.laws.now.segments) c.self.inside.segments c.self.inside.default_millis _ c.args.now c.args.batch (sym (combine_is g.M.MergeOperator.combine c.args.env.now.operator)) (to_z-of_z w64 c.args.now c.ranges.now)) ∙ c.in_ok-prefixes.ensures.tested) h;
       plain = λ h. ap (λ o. record c.args.env.now { operator = o }) (c.rows_of_batch.ensures.plain h);
       outside = refl;
+      still = c.in_ok-rows.ensures.still;
       call = asked_call g.S.Store g.M.MergeOperator g.T.BlockTransformer c.args.env.now c.rows_of_batch.new.operator c.rows_of_batch.ensures.same;
       reads = asked_reads g.S.Store g.M.MergeOperator g.T.BlockTransformer c.args.env.now c.rows_of_batch.new.operator c.rows_of_batch.ensures.same c.rows_of_batch.ensures.later;
     }
@@ -298,6 +302,7 @@ returns-in_err-prefixes g c =
       unasked = λ h. refl;
       plain = λ h. refl;
       outside = refl;
+      still = rw (p.1, p.2) (stays_at _ _ c.in_err-prefixes.field-0.0 refl);
       call = call_none _;
       reads = reads_none _;
     }
@@ -327,6 +332,7 @@ returns-in_err-place g c =
       unasked = λ h. refl;
       plain = λ h. refl;
       outside = refl;
+      still = rw (p.1, p.2) (stays_at _ _ c.in_err-place.field-0.0 refl);
       call = call_none _;
       reads = reads_none _;
     }
@@ -355,6 +361,7 @@ returns-in_err-reserve g c =
       unasked = λ h. refl;
       plain = λ h. refl;
       outside = refl;
+      still = rw (p.1, p.2) refl;
       call = call_none _;
       reads = reads_none _;
     }
@@ -385,6 +392,7 @@ returns-in_err-rows g c =
           (sym (batch_refusal_as (option_map g.M.MergeOperator.combine c.args.env.now.operator) (reach_of g.S.Store g.M.MergeOperator g.T.BlockTransformer c.args.env.now).meaning.combine (segments_by g.X.PrefixExtractor.lengths c.args.laws.now.segments) c.self.inside.segments c.self.inside.default_millis _ c.args.now c.args.batch (sym (combine_is g.M.MergeOperator.combine c.args.env.now.operator)) (to_z-of_z w64 c.args.now c.ranges.now)) ∙ c.in_ok-prefixes.ensures.tested) h;
       plain = λ h. ap (λ o. record c.args.env.now { operator = o }) (c.rows_of_batch.ensures.plain h);
       outside = refl;
+      still = rw (p.1, p.2) c.in_err-rows.ensures.still;
       call = asked_call g.S.Store g.M.MergeOperator g.T.BlockTransformer c.args.env.now c.rows_of_batch.new.operator c.rows_of_batch.ensures.same;
       reads = asked_reads g.S.Store g.M.MergeOperator g.T.BlockTransformer c.args.env.now c.rows_of_batch.new.operator c.rows_of_batch.ensures.same c.rows_of_batch.ensures.later;
     }
@@ -415,6 +423,7 @@ returns-in_err-ops g c =
           (sym (batch_refusal_as (option_map g.M.MergeOperator.combine c.args.env.now.operator) (reach_of g.S.Store g.M.MergeOperator g.T.BlockTransformer c.args.env.now).meaning.combine (segments_by g.X.PrefixExtractor.lengths c.args.laws.now.segments) c.self.inside.segments c.self.inside.default_millis _ c.args.now c.args.batch (sym (combine_is g.M.MergeOperator.combine c.args.env.now.operator)) (to_z-of_z w64 c.args.now c.ranges.now)) ∙ c.in_ok-prefixes.ensures.tested) h;
       plain = λ h. ap (λ o. record c.args.env.now { operator = o }) (c.rows_of_batch.ensures.plain h);
       outside = refl;
+      still = rw (p.1, p.2) (stays_at _ _ c.in_err-ops.field-0.0 c.in_ok-rows.ensures.still);
       call = asked_call g.S.Store g.M.MergeOperator g.T.BlockTransformer c.args.env.now c.rows_of_batch.new.operator c.rows_of_batch.ensures.same;
       reads = asked_reads g.S.Store g.M.MergeOperator g.T.BlockTransformer c.args.env.now c.rows_of_batch.new.operator c.rows_of_batch.ensures.same c.rows_of_batch.ensures.later;
     }
@@ -445,6 +454,7 @@ returns-in_err-keys g c =
           (sym (batch_refusal_as (option_map g.M.MergeOperator.combine c.args.env.now.operator) (reach_of g.S.Store g.M.MergeOperator g.T.BlockTransformer c.args.env.now).meaning.combine (segments_by g.X.PrefixExtractor.lengths c.args.laws.now.segments) c.self.inside.segments c.self.inside.default_millis _ c.args.now c.args.batch (sym (combine_is g.M.MergeOperator.combine c.args.env.now.operator)) (to_z-of_z w64 c.args.now c.ranges.now)) ∙ c.in_ok-prefixes.ensures.tested) h;
       plain = λ h. ap (λ o. record c.args.env.now { operator = o }) (c.rows_of_batch.ensures.plain h);
       outside = refl;
+      still = rw (p.1, p.2) (stays_at _ _ c.in_err-keys.field-0.0 c.in_ok-rows.ensures.still);
       call = asked_call g.S.Store g.M.MergeOperator g.T.BlockTransformer c.args.env.now c.rows_of_batch.new.operator c.rows_of_batch.ensures.same;
       reads = asked_reads g.S.Store g.M.MergeOperator g.T.BlockTransformer c.args.env.now c.rows_of_batch.new.operator c.rows_of_batch.ensures.same c.rows_of_batch.ensures.later;
     }
@@ -475,6 +485,7 @@ returns-in_err-put_batch g c =
           (sym (batch_refusal_as (option_map g.M.MergeOperator.combine c.args.env.now.operator) (reach_of g.S.Store g.M.MergeOperator g.T.BlockTransformer c.args.env.now).meaning.combine (segments_by g.X.PrefixExtractor.lengths c.args.laws.now.segments) c.self.inside.segments c.self.inside.default_millis _ c.args.now c.args.batch (sym (combine_is g.M.MergeOperator.combine c.args.env.now.operator)) (to_z-of_z w64 c.args.now c.ranges.now)) ∙ c.in_ok-prefixes.ensures.tested) h;
       plain = λ h. ap (λ o. record c.args.env.now { operator = o }) (c.rows_of_batch.ensures.plain h);
       outside = refl;
+      still = rw (p.1, p.2) (stays_at _ _ c.in_err-put_batch.field-0.0 c.in_ok-rows.ensures.still);
       call = asked_call g.S.Store g.M.MergeOperator g.T.BlockTransformer c.args.env.now c.rows_of_batch.new.operator c.rows_of_batch.ensures.same;
       reads = asked_reads g.S.Store g.M.MergeOperator g.T.BlockTransformer c.args.env.now c.rows_of_batch.new.operator c.rows_of_batch.ensures.same c.rows_of_batch.ensures.later;
     }

@@ -3,6 +3,7 @@ use Rattle.std.proofs.lemmas.Int.{to_z-of_z}
 use Rattle.slate_types.specs.declared.error.SlateDBError.{SlateDBError}
 use Rattle.slate_types.specs.declared.error.SlateDBError.TheVariants.{OutOfMemory}
 use Rattle.slate_types.specs.Outside.{IsFault}
+use Rattle.slate_types.proofs.StillLaws.{still_at}
 use Rattle.slate_types.proofs.Reaching.{reads_none}
 use Rattle.slate_mem.specs.Lookup.{IsCallback}
 use Rattle.slate_store.specs.Reach.{reach_of}
@@ -32,6 +33,7 @@ returns-then-is_empty g c =
       written = record { before = c.args.self.now.seen; seen = prefix_self c.args.self.now.seen; after = refl; own = refl; is = record { next = none; tested = λ some. absurd (some none); cause = tt } };
       idle = λ is. (refl, refl);
       outside = refl;
+      still = refl;
       call = call_none _;
       reads = reads_none _;
       unasked = λ e is. refl;
@@ -56,6 +58,7 @@ returns-in-Ok g c =
           (c.put_prepared.ensures.written c.args.batch (prepared_as _ _ _ (parts _ _ c.args.batch c.args.batch (ap (λ m. m.combine) c.requires.parts) c.requires.laws.segments c.requires.laws.options refl refl) c.in-Ok.ensures.prepared)));
       idle = λ none. absurd (true≢false (sym (c.is_empty.ensures.1 none) ∙ c.if-is_empty.false));
       outside = refl;
+      still = still_at _ _ c.put_prepared.result c.in-Ok.ensures.still;
       call = asked_call g.S.Store g.M.MergeOperator g.T.BlockTransformer c.args.env.now c.prepare-prepared.new.operator by.same;
       reads = asked_reads g.S.Store g.M.MergeOperator g.T.BlockTransformer c.args.env.now c.prepare-prepared.new.operator by.same by.later;
       unasked = λ e is. ap (λ o. record c.args.env.now { operator = o }) (by.unasked e (ap lone_refusal (parts _ c.args.now c.args.batch c.args.batch (ap (λ m. m.combine) c.requires.parts) c.requires.laws.segments c.requires.laws.options moments refl) ∙ is));
@@ -80,6 +83,7 @@ returns-in-Err g c =
       };
       idle = λ none. absurd (true≢false (sym (c.is_empty.ensures.1 none) ∙ c.if-is_empty.false));
       outside = refl;
+      still = c.in-Err.ensures.still;
       call = asked_call g.S.Store g.M.MergeOperator g.T.BlockTransformer c.args.env.now c.prepare-prepared.new.operator by.same;
       reads = asked_reads g.S.Store g.M.MergeOperator g.T.BlockTransformer c.args.env.now c.prepare-prepared.new.operator by.same by.later;
       unasked = λ e is. ap (λ o. record c.args.env.now { operator = o }) (by.unasked e (ap lone_refusal (with_parts g.M.MergeOperator.combine c.args.env.now.operator g.P.Parts.meaning g.P.Parts.segments (segments_by g.X.PrefixExtractor.lengths c.args.laws.now.segments) c.args.laws.now.options g.P.Parts.options _ c.args.now c.args.batch c.args.batch (ap (λ m. m.combine) c.requires.parts) c.requires.laws.segments c.requires.laws.options moments refl) ∙ is));

@@ -2,6 +2,7 @@ use Rattle.std.proofs.Common.{◌≡◌, ℤ, w64, option_map, refl, sym, ap, su
 use Rattle.std.proofs.lemmas.Int.{to_z-of_z}
 use Rattle.slate_types.specs.declared.error.SlateDBError.TheVariants.{OutOfMemory}
 use Rattle.slate_types.specs.Outside.{IsFault, Reach}
+use Rattle.slate_types.proofs.StillLaws.{still_at}
 use Rattle.slate_store.specs.Reach.{reach_of}
 use Rattle.slate_txn.specs.Settings.{settings_of}
 use Rattle.slate_db.specs.Meaning.{segments_by}
@@ -30,6 +31,7 @@ returns-in-Ok g c =
           (subst (λ (z : ℤ). HasEnded (λ e. e ≡ OutOfMemory) g.P.Parts.meaning g.P.Parts.segments (settings_of g.P.Parts.options) z c.args.self c.args.pass.now c.settle.new.pass c.settle.result) (to_z-of_z w64 c.args.now c.ranges.now) c.settle.ensures.ended);
       legal = c.settle.ensures.legal;
       outside = refl;
+      still = still_at _ _ c.settle.result c.in-Ok.ensures.still;
       call = asked_call g.S.Store g.M.MergeOperator g.T.BlockTransformer c.args.env.now c.prepare-prepared.new.operator c.prepare-prepared.ensures.same;
       reads = asked_reads g.S.Store g.M.MergeOperator g.T.BlockTransformer c.args.env.now c.prepare-prepared.new.operator c.prepare-prepared.ensures.same c.prepare-prepared.ensures.later;
       unasked = λ e is. ap (λ o. record c.args.env.now { operator = o }) (c.prepare-prepared.ensures.unasked e (ap lone_refusal
@@ -48,6 +50,7 @@ returns-in-Err g c =
       ended = fault_before before after g.P.Parts.meaning g.P.Parts.segments (settings_of g.P.Parts.options) c.args.now c.args.self c.args.pass.now c.rollback.new.pass s.0 c.in-Err.error c.in-Err.ensures.cause s.1 s.2 s.3 c.rollback.ensures.same.2;
       legal = c.rollback.ensures.legal;
       outside = refl;
+      still = c.in-Err.ensures.still;
       call = asked_call g.S.Store g.M.MergeOperator g.T.BlockTransformer c.args.env.now c.prepare-prepared.new.operator c.prepare-prepared.ensures.same;
       reads = asked_reads g.S.Store g.M.MergeOperator g.T.BlockTransformer c.args.env.now c.prepare-prepared.new.operator c.prepare-prepared.ensures.same c.prepare-prepared.ensures.later;
       unasked = λ e is. ap (λ o. record c.args.env.now { operator = o }) (c.prepare-prepared.ensures.unasked e (ap lone_refusal
