@@ -1,5 +1,5 @@
 # The public calls of one crate, from its files, its root first: for .ci/contracts, which hands in crate, names, named, clauses and reaching. Where `rest`
-# is set, the others than those of these names are printed, each by the names of its clauses.
+# is set, the others than those of these names are printed, each by the names of its clauses, and they go to `reaching` too.
 
 # The paragraphs of what stands above an item, each one line, behind `head`.
 function told(head, doc,    lines, n, i, text, out) {
@@ -91,7 +91,7 @@ function take_call(line, owner, name,    indent, text, part, clause, in_clauses,
             if (part ~ /^    requires/) needs = needs (needs == "" ? "needs " : ", ") clause
             else gives = gives (gives == "" ? "" : ", ") clause
         }
-        if (!in_clauses && part ~ /: (Store|Source|Sink|MergeOperator|BlockTransformer)([^A-Za-z]|$)/) reaches[owner, name] = 1
+        if (!in_clauses && part ~ /: (Store|Source|Sink|MergeOperator|BlockTransformer)([^A-Za-z]|$)|[( ]env: &mut /) reaches[owner, name] = 1
         if (in_clauses) note_words(owner, part)
         else if (sub(/ *\{\}?$/, "", part)) {
             text = text "    " part "\n"
@@ -233,6 +233,10 @@ END {
         text = ""
         for (j = 1; j <= count; j++) if (is_public[order[j]] && !(order[j] in printed)) text = text brief[order[j]]
         if (text != "") printf "\n**%s.**\n\n%s", crate, text
+        for (k in reaches) {
+            split(k, part, SUBSEP)
+            if (is_public[part[1]] && !(part[1] in printed)) print part[2] >> reaching
+        }
         exit
     }
     for (k in said) print k >> clauses
