@@ -1,25 +1,16 @@
 # What words of specs stand on, from lines 'FILE WORD': a row for each file of specs with the definitions that they reach, how many these are, and of how
 # many lines; and then all of them together. For .ci/model. It follows words through the imports of a file, by its text.
 
-# The words of specs that a line of imports brings, and the names of whole files.
-function read_import(file, line,    path, list, parts, words, n, i) {
-    path = list = line
-    sub(/^(pub )?use Rattle\./, "", path)
-    sub(/\.\{.*/, "", path)
-    sub(/ as .*/, "", path)
-    n = split(path, parts, ".")
-    if (parts[2] != "specs" || parts[3] == "declared") return
-    path = "crates/" parts[1] "/specs"
-    for (i = 3; i <= n; i++) path = path "/" parts[i]
-    path = path ".antt"
-    if (list !~ /\.\{/) {
-        sub(/^.* as /, "", list)
-        alias[file, list] = path
+# The words of specs that a line of imports of the file brings, and the names of whole files.
+function read_import(file, line,    path, words, parts, n, i) {
+    path = spec_file(line)
+    if (path == "") return
+    if (line ~ / as / && line !~ /\.\{/) {
+        sub(/^.* as /, "", line)
+        alias[file, line] = path
         return
     }
-    sub(/^.*\.\{/, "", list)
-    sub(/\}.*/, "", list)
-    n = split(list, words, /, */)
+    n = imported(line, words)
     for (i = 1; i <= n; i++) {
         if (split(words[i], parts, / as /) == 2) origin[file, parts[2]] = parts[1]
         from[file, parts[split(words[i], parts, / as /)]] = path

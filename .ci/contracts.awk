@@ -35,22 +35,10 @@ function without_generics(text,    depth, i, c) {
 }
 
 # The words of specs that a line of imports brings.
-function read_import(line,    path, list, parts, n, i, file, words, m) {
-    if (line !~ /\.\{/) return
-    sub(/^ *ghost use Rattle\./, "", line)
-    path = list = line
-    sub(/\.\{.*/, "", path)
-    sub(/^.*\.\{/, "", list)
-    sub(/\}.*/, "", list)
-    n = split(path, parts, ".")
-    if (parts[2] != "specs" || parts[3] == "declared") return
-    file = "crates/" parts[1] "/specs"
-    for (i = 3; i <= n; i++) file = file "/" parts[i]
-    m = split(list, words, ",")
-    for (i = 1; i <= m; i++) {
-        gsub(/ /, "", words[i])
-        from[words[i]] = file ".antt"
-    }
+function read_import(line,    file, words, n, i) {
+    file = spec_file(line)
+    n = file == "" ? 0 : imported(line, words)
+    for (i = 1; i <= n; i++) from[words[i]] = file
 }
 
 # Notes what a clause of this owner names of specs.

@@ -2,21 +2,10 @@
 # counts as a record, and so does a word whose meaning begins with one. A record without parameters is a type of values, and isn't printed.
 
 # The words of specs that a line of imports of the file brings.
-function read_import(file, line,    path, list, parts, n, i, words) {
-    path = list = line
-    sub(/^use Rattle\./, "", path)
-    sub(/\.\{.*/, "", path)
-    sub(/^.*\.\{/, "", list)
-    sub(/\}.*/, "", list)
-    n = split(path, parts, ".")
-    if (parts[2] != "specs" || parts[3] == "declared") return
-    path = "crates/" parts[1] "/specs"
-    for (i = 3; i <= n; i++) path = path "/" parts[i]
-    n = split(list, words, ",")
-    for (i = 1; i <= n; i++) {
-        gsub(/ /, "", words[i])
-        from[file, words[i]] = path ".antt"
-    }
+function read_import(file, line,    path, words, n, i) {
+    path = spec_file(line)
+    n = path == "" ? 0 : imported(line, words)
+    for (i = 1; i <= n; i++) from[file, words[i]] = path
 }
 
 # Reads a file of specs once: its imports, and its records and words with what stands above each.

@@ -224,6 +224,30 @@ fn share_rounds(threads: &str, rounds: &str, is_timed: bool) -> i32 {
     0
 }
 
+/// The journal of a program, as all three keep it.
+mod journal {
+    /// A transaction began at a sequence, ended, or was committed, at a moment where the program's lines name one. All is kept, and of most
+    /// nothing asks for it.
+    #[allow(dead_code)]
+    pub enum Event<Op, Step, Moment = ()> {
+        Begin {
+            id: u64,
+            seq: u64,
+        },
+        End {
+            id: u64,
+        },
+        Commit {
+            id: u64,
+            seq: u64,
+            now: Moment,
+            ops: Vec<Op>,
+            tracked: Vec<Vec<u8>>,
+            transcript: Vec<Step>,
+        },
+    }
+}
+
 /// Records with two indexes, in memory, and the journal of all changes.
 mod index {
     use std::cmp::Reverse;
@@ -247,19 +271,7 @@ mod index {
         Own(Op),
     }
 
-    /// An event of the journal. It is kept, and nothing asks for it.
-    #[allow(dead_code)]
-    enum Event {
-        Begin(u64, u64),
-        End(u64),
-        Commit {
-            id: u64,
-            seq: u64,
-            ops: Vec<Op>,
-            tracked: Vec<Vec<u8>>,
-            transcript: Vec<Step>,
-        },
-    }
+    type Event = crate::journal::Event<Op, Step>;
 
     /// All versions of all keys, and what was done.
     struct Records {
@@ -312,7 +324,10 @@ mod index {
         /// Begins a transaction, and gives its id.
         fn begin(&mut self) -> u64 {
             self.ids += 1;
-            self.journal.push(Event::Begin(self.ids, self.last));
+            self.journal.push(Event::Begin {
+                id: self.ids,
+                seq: self.last,
+            });
             self.ids
         }
 
@@ -332,7 +347,7 @@ mod index {
             let key = record_key(id);
             let old = self.get(&key);
             if old.is_none() && new.is_none() {
-                self.journal.push(Event::End(tx));
+                self.journal.push(Event::End { id: tx });
                 return false;
             }
             let ops = change_ops(id, key.clone(), old.as_deref(), new);
@@ -354,6 +369,7 @@ mod index {
             self.journal.push(Event::Commit {
                 id,
                 seq,
+                now: (),
                 tracked: kept.keys().cloned().collect(),
                 ops: kept.into_iter().collect(),
                 transcript,
@@ -376,7 +392,7 @@ mod index {
                 }
                 before = key;
             }
-            self.journal.push(Event::End(tx));
+            self.journal.push(Event::End { id: tx });
             ids
         }
     }
@@ -2416,24 +2432,7 @@ mod stock {
         Put(Vec<u8>, [u8; 8]),
     }
 
-    /// A transaction began, ended, or was committed. It is kept, and nothing asks for it.
-    #[allow(dead_code)]
-    enum Event {
-        Begin {
-            id: u64,
-            seq: u64,
-        },
-        End {
-            id: u64,
-        },
-        Commit {
-            id: u64,
-            seq: u64,
-            ops: Vec<(Vec<u8>, [u8; 8])>,
-            tracked: Vec<Vec<u8>>,
-            transcript: Vec<Step>,
-        },
-    }
+    type Event = crate::journal::Event<(Vec<u8>, [u8; 8]), Step>;
 
     /// The amounts, under their keys and sequences, as a store keeps them that was never flushed.
     #[derive(Default)]
@@ -2565,6 +2564,7 @@ mod stock {
             self.journal.push(Event::Commit {
                 id,
                 seq: self.seq,
+                now: (),
                 ops,
                 tracked: keys,
                 transcript,
@@ -2628,25 +2628,7 @@ mod queue {
         Own(Op),
     }
 
-    /// A transaction began, ended, or was committed. The feed asks for commits; all else is kept, and nothing asks for it.
-    #[allow(dead_code)]
-    enum Event {
-        Begin {
-            id: u64,
-            seq: u64,
-        },
-        End {
-            id: u64,
-        },
-        Commit {
-            id: u64,
-            seq: u64,
-            now: i64,
-            ops: Vec<Op>,
-            tracked: Vec<Vec<u8>>,
-            transcript: Vec<Step>,
-        },
-    }
+    type Event = crate::journal::Event<Op, Step, i64>;
 
     /// The lease of a job: its number, 0 where the job was never claimed, and its end.
     struct Lease {
