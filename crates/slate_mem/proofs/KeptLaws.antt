@@ -22,7 +22,7 @@ use Rattle.slate_mem.specs.BatchModel.{BatchModel, is_merge_op, holds_merge, wit
 use Rattle.slate_mem.specs.Refusals.{op_refusal}
 use Rattle.slate_mem.specs.RowOf.{op_row}
 use Rattle.slate_mem.specs.CommitRows.{commit_rows}
-use Rattle.slate_mem.specs.Kept.{Entries, items_at, listed, tagged, IsKept, AreKept, IsSingle, AreFineAt, AreFine, IsWhole}
+use Rattle.slate_mem.specs.Kept.{Entries, items_at, listed, tagged, IsKept, AreKept, IsSingle, AreFineAt, AreFine, IsCopied, IsWhole}
 use Rattle.slate_mem.specs.declared.batch_iterator.Stamps.{Stamps}
 use Rattle.slate_mem.specs.BatchRows.{stamped, newest_rows}
 use Rattle.std.proofs.lemmas.List.{append-nil}
@@ -315,9 +315,6 @@ length_listed [] = refl
 length_listed (e ∷ es) = length-append (tagged e.0 e.1.items) (listed es) ∙ (λ i. length_tagged e.0 e.1.items i + length_listed es i) ∙ sym (sum_by-cons (λ v. length v.items) e.1 (values_of es))
 
 -- ---- a copy
-
-abbrev pub IsCopied : (WriteOp → WriteOp → Type 0) → Entries → Entries → Type 0
-IsCopied Same es fs = AllZip (λ e f. (f.0 ≡ e.0) × AllZip Same e.1.items f.1.items) es fs
 
 -- copies of operations are equal to them
 abbrev pub AreSame : (WriteOp → WriteOp → Type 0) → Type 0

@@ -19,9 +19,8 @@ use Rattle.slate_types.specs.Rows.{sequenced, sequenced_cmp}
 use Rattle.slate_types.proofs.KeyOrder.{turned_key}
 use Rattle.slate_types.proofs.RowLaws.{sequenced_total, sequenced_same}
 use Rattle.slate_types.proofs.KeySetLaws.{set_rises, set_keeps, same_set}
-use Rattle.slate_mem.specs.declared.mem_table.Step.{Step}
 use Rattle.slate_mem.specs.Table.{put_row, put_rows, to_base, newest}
-use Rattle.slate_mem.specs.Tied.{TableEntries, AreTied, insert_row, insert_rows, undo_at, undone, all_undone}
+use Rattle.slate_mem.specs.Tied.{TableEntries, AreTied, insert_row, insert_rows}
 use Rattle.std.specs.BTreeMap.Range.{entries_between}
 use Rattle.std.specs.declared.ops.Bound.TheVariants.{Included}
 use Rattle.slate_types.proofs.Plain.{or_swap}
@@ -62,53 +61,7 @@ pub tied_put : (row : RowEntry) (es : TableEntries) → row.seq < 2 ^ 64 → Are
 tied_put row [] s t = ((refl, s), tt)
 tied_put row (e ∷ es) s t = tied_step row e es (insert_row es row) (sequenced_cmp (sequenced row) e.0) refl s t (tied_put row es s t.1)
 
--- ---- what is taken back
-
-remove_put : (k : SequencedKey) (row : RowEntry) (es : TableEntries) → sequenced_cmp k k ≡ Equal → lookup (is_at (sequenced_cmp k)) es ≡ None → remove_entry (is_at (sequenced_cmp k)) (insert_entry sequenced_cmp es k row) ≡ es
-remove_put k row [] t h = ap (λ o. cond (is_eq o) [] ((k, row) ∷ [])) t
-remove_put k row (e ∷ es) t h = by (sequenced_cmp k e.0) refl h (remove_put k row es t)
-  where
-    rest : TableEntries
-    rest = insert_entry sequenced_cmp es k row
-
-    by : (o : Ordering) → sequenced_cmp k e.0 ≡ o → cond (is_eq o) (Some e.1) (lookup (is_at (sequenced_cmp k)) es) ≡ None → (lookup (is_at (sequenced_cmp k)) es ≡ None → remove_entry (is_at (sequenced_cmp k)) rest ≡ es) →
-        remove_entry (is_at (sequenced_cmp k)) (match_ordering o ((k, row) ∷ e ∷ es) ((e.0, row) ∷ es) (e ∷ rest)) ≡ e ∷ es
-    by Less is found later = ap (λ o. cond (is_eq o) (e ∷ es) ((k, row) ∷ remove_entry (is_at (sequenced_cmp k)) (e ∷ es))) t
-    by Equal is found later = cc
-    by Greater is found later = ap (λ o. cond (is_eq o) rest (e ∷ remove_entry (is_at (sequenced_cmp k)) rest)) is ∙ ap (λ fs. e ∷ fs) (later found)
-
-set_put : (k : SequencedKey) (row was : RowEntry) (es : TableEntries) → sequenced_cmp k k ≡ Equal → IsStrictlySortedBy sequenced_cmp (keys_of es) → lookup (is_at (sequenced_cmp k)) es ≡ Some was →
-    set_value (is_at (sequenced_cmp k)) (insert_entry sequenced_cmp es k row) was ≡ es
-set_put k row was [] t h found = cc
-set_put k row was (e ∷ es) t h found = by (sequenced_cmp k e.0) refl found (set_put k row was es t (sorted_tail sequenced_cmp e.0 (keys_of es) h))
-  where
-    rest : TableEntries
-    rest = insert_entry sequenced_cmp es k row
-
-    by : (o : Ordering) → sequenced_cmp k e.0 ≡ o → cond (is_eq o) (Some e.1) (lookup (is_at (sequenced_cmp k)) es) ≡ Some was →
-        (lookup (is_at (sequenced_cmp k)) es ≡ Some was → set_value (is_at (sequenced_cmp k)) rest was ≡ es) →
-        set_value (is_at (sequenced_cmp k)) (match_ordering o ((k, row) ∷ e ∷ es) ((e.0, row) ∷ es) (e ∷ rest)) was ≡ e ∷ es
-    by Less is some later =
-        let none : lookup (is_at (sequenced_cmp k)) (e ∷ es) ≡ None = lookup-none (is_at (sequenced_cmp k)) (e ∷ es) (none_below_head sequenced_total k e es h is) in
-        let tail : lookup (is_at (sequenced_cmp k)) (e ∷ es) ≡ Some was = ap (λ o. cond (is_eq o) (Some e.1) (lookup (is_at (sequenced_cmp k)) es)) is ∙ some in
-        cc
-    by Equal is some later =
-        ap (λ o. cond (is_eq o) ((e.0, was) ∷ es) ((e.0, row) ∷ set_value (is_at (sequenced_cmp k)) es was)) is
-        ∙ ap (λ v. (e.0, v) ∷ es) (sym (some_is e.1 was some))
-      where
-        some_is : (a b : RowEntry) → Some a ≡ Some b → a ≡ b
-        some_is a b q = cc
-    by Greater is some later = ap (λ o. cond (is_eq o) ((e.0, was) ∷ rest) (e ∷ set_value (is_at (sequenced_cmp k)) rest was)) is ∙ ap (λ fs. e ∷ fs) (later some)
-
--- a put is taken back by what stood there before
-pub undo_put : (k : SequencedKey) (row : RowEntry) (before : Option RowEntry) (es fs : TableEntries) → IsStrictlySortedBy sequenced_cmp (keys_of es) → before ≡ lookup (is_at (sequenced_cmp k)) es →
-    fs ≡ insert_entry sequenced_cmp es k row → undo_at k before fs ≡ es
-undo_put k row None es fs h was is = ap (remove_entry (is_at (sequenced_cmp k))) is ∙ remove_put k row es (tied_itself sequenced_total k) (sym was)
-undo_put k row (Some v) es fs h was is = ap (λ gs. set_value (is_at (sequenced_cmp k)) gs v) is ∙ set_put k row v es (tied_itself sequenced_total k) h (sym was)
-
-pub undone_last : (steps : List Step) (step : Step) (es : TableEntries) → all_undone es (steps ++ (step ∷ [])) ≡ all_undone (undone es step) steps
-undone_last [] step es = refl
-undone_last (s ∷ steps) step es = ap (λ fs. undone fs s) (undone_last steps step es)
+-- ---- several rows
 
 keyed_step : (row : RowEntry) (e : SequencedKey × RowEntry) (es fs : TableEntries) (o : Ordering) → sequenced_cmp (sequenced row) e.0 ≡ o → AreKeyed (e ∷ es) → AreKeyed fs →
     AreKeyed (match_ordering o ((sequenced row, row) ∷ e ∷ es) ((e.0, row) ∷ es) (e ∷ fs))
@@ -159,14 +112,6 @@ first_not_past n = grind (arith, nat_tests)
 -- the greatest sequence of a key stands before the least
 pub newest_first : (k : List ℕ) (n : ℕ) → is_gt (sequenced_cmp (record { user_key = k; seq = n }) (record { user_key = k; seq = 0 })) ≡ false
 newest_first k n = ap (λ o. is_gt (ordering_then o (nat_cmp 0 n))) (tied_itself nat_list_cmp_total k) ∙ first_not_past n
-
-pub set_none : (test : SequencedKey → Bool) (es : TableEntries) (row : RowEntry) → lookup test es ≡ None → set_value test es row ≡ es
-set_none test [] row h = refl
-set_none test (e ∷ es) row h = by (test e.0) h (set_none test es row)
-  where
-    by : (b : Bool) → cond b (Some e.1) (lookup test es) ≡ None → (lookup test es ≡ None → set_value test es row ≡ es) → cond b ((e.0, row) ∷ es) (e ∷ set_value test es row) ≡ e ∷ es
-    by true found later = cc
-    by false found later = ap (λ fs. e ∷ fs) (later found)
 
 -- whether a row is of the key, with at most the sequence
 is_up_to : List ℕ → ℕ → RowEntry → Bool

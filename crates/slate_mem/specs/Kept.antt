@@ -2,10 +2,11 @@
 --     tagged k ops, listed es      the operations of a key, and of all entries, each with its key
 --     items_at es k      what the entries have at a key
 --     HasMore es fs k op      entries with one operation more, which stands behind those of its key
+--     IsCopied Same es fs      the entries are copies
 --     AreFine es      no operation of the entries is refused by itself
 --     IsWhole es held      what stands at all times of the entries and of whether a merge was taken
 use Rattle.std.specs.Prelude.{◌≡◌, ℕ, ◌<◌, Bool, true, false, List, [], ◌∷◌, ◌++◌, map, flat_map, length, if◌then◌else◌, bytes_eq, None}
-use Rattle.std.specs.List.{AllByRecursion}
+use Rattle.std.specs.List.{AllByRecursion, AllZip}
 use Rattle.std.specs.List.Sorted.{IsStrictlySortedBy}
 use Rattle.std.specs.Map.{keys_of}
 use Rattle.std.specs.BTreeMap.{insert_entry}
@@ -51,6 +52,10 @@ AreFineAt k ops = AllByRecursion (λ op. op_refusal k op ≡ None) ops
 
 abbrev pub AreFine : Entries → Type 0
 AreFine es = AllByRecursion (λ e. AreFineAt e.0 e.1.items) es
+
+-- entries with the same keys, of which each has operations that stand for the others' by a relation
+abbrev pub IsCopied : (WriteOp → WriteOp → Type 0) → Entries → Entries → Type 0
+IsCopied Same es fs = AllZip (λ e f. (f.0 ≡ e.0) × AllZip Same e.1.items f.1.items) es fs
 
 -- where no merge was taken, each key has one operation
 pub record IsWhole (es : Entries) (held : Bool) : Type 0 where

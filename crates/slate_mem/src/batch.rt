@@ -2,6 +2,8 @@
 ghost use Rattle.std.specs.Prelude.{◌≡◌, ◌⊎◌, ◌≤◌, ◌-◌, ◌^◌, ◌↔◌, ◌++◌, ◌∷◌, ℕ, List, [], true, false, min, length, map, filter_map, option_map, option_to_list, option_copied, Some, None, is_some, IsSome, IsTrue, OnOk, OnErr, IfOk, IfErr, IsOkUnless};
 ghost use Rattle.std.specs.BTreeMap as map;
 ghost use Rattle.std.specs.BTreeMap.{insert_entry, IsUnchanged};
+ghost use Rattle.std.specs.Map.{keys_of};
+ghost use Rattle.slate_mem.specs.KeyedOps.{entries_in};
 ghost use Rattle.slate_types.specs.declared.error.SlateDBError.{SlateDBError};
 ghost use Rattle.slate_types.specs.Keys.{key_cmp, keys_set};
 ghost use Rattle.std.specs.List.{cons_option, AllByRecursion};
@@ -22,6 +24,7 @@ use crate::WriteOp;
 use crate::batch_iterator::{Stamps, add_rows};
 use crate::key_fold::add_folded;
 use crate::key_tests::tested_prefix;
+use crate::keyed_ops::KeyedOps;
 use bytes::Bytes;
 use slate_types::{
     MergeOperator, MergeOptions, NoOperator, PrefixExtractor, PutOptions, RowEntry, SlateDBError,
@@ -30,25 +33,27 @@ use smallvec::SmallVec;
 use std::alloc::{AllocError, Global};
 use std::collections::{BTreeMap, BTreeSet};
 use std::marker::Model;
+use std::slice;
 
 /// Operations that are applied together. Of a key it keeps those from the last put or delete on, oldest first.
 /// After a refusal it is as it was.
 #[derive(Drop)]
 pub struct WriteBatch {
     alloc: Global,
-    ops: BTreeMap<Bytes, SmallVec<WriteOp, 1>>,
+    ops: KeyedOps,
     has_merge_ops: bool,
 }
 
 impl Model for WriteBatch {
     ghost use Rattle.slate_mem.specs.BatchModel.{BatchModel};
     ghost use Rattle.slate_mem.specs.Kept.{listed, IsWhole};
+    ghost use Rattle.slate_mem.specs.KeyedOps.{entries_in};
 
     ghost Value = { BatchModel };
 
-    ghost view = { λ b. record { ops = listed b.ops.entries; held_merge = b.has_merge_ops } };
+    ghost view = { λ b. record { ops = listed (entries_in b.ops); held_merge = b.has_merge_ops } };
 
-    ghost invariant = { λ b. IsWhole b.ops.entries b.has_merge_ops };
+    ghost invariant = { λ b. IsWhole (entries_in b.ops) b.has_merge_ops };
 }
 
 impl WriteBatch {
@@ -58,7 +63,7 @@ impl WriteBatch {
     {
         WriteBatch {
             alloc,
-            ops: BTreeMap::new(alloc),
+            ops: KeyedOps::new(alloc),
             has_merge_ops: false,
         }
     }
@@ -217,7 +222,7 @@ impl WriteBatch {
     pub fn op_count(&self) -> usize
         ensures { result ≡ min (length self.now.ops) (2 ^ 64 - 1) }
     {
-        count_ops(&self.ops)
+        self.ops.count()
     }
 
     /// An equal batch, which shares keys and values. The one error is `OutOfMemory`.
@@ -227,7 +232,7 @@ impl WriteBatch {
     {
         Ok(WriteBatch {
             alloc: self.alloc,
-            ops: self.ops.clone()?,
+            ops: self.ops.try_clone()?,
             has_merge_ops: self.has_merge_ops,
         })
     }
@@ -237,7 +242,7 @@ impl WriteBatch {
         ensures keys { IfOk result (λ keys. keys.items ≡ batch_keys self.now.ops) }
         ensures cause { IsOkUnless result SlateDBError.OutOfMemory }
     {
-        Ok(keys_of(self.alloc, &self.ops)?)
+        Ok(self.ops.keys(self.alloc)?)
     }
 
     /// Its operations, each with its key: keys rising, and those of a key oldest first. They share keys and values. None
@@ -249,13 +254,13 @@ impl WriteBatch {
         ensures plain { self.now.held_merge ≡ false → holds_merge self.now.ops ≡ false }
         ensures cause { IsOkUnless result SlateDBError.OutOfMemory }
     {
-        Ok(list_ops(alloc, &self.ops)?)
+        Ok(self.ops.list(alloc)?)
     }
 
     /// Its operations by key, oldest first within a key.
-    pub(crate) fn entries(&self) -> &BTreeMap<Bytes, SmallVec<WriteOp, 1>>
-        ensures ops { listed result.now.entries ≡ self.now.ops }
-        ensures whole { IsWhole result.now.entries self.now.held_merge }
+    pub(crate) fn entries(&self) -> &KeyedOps
+        ensures ops { listed (entries_in result.now) ≡ self.now.ops }
+        ensures whole { IsWhole (entries_in result.now) self.now.held_merge }
     {
         &self.ops
     }
@@ -340,7 +345,7 @@ impl WriteBatch {
         ensures cause { IfErr result (λ e. (e ≡ SlateDBError.OutOfMemory) ⊎ (first_refusal (test_refusals has_operator self.now.held_merge (point_lengths (option_map X.lengths (option_copied extractor.entry))) default_ttl_millis now self.now.ops) ≡ Some e)) }
     {
         match test_merges(has_operator, self.has_merge_ops) {
-            Ok(()) => test_keys(alloc, &self.ops, default_ttl_millis, now, extractor),
+            Ok(()) => test_ops(alloc, &self.ops, default_ttl_millis, now, extractor),
             Err(refusal) => Err(refusal),
         }
     }
@@ -373,9 +378,7 @@ impl WriteBatch {
         ensures cause { IsOkUnless result SlateDBError.OutOfMemory }
         ensures same { OnErr result (self.new ≡ self.old) }
     {
-        let list = SmallVec::from_buf(self.alloc, [op]);
-        drop(self.ops.insert(key, list)?);
-        Ok(())
+        Ok(self.ops.replace(self.alloc, key, op)?)
     }
 
     /// Takes an operand that no test refuses, behind the operations of its key, and copies nothing. The one error is
@@ -392,19 +395,15 @@ impl WriteBatch {
         ensures cause { IsOkUnless result SlateDBError.OutOfMemory }
         ensures same { OnErr result (self.new ≡ self.old) }
     {
-        add_op(
-            self.alloc,
-            &mut self.ops,
-            key,
-            WriteOp::Merge(value, options),
-        )?;
+        self.ops
+            .add(self.alloc, key, WriteOp::Merge(value, options))?;
         self.has_merge_ops = true;
         Ok(())
     }
 }
 
 /// Puts an operation behind those of its key.
-fn add_op(
+pub(crate) fn add_op(
     alloc: Global,
     ops: &mut BTreeMap<Bytes, SmallVec<WriteOp, 1>>,
     key: Bytes,
@@ -478,7 +477,7 @@ fn test_value(value: &[u8]) -> Result<(), SlateDBError>
 }
 
 /// How many operations the keys have together.
-fn count_ops(ops: &BTreeMap<Bytes, SmallVec<WriteOp, 1>>) -> usize
+pub(crate) fn count_ops(ops: &BTreeMap<Bytes, SmallVec<WriteOp, 1>>) -> usize
     ensures { result ≡ min (length (listed ops.now.entries)) (2 ^ 64 - 1) }
 {
     let mut count = 0usize;
@@ -489,7 +488,7 @@ fn count_ops(ops: &BTreeMap<Bytes, SmallVec<WriteOp, 1>>) -> usize
 }
 
 /// Copies of the operations, each with its key.
-fn list_ops(
+pub(crate) fn list_ops(
     alloc: Global,
     ops: &BTreeMap<Bytes, SmallVec<WriteOp, 1>>,
 ) -> Result<Vec<(Bytes, WriteOp)>, AllocError>
@@ -503,7 +502,11 @@ fn list_ops(
 }
 
 /// Adds copies of a key's operations.
-fn add_ops(all: &mut Vec<(Bytes, WriteOp)>, key: &Bytes, ops: &[WriteOp]) -> Result<(), AllocError>
+pub(crate) fn add_ops(
+    all: &mut Vec<(Bytes, WriteOp)>,
+    key: &Bytes,
+    ops: &[WriteOp],
+) -> Result<(), AllocError>
     ensures ops { OnOk result (all.new.items ≡ all.old.items ++ tagged key.now ops.now) }
 {
     for op in ops {
@@ -520,7 +523,7 @@ fn add_ops(all: &mut Vec<(Bytes, WriteOp)>, key: &Bytes, ops: &[WriteOp]) -> Res
 }
 
 /// Copies of the keys.
-fn keys_of(
+pub(crate) fn list_keys(
     alloc: Global,
     ops: &BTreeMap<Bytes, SmallVec<WriteOp, 1>>,
 ) -> Result<Vec<Bytes>, AllocError>
@@ -546,6 +549,30 @@ fn test_merges(has_operator: bool, held_merge: bool) -> Result<(), SlateDBError>
 }
 
 /// Tests the keys, upwards, and gives their segment prefixes.
+fn test_ops<X: PrefixExtractor>(
+    alloc: Global,
+    ops: &KeyedOps,
+    default_ttl_millis: Option<u64>,
+    now: i64,
+    extractor: Option<&X>,
+) -> Result<BTreeSet<Bytes>, SlateDBError>
+    ensures fine { OnOk result (first_refusal (entry_refusals (point_lengths (option_map X.lengths (option_copied extractor.entry))) default_ttl_millis now (entries_in ops.now)) ≡ None) }
+    ensures prefixes { IfOk result (λ all. all.keys ≡ keys_set (filter_map (prefix_by (point_lengths (option_map X.lengths (option_copied extractor.entry)))) (keys_of (entries_in ops.now)))) }
+    ensures cause { IfErr result (λ e. (e ≡ SlateDBError.OutOfMemory) ⊎ (first_refusal (entry_refusals (point_lengths (option_map X.lengths (option_copied extractor.entry))) default_ttl_millis now (entries_in ops.now)) ≡ Some e)) }
+{
+    match ops {
+        KeyedOps::Lone(key, op) => {
+            let mut prefixes = BTreeSet::new(alloc);
+            let ops = slice::from_ref(op);
+            let prefix = tested_prefix(key, ops, default_ttl_millis, now, extractor)?;
+            add_prefix(&mut prefixes, prefix)?;
+            Ok(prefixes)
+        }
+        KeyedOps::Map(ops) => test_keys(alloc, ops, default_ttl_millis, now, extractor),
+    }
+}
+
+/// Tests the keys of a map, upwards, and gives their segment prefixes.
 fn test_keys<X: PrefixExtractor>(
     alloc: Global,
     ops: &BTreeMap<Bytes, SmallVec<WriteOp, 1>>,
@@ -585,12 +612,12 @@ pub(crate) fn add_prefix(
 /// The rows that the operations of each key fold to, keys rising, by an operator or none.
 fn folded_by<M: MergeOperator>(
     alloc: Global,
-    ops: &BTreeMap<Bytes, SmallVec<WriteOp, 1>>,
+    ops: &KeyedOps,
     stamps: &Stamps,
     operator: &mut Option<M>,
 ) -> Result<Vec<RowEntry>, SlateDBError>
-    requires { AreKept ops.now.entries }
-    ensures rows { IfOk result (λ rows. rows.items ≡ folded_entries (operator_at (option_map M.combine operator.old)) stamps.now ops.now.entries) }
+    requires { AreKept (entries_in ops.now) }
+    ensures rows { IfOk result (λ rows. rows.items ≡ folded_entries (operator_at (option_map M.combine operator.old)) stamps.now (entries_in ops.now)) }
     ensures same { option_map M.combine operator.new ≡ option_map M.combine operator.old }
     ensures later { faults_of M.faults operator.old ≤ faults_of M.faults operator.new }
     ensures still { IsOperatorStill (faults_of M.faults operator.old) (faults_of M.faults operator.new) result }
@@ -605,6 +632,39 @@ fn folded_by<M: MergeOperator>(
 
 /// The rows that the operations of each key fold to, keys rising.
 fn folded_rows<M: MergeOperator>(
+    alloc: Global,
+    ops: &KeyedOps,
+    stamps: &Stamps,
+    operator: &mut M,
+) -> Result<Vec<RowEntry>, SlateDBError>
+    requires { AreKept (entries_in ops.now) }
+    ensures rows { IfOk result (λ rows. rows.items ≡ folded_entries (M.combine operator.old) stamps.now (entries_in ops.now)) }
+    ensures same { M.combine operator.new ≡ M.combine operator.old }
+    ensures later { M.faults operator.old ≤ M.faults operator.new }
+    ensures still { IsOperatorStill (M.faults operator.old) (M.faults operator.new) result }
+    ensures cause { IfErr result (λ e. (e ≡ SlateDBError.OutOfMemory) ⊎ IsCallback (M.faults operator.old) (M.faults operator.new) e) }
+{
+    match ops {
+        KeyedOps::Lone(key, op) => {
+            let mut rows = Vec::with_capacity(alloc, 1)?;
+            let mut own = Vec::new(alloc);
+            add_key(
+                alloc,
+                &mut rows,
+                &mut own,
+                key,
+                slice::from_ref(op),
+                stamps,
+                operator,
+            )?;
+            Ok(rows)
+        }
+        KeyedOps::Map(ops) => folded_keys(alloc, ops, stamps, operator),
+    }
+}
+
+/// The same of a map.
+fn folded_keys<M: MergeOperator>(
     alloc: Global,
     ops: &BTreeMap<Bytes, SmallVec<WriteOp, 1>>,
     stamps: &Stamps,

@@ -1,13 +1,18 @@
 //! An iterator over the rows that a batch's operations make.
-ghost use Rattle.std.specs.Prelude.{◌≡◌, ℕ, List, ◌++◌, map, reverse, IfOk, OnOk, IsOkUnless};
+ghost use Rattle.std.specs.Prelude.{◌≡◌, ℕ, List, false, ◌++◌, map, reverse, IfOk, OnOk, IsOkUnless};
 ghost use Rattle.slate_types.specs.declared.error.SlateDBError.{SlateDBError};
 ghost use Rattle.slate_types.specs.Iteration.{IsInOrder};
 ghost use Rattle.slate_types.specs.RowTurns.{AreInTurn, row_before};
 ghost use Rattle.slate_types.specs.Rows.{of_key};
-ghost use Rattle.slate_mem.specs.BatchRows.{batch_rows, stamped, newest_rows};
+ghost use Rattle.slate_mem.specs.BatchRows.{batch_rows, stamped, newest_rows, rows_of_lone};
+ghost use Rattle.std.specs.List.Sorted.{IsStrictlySortedBy};
+ghost use Rattle.std.specs.Map.{keys_of};
+ghost use Rattle.std.specs.BTreeMap.Range.{entries_between};
+ghost use Rattle.slate_types.specs.Keys.{key_cmp, is_refused};
 
 use crate::WriteOp;
 use crate::batch::WriteBatch;
+use crate::keyed_ops::KeyedOps;
 use crate::mem_table::ordered;
 use bytes::Bytes;
 use slate_types::{
@@ -15,6 +20,7 @@ use slate_types::{
 };
 use smallvec::SmallVec;
 use std::alloc::{AllocError, Global};
+use std::collections::BTreeMap;
 use std::collections::btree_map::Range;
 use std::marker::Model;
 
@@ -104,8 +110,47 @@ fn rows_in(
     if range.leaves_none() {
         return Ok(Vec::new(alloc));
     }
+    match batch.entries() {
+        KeyedOps::Lone(key, op) => lone_rows(alloc, key, op, range, stamps),
+        KeyedOps::Map(ops) => map_rows(alloc, ops, range, order, stamps),
+    }
+}
+
+/// The row of a lone operation, where its key is in the range.
+fn lone_rows(
+    alloc: Global,
+    key: &Bytes,
+    op: &WriteOp,
+    range: &BytesRange,
+    stamps: &Stamps,
+) -> Result<Vec<RowEntry>, SlateDBError>
+    ensures rows { IfOk result (λ rows. rows.items ≡ rows_of_lone range.now stamps.now key.now op.now) }
+    ensures cause { IsOkUnless result SlateDBError.OutOfMemory }
+{
+    let mut rows = Vec::new(alloc);
+    if range.contains(key.as_slice()) {
+        rows.push(stamps.row(key, op)?)?;
+    }
+    Ok(rows)
+}
+
+/// The rows of a map's operations whose keys are in the range, in the order.
+fn map_rows(
+    alloc: Global,
+    ops: &BTreeMap<Bytes, SmallVec<WriteOp, 1>>,
+    range: &BytesRange,
+    order: IterationOrder,
+    stamps: &Stamps,
+) -> Result<Vec<RowEntry>, SlateDBError>
+    requires forward { is_refused range.now.start range.now.end ≡ false }
+    requires rising { IsStrictlySortedBy key_cmp (keys_of ops.now.entries) }
+    ensures rows { IfOk result (λ rows. (k : List ℕ) → of_key k rows.items
+        ≡ of_key k (newest_rows stamps.now (entries_between key_cmp range.now.start range.now.end ops.now.entries))) }
+    ensures in_order { IfOk result (λ rows. IsInOrder order rows.items) }
+    ensures cause { IsOkUnless result SlateDBError.OutOfMemory }
+{
     let BytesRange { start, end } = copied(range)?;
-    let rows = rising_rows(alloc, batch.entries().range((start, end)), stamps)?;
+    let rows = rising_rows(alloc, ops.range((start, end)), stamps)?;
     Ok(ordered(rows, order)?)
 }
 
@@ -169,6 +214,8 @@ impl<E: Outside> RowEntryIterator<E> for WriteBatchIterator {
     ghost seeks = { λ before _ _ key after. after.rows ≡ drop_before before.order key before.rows };
 
     ghost stays = { λ _ _ _ _ _ _. ⊥ };
+
+    ghost unbegun = { λ _. ⊥ };
 
     ghost rising = { λ _ _ h. h };
 

@@ -1,134 +1,104 @@
 //! An iterator over rows of a table.
 ghost use Rattle.std.specs.Prelude.{◌≡◌, ◌++◌, [], IfOk, IsOkUnless, OnErr, OnOk};
-ghost use Rattle.std.specs.Arc.{arc_value};
 ghost use Rattle.slate_types.specs.declared.error.SlateDBError.{SlateDBError};
 ghost use Rattle.slate_types.specs.declared.iter.IterationOrder.{IterationOrder};
 ghost use Rattle.slate_types.specs.Iteration.{begins_before, IsInOrder, TakesRow};
-ghost use Rattle.slate_mem.specs.Unread.{AreForward, CanReadOn, EndsAt, all_uncopied, standing_between, uncopied};
+ghost use Rattle.slate_mem.specs.Slots.{standing};
 
-use crate::key_range::KVTableInternalKeyRange;
-use crate::mem_table::MemTable;
-use slate_types::{
-    IterationOrder, Outside, RowEntry, RowEntryIterator, SequencedKey, SlateDBError,
-};
+use crate::slots::Slot;
+use slate_types::{IterationOrder, Outside, RowEntry, RowEntryIterator, SlateDBError};
 use std::alloc::{AllocError, Global};
 use std::collections::VecDeque;
 use std::marker::Model;
-use std::ops::Bound;
-use std::sync::Arc;
 
-/// An iterator over rows of a table. It owns copies of them, or shares the table, and copies rows as it comes to them.
+/// An iterator over rows of a table. It shares their slots, and copies rows as it comes to them, or owns copies of them.
 #[derive(Drop)]
 pub struct MemTableIterator {
     /// Copies of the next rows.
     copies: VecDeque<RowEntry>,
-    /// The rows behind them.
-    behind: Option<Unread>,
+    /// The slots of the rows behind them.
+    behind: VecDeque<Slot>,
     order: IterationOrder,
 }
 
 impl Model for MemTableIterator {
     ghost use Rattle.std.specs.Prelude.{◌++◌};
     ghost use Rattle.slate_types.specs.Iteration.{RowList};
-    ghost use Rattle.slate_mem.specs.Unread.{CanReadOn, all_uncopied};
+    ghost use Rattle.slate_mem.specs.Slots.{standing};
 
     ghost Value = { RowList };
 
-    ghost view = { λ it. record { rows = it.copies.items ++ all_uncopied it.behind; order = it.order } };
-
-    ghost invariant = { λ it. CanReadOn it.behind };
+    ghost view = { λ it. record { rows = it.copies.items ++ standing it.behind.items; order = it.order } };
 }
 
-/// The rows of a table between two places.
-#[derive(Drop)]
-struct Unread {
-    table: Arc<MemTable, Global>,
-    start: Bound<SequencedKey>,
-    end: Bound<SequencedKey>,
-}
-
-impl Unread {
-    /// Copies the next rows, some where there are any, and goes on behind them. The one error is `OutOfMemory`.
-    fn page(&mut self, alloc: Global) -> Result<Vec<RowEntry>, SlateDBError>
-        requires { AreForward self.old.start self.old.end }
-        ensures rows { IfOk result (λ page. page.items ++ uncopied self.new ≡ uncopied self.old) }
-        ensures ends { IfOk result (λ page. page.items ≡ [] → uncopied self.new ≡ []) }
-        ensures forward { AreForward self.new.start self.new.end }
-        ensures same { OnErr result (uncopied self.new ≡ uncopied self.old) }
-        ensures cause { IsOkUnless result SlateDBError.OutOfMemory }
-    {
-        let page = self.table.page(alloc, &self.start, &self.end)?;
-        match last_place(&page) {
-            Ok(Some(place)) => {
-                self.start = Bound::Excluded(place);
-                Ok(page)
-            }
-            Ok(None) => Ok(page),
-            Err(error) => {
-                drop(page);
-                Err(error.into())
-            }
+/// Copies of the rows of the next slot that has some.
+fn page(alloc: Global, slots: &mut VecDeque<Slot>) -> Result<Vec<RowEntry>, AllocError>
+    ensures rows { IfOk result (λ page. page.items ++ standing slots.new.items ≡ standing slots.old.items) }
+    ensures ends { IfOk result (λ page. page.items ≡ [] → standing slots.new.items ≡ []) }
+    ensures same { OnErr result (standing slots.new.items ≡ standing slots.old.items) }
+{
+    let mut page = Vec::new(alloc);
+    while let Some(slot) = slots.front() {
+        slot.copy_to(&mut page)?;
+        drop(slots.pop_front());
+        if !page.as_slice().is_empty() {
+            return Ok(page);
         }
     }
-}
-
-/// The place of the last row, where there is one.
-fn last_place(rows: &[RowEntry]) -> Result<Option<SequencedKey>, AllocError>
-    ensures { IfOk result (λ place. EndsAt rows.now place) }
-{
-    match rows.last() {
-        Some(row) => Ok(Some(SequencedKey::new(row.key.clone()?, row.seq))),
-        None => Ok(None),
-    }
+    Ok(page)
 }
 
 /// Copies the next rows where no copy is left. The one error is `OutOfMemory`.
 fn fill(
     alloc: Global,
     copies: &mut VecDeque<RowEntry>,
-    behind: &mut Option<Unread>,
+    behind: &mut VecDeque<Slot>,
 ) -> Result<(), SlateDBError>
-    requires { CanReadOn behind.old }
-    ensures rows { copies.new.items ++ all_uncopied behind.new ≡ copies.old.items ++ all_uncopied behind.old }
-    ensures ends { OnOk result (copies.new.items ≡ [] → all_uncopied behind.new ≡ []) }
-    ensures goes_on { CanReadOn behind.new }
+    ensures rows { copies.new.items ++ standing behind.new.items ≡ copies.old.items ++ standing behind.old.items }
+    ensures ends { OnOk result (copies.new.items ≡ [] → standing behind.new.items ≡ []) }
     ensures cause { IsOkUnless result SlateDBError.OutOfMemory }
 {
-    if !copies.is_empty() {
+    if let Some(_row) = copies.front() {
         return Ok(());
     }
-    if let Some(left) = behind {
-        let page = left.page(alloc)?;
-        *copies = VecDeque::from_vec(page);
-    }
+    let page = page(alloc, behind)?;
+    *copies = VecDeque::from_vec(page);
     Ok(())
+}
+
+/// Whether the order puts the first row before the key.
+fn front_before(copies: &VecDeque<RowEntry>, order: IterationOrder, key: &[u8]) -> bool
+    ensures { result ≡ begins_before order key.now copies.now.items }
+{
+    match copies.front() {
+        Some(row) => order.puts_before(row.key.as_slice(), key),
+        None => false,
+    }
 }
 
 impl MemTableIterator {
     /// An iterator over rows that were copied. Takes no memory.
-    pub(crate) fn of_rows(rows: Vec<RowEntry>, order: IterationOrder) -> MemTableIterator
+    pub(crate) fn of_rows(
+        alloc: Global,
+        rows: Vec<RowEntry>,
+        order: IterationOrder,
+    ) -> MemTableIterator
         ensures { result ≡ record { rows = rows.items; order = order } }
     {
         MemTableIterator {
             copies: VecDeque::from_vec(rows),
-            behind: None,
+            behind: VecDeque::new(alloc),
             order,
         }
     }
 
-    /// An iterator over the rows of a table between two places, keys upwards. Takes no memory.
-    pub(crate) fn of_table(
-        alloc: Global,
-        table: Arc<MemTable, Global>,
-        places: KVTableInternalKeyRange,
-    ) -> MemTableIterator
-        requires { AreForward places.start places.end }
-        ensures { result ≡ record { rows = standing_between places.start places.end (arc_value table).rows; order = IterationOrder.Ascending } }
+    /// An iterator over the rows of slots, keys upwards. Takes no memory.
+    pub(crate) fn of_slots(alloc: Global, slots: Vec<Slot>) -> MemTableIterator
+        ensures { result ≡ record { rows = standing slots.items; order = IterationOrder.Ascending } }
     {
-        let KVTableInternalKeyRange { start, end } = places;
         MemTableIterator {
             copies: VecDeque::new(alloc),
-            behind: Some(Unread { table, start, end }),
+            behind: VecDeque::from_vec(slots),
             order: IterationOrder::Ascending,
         }
     }
@@ -151,10 +121,7 @@ impl MemTableIterator {
         ensures cause { IsOkUnless result SlateDBError.OutOfMemory }
     {
         fill(alloc, &mut self.copies, &mut self.behind)?;
-        Ok(match self.copies.front() {
-            Some(row) => self.order.puts_before(row.key.as_slice(), key),
-            None => false,
-        })
+        Ok(front_before(&self.copies, self.order, key))
     }
 }
 
@@ -180,6 +147,8 @@ impl<E: Outside> RowEntryIterator<E> for MemTableIterator {
     ghost seeks = { λ before _ _ key after. after.rows ≡ drop_before before.order key before.rows };
 
     ghost stays = { λ before _ _ at _ after. StaysBefore at before after };
+
+    ghost unbegun = { λ _. ⊥ };
 
     ghost rising = { λ _ _ h. h };
 

@@ -1,17 +1,11 @@
 //! Rows in memory, until a flush.
-ghost use Rattle.std.specs.Prelude.{◌≡◌, ◌∷◌, false, nat_le, ◌<◌, ◌^◌, ◌++◌, ◌↔◌, ◌&&◌, ◌⊎◌, filter, List, [], length, None, Some, option_copied, option_map, IsTrue, OnOk, OnErr, IfOk, IfErr, IsOkUnless, Ok, ℕ, ◌-◌, ◌==◌, min, not};
+ghost use Rattle.std.specs.Prelude.{◌≡◌, nat_le, nat_lt, ◌<◌, ◌≤◌, ◌^◌, ◌++◌, ◌↔◌, ◌&&◌, ◌⊎◌, filter, List, [], length, None, Some, option_copied, option_map, IsTrue, OnOk, OnErr, IfOk, IfErr, IsOkUnless, Ok, ℕ, ◌-◌, ◌==◌, min, max, not};
 ghost use Rattle.std.specs.Arc.{arc_value};
-ghost use Rattle.std.specs.BTreeMap.{IsUnchanged};
-ghost use Rattle.std.specs.BTreeMap.Range.{IsLeBy, IsLtBy, entries_between};
-ghost use Rattle.std.specs.Range.Bound.{IsForward};
-ghost use Rattle.std.specs.BTreeMap.{is_at};
-ghost use Rattle.std.specs.BTreeMap as map;
 ghost use Rattle.std.specs.BTreeSet as set;
 ghost use Rattle.std.specs.List.{sum_by};
-ghost use Rattle.std.specs.Map.{set_value, values_of};
 ghost use Rattle.slate_types.specs.declared.error.SlateDBError.{SlateDBError};
-ghost use Rattle.slate_types.specs.Rows.{sequenced_cmp, estimated_size, of_key};
-ghost use Rattle.slate_types.specs.Keys.{key_cmp, keys_set, among, is_refused};
+ghost use Rattle.slate_types.specs.Rows.{estimated_size, of_key};
+ghost use Rattle.slate_types.specs.Keys.{key_cmp, keys_set, among};
 ghost use Rattle.slate_types.specs.Fold.{greatest_seq};
 ghost use Rattle.slate_types.specs.declared.iter.IterationOrder.{IterationOrder};
 ghost use Rattle.slate_types.specs.declared.types.RowEntry.{RowEntry};
@@ -21,27 +15,21 @@ ghost use Rattle.slate_mem.specs.Frozen.{table_in};
 ghost use Rattle.slate_mem.specs.KeyTests.{nest_refusal, point_lengths};
 ghost use Rattle.slate_mem.specs.Refusals.{first_refusal};
 ghost use Rattle.slate_mem.specs.Segments.{row_prefixes, row_refusals};
+ghost use Rattle.slate_mem.specs.Slots.{IsSlots, standing};
 ghost use Rattle.slate_mem.specs.Table.{after_seq, no_rows, put_rows, ranged, newest, last_tick, first_seq};
-ghost use Rattle.slate_mem.specs.Unread.{AreForward, IsPage, standing_between};
-ghost use Rattle.slate_mem.specs.Tied.{IsRows, insert_row, insert_rows, undone, all_undone, taken};
 
-use crate::key_range::KVTableInternalKeyRange;
 use crate::key_tests::prefixes_of;
-use crate::lookup::is_merge;
 use crate::mem_iterator::MemTableIterator;
 use crate::metadata::{KVTableMetadata, count_rows};
 use crate::segments::{least_nesting, test_other};
+use crate::slots::{Slot, are_empty, copies, newest_rows, put_each, share_range, take_back};
 use bytes::Bytes;
-use slate_types::{
-    BytesRange, IterationOrder, PrefixExtractor, RowEntry, SequencedKey, SlateDBError,
-};
+use slate_types::{BytesRange, IterationOrder, PrefixExtractor, RowEntry, SlateDBError};
 use std::alloc::{AllocError, Global};
 use std::cmp::Ordering;
-use std::collections::btree_map::Range;
-use std::collections::{BTreeMap, BTreeSet};
+use std::collections::BTreeSet;
 use std::marker::Model;
 use std::mem;
-use std::ops::Bound;
 use std::sync::Arc;
 
 /// Rows by key, the newest first within a key, with the segment prefixes that were recorded beside them. After a
@@ -49,20 +37,23 @@ use std::sync::Arc;
 #[derive(Drop)]
 pub struct MemTable {
     alloc: Global,
-    rows: BTreeMap<SequencedKey, RowEntry>,
+    slots: Vec<Slot>,
+    /// No row has a greater sequence.
+    last: u64,
+    /// There are no more rows.
+    most: usize,
     segments: BTreeSet<Bytes>,
 }
 
 impl Model for MemTable {
-    ghost use Rattle.std.specs.Map.{values_of};
     ghost use Rattle.slate_mem.specs.Table.{MemTableModel};
-    ghost use Rattle.slate_mem.specs.Tied.{IsTable};
+    ghost use Rattle.slate_mem.specs.Slots.{IsTable, standing};
 
     ghost Value = { MemTableModel };
 
-    ghost view = { λ t. record { rows = values_of t.rows.entries; segments = t.segments.keys } };
+    ghost view = { λ t. record { rows = standing t.slots.items; segments = t.segments.keys } };
 
-    ghost invariant = { λ t. IsTable t.rows.entries t.segments.keys };
+    ghost invariant = { λ t. IsTable t.slots.items t.last t.most t.segments.keys };
 }
 
 impl MemTable {
@@ -72,7 +63,9 @@ impl MemTable {
     {
         MemTable {
             alloc,
-            rows: BTreeMap::new(alloc),
+            slots: Vec::new(alloc),
+            last: 0,
+            most: 0,
             segments: BTreeSet::new(alloc),
         }
     }
@@ -81,7 +74,7 @@ impl MemTable {
     pub fn is_empty(&self) -> bool
         ensures { IsTrue result ↔ (self.now.rows ≡ []) }
     {
-        self.rows.is_empty()
+        are_empty(&self.slots)
     }
 
     /// Puts all rows, each in place of one of the same key and sequence, and records the prefixes beside those that
@@ -97,9 +90,24 @@ impl MemTable {
         ensures cause { IsOkUnless result SlateDBError.OutOfMemory }
     {
         let segments = join(&self.segments, segments)?;
-        put_each(self.alloc, &mut self.rows, rows)?;
-        self.segments = segments;
-        Ok(())
+        let Some(most) = self.most.checked_add(rows.len()) else {
+            drop(rows);
+            drop(segments);
+            return Err(SlateDBError::OutOfMemory);
+        };
+        let last = greatest(&rows, self.last);
+        match put_each(self.alloc, &mut self.slots, self.last, rows) {
+            Ok(()) => {
+                self.last = last;
+                self.most = most;
+                self.segments = segments;
+                Ok(())
+            }
+            Err(error) => {
+                drop(segments);
+                Err(error.into())
+            }
+        }
     }
 
     /// The rows of the key with sequences of at most `max_seq`, newest first, to the first that is no merge: what a
@@ -113,9 +121,7 @@ impl MemTable {
         ensures rows { IfOk result (λ rows. rows.items ≡ newest key.now max_seq self.now.rows) }
         ensures cause { IsOkUnless result SlateDBError.OutOfMemory }
     {
-        let (first, last) = places(key, max_seq, 0)?;
-        let (first, last) = (Bound::Included(first), Bound::Included(last));
-        rows_between(alloc, &self.rows, first, last, true)
+        Ok(newest_rows(alloc, &self.slots, key, max_seq)?)
     }
 
     /// The rows whose keys are in the range, keys in the order, and newest first within a key in both orders. They
@@ -132,37 +138,8 @@ impl MemTable {
         ensures order { IfOk result (λ it. it.order ≡ order) }
         ensures cause { IsOkUnless result SlateDBError.OutOfMemory }
     {
-        let rows = rows_in(alloc, &self.rows, range)?;
-        let rows = ordered(rows, order)?;
-        Ok(MemTableIterator::of_rows(rows, order))
-    }
-
-    /// The places of the rows whose keys are in the range. The one error is `OutOfMemory`.
-    fn places_in(&self, range: &BytesRange) -> Result<KVTableInternalKeyRange, SlateDBError>
-        requires { is_refused range.now.start range.now.end ≡ false }
-        ensures forward { IfOk result (λ places. AreForward places.start places.end) }
-        ensures rows { IfOk result (λ places. standing_between places.start places.end self.now.rows ≡ ranged range.now self.now.rows) }
-        ensures in_order { OnOk result (IsInOrder IterationOrder.Ascending (ranged range.now self.now.rows)) }
-        ensures turn { OnOk result (AreInTurn (row_before IterationOrder.Ascending) (ranged range.now self.now.rows)) }
-        ensures cause { IsOkUnless result SlateDBError.OutOfMemory }
-    {
-        let _count = self.rows.len();
-        KVTableInternalKeyRange::from_range(range)
-    }
-
-    /// Copies of the first rows between two places: some, where there are any. The one error is `OutOfMemory`.
-    pub(crate) fn page(
-        &self,
-        alloc: Global,
-        start: &Bound<SequencedKey>,
-        end: &Bound<SequencedKey>,
-    ) -> Result<Vec<RowEntry>, SlateDBError>
-        requires { AreForward start.now end.now }
-        ensures page { IfOk result (λ page. IsPage start.now end.now self.now.rows page.items) }
-        ensures cause { IsOkUnless result SlateDBError.OutOfMemory }
-    {
-        let entries = self.rows.range((start.as_ref(), end.as_ref()));
-        Ok(first_rows(alloc, entries)?)
+        let slots = share_range(alloc, &self.slots, range, u64::MAX, self.last)?;
+        walk(alloc, slots, order)
     }
 
     /// All rows, by key upwards and within a key by sequence downwards. They share keys and values. The one error is
@@ -171,7 +148,7 @@ impl MemTable {
         ensures rows { IfOk result (λ rows. rows.items ≡ self.now.rows) }
         ensures cause { IsOkUnless result SlateDBError.OutOfMemory }
     {
-        rows_between(alloc, &self.rows, Bound::Unbounded, Bound::Unbounded, false)
+        Ok(copies(alloc, &self.slots)?)
     }
 
     /// As `ImmutableMemtable::filter_after_seq`.
@@ -186,7 +163,7 @@ impl MemTable {
         ensures cause { IfErr result (λ e. (e ≡ SlateDBError.OutOfMemory) ⊎ (first_refusal (row_refusals (point_lengths (option_map X.lengths (option_copied extractor.entry))) (after_seq seq self.now.rows)) ≡ Some e)) }
     {
         let alloc = self.alloc;
-        let rows = rows_after(alloc, &self.rows, seq)?;
+        let rows = rows_after(alloc, &self.slots, seq)?;
         let segments = prefixes_of(alloc, &rows, extractor)?;
         let mut table = MemTable::new(alloc);
         table.put_all(rows, segments)?;
@@ -207,12 +184,13 @@ impl MemTable {
         ensures segments { IfOk result (λ t. t.segments ≡ []) }
         ensures cause { IsOkUnless result SlateDBError.OutOfMemory }
     {
-        let rows = rows_upto(alloc, &self.rows, range, seq)?;
-        let segments = BTreeSet::new(alloc);
+        let slots = share_range(alloc, &self.slots, range, seq, self.last)?;
         Ok(MemTable {
             alloc,
-            rows,
-            segments,
+            slots,
+            last: self.last,
+            most: self.most,
+            segments: BTreeSet::new(alloc),
         })
     }
 
@@ -244,7 +222,7 @@ impl MemTable {
         ensures last { result.last_seq ≡ greatest_seq 0 self.now.rows }
         ensures first { result.first_seq ≡ first_seq self.now.rows }
     {
-        count_rows(&self.rows)
+        count_rows(&self.slots)
     }
 
     /// Tests a prefix against the recorded ones, and says whether it is one of them. `InvalidSegmentPrefix` exactly where it nests
@@ -265,7 +243,7 @@ impl MemTable {
         ensures rows { self.new.rows ≡ filter (λ r. not (r.seq == seq)) self.old.rows }
         ensures segments { self.new.segments ≡ filter (λ p. not (among p segments.now.keys)) self.old.segments }
     {
-        drop_rows(&mut self.rows, seq);
+        take_back(&mut self.slots, seq);
         drop_prefixes(&mut self.segments, segments);
     }
 }
@@ -326,7 +304,7 @@ impl ImmutableMemtable {
         self.table().rows_of_key(alloc, key, max_seq)
     }
 
-    /// As `MemTable::range`. Upwards over a table that is shared, rows are copied as the iterator comes to them.
+    /// As `MemTable::range`.
     pub fn range(
         &self,
         alloc: Global,
@@ -339,10 +317,7 @@ impl ImmutableMemtable {
         ensures order { IfOk result (λ it. it.order ≡ order) }
         ensures cause { IsOkUnless result SlateDBError.OutOfMemory }
     {
-        match (&self.table, order) {
-            (Frozen::Shared(table), IterationOrder::Ascending) => walk(alloc, table, range),
-            (_, order) => self.table().range(alloc, range, order),
-        }
+        self.table().range(alloc, range, order)
     }
 
     /// All rows, by key upwards and within a key by sequence downwards. They share keys and values. The one error is
@@ -389,35 +364,6 @@ impl ImmutableMemtable {
     }
 }
 
-/// How many rows an iterator copies at once from a table that it shares.
-const PAGE_ROWS: usize = 32;
-
-/// An iterator over the rows of a shared table whose keys are in the range, keys upwards.
-fn walk(
-    alloc: Global,
-    table: &Arc<MemTable, Global>,
-    range: &BytesRange,
-) -> Result<MemTableIterator, SlateDBError>
-    ensures rows { IfOk result (λ it. it.rows ≡ ranged range.now (arc_value table.now).rows) }
-    ensures in_order { IfOk result (λ it. IsInOrder IterationOrder.Ascending it.rows) }
-    ensures turn { IfOk result (λ it. AreInTurn (row_before IterationOrder.Ascending) it.rows) }
-    ensures order { IfOk result (λ it. it.order ≡ IterationOrder.Ascending) }
-    ensures cause { IsOkUnless result SlateDBError.OutOfMemory }
-{
-    if range.leaves_none() {
-        let none = Vec::new(alloc);
-        return Ok(MemTableIterator::of_rows(none, IterationOrder::Ascending));
-    }
-    let places = table.places_in(range)?;
-    match Arc::try_clone(table) {
-        Ok(table) => Ok(MemTableIterator::of_table(alloc, table, places)),
-        Err(error) => {
-            drop(places);
-            Err(error.into())
-        }
-    }
-}
-
 /// One owner more of the table, which is moved behind an `Arc` before where it stands behind none.
 fn another(frozen: &mut Frozen) -> Result<Arc<MemTable, Global>, AllocError>
     ensures same { table_in frozen.new ≡ table_in frozen.old }
@@ -444,13 +390,6 @@ fn behind_arc(alloc: Global, table: MemTable) -> Frozen
     }
 }
 
-/// What one put did: what stood at its place before.
-#[derive(Drop)]
-struct Step {
-    key: SequencedKey,
-    before: Option<RowEntry>,
-}
-
 /// The keys of both sets.
 fn join(
     recorded: &BTreeSet<Bytes>,
@@ -466,277 +405,59 @@ fn join(
     Ok(more)
 }
 
-/// Puts a row under its own key.
-fn put_one(rows: &mut BTreeMap<SequencedKey, RowEntry>, row: RowEntry) -> Result<Step, AllocError>
-    ensures put { OnOk result (rows.new.entries ≡ insert_row rows.old.entries row) }
-    ensures undo { IfOk result (λ step. undone rows.new.entries step ≡ rows.old.entries) }
-    ensures kept { OnOk result (IsRows rows.old.entries → IsRows rows.new.entries) }
-    ensures same { OnErr result (IsUnchanged rows.old rows.new) }
+/// The greatest sequence, or `last` where it is greater.
+fn greatest(rows: &[RowEntry], mut last: u64) -> u64
+    ensures { result ≡ greatest_seq last rows.now }
 {
-    let (key, place) = match places(&row.key, row.seq, row.seq) {
-        Ok(places) => places,
-        Err(error) => {
-            drop(row);
-            return Err(error);
-        }
-    };
-    let before = rows.insert(place, row)?;
-    Ok(Step { key, before })
-}
-
-/// The key with each of two sequences.
-fn places(key: &Bytes, first: u64, second: u64) -> Result<(SequencedKey, SequencedKey), AllocError>
-    ensures first { IfOk result (λ places. places.0 ≡ record { user_key = key.now; seq = first }) }
-    ensures second { IfOk result (λ places. places.1 ≡ record { user_key = key.now; seq = second }) }
-{
-    let copy = key.clone()?;
-    match key.clone() {
-        Ok(key) => Ok((
-            SequencedKey::new(key, first),
-            SequencedKey::new(copy, second),
-        )),
-        Err(error) => {
-            drop(copy);
-            Err(error)
-        }
-    }
-}
-
-/// Takes back what one put did.
-fn undo(rows: &mut BTreeMap<SequencedKey, RowEntry>, step: Step)
-    ensures { rows.new.entries ≡ undone rows.old.entries step }
-{
-    let Step { key, before } = step;
-    match before {
-        None => drop(rows.remove(&key)),
-        Some(row) => write_back(rows, &key, row),
-    }
-}
-
-/// Writes a row over the one under the key.
-fn write_back(rows: &mut BTreeMap<SequencedKey, RowEntry>, key: &SequencedKey, row: RowEntry)
-    ensures { rows.new.entries ≡ set_value (is_at (sequenced_cmp key.now)) rows.old.entries row }
-{
-    match rows.get_mut(key) {
-        Some(place) => drop(mem::replace(place, row)),
-        None => drop(row),
-    }
-}
-
-/// Takes back what puts did, the last first.
-#[tactic(auto, using(crate::proofs::TableLaws::undone_last))]
-fn undo_all(rows: &mut BTreeMap<SequencedKey, RowEntry>, mut steps: Vec<Step>)
-    ensures { rows.new.entries ≡ all_undone rows.old.entries steps.items }
-{
-    while let Some(step) = steps.pop() {
-        undo(rows, step);
-    }
-}
-
-/// Puts all rows, or none.
-fn put_each(
-    alloc: Global,
-    table: &mut BTreeMap<SequencedKey, RowEntry>,
-    mut rows: Vec<RowEntry>,
-) -> Result<(), AllocError>
-    ensures put { OnOk result (table.new.entries ≡ insert_rows table.old.entries rows.items) }
-    ensures kept { OnOk result (IsRows table.old.entries → IsRows table.new.entries) }
-    ensures same { OnErr result (IsUnchanged table.old table.new) }
-{
-    if rows.len() > 1 {
-        return put_many(alloc, table, rows);
-    }
-    let row = rows.pop();
-    drop(rows);
-    match row {
-        Some(row) => put_alone(table, row),
-        None => Ok(()),
-    }
-}
-
-/// Puts a row under its own key. Nothing is kept to take it back by.
-fn put_alone(rows: &mut BTreeMap<SequencedKey, RowEntry>, row: RowEntry) -> Result<(), AllocError>
-    ensures put { OnOk result (rows.new.entries ≡ insert_row rows.old.entries row) }
-    ensures kept { OnOk result (IsRows rows.old.entries → IsRows rows.new.entries) }
-    ensures same { OnErr result (IsUnchanged rows.old rows.new) }
-{
-    let key = match row.key.clone() {
-        Ok(key) => key,
-        Err(error) => {
-            drop(row);
-            return Err(error);
-        }
-    };
-    let before = rows.insert(SequencedKey::new(key, row.seq), row)?;
-    drop(before);
-    Ok(())
-}
-
-/// Puts all rows, or none: those that were put are taken back where memory is wanting.
-#[tactic(auto, using(crate::proofs::TableLaws::undone_last))]
-fn put_many(
-    alloc: Global,
-    table: &mut BTreeMap<SequencedKey, RowEntry>,
-    rows: Vec<RowEntry>,
-) -> Result<(), AllocError>
-    ensures put { OnOk result (table.new.entries ≡ insert_rows table.old.entries rows.items) }
-    ensures kept { OnOk result (IsRows table.old.entries → IsRows table.new.entries) }
-    ensures same { OnErr result (IsUnchanged table.old table.new) }
-{
-    let mut steps = Vec::with_capacity(alloc, rows.len())?;
     for row in rows {
-        match put_one(table, row) {
-            Ok(step) => steps.push_reserved(step),
-            Err(error) => {
-                undo_all(table, steps);
-                return Err(error);
-            }
-        }
+        last = last.max(row.seq);
     }
-    Ok(())
-}
-
-/// Copies of the rows whose keys are in the range.
-fn rows_in(
-    alloc: Global,
-    rows: &BTreeMap<SequencedKey, RowEntry>,
-    range: &BytesRange,
-) -> Result<Vec<RowEntry>, SlateDBError>
-    requires { IsRows rows.now.entries }
-    ensures rows { IfOk result (λ found. found.items ≡ ranged range.now (values_of rows.now.entries)) }
-    ensures cause { IsOkUnless result SlateDBError.OutOfMemory }
-{
-    if range.leaves_none() {
-        return Ok(Vec::new(alloc));
-    }
-    let KVTableInternalKeyRange { start, end } = KVTableInternalKeyRange::from_range(range)?;
-    rows_between(alloc, rows, start, end, false)
-}
-
-/// Copies of the rows between two bounds, and of no more than those to the first that is no merge where that is asked for.
-fn rows_between(
-    alloc: Global,
-    rows: &BTreeMap<SequencedKey, RowEntry>,
-    start: Bound<SequencedKey>,
-    end: Bound<SequencedKey>,
-    is_to_base: bool,
-) -> Result<Vec<RowEntry>, SlateDBError>
-    requires { IsForward (IsLeBy sequenced_cmp) (IsLtBy sequenced_cmp) start end }
-    ensures rows { IfOk result (λ found. found.items ≡ taken is_to_base (values_of (entries_between sequenced_cmp start end rows.now.entries))) }
-    ensures cause { IsOkUnless result SlateDBError.OutOfMemory }
-{
-    let room = if is_to_base {
-        0
-    } else {
-        rows.range((start.as_ref(), end.as_ref())).count()
-    };
-    let entries = rows.range((start, end));
-    Ok(copies(alloc, room, entries, is_to_base)?)
-}
-
-/// Copies of the rows of entries, and of no more than those to the first that is no merge where that is asked for, in a
-/// list with room for so many.
-fn copies(
-    alloc: Global,
-    room: usize,
-    entries: Range<'_, SequencedKey, RowEntry>,
-    is_to_base: bool,
-) -> Result<Vec<RowEntry>, AllocError>
-    ensures rows { IfOk result (λ found. found.items ≡ taken is_to_base (values_of entries.entry)) }
-{
-    let mut found = Vec::with_capacity(alloc, room)?;
-    for (_, row) in entries {
-        found.push(row.clone()?)?;
-        if is_to_base && !is_merge(row) {
-            return Ok(found);
-        }
-    }
-    Ok(found)
-}
-
-/// Copies of the first rows of entries: some, where there are any.
-fn first_rows(
-    alloc: Global,
-    entries: Range<'_, SequencedKey, RowEntry>,
-) -> Result<Vec<RowEntry>, AllocError>
-    ensures { IfOk result (λ page. (more : List RowEntry) × (values_of entries.entry ≡ page.items ++ more) × (page.items ≡ [] → more ≡ [])) }
-{
-    let mut page = Vec::with_capacity(alloc, PAGE_ROWS)?;
-    for (_, row) in entries {
-        page.push(row.clone()?)?;
-        if page.len() == PAGE_ROWS {
-            return Ok(page);
-        }
-    }
-    Ok(page)
-}
-
-/// The rows with sequences of at most `seq` whose keys are in the range, under their own keys.
-fn rows_upto(
-    alloc: Global,
-    rows: &BTreeMap<SequencedKey, RowEntry>,
-    range: &BytesRange,
-    seq: u64,
-) -> Result<BTreeMap<SequencedKey, RowEntry>, SlateDBError>
-    requires { IsRows rows.now.entries }
-    ensures rows { IfOk result (λ found. values_of found.entries ≡ filter (λ r. nat_le r.seq seq) (ranged range.now (values_of rows.now.entries))) }
-    ensures whole { IfOk result (λ found. IsRows found.entries) }
-    ensures cause { IsOkUnless result SlateDBError.OutOfMemory }
-{
-    let mut found = BTreeMap::new(alloc);
-    if range.leaves_none() {
-        return Ok(found);
-    }
-    let KVTableInternalKeyRange { start, end } = KVTableInternalKeyRange::from_range(range)?;
-    put_upto(&mut found, rows.range((start, end)), seq)?;
-    Ok(found)
-}
-
-/// Puts copies of the rows of entries with sequences of at most `seq`.
-fn put_upto(
-    rows: &mut BTreeMap<SequencedKey, RowEntry>,
-    entries: Range<'_, SequencedKey, RowEntry>,
-    seq: u64,
-) -> Result<(), AllocError>
-    ensures put { OnOk result (rows.new.entries ≡ insert_rows rows.old.entries (filter (λ r. nat_le r.seq seq) (values_of entries.entry))) }
-    ensures kept { OnOk result (IsRows rows.old.entries → IsRows rows.new.entries) }
-{
-    for (_, row) in entries {
-        put_low(rows, row, seq)?;
-    }
-    Ok(())
-}
-
-/// Puts a copy of the row where its sequence is at most `seq`.
-fn put_low(
-    rows: &mut BTreeMap<SequencedKey, RowEntry>,
-    row: &RowEntry,
-    seq: u64,
-) -> Result<(), AllocError>
-    ensures put { OnOk result (rows.new.entries ≡ insert_rows rows.old.entries (filter (λ r. nat_le r.seq seq) (row.now ∷ []))) }
-    ensures kept { OnOk result (IsRows rows.old.entries → IsRows rows.new.entries) }
-{
-    if row.seq > seq {
-        return Ok(());
-    }
-    put_alone(rows, row.clone()?)
+    last
 }
 
 /// Copies of the rows with greater sequences.
-fn rows_after(
-    alloc: Global,
-    rows: &BTreeMap<SequencedKey, RowEntry>,
-    seq: u64,
-) -> Result<Vec<RowEntry>, AllocError>
-    ensures rows { IfOk result (λ found. found.items ≡ after_seq seq (values_of rows.now.entries)) }
+fn rows_after(alloc: Global, slots: &[Slot], seq: u64) -> Result<Vec<RowEntry>, AllocError>
+    ensures rows { IfOk result (λ found. found.items ≡ after_seq seq (standing slots.now)) }
 {
-    let mut found = Vec::new(alloc);
-    for row in rows.values() {
-        if row.seq > seq {
-            found.push(row.clone()?)?;
-        }
-    }
+    let mut found = copies(alloc, slots)?;
+    found.retain(
+        move |row| -> bool
+            ensures { result ≡ nat_lt seq row.now.seq }
+        { row.seq > seq },
+    );
     Ok(found)
+}
+
+/// An iterator over the rows of slots. Downwards it copies them.
+fn walk(
+    alloc: Global,
+    slots: Vec<Slot>,
+    order: IterationOrder,
+) -> Result<MemTableIterator, SlateDBError>
+    requires { IsSlots slots.items }
+    ensures rows { IfOk result (λ it. (k : List ℕ) → of_key k it.rows ≡ of_key k (standing slots.items)) }
+    ensures in_order { IfOk result (λ it. IsInOrder order it.rows) }
+    ensures order { IfOk result (λ it. it.order ≡ order) }
+    ensures cause { IsOkUnless result SlateDBError.OutOfMemory }
+{
+    match order {
+        IterationOrder::Ascending => Ok(MemTableIterator::of_slots(alloc, slots)),
+        IterationOrder::Descending => walk_down(alloc, slots),
+    }
+}
+
+/// An iterator over copies of the rows of slots, keys downwards.
+fn walk_down(alloc: Global, slots: Vec<Slot>) -> Result<MemTableIterator, SlateDBError>
+    requires { IsSlots slots.items }
+    ensures rows { IfOk result (λ it. (k : List ℕ) → of_key k it.rows ≡ of_key k (standing slots.items)) }
+    ensures in_order { IfOk result (λ it. IsInOrder IterationOrder.Descending it.rows) }
+    ensures order { IfOk result (λ it. it.order ≡ IterationOrder.Descending) }
+    ensures cause { IsOkUnless result SlateDBError.OutOfMemory }
+{
+    let rows = copies(alloc, &slots)?;
+    drop(slots);
+    let rows = ordered(rows, IterationOrder::Descending)?;
+    Ok(MemTableIterator::of_rows(alloc, rows, IterationOrder::Descending))
 }
 
 /// Rows whose keys ascend, in the order.
@@ -768,19 +489,6 @@ fn fall(rows: &mut Vec<RowEntry>) -> Result<(), AllocError>
         { b.key.cmp(&a.key) },
     )?;
     Ok(())
-}
-
-/// Drops the rows of a sequence.
-fn drop_rows(rows: &mut BTreeMap<SequencedKey, RowEntry>, seq: u64)
-    ensures rows { rows.new.entries ≡ filter (λ e. not (e.1.seq == seq)) rows.old.entries }
-    ensures rising { map.IsOrdered sequenced_cmp rows.new }
-{
-    rows.retain(
-        move |_key, row| -> bool
-            ensures same { row.new ≡ row.old }
-            ensures test { result ≡ not (row.old.seq == seq) }
-        { row.seq != seq },
-    );
 }
 
 /// Drops the prefixes of the other set.

@@ -1,13 +1,13 @@
 //! What is counted of a table's rows.
-ghost use Rattle.std.specs.Prelude.{◌≡◌, ◌-◌, ◌^◌, min, length};
+ghost use Rattle.std.specs.Prelude.{◌≡◌, ◌≤◌, ◌+◌, ◌-◌, ◌^◌, Some, max, min, length};
 ghost use Rattle.std.specs.List.{sum_by};
-ghost use Rattle.std.specs.Map.{values_of};
 ghost use Rattle.slate_types.specs.Rows as row_words;
-ghost use Rattle.slate_types.specs.Fold.{greatest_seq};
+ghost use Rattle.slate_types.specs.Fold.{greatest_seq, latest_creation};
+ghost use Rattle.slate_mem.specs.Slots.{rows_in, standing};
 ghost use Rattle.slate_mem.specs.Table as table;
 
-use slate_types::{RowEntry, SequencedKey};
-use std::collections::BTreeMap;
+use crate::slots::Slot;
+use slate_types::RowEntry;
 
 /// The number of rows, the bytes that they are estimated at, their greatest creation in milliseconds, and their
 /// last and first sequence.
@@ -20,31 +20,73 @@ pub struct KVTableMetadata {
     pub first_seq: u64,
 }
 
-/// What is counted of the rows of a map.
-pub(crate) fn count_rows(rows: &BTreeMap<SequencedKey, RowEntry>) -> KVTableMetadata
-    ensures entries { result.entry_num ≡ length (values_of rows.now.entries) }
-    ensures bytes { result.entries_size_in_bytes ≡ min (sum_by row_words.estimated_size (values_of rows.now.entries)) (2 ^ 64 - 1) }
-    ensures tick { result.last_tick ≡ table.last_tick (values_of rows.now.entries) }
-    ensures last { result.last_seq ≡ greatest_seq 0 (values_of rows.now.entries) }
-    ensures first { result.first_seq ≡ table.first_seq (values_of rows.now.entries) }
+/// What is counted of the rows of slots.
+pub(crate) fn count_rows(slots: &[Slot]) -> KVTableMetadata
+    ensures entries { result.entry_num ≡ min (length (standing slots.now)) (2 ^ 64 - 1) }
+    ensures bytes { result.entries_size_in_bytes ≡ min (sum_by row_words.estimated_size (standing slots.now)) (2 ^ 64 - 1) }
+    ensures tick { result.last_tick ≡ table.last_tick (standing slots.now) }
+    ensures last { result.last_seq ≡ greatest_seq 0 (standing slots.now) }
+    ensures first { result.first_seq ≡ table.first_seq (standing slots.now) }
 {
-    let mut bytes = 0u64;
-    let mut tick = None;
-    let mut last = 0;
-    let mut first = None;
-    for row in rows.values() {
-        bytes = bytes.saturating_add(row.estimated_size());
-        tick = later(tick, row.create_ts);
-        last = last.max(row.seq);
-        first = Some(lesser(first, row.seq));
+    let mut count = Count {
+        rows: 0,
+        bytes: 0,
+        tick: None,
+        last: 0,
+        first: None,
+    };
+    for slot in slots {
+        count_in_slot(&mut count, slot);
     }
     KVTableMetadata {
-        entry_num: rows.len(),
-        entries_size_in_bytes: bytes,
-        last_tick: tick.unwrap_or(i64::MIN),
-        last_seq: last,
-        first_seq: first.unwrap_or(0),
+        entry_num: count.rows,
+        entries_size_in_bytes: count.bytes,
+        last_tick: count.tick.unwrap_or(i64::MIN),
+        last_seq: count.last,
+        first_seq: count.first.unwrap_or(0),
     }
+}
+
+#[derive(Clone, Copy)]
+struct Count {
+    rows: usize,
+    bytes: u64,
+    tick: Option<i64>,
+    last: u64,
+    first: Option<u64>,
+}
+
+fn count_in_slot(count: &mut Count, slot: &Slot)
+    requires rows { count.old.rows ≤ 2 ^ 64 - 1 }
+    requires bytes { count.old.bytes ≤ 2 ^ 64 - 1 }
+    ensures rows { count.new.rows ≡ min (count.old.rows + length (rows_in slot.now)) (2 ^ 64 - 1) }
+    ensures bytes { count.new.bytes ≡ min (count.old.bytes + sum_by row_words.estimated_size (rows_in slot.now)) (2 ^ 64 - 1) }
+    ensures tick { count.new.tick ≡ latest_creation count.old.tick (rows_in slot.now) }
+    ensures last { count.new.last ≡ greatest_seq count.old.last (rows_in slot.now) }
+    ensures first { count.new.first ≡ table.least_seq count.old.first (rows_in slot.now) }
+{
+    let end = slot.stored().len();
+    let mut at = 0;
+    while at < end {
+        if let Some(row) = slot.row_at(at) {
+            count_row(count, row);
+        }
+        at += 1;
+    }
+}
+
+fn count_row(count: &mut Count, row: &RowEntry)
+    ensures rows { count.new.rows ≡ min (count.old.rows + 1) (2 ^ 64 - 1) }
+    ensures bytes { count.new.bytes ≡ min (count.old.bytes + row_words.estimated_size row.now) (2 ^ 64 - 1) }
+    ensures tick { count.new.tick ≡ row_words.latest count.old.tick row.now.create_ts }
+    ensures last { count.new.last ≡ max count.old.last row.now.seq }
+    ensures first { count.new.first ≡ Some (table.lesser count.old.first row.now.seq) }
+{
+    count.rows = count.rows.saturating_add(1);
+    count.bytes = count.bytes.saturating_add(row.estimated_size());
+    count.tick = later(count.tick, row.create_ts);
+    count.last = count.last.max(row.seq);
+    count.first = Some(lesser(count.first, row.seq));
 }
 
 /// The later of two stamps, of which either may be absent.

@@ -31,3 +31,5 @@ pub mod Operables
 pub mod FoldedKeys
 pub mod FoldedTurns
 pub mod Operators
+pub mod Waitings
+pub mod OperatorCounts

@@ -35,6 +35,8 @@ impl<E: Outside> RowEntryIterator<E> for EmptyIterator {
 
     ghost stays = { λ _ _ _ _ _ _. ⊥ };
 
+    ghost unbegun = { λ _. ⊥ };
+
     ghost rising = { λ _ _ _. tt };
 
     ghost more = { λ _ _ _ _ _ _ h. h };

@@ -2,7 +2,7 @@
 ghost use Rattle.std.specs.Prelude.{◌≡◌, ◌⊎◌, ◌<◌, ◌∷◌, ◌++◌, [], length, map, reverse, IfOk, IfErr, None, OnOk, Some};
 ghost use Rattle.slate_types.specs.declared.error.SlateDBError.{SlateDBError};
 ghost use Rattle.slate_types.specs.Fold.{earliest_expiry, fold_rows, greatest_seq, latest_creation, operator_at, value_of_taken};
-ghost use Rattle.slate_types.specs.Outside.{IsFault, OnlyReads};
+ghost use Rattle.slate_types.specs.Outside.{IsFault, IsStill, OnlyReads};
 ghost use Rattle.slate_types.specs.Rows.{earliest, latest, operand};
 ghost use Rattle.slate_types.specs.World.{IsCall};
 ghost use Rattle.slate_merge.specs.Folding.{AreOperands};
@@ -113,6 +113,7 @@ fn fold_value<E: Operates>(
     ensures cause { IfErr result (λ e. IsFault (E.reach env.old) (E.reach env.new) e ⊎ ((e ≡ SlateDBError.MergeOperatorMissing) × ((E.reach env.old).meaning.combine ≡ None))) }
     ensures call { IsCall (E.reach env.old) (E.reach env.new) [] }
     ensures reads { OnlyReads (E.reach env.old) (E.reach env.new) }
+    ensures counts { IsStill (E.reach env.old).faults (E.reach env.new).faults result }
 {
     let mut operands = Vec::new(alloc);
     match oldest {
@@ -143,6 +144,7 @@ pub fn fold_group<E: Operates>(
     ensures cause { IfErr result (λ e. IsFault (E.reach env.old) (E.reach env.new) e ⊎ ((e ≡ SlateDBError.MergeOperatorMissing) × ((E.reach env.old).meaning.combine ≡ None))) }
     ensures call { IsCall (E.reach env.old) (E.reach env.new) [] }
     ensures reads { OnlyReads (E.reach env.old) (E.reach env.new) }
+    ensures counts { IsStill (E.reach env.old).faults (E.reach env.new).faults result }
 {
     let Group { mut newer, oldest } = group;
     if newer.is_empty() {

@@ -2,7 +2,7 @@
 ghost use Rattle.std.specs.Prelude.{◌≡◌, ◌<◌, ◌≤◌, ◌+◌, ◌∷◌, [], true, false, Option, Some, None, IfOk, IfErr, IsSome, OnOk};
 ghost use Rattle.slate_types.specs.declared.error.SlateDBError.{SlateDBError};
 ghost use Rattle.slate_types.specs.Equality as equality;
-ghost use Rattle.slate_types.specs.Outside.{OnlyReads};
+ghost use Rattle.slate_types.specs.Outside.{IsStill, OnlyReads};
 ghost use Rattle.slate_types.specs.Refusing.{NoMore};
 ghost use Rattle.slate_types.specs.Steps.{Step};
 ghost use Rattle.slate_types.specs.World.{World, Made, Sees};
@@ -50,6 +50,7 @@ fn take_ahead<E: Outside, I: RowEntryIterator<E>>(
     ensures no_larger { OnOk result (I.bound iterator.new ≤ ahead_bound ahead.old + I.bound iterator.old) }
     ensures order { I.order iterator.new ≡ I.order iterator.old }
     ensures reads { OnlyReads (E.reach env.old) (E.reach env.new) }
+    ensures counts { IsStill (E.reach env.old).faults (E.reach env.new).faults result }
 {
     if let Some(row) = ahead.take() {
         return Ok(Some(row));
@@ -106,6 +107,7 @@ impl Folding {
         ensures no_larger { OnOk result (ahead_bound ahead.new + I.bound iterator.new ≤ I.bound iterator.old) }
         ensures order { I.order iterator.new ≡ I.order iterator.old }
         ensures reads { OnlyReads (E.reach env.old) (E.reach env.new) }
+        ensures counts { IsStill (E.reach env.old).faults (E.reach env.new).faults result }
     {
         let mut newer = Vec::new(alloc);
         let mut oldest = first;
@@ -154,6 +156,7 @@ impl Folding {
         ensures no_larger { OnOk result (ahead_bound ahead.new + I.bound iterator.new ≤ ahead_bound ahead.old + I.bound iterator.old) }
         ensures order { I.order iterator.new ≡ I.order iterator.old }
         ensures reads { OnlyReads (E.reach env.old) (E.reach env.new) }
+        ensures counts { IsStill (E.reach env.old).faults (E.reach env.new).faults result }
     {
         let first = match take_ahead(alloc, iterator, ahead, env) {
             Ok(Some(first)) => first,

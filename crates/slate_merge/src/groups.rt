@@ -2,7 +2,7 @@
 ghost use Rattle.std.specs.Prelude.{◌≡◌, ◌<◌, ◌≤◌, ◌+◌, ◌++◌, ◌∷◌, List, [], length, vec_len, vec_capacity, true, false, Option, Some, None, IfOk, IfErr, IsSome, OnOk};
 ghost use Rattle.slate_types.specs.declared.iter.IterationOrder.{IterationOrder};
 ghost use Rattle.slate_types.specs.Iteration.{drop_before};
-ghost use Rattle.slate_types.specs.Outside.{OnlyReads};
+ghost use Rattle.slate_types.specs.Outside.{IsStill, OnlyReads};
 ghost use Rattle.slate_types.specs.Steps.{Step};
 ghost use Rattle.slate_types.specs.World.{World, Sees};
 ghost use Rattle.slate_merge.specs.Answering.{AnswersBy, IsFaultOr};
@@ -73,6 +73,7 @@ impl Groups {
         ensures came { OnOk result (AnswersBy (λ x m reads y. HandsHeld I.takes x m reads None y) (refuses_held I.refuses) (E.reach env.old) (E.reach env.new) (iterator.old, held_of self.old) (iterator.new, held_of self.new)) }
         ensures order { I.order iterator.new ≡ I.order iterator.old }
         ensures reads { OnlyReads (E.reach env.old) (E.reach env.new) }
+        ensures counts { IsStill (E.reach env.old).faults (E.reach env.new).faults result }
     {
         self.ready.reserve(1)?;
         loop {
@@ -107,6 +108,7 @@ impl Groups {
         ensures hands { IfOk result (λ answer. AnswersBy (λ x m reads y. HandsHeld I.takes x m reads answer y) (refuses_held I.refuses) (E.reach env.old) (E.reach env.new) (iterator.old, held_of self.old) (iterator.new, held_of self.new)) }
         ensures order { I.order iterator.new ≡ I.order iterator.old }
         ensures reads { OnlyReads (E.reach env.old) (E.reach env.new) }
+        ensures counts { IsStill (E.reach env.old).faults (E.reach env.new).faults result }
     {
         match iterator.iteration_order() {
             IterationOrder::Ascending => return iterator.next(alloc, env),
@@ -133,6 +135,7 @@ impl Groups {
         ensures held { OnOk result (AnswersBy (λ x m reads y. SeeksHeld I.seeks x m reads key.now y) (refuses_held I.refuses) (E.reach env.old) (E.reach env.new) (iterator.old, held_of self.old) (iterator.new, held_of self.new)) }
         ensures order { I.order iterator.new ≡ I.order iterator.old }
         ensures reads { OnlyReads (E.reach env.old) (E.reach env.new) }
+        ensures counts { IsStill (E.reach env.old).faults (E.reach env.new).faults result }
     {
         match iterator.iteration_order() {
             IterationOrder::Ascending => return iterator.seek(alloc, key, env),

@@ -51,6 +51,8 @@ impl<E: Outside, I: RowEntryIterator<E>> RowEntryIterator<E> for BoxedSource<I> 
 
     ghost stays = { I.stays };
 
+    ghost unbegun = { I.unbegun };
+
     ghost rising = { I.rising };
 
     ghost more = { I.more };

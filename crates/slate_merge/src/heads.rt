@@ -4,7 +4,7 @@ ghost use Rattle.std.specs.BinaryHeap.{heap_items, KeepsHeap};
 ghost use Rattle.slate_types.specs.declared.iter.IterationOrder.{IterationOrder};
 ghost use Rattle.slate_types.specs.declared.types.RowEntry.{RowEntry};
 ghost use Rattle.slate_types.specs.Iteration.{begins_before, drop_before};
-ghost use Rattle.slate_types.specs.Outside.{OnlyReads};
+ghost use Rattle.slate_types.specs.Outside.{IsStill, OnlyReads};
 ghost use Rattle.slate_types.specs.Rows.{is_base};
 ghost use Rattle.slate_types.specs.World.{World, Sees};
 ghost use Rattle.slate_merge.specs.Heads.{head_cmp};
@@ -36,6 +36,7 @@ pub fn put_back<E: Outside, I: RowEntryIterator<E>>(
     ensures heap { KeepsHeap head_cmp (heap_items heads.old) (heap_items heads.new) }
     ensures cause { IfErr result (λ e. IsFaultOr I.refuses (E.reach env.old) (E.reach env.new) source None e) }
     ensures reads { OnlyReads (E.reach env.old) (E.reach env.new) }
+    ensures counts { IsStill (E.reach env.old).faults (E.reach env.new).faults result }
 {
     match source.next(alloc, env) {
         Ok(Some(row)) => {
@@ -65,6 +66,7 @@ pub fn take_first<E: Outside, I: RowEntryIterator<E>>(
     ensures no_larger { OnOk result (merging_bound I.bound [] (heap_items heads.new) ≤ merging_bound I.bound [] (heap_items heads.old)) }
     ensures cause { IfErr result (λ e. IsFaultOr (blames I.refuses) (E.reach env.old) (E.reach env.new) (begun_sources (heap_items heads.old)) None e) }
     ensures reads { OnlyReads (E.reach env.old) (E.reach env.new) }
+    ensures counts { IsStill (E.reach env.old).faults (E.reach env.new).faults result }
 {
     let Some(head) = heads.pop() else {
         return Ok(None);
@@ -136,6 +138,7 @@ pub fn drop_older<E: Outside, I: RowEntryIterator<E>>(
     ensures no_larger { OnOk result (merging_bound I.bound [] (heap_items heads.new) ≤ merging_bound I.bound [] (heap_items heads.old)) }
     ensures cause { IfErr result (λ e. IsFaultOr (blames I.refuses) (E.reach env.old) (E.reach env.new) (begun_sources (heap_items heads.old)) None e) }
     ensures reads { OnlyReads (E.reach env.old) (E.reach env.new) }
+    ensures counts { IsStill (E.reach env.old).faults (E.reach env.new).faults result }
 {
     'older: while top_has_key(heads, key) {
         match take_first(alloc, heads, env) {
@@ -167,6 +170,7 @@ pub fn seek_first<E: Outside, I: RowEntryIterator<E>>(
     ensures no_larger { OnOk result (merging_bound I.bound [] (heap_items heads.new) ≤ merging_bound I.bound [] (heap_items heads.old)) }
     ensures cause { IfErr result (λ e. IsFaultOr (blames I.refuses) (E.reach env.old) (E.reach env.new) (begun_sources (heap_items heads.old)) (Some key.now) e) }
     ensures reads { OnlyReads (E.reach env.old) (E.reach env.new) }
+    ensures counts { IsStill (E.reach env.old).faults (E.reach env.new).faults result }
 {
     if !top_is_before(heads, key) {
         return Ok(false);
@@ -204,6 +208,7 @@ pub fn seek_heads<E: Outside, I: RowEntryIterator<E>>(
     ensures no_larger { OnOk result (merging_bound I.bound [] (heap_items heads.new) ≤ merging_bound I.bound [] (heap_items heads.old)) }
     ensures cause { IfErr result (λ e. IsFaultOr (blames I.refuses) (E.reach env.old) (E.reach env.new) (begun_sources (heap_items heads.old)) (Some key.now) e) }
     ensures reads { OnlyReads (E.reach env.old) (E.reach env.new) }
+    ensures counts { IsStill (E.reach env.old).faults (E.reach env.new).faults result }
 {
     'sources: loop {
         match seek_first(alloc, key, heads, env) {
@@ -232,6 +237,7 @@ pub fn begin_source<E: Outside, I: RowEntryIterator<E>>(
     ensures no_larger { (waiting : List I) → OnOk result (merging_bound I.bound waiting (heap_items heads.new) ≤ merging_bound I.bound (source ∷ waiting) (heap_items heads.old)) }
     ensures cause { IfErr result (λ e. IsFaultOr I.refuses (E.reach env.old) (E.reach env.new) source None e) }
     ensures reads { OnlyReads (E.reach env.old) (E.reach env.new) }
+    ensures counts { IsStill (E.reach env.old).faults (E.reach env.new).faults result }
 {
     match source.init(alloc, env) {
         Ok(()) => match BoxedSource::new(alloc, source) {
@@ -259,6 +265,7 @@ pub fn begin_all<E: Outside, I: RowEntryIterator<E>>(
     ensures no_larger { IfOk result (λ heads. merging_bound I.bound [] (heap_items heads) ≤ merging_bound I.bound waiting.old.items []) }
     ensures cause { IfErr result (λ e. IsFaultOr (blames I.refuses) (E.reach env.old) (E.reach env.new) (waiting_sources waiting.old.items) None e) }
     ensures reads { OnlyReads (E.reach env.old) (E.reach env.new) }
+    ensures counts { IsStill (E.reach env.old).faults (E.reach env.new).faults result }
 {
     let mut heads = BinaryHeap::new(alloc);
     'sources: while let Some(source) = waiting.pop_front() {
@@ -282,6 +289,7 @@ fn begin_head<E: Outside, I: RowEntryIterator<E>>(
     ensures heap { KeepsHeap head_cmp (heap_items done.old) (heap_items done.new) }
     ensures cause { IfErr result (λ e. IsFaultOr I.refuses (E.reach env.old) (E.reach env.new) head.source None e) }
     ensures reads { OnlyReads (E.reach env.old) (E.reach env.new) }
+    ensures counts { IsStill (E.reach env.old).faults (E.reach env.new).faults result }
 {
     let Head {
         row,
@@ -320,6 +328,7 @@ pub fn begin_again<E: Outside, I: RowEntryIterator<E>>(
     ensures no_larger { IfOk result (λ done. merging_bound I.bound [] (heap_items done) ≤ merging_bound I.bound [] (heap_items heads.old)) }
     ensures cause { IfErr result (λ e. IsFaultOr (blames I.refuses) (E.reach env.old) (E.reach env.new) (begun_sources (heap_items heads.old)) None e) }
     ensures reads { OnlyReads (E.reach env.old) (E.reach env.new) }
+    ensures counts { IsStill (E.reach env.old).faults (E.reach env.new).faults result }
 {
     let mut done = BinaryHeap::new(alloc);
     'heads: while let Some(head) = heads.pop() {
@@ -349,6 +358,7 @@ pub fn take_row<E: Outside, I: RowEntryIterator<E>>(
     ensures no_larger { OnOk result (merging_bound I.bound [] (heap_items heads.new) ≤ merging_bound I.bound [] (heap_items heads.old)) }
     ensures cause { IfErr result (λ e. IsFaultOr (blames I.refuses) (E.reach env.old) (E.reach env.new) (begun_sources (heap_items heads.old)) None e) }
     ensures reads { OnlyReads (E.reach env.old) (E.reach env.new) }
+    ensures counts { IsStill (E.reach env.old).faults (E.reach env.new).faults result }
 {
     match take_first(alloc, heads, env) {
         Ok(Some(row)) => {

@@ -4,7 +4,7 @@ ghost use Rattle.std.specs.BinaryHeap.{heap_items};
 ghost use Rattle.slate_types.specs.declared.error.SlateDBError.{SlateDBError};
 ghost use Rattle.slate_types.specs.declared.iter.IterationOrder.{IterationOrder};
 ghost use Rattle.slate_types.specs.Iteration.{TakesRow};
-ghost use Rattle.slate_types.specs.Outside.{OnlyReads};
+ghost use Rattle.slate_types.specs.Outside.{IsStill, OnlyReads};
 ghost use Rattle.slate_types.specs.World.{World, Checks, Sees};
 ghost use Rattle.slate_types.proofs.Moves.{Moves};
 ghost use Rattle.slate_merge.specs.Answering.{AnswersBy, FailsBy, IsFaultOr};
@@ -96,6 +96,7 @@ impl<I: Drop> MergeIterator<I> {
         ensures no_larger { bound_in I.bound self.new.state ≤ bound_in I.bound self.old.state }
         ensures order { self.new.order ≡ self.old.order }
         ensures reads { OnlyReads (E.reach env.old) (E.reach env.new) }
+        ensures counts { IsStill (E.reach env.old).faults (E.reach env.new).faults result }
     {
         let answer = match &mut self.state {
             MergeState::New(_) => return Err(SlateDBError::IteratorNotInitialized),
@@ -146,6 +147,7 @@ fn begin_heads<E: Outside, I: RowEntryIterator<E>>(
     ensures no_larger { IfOk result (λ heads. bound_in I.bound (MergeState.Begun heads) ≤ bound_in I.bound state.old) }
     ensures cause { IfErr result (λ e. IsFaultOr (refuses_in I.refuses) (E.reach env.old) (E.reach env.new) state.old None e) }
     ensures reads { OnlyReads (E.reach env.old) (E.reach env.new) }
+    ensures counts { IsStill (E.reach env.old).faults (E.reach env.new).faults result }
 {
     match state {
         MergeState::New(sources) => begin_all(alloc, sources, order, env),
@@ -172,6 +174,8 @@ impl<E: Outside, I: RowEntryIterator<E>> RowEntryIterator<E> for MergeIterator<I
     ghost seeks = { λ before m reads key after. MergeSeeks I.begins I.takes I.seeks before m reads key after };
 
     ghost stays = { λ before m reads at e after. stays_of_merge before m reads at e after };
+
+    ghost unbegun = { λ it. IsWaiting it.state };
 
     ghost rising = { λ it w _. rest_rises I.rest it.order it.dedup it.state w };
 

@@ -1,7 +1,7 @@
 //! The newest row of each key first, in both orders.
 ghost use Rattle.std.specs.Prelude.{◌≡◌, ◌⊎◌, false};
 ghost use Rattle.slate_types.specs.declared.error.SlateDBError.{SlateDBError};
-ghost use Rattle.slate_merge.specs.NewestFirst.{Begins, IsKept, Stays, begins_newest, bound_newest, is_below, refuses_newest, rest_newest, seeks_newest, sound_newest, takes_newest};
+ghost use Rattle.slate_merge.specs.NewestFirst.{Begins, IsKept, IsNew, Stays, begins_newest, bound_newest, is_below, refuses_newest, rest_newest, seeks_newest, sound_newest, takes_newest};
 ghost use Rattle.slate_merge.specs.NewestLaws.{newest_more, newest_order, newest_whole};
 
 use crate::groups::Groups;
@@ -20,8 +20,9 @@ use std::ops::Bound;
 ///
 /// What the source refuses while a key is gathered is answered at once, since nobody knows whether the key's newest row was among
 /// those that came: no row of a key is handed out before each of them has come. Each refusal is kept and answered again, or want
-/// of memory in its place, but for `IteratorNotInitialized`, exactly before `init`, and `SeekKeyOutOfKeyRange`, exactly for a seek
-/// to a key before the range, or want of memory for a copy of that key: these leave it as it is.
+/// of memory in its place, but for `IteratorNotInitialized`, only before `init`, where a seek answers nothing else, and
+/// `SeekKeyOutOfKeyRange`, exactly for a seek to a key before the range, or want of memory for a copy of that key: these leave it
+/// as it is.
 #[derive(Drop)]
 pub struct NewestFirst<I> {
     pub(crate) range: BytesRange,
@@ -112,6 +113,8 @@ impl<E: Outside, I: RowEntryIterator<E>> RowEntryIterator<E> for NewestFirst<I> 
     ghost seeks = { λ before m reads key after. seeks_newest I.seeks before m reads key after };
 
     ghost stays = { λ before _ _ at e after. Stays before at e after };
+
+    ghost unbegun = { λ it. IsNew it.progress };
 
     ghost rising = { λ it w h. newest_order I.rest I.sound I.order it.iterator it.progress w h };
 

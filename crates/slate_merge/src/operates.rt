@@ -2,7 +2,7 @@
 ghost use Rattle.std.specs.Prelude.{◌≡◌, ◌⊎◌, ◌<◌, [], length, is_some, None, Some, IfOk, IfErr, option_copied};
 ghost use Rattle.slate_types.specs.declared.error.SlateDBError.{SlateDBError};
 ghost use Rattle.slate_types.specs.Fold.{merge_all, operator_at};
-ghost use Rattle.slate_types.specs.Outside.{IsFault, OnlyReads};
+ghost use Rattle.slate_types.specs.Outside.{IsFault, IsStill, OnlyReads};
 ghost use Rattle.slate_types.specs.World.{IsCall};
 
 use bytes::Bytes;
@@ -29,7 +29,8 @@ pub trait Operates: Outside {
         ensures value { IfOk result (λ made. merge_all (operator_at (Self.reach self.old).meaning.combine key.now) (option_copied existing.entry) operands.now ≡ Some made) }
         ensures cause { IfErr result (λ e. IsFault (Self.reach self.old) (Self.reach self.new) e ⊎ ((e ≡ SlateDBError.MergeOperatorMissing) × ((Self.reach self.old).meaning.combine ≡ None))) }
         ensures call { IsCall (Self.reach self.old) (Self.reach self.new) [] }
-        ensures reads { OnlyReads (Self.reach self.old) (Self.reach self.new) };
+        ensures reads { OnlyReads (Self.reach self.old) (Self.reach self.new) }
+        ensures counts { IsStill (Self.reach self.old).faults (Self.reach self.new).faults result };
 }
 
 /// No operator.

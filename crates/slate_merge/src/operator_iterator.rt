@@ -1,8 +1,8 @@
 //! An iterator that folds operands onto what stands below them.
-ghost use Rattle.std.specs.Prelude.{◌≡◌, ◌<◌, ◌≤◌, None, Some, IfErr, IfOk, IsOk, IsSome, OnOk};
+ghost use Rattle.std.specs.Prelude.{◌≡◌, ◌<◌, ◌≤◌, false, None, Some, Err, IfErr, IfOk, IsOk, IsSome, OnOk};
 ghost use Rattle.slate_types.specs.declared.error.SlateDBError.{SlateDBError};
 ghost use Rattle.slate_types.specs.Iteration.{TakesRow, drop_before};
-ghost use Rattle.slate_types.specs.Outside.{OnlyReads};
+ghost use Rattle.slate_types.specs.Outside.{IsStill, OnlyReads};
 ghost use Rattle.slate_types.specs.Refusing.{IsReady, NoMore};
 ghost use Rattle.slate_types.specs.World.{World, Checks, Made, Sees};
 ghost use Rattle.slate_merge.specs.Answering.{AnswersBy, FailsBy};
@@ -90,12 +90,15 @@ impl<I: Drop> MergeOperatorIterator<I> {
         ensures rows { (w : World) → Sees w (E.reach env.old) (E.reach env.new) → sound_folding I.rest I.sound I.order self.old w → IfOk result (λ answer. TakesRow (rest_folding I.rest self.old w) answer (rest_folding I.rest self.new w)) }
         ensures still { (w : World) → Sees w (E.reach env.old) (E.reach env.new) → sound_folding I.rest I.sound I.order self.old w → sound_folding I.rest I.sound I.order self.new w }
         ensures checked { (w : World) → sound_folding I.rest I.sound I.order self.old w → OnOk result (Checks w (E.reach env.old) (E.reach env.new)) }
+        ensures unbegun { (self.old.begun ≡ false) × (self.old.refusal ≡ None) →
+            (result ≡ Err SlateDBError.IteratorNotInitialized) × (self.new ≡ self.old) × (env.new ≡ env.old) }
         ensures taken { IfOk result (λ answer. AnswersBy (λ x m reads y. Takes I.takes x m reads answer y) (refuses_folding I.refuses (offers I.begins I.takes I.seeks)) (E.reach env.old) (E.reach env.new) self.old self.new) }
         ensures cause { IfErr result (λ e. FailsBy (refuses_folding I.refuses (offers I.begins I.takes I.seeks)) (Stays I.refuses I.takes) (E.reach env.old) (E.reach env.new) self.old None e self.new) }
         ensures smaller { IfOk result (λ answer. IsSome answer → bound_folding I.bound self.new < bound_folding I.bound self.old) }
         ensures no_larger { bound_folding I.bound self.new ≤ bound_folding I.bound self.old }
         ensures order { I.order self.new.iterator ≡ I.order self.old.iterator }
         ensures reads { OnlyReads (E.reach env.old) (E.reach env.new) }
+        ensures counts { IsStill (E.reach env.old).faults (E.reach env.new).faults result }
         ensures own { (w : World) → Sees w (E.reach env.old) (E.reach env.new) → IsGoing self.old → sound_folding I.rest I.sound I.order self.old w → IsOperable I.rest self.old w →
             IfErr result (λ e. IsOwn I.refuses (E.reach env.old) (E.reach env.new) self.old.iterator e) }
         ensures falls { (w : World) → Sees w (E.reach env.old) (E.reach env.new) → sound_folding I.rest I.sound I.order self.old w → OnOk result (FallsAtFirst I.rest self.old w) }
@@ -148,6 +151,8 @@ impl<E: Operates, I: RowEntryIterator<E>> RowEntryIterator<E> for MergeOperatorI
 
     ghost stays = { λ before m reads at e after. Stays I.refuses I.takes before m reads at e after };
 
+    ghost unbegun = { λ it. (it.begun ≡ false) × (it.refusal ≡ None) };
+
     ghost rising = { λ it w h. folding_rises I.rest I.sound I.order it w h };
 
     ghost more = { λ it m done reads at e h. folding_more I.refuses I.more I.begins I.takes I.seeks it m done reads at e h };
@@ -169,6 +174,7 @@ impl<E: Operates, I: RowEntryIterator<E>> RowEntryIterator<E> for MergeOperatorI
         ensures no_larger { bound_folding I.bound self.new ≤ bound_folding I.bound self.old }
         ensures order { I.order self.new.iterator ≡ I.order self.old.iterator }
         ensures reads { OnlyReads (E.reach env.old) (E.reach env.new) }
+        ensures counts { IsStill (E.reach env.old).faults (E.reach env.new).faults result }
         ensures operable { (w : World) → Sees w (E.reach env.old) (E.reach env.new) → sound_folding I.rest I.sound I.order self.old w → IsOperable I.rest self.old w → OnOk result (IsOperable I.rest self.new w) }
         ensures sources { OnOk result (Made (E.reach env.old) (E.reach env.new) (λ reads. NoMore (I.refuses self.old.iterator (E.reach env.old).meaning) reads (I.refuses self.new.iterator (E.reach env.old).meaning))) }
     {
@@ -199,6 +205,7 @@ impl<E: Operates, I: RowEntryIterator<E>> RowEntryIterator<E> for MergeOperatorI
         ensures no_larger { bound_folding I.bound self.new ≤ bound_folding I.bound self.old }
         ensures order { I.order self.new.iterator ≡ I.order self.old.iterator }
         ensures reads { OnlyReads (E.reach env.old) (E.reach env.new) }
+        ensures counts { IsStill (E.reach env.old).faults (E.reach env.new).faults result }
         ensures operable { (w : World) → Sees w (E.reach env.old) (E.reach env.new) → sound_folding I.rest I.sound I.order self.old w → IsOperable I.rest self.old w → OnOk result (IsOperable I.rest self.new w) }
         ensures sources { OnOk result (Made (E.reach env.old) (E.reach env.new) (λ reads. NoMore (I.refuses self.old.iterator (E.reach env.old).meaning) reads (I.refuses self.new.iterator (E.reach env.old).meaning))) }
     {

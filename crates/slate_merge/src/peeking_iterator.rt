@@ -1,6 +1,6 @@
 //! An iterator whose next row can be looked at.
 ghost use Rattle.std.specs.Prelude.{◌≡◌, ◌⊎◌, ◌≤◌, [], None, IfOk, IfErr, IsOk, OnOk, option_copied};
-ghost use Rattle.slate_types.specs.Outside.{OnlyReads};
+ghost use Rattle.slate_types.specs.Outside.{IsStill, OnlyReads};
 ghost use Rattle.slate_types.specs.World.{World, Sees};
 ghost use Rattle.slate_types.proofs.Moves.{Moves};
 ghost use Rattle.slate_merge.specs.Answering.{IsFaultOr};
@@ -56,6 +56,7 @@ impl<I: Drop> PeekingIterator<I> {
         ensures cause { IfErr result (λ e. IsFaultOr (refuses_peeked I.refuses) (E.reach env.old) (E.reach env.new) self.old None e) }
         ensures no_larger { bound_peeked I.bound self.new ≤ bound_peeked I.bound self.old }
         ensures reads { OnlyReads (E.reach env.old) (E.reach env.new) }
+        ensures counts { IsStill (E.reach env.old).faults (E.reach env.new).faults result }
     {
         if self.ahead.is_some() {
             return Ok(());
@@ -95,6 +96,8 @@ impl<E: Outside, I: RowEntryIterator<E>> RowEntryIterator<E> for PeekingIterator
     ghost seeks = { λ before m reads key after. ((reads ≡ []) × (after ≡ before)) ⊎ ((after.ahead ≡ None) × I.seeks before.iterator m reads key after.iterator) };
 
     ghost stays = { λ before m reads at e after. I.stays before.iterator m reads at e after.iterator × (after.ahead ≡ None) };
+
+    ghost unbegun = { λ it. I.unbegun it.iterator × (it.ahead ≡ None) };
 
     ghost rising = { λ _ _ h. h.1 };
 

@@ -58,6 +58,8 @@ impl<E: Outside, I: RowEntryIterator<E>> RowEntryIterator<E> for MergeOperatorRe
 
     ghost stays = { λ before m reads at e after. StaysRequired I.takes I.stays before m reads at e after };
 
+    ghost unbegun = { λ it. I.unbegun it.iterator × (it.missing ≡ false) };
+
     ghost rising = { λ it w h. I.rising it.iterator w h };
 
     ghost more = { λ it m done reads at e h. required_more (I.refuses it.iterator m) done (I.more it.iterator m done) reads at e h };

@@ -1,5 +1,5 @@
 -- What a read of many sources takes its rows from.
---     rest_of, IsSoundSource, order_of, source_bound, source_refuses      a source as an iterator
+--     rest_of, IsSoundSource, order_of, source_bound, source_refuses, source_unbegun      a source as an iterator
 --     source_rising, source_more, source_whole      what it owes as one
 use Rattle.std.specs.Prelude.{ℕ, List, [], ◌++◌, length, Option}
 use Rattle.std.specs.List.{AllByRecursion}
@@ -11,6 +11,8 @@ use Rattle.slate_types.specs.Iteration.{IsInOrder}
 use Rattle.slate_types.specs.Outside.{Act, Meaning}
 use Rattle.slate_types.specs.Refusing.{IsDamage}
 use Rattle.slate_types.specs.World.{World, AnswersWorld}
+use Rattle.slate_merge.specs.MergeStates.{IsWaiting}
+use Rattle.slate_merge.specs.NewestFirst.{IsNew}
 use Rattle.slate_read.specs.declared.read_source.ReadSource.{ReadSource}
 use Rattle.slate_read.specs.declared.read_source.ReadSource.TheVariants.{Empty, Internal, Table, Run, Segments, Batch, Memory}
 use Rattle.slate_read.specs.RunIterators.{run_iterator_bound, run_refuses, run_rest, run_sound}
@@ -64,6 +66,13 @@ source_refuses (Run it) m reads at e = run_refuses it.rows m reads at e
 source_refuses (Segments it) m reads at e = segment_refuses it m reads at e
 source_refuses (Batch it) m reads at e = ⊥
 source_refuses (Memory it) m reads at e = ⊥
+
+abbrev pub source_unbegun : ReadSource → Type 0
+source_unbegun (Internal it) = IsNew it.rows.progress
+source_unbegun (Table it) = IsNew it.rows.progress
+source_unbegun (Run it) = IsNew it.rows.progress
+source_unbegun (Segments it) = IsWaiting it.rows.state
+source_unbegun _ = ⊥
 
 -- ---- laws
 

@@ -2,7 +2,7 @@
 ghost use Rattle.std.specs.Prelude.{◌≡◌, IfOk, IfErr, false};
 ghost use Rattle.slate_types.specs.declared.error.SlateDBError.{SlateDBError};
 ghost use Rattle.slate_types.specs.Keys.{is_refused};
-ghost use Rattle.slate_merge.specs.NewestFirst.{Stays};
+ghost use Rattle.slate_merge.specs.NewestFirst.{IsNew, Stays};
 ghost use Rattle.slate_read.specs.SstBringing.{sst_begins, sst_seeks, sst_takes};
 ghost use Rattle.slate_read.specs.SstIterators.{IsTableIterator, sst_bound, sst_refuses, sst_rest, sst_sound};
 ghost use Rattle.slate_read.specs.SstLaws.{sst_more, sst_rising, sst_whole};
@@ -65,6 +65,8 @@ impl<S: Store, M: MergeOperator, T: BlockTransformer> RowEntryIterator<Env<'_, S
     ghost seeks = { λ before m reads key after. sst_seeks before.rows m reads key after.rows };
 
     ghost stays = { λ before _ _ at e after. Stays before.rows at e after.rows };
+
+    ghost unbegun = { λ it. IsNew it.rows.progress };
 
     ghost rising = { λ it w h. sst_rising it.rows w h };
 

@@ -2,7 +2,7 @@
 ghost use Rattle.std.specs.Prelude.{◌≡◌, ◌<◌, ◌≤◌, ◌+◌, ◌*◌, length, [], None, false, true, IfOk, IfErr, IsNone, IsSome, OnOk};
 ghost use Rattle.slate_types.specs.declared.error.SlateDBError.{SlateDBError};
 ghost use Rattle.slate_types.specs.Keys.{is_refused};
-ghost use Rattle.slate_types.specs.Outside.{OnlyReads};
+ghost use Rattle.slate_types.specs.Outside.{IsStill, OnlyReads};
 ghost use Rattle.slate_types.specs.Steps.{Step};
 ghost use Rattle.slate_types.specs.World.{Made};
 ghost use Rattle.slate_types.proofs.Moves.{Moves};
@@ -108,6 +108,8 @@ fn open_table<S: Store, M: MergeOperator, T: BlockTransformer>(
     ensures few { IfOk result (λ found. bound_behind found.cursor ≤ max_blocks * max_reads) }
     ensures cause { let reach = ⟦<EnvOf<S, M, T> as Outside>⟧.reach in IfErr result (λ e. IsFaultOr refuses_index (reach env.old) (reach env.new) table None e) }
     ensures reads { let reach = ⟦<EnvOf<S, M, T> as Outside>⟧.reach in OnlyReads (reach env.old) (reach env.new) }
+    ensures counts { let reach = ⟦<EnvOf<S, M, T> as Outside>⟧.reach in
+        IsStill (reach env.old).faults (reach env.new).faults result }
 {
     match open_index(alloc, env, &table) {
         Ok(index) => {
@@ -141,6 +143,8 @@ impl OpenTable {
         ensures hands { let reach = ⟦<EnvOf<S, M, T> as Outside>⟧.reach in
             IfOk result (λ answer. HandsAwayByCall (brings_behind self.old.table order) (refuses_behind self.old.table order) (reach env.old) (reach env.new) self.old.cursor answer self.new.cursor) }
         ensures reads { let reach = ⟦<EnvOf<S, M, T> as Outside>⟧.reach in OnlyReads (reach env.old) (reach env.new) }
+        ensures counts { let reach = ⟦<EnvOf<S, M, T> as Outside>⟧.reach in
+            IsStill (reach env.old).faults (reach env.new).faults result }
     {
         self.cursor
             .advance(alloc, env, &self.table, order, self.limits)
@@ -160,6 +164,8 @@ impl OpenTable {
         ensures no_larger { OnOk result (bound_behind self.new.cursor ≤ bound_behind self.old.cursor) }
         ensures adds { let reach = ⟦<EnvOf<S, M, T> as Outside>⟧.reach in OnOk result (AddsNoneByCall (brings_behind self.old.table order) (refuses_behind self.old.table order) (reach env.old) (reach env.new) self.old.cursor self.new.cursor) }
         ensures reads { let reach = ⟦<EnvOf<S, M, T> as Outside>⟧.reach in OnlyReads (reach env.old) (reach env.new) }
+        ensures counts { let reach = ⟦<EnvOf<S, M, T> as Outside>⟧.reach in
+            IsStill (reach env.old).faults (reach env.new).faults result }
     {
         self.cursor
             .seek(alloc, env, &self.table, order, self.limits, key)
@@ -181,6 +187,8 @@ fn take_row<S: Store, M: MergeOperator, T: BlockTransformer>(
     ensures no_larger { OnOk result (bound_open current.new ≤ bound_open current.old) }
     ensures hands { let reach = ⟦<EnvOf<S, M, T> as Outside>⟧.reach in IfOk result (λ answer. HandsAwayByCall (BringsOpen order) (refuses_open order) (reach env.old) (reach env.new) current.old answer current.new) }
     ensures reads { let reach = ⟦<EnvOf<S, M, T> as Outside>⟧.reach in OnlyReads (reach env.old) (reach env.new) }
+    ensures counts { let reach = ⟦<EnvOf<S, M, T> as Outside>⟧.reach in
+        IsStill (reach env.old).faults (reach env.new).faults result }
 {
     let Some(table) = current else {
         return Ok(None);
@@ -208,6 +216,8 @@ fn skip_rows<S: Store, M: MergeOperator, T: BlockTransformer>(
     ensures no_larger { OnOk result (bound_open current.new ≤ bound_open current.old) }
     ensures adds { let reach = ⟦<EnvOf<S, M, T> as Outside>⟧.reach in OnOk result (AddsNoneByCall (BringsOpen order) (refuses_open order) (reach env.old) (reach env.new) current.old current.new) }
     ensures reads { let reach = ⟦<EnvOf<S, M, T> as Outside>⟧.reach in OnlyReads (reach env.old) (reach env.new) }
+    ensures counts { let reach = ⟦<EnvOf<S, M, T> as Outside>⟧.reach in
+        IsStill (reach env.old).faults (reach env.new).faults result }
 {
     match current {
         Some(table) => table.seek(alloc, env, order, key),
@@ -230,6 +240,8 @@ fn find_row<S: Store, M: MergeOperator, T: BlockTransformer>(
     ensures no_larger { OnOk result (bound_open current.new ≤ bound_open current.old) }
     ensures hands { let reach = ⟦<EnvOf<S, M, T> as Outside>⟧.reach in IfOk result (λ answer. HandsAwayByCall (BringsOpen order) (refuses_open order) (reach env.old) (reach env.new) current.old answer current.new) }
     ensures reads { let reach = ⟦<EnvOf<S, M, T> as Outside>⟧.reach in OnlyReads (reach env.old) (reach env.new) }
+    ensures counts { let reach = ⟦<EnvOf<S, M, T> as Outside>⟧.reach in
+        IsStill (reach env.old).faults (reach env.new).faults result }
 {
     match skip_rows(alloc, env, current, order, key) {
         Ok(()) => take_row(alloc, env, current, order),
@@ -251,6 +263,8 @@ impl RunCursor {
         ensures fewer { IfOk result (λ some. some ≡ true → length self.new.tables.items + 1 ≡ length self.old.tables.items) }
         ensures no_larger { OnOk result (self.old.current ≡ None → bound_run self.new ≤ bound_run self.old) }
         ensures reads { let reach = ⟦<EnvOf<S, M, T> as Outside>⟧.reach in OnlyReads (reach env.old) (reach env.new) }
+        ensures counts { let reach = ⟦<EnvOf<S, M, T> as Outside>⟧.reach in
+            IsStill (reach env.old).faults (reach env.new).faults result }
     {
         let Some(table) = self.tables.pop_front() else {
             return Ok(false);
@@ -278,6 +292,8 @@ impl RunCursor {
         ensures no_larger { OnOk result (bound_run self.new ≤ bound_run self.old) }
         ensures adds { let reach = ⟦<EnvOf<S, M, T> as Outside>⟧.reach in OnOk result (AddsNoneByCall (brings_run order) (refuses_run order) (reach env.old) (reach env.new) self.old self.new) }
         ensures reads { let reach = ⟦<EnvOf<S, M, T> as Outside>⟧.reach in OnlyReads (reach env.old) (reach env.new) }
+        ensures counts { let reach = ⟦<EnvOf<S, M, T> as Outside>⟧.reach in
+            IsStill (reach env.old).faults (reach env.new).faults result }
     {
         if self.current.is_some() {
             return Ok(());
@@ -303,6 +319,8 @@ impl RunCursor {
         ensures no_larger { OnOk result (bound_run self.new ≤ bound_run self.old) }
         ensures hands { let reach = ⟦<EnvOf<S, M, T> as Outside>⟧.reach in IfOk result (λ answer. HandsAwayByCall (brings_run order) (refuses_run order) (reach env.old) (reach env.new) self.old answer self.new) }
         ensures reads { let reach = ⟦<EnvOf<S, M, T> as Outside>⟧.reach in OnlyReads (reach env.old) (reach env.new) }
+        ensures counts { let reach = ⟦<EnvOf<S, M, T> as Outside>⟧.reach in
+            IsStill (reach env.old).faults (reach env.new).faults result }
     {
         if self.ahead.is_some() {
             return Ok(self.ahead.take());
@@ -352,6 +370,8 @@ impl RunCursor {
         ensures no_larger { OnOk result (bound_run self.new ≤ bound_run self.old) }
         ensures adds { let reach = ⟦<EnvOf<S, M, T> as Outside>⟧.reach in OnOk result (AddsNoneByCall (brings_run order) (refuses_run order) (reach env.old) (reach env.new) self.old self.new) }
         ensures reads { let reach = ⟦<EnvOf<S, M, T> as Outside>⟧.reach in OnlyReads (reach env.old) (reach env.new) }
+        ensures counts { let reach = ⟦<EnvOf<S, M, T> as Outside>⟧.reach in
+            IsStill (reach env.old).faults (reach env.new).faults result }
     {
         loop {
             if let Some(row) = find_row(alloc, env, &mut self.current, order, key)? {
@@ -380,6 +400,8 @@ impl RunCursor {
         ensures no_larger { OnOk result (bound_run self.new ≤ bound_run self.old) }
         ensures adds { let reach = ⟦<EnvOf<S, M, T> as Outside>⟧.reach in OnOk result (AddsNoneByCall (brings_run order) (refuses_run order) (reach env.old) (reach env.new) self.old self.new) }
         ensures reads { let reach = ⟦<EnvOf<S, M, T> as Outside>⟧.reach in OnlyReads (reach env.old) (reach env.new) }
+        ensures counts { let reach = ⟦<EnvOf<S, M, T> as Outside>⟧.reach in
+            IsStill (reach env.old).faults (reach env.new).faults result }
     {
         if is_ahead_kept(&self.ahead, order, key) {
             return Ok(());

@@ -3,7 +3,7 @@ ghost use Rattle.std.specs.Prelude.{◌≡◌, ◌||◌, IfOk, IfErr, false, nat
 ghost use Rattle.std.specs.List.{starts_with};
 ghost use Rattle.slate_types.specs.declared.error.SlateDBError.{SlateDBError};
 ghost use Rattle.slate_types.specs.Keys.{is_before_end, is_refused, key_le};
-ghost use Rattle.slate_merge.specs.MergeStates.{Stays};
+ghost use Rattle.slate_merge.specs.MergeStates.{IsWaiting, Stays};
 ghost use Rattle.slate_read.specs.RunIterators.{IsRunIterator};
 ghost use Rattle.slate_read.specs.SegmentIterators.{AreRuns, IsSegmentMerge, can_begin, meets, met_runs, segment_bound, segment_order, segment_refuses, segment_rest, segment_sound};
 ghost use Rattle.slate_read.specs.SegmentLaws.{segment_more, segment_rising, segment_whole};
@@ -175,6 +175,8 @@ impl<S: Store, M: MergeOperator, T: BlockTransformer> RowEntryIterator<Env<'_, S
     ghost seeks = { segments_seek };
 
     ghost stays = { λ before _ _ at e after. Stays before.rows at e after.rows };
+
+    ghost unbegun = { λ it. IsWaiting it.rows.state };
 
     ghost rising = { λ it w h. segment_rising it w h };
 

@@ -2,7 +2,7 @@
 ghost use Rattle.std.specs.Prelude.{◌≡◌, IfOk, IfErr, false};
 ghost use Rattle.slate_types.specs.declared.error.SlateDBError.{SlateDBError};
 ghost use Rattle.slate_types.specs.Keys.{is_refused};
-ghost use Rattle.slate_merge.specs.NewestFirst.{Stays};
+ghost use Rattle.slate_merge.specs.NewestFirst.{IsNew, Stays};
 ghost use Rattle.slate_read.specs.RunBringing.{run_begins, run_seeks, run_takes};
 ghost use Rattle.slate_read.specs.RunIterators.{IsRunIterator, run_iterator_bound, run_refuses, run_rest, run_sound};
 ghost use Rattle.slate_read.specs.RunLaws.{run_iterator_more, run_iterator_rising, run_iterator_whole};
@@ -81,6 +81,8 @@ impl<S: Store, M: MergeOperator, T: BlockTransformer> RowEntryIterator<Env<'_, S
     ghost seeks = { λ before m reads key after. run_seeks before.rows m reads key after.rows };
 
     ghost stays = { λ before _ _ at e after. Stays before.rows at e after.rows };
+
+    ghost unbegun = { λ it. IsNew it.rows.progress };
 
     ghost rising = { λ it w h. run_iterator_rising it.rows w h };
 

@@ -8,7 +8,7 @@ ghost use Rattle.slate_block.specs.EitherVersion.{left_of};
 ghost use Rattle.slate_block.specs.ReadingLaws.{EachIsAByte};
 ghost use Rattle.slate_table.specs.IndexReading.{index_keys};
 ghost use Rattle.slate_table.specs.IndexValue.{entries_of};
-ghost use Rattle.slate_types.specs.Outside.{OnlyReads};
+ghost use Rattle.slate_types.specs.Outside.{IsStill, OnlyReads};
 ghost use Rattle.slate_types.specs.Refusing.{IsDamage};
 ghost use Rattle.slate_types.specs.World.{Made};
 ghost use Rattle.slate_types.proofs.Moves.{Moves};
@@ -145,6 +145,8 @@ impl Cursor {
         ensures small { OnOk result (reads_in self.new.rows ≤ max_reads) }
         ensures adds { let reach = ⟦<EnvOf<S, M, T> as Outside>⟧.reach in OnOk result (AddsNoneByCall (brings_behind table.now order) (refuses_behind table.now order) (reach env.old) (reach env.new) self.old self.new) }
         ensures reads { let reach = ⟦<EnvOf<S, M, T> as Outside>⟧.reach in OnlyReads (reach env.old) (reach env.new) }
+        ensures counts { let reach = ⟦<EnvOf<S, M, T> as Outside>⟧.reach in
+            IsStill (reach env.old).faults (reach env.new).faults result }
     {
         self.fill(alloc, env, table, order, limits)?;
         self.open_ready(alloc, table, order)
@@ -166,6 +168,8 @@ impl Cursor {
         ensures no_larger { OnOk result (bound_behind self.new ≤ bound_behind self.old) }
         ensures hands { let reach = ⟦<EnvOf<S, M, T> as Outside>⟧.reach in IfOk result (λ answer. HandsAwayByCall (brings_behind table.now order) (refuses_behind table.now order) (reach env.old) (reach env.new) self.old answer self.new) }
         ensures reads { let reach = ⟦<EnvOf<S, M, T> as Outside>⟧.reach in OnlyReads (reach env.old) (reach env.new) }
+        ensures counts { let reach = ⟦<EnvOf<S, M, T> as Outside>⟧.reach in
+            IsStill (reach env.old).faults (reach env.new).faults result }
     {
         loop {
             if let Some(row) = self.row(alloc)? {
@@ -244,6 +248,8 @@ impl Cursor {
         ensures no_larger { OnOk result (bound_behind self.new ≤ bound_behind self.old) }
         ensures adds { let reach = ⟦<EnvOf<S, M, T> as Outside>⟧.reach in OnOk result (AddsNoneByCall (brings_behind table.now order) (refuses_behind table.now order) (reach env.old) (reach env.new) self.old self.new) }
         ensures reads { let reach = ⟦<EnvOf<S, M, T> as Outside>⟧.reach in OnlyReads (reach env.old) (reach env.new) }
+        ensures counts { let reach = ⟦<EnvOf<S, M, T> as Outside>⟧.reach in
+            IsStill (reach env.old).faults (reach env.new).faults result }
     {
         loop {
             if self.skip(alloc, key)? {
@@ -271,6 +277,8 @@ impl Cursor {
         ensures no_larger { OnOk result (bound_behind self.new ≤ bound_behind self.old) }
         ensures adds { let reach = ⟦<EnvOf<S, M, T> as Outside>⟧.reach in OnOk result (AddsNoneByCall (brings_behind table.now order) (refuses_behind table.now order) (reach env.old) (reach env.new) self.old self.new) }
         ensures reads { let reach = ⟦<EnvOf<S, M, T> as Outside>⟧.reach in OnlyReads (reach env.old) (reach env.new) }
+        ensures counts { let reach = ⟦<EnvOf<S, M, T> as Outside>⟧.reach in
+            IsStill (reach env.old).faults (reach env.new).faults result }
     {
         if self.skip(alloc, key)? {
             return Ok(());
@@ -290,6 +298,8 @@ pub(crate) fn open_index<S: Store, M: MergeOperator, T: BlockTransformer>(
     ensures few { IfOk result (λ index. length (entries_of index) ≤ max_blocks) }
     ensures cause { let reach = ⟦<EnvOf<S, M, T> as Outside>⟧.reach in IfErr result (λ e. IsFaultOr refuses_index (reach env.old) (reach env.new) table.now None e) }
     ensures reads { let reach = ⟦<EnvOf<S, M, T> as Outside>⟧.reach in OnlyReads (reach env.old) (reach env.new) }
+    ensures counts { let reach = ⟦<EnvOf<S, M, T> as Outside>⟧.reach in
+        IsStill (reach env.old).faults (reach env.new).faults result }
 {
     TableStore::read_index(alloc, env.store, ROOT, table, &mut env.transformer)
 }

@@ -4,6 +4,7 @@ pub mod Lines
 pub mod Lying
 pub mod Memory
 pub mod Noted
+pub mod Placed
 pub mod Places
 pub mod Plan
 pub mod Store

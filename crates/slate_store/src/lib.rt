@@ -10,6 +10,7 @@ pub mod lines;
 pub mod lying_store;
 pub mod memory;
 pub mod memory_store;
+pub(crate) mod object_list;
 pub mod path_text;
 mod place;
 pub mod run;

@@ -5,10 +5,10 @@ ghost use Rattle.slate_store.specs.Lying.{act_of, answer_as, chosen_for, reads_o
 ghost use Rattle.slate_store.specs.Store.{object_at, part_of, IsHonest};
 
 use crate::memory_store::{object_len, paths_of, put_object, read_object};
+use crate::object_list::ObjectList;
 use crate::{PathText, Store, StoreError};
-use bytes::{ByteStr, Bytes};
+use bytes::Bytes;
 use std::alloc::{AllocError, Global};
-use std::collections::BTreeMap;
 use std::marker::Model;
 
 /// A read that a store returned: its arguments, and its answer.
@@ -32,7 +32,7 @@ enum Noted {
 /// chosen answers it is honest and tells its objects too; with some it tells no objects.
 #[derive(Drop)]
 pub struct LyingStore {
-    objects: BTreeMap<ByteStr, Bytes>,
+    objects: ObjectList,
     answers: Vec<(u64, Option<Bytes>)>,
     noted: Vec<Noted>,
     reads: Vec<StoreRead>,
@@ -44,9 +44,9 @@ impl Model for LyingStore {
 
     ghost Value = { LyingStoreModel };
 
-    ghost view = { λ s. record { answers = s.answers.items; objects = s.objects.entries; acts = acts_of s.noted.items s.reads.items } };
+    ghost view = { λ s. record { answers = s.answers.items; objects = s.objects; acts = acts_of s.noted.items s.reads.items } };
 
-    ghost invariant = { λ s. IsConsistent s.answers.items s.objects.entries s.noted.items s.reads.items };
+    ghost invariant = { λ s. IsConsistent s.answers.items s.objects s.noted.items s.reads.items };
 }
 
 impl LyingStore {
@@ -59,7 +59,7 @@ impl LyingStore {
         ensures counted { ⟦<LyingStore as Store>⟧.faults result ≡ 0 }
     {
         LyingStore {
-            objects: BTreeMap::new(alloc),
+            objects: ObjectList::new(alloc),
             answers,
             noted: Vec::new(alloc),
             reads: Vec::new(alloc),
@@ -118,7 +118,7 @@ impl Store for LyingStore {
     }
 
     fn len(&mut self, alloc: Global, path: &str) -> Result<Option<u64>, StoreError> {
-        let len = object_len(alloc, &self.objects, path)?;
+        let len = object_len(&self.objects, path);
         let path = path_text(alloc, path)?;
         self.noted.push(Noted::Len { path, len })?;
         Ok(len)
@@ -142,7 +142,7 @@ impl LyingStore {
     {
         match chosen(&self.answers, self.returned()) {
             Some(answer) => cloned(&answer.1),
-            None => read_object(alloc, &self.objects, path, start, len),
+            None => read_object(&self.objects, path, start, len),
         }
     }
 

@@ -1,20 +1,19 @@
 //! A store in memory, whose calls fail where they are told to.
 ghost use Rattle.std.specs.Prelude.{◌≡◌, [], Some, None, IfOk, OnOk, OnErr, IsOkUnless};
-ghost use Rattle.std.specs.BTreeMap.{keys};
-ghost use Rattle.std.specs.Option.{option_copied};
+ghost use Rattle.slate_store.specs.Placed.{paths_in};
 ghost use Rattle.slate_store.specs.Store.{len_of, object_at, part_of, with_object, IsRising};
 
 use crate::faults::FaultPlan;
+use crate::object_list::ObjectList;
 use crate::{PathText, Store, StoreError};
 use bytes::{ByteStr, Bytes};
 use std::alloc::{AllocError, Global};
-use std::collections::BTreeMap;
 use std::marker::Model;
 
 /// Keeps objects in memory. A call that fails changes nothing.
 #[derive(Drop)]
 pub struct MemoryStore {
-    objects: BTreeMap<ByteStr, Bytes>,
+    objects: ObjectList,
     plan: FaultPlan,
 }
 
@@ -23,7 +22,7 @@ impl Model for MemoryStore {
 
     ghost Value = { MemoryStoreModel };
 
-    ghost view = { λ s. record { objects = s.objects.entries; plan = record { failing = s.plan.failing.items; calls = s.plan.calls }; faults = s.plan.faults.count } };
+    ghost view = { λ s. record { objects = s.objects; plan = record { failing = s.plan.failing.items; calls = s.plan.calls }; faults = s.plan.faults.count } };
 }
 
 impl MemoryStore {
@@ -37,7 +36,7 @@ impl MemoryStore {
         ensures counted { ⟦<MemoryStore as Store>⟧.faults result ≡ 0 }
     {
         MemoryStore {
-            objects: BTreeMap::new(alloc),
+            objects: ObjectList::new(alloc),
             plan: FaultPlan::new(failing),
         }
     }
@@ -66,12 +65,12 @@ impl Store for MemoryStore {
         len: u64,
     ) -> Result<Option<Bytes>, StoreError> {
         self.plan.step()?;
-        Ok(read_object(alloc, &self.objects, path, start, len)?)
+        Ok(read_object(&self.objects, path, start, len)?)
     }
 
     fn len(&mut self, alloc: Global, path: &str) -> Result<Option<u64>, StoreError> {
         self.plan.step()?;
-        Ok(object_len(alloc, &self.objects, path)?)
+        Ok(object_len(&self.objects, path))
     }
 
     fn list(&mut self, alloc: Global) -> Result<Vec<PathText>, StoreError> {
@@ -83,18 +82,18 @@ impl Store for MemoryStore {
 /// Puts an object in place of one that was there. Where memory is wanting, nothing is done.
 pub(crate) fn put_object(
     alloc: Global,
-    objects: &mut BTreeMap<ByteStr, Bytes>,
+    objects: &mut ObjectList,
     path: &str,
     bytes: &[u8],
 ) -> Result<(), StoreError>
-    ensures taken { OnOk result (objects.new.entries ≡ with_object objects.old.entries path.now bytes.now) }
-    ensures refused { OnErr result (objects.new.entries ≡ objects.old.entries) }
+    ensures taken { OnOk result (objects.new ≡ with_object objects.old path.now bytes.now) }
+    ensures refused { OnErr result (objects.new ≡ objects.old) }
     ensures memory { IsOkUnless result StoreError.OutOfMemory }
 {
     let path = ByteStr::copy_from_str(alloc, path)?;
     match Bytes::copy_from_slice(alloc, bytes) {
         Ok(bytes) => {
-            drop(objects.insert(path, bytes)?);
+            objects.insert(path, bytes)?;
             Ok(())
         }
         Err(error) => {
@@ -104,43 +103,26 @@ pub(crate) fn put_object(
     }
 }
 
-/// The object at a path.
-fn find<'a>(
-    alloc: Global,
-    objects: &'a BTreeMap<ByteStr, Bytes>,
-    path: &str,
-) -> Result<Option<&'a Bytes>, AllocError>
-    ensures { IfOk result (λ object. option_copied object ≡ object_at objects.now.entries path.now) }
-{
-    let path = ByteStr::copy_from_str(alloc, path)?;
-    Ok(objects.get(&path))
-}
-
 /// The length of the object at a path, and none of a missing one.
-pub(crate) fn object_len(
-    alloc: Global,
-    objects: &BTreeMap<ByteStr, Bytes>,
-    path: &str,
-) -> Result<Option<u64>, AllocError>
-    ensures { IfOk result (λ len. len ≡ len_of (object_at objects.now.entries path.now)) }
+pub(crate) fn object_len(objects: &ObjectList, path: &str) -> Option<u64>
+    ensures { result ≡ len_of (object_at objects.now path.now) }
 {
-    match find(alloc, objects, path)? {
-        Some(object) => Ok(Some(object.len() as u64)),
-        None => Ok(None),
+    match objects.get(path) {
+        Some(object) => Some(object.len() as u64),
+        None => None,
     }
 }
 
 /// A range of the object at a path, and none of a missing one.
 pub(crate) fn read_object(
-    alloc: Global,
-    objects: &BTreeMap<ByteStr, Bytes>,
+    objects: &ObjectList,
     path: &str,
     start: u64,
     len: u64,
 ) -> Result<Option<Bytes>, AllocError>
-    ensures { IfOk result (λ range. range ≡ part_of (object_at objects.now.entries path.now) start len) }
+    ensures { IfOk result (λ range. range ≡ part_of (object_at objects.now path.now) start len) }
 {
-    match find(alloc, objects, path)? {
+    match objects.get(path) {
         Some(object) => range_of(object, start, len),
         None => Ok(None),
     }
@@ -159,17 +141,15 @@ fn range_of(object: &Bytes, start: u64, len: u64) -> Result<Option<Bytes>, Alloc
 }
 
 /// The paths of all objects, rising.
-pub(crate) fn paths_of(
-    alloc: Global,
-    objects: &BTreeMap<ByteStr, Bytes>,
-) -> Result<Vec<PathText>, StoreError>
-    ensures paths { IfOk result (λ paths. paths.items ≡ keys objects.now) }
+pub(crate) fn paths_of(alloc: Global, objects: &ObjectList) -> Result<Vec<PathText>, StoreError>
+    ensures paths { IfOk result (λ paths. paths.items ≡ paths_in objects.now) }
     ensures order { IfOk result (λ paths. IsRising paths.items) }
     ensures memory { IsOkUnless result StoreError.OutOfMemory }
 {
     let mut paths = Vec::new(alloc);
-    for path in objects.keys() {
-        let text = String::from_str(alloc, path.as_str())?;
+    let listed = objects.as_slice();
+    for object in listed {
+        let text = String::from_str(alloc, object.0.as_str())?;
         paths.push(PathText::from_string(text))?;
     }
     Ok(paths)

@@ -3,7 +3,7 @@ ghost use Rattle.std.specs.Prelude.{◌≡◌, ◌≤◌, ◌⊎◌, ℕ, List, 
 ghost use Rattle.slate_types.specs.Faults.{Rose};
 ghost use Rattle.slate_types.specs.Outside.{Objects};
 ghost use Rattle.slate_store.specs.Plan.{CountsCall, FailsAsPlanned, Plan};
-ghost use Rattle.slate_store.specs.Store.{Act, AddsAct, AnswersLen, AnswersList, AnswersRead, IsRising, RefusesPut, TakesPut};
+ghost use Rattle.slate_store.specs.Store.{Act, AddsAct, AnswersLen, AnswersList, AnswersRead, IsRising, LeftAlone, RefusesPut, TakesPut};
 
 use crate::{Failed, PathText};
 use bytes::Bytes;
@@ -31,10 +31,11 @@ pub trait Store: Drop {
     ghost plan: { Self → Option Plan } = { λ _. None };
 
     /// Puts the bytes at the path, in place of an object that was there, and changes nothing else. A put that
-    /// is refused did that and told it, or did nothing and told nothing.
+    /// is refused did that and told it, or did nothing and told nothing, as always where the store tells which calls are to fail.
     fn put(&mut self, alloc: Global, path: &str, bytes: &[u8]) -> Result<(), StoreError>
         ensures taken { (os : Objects) → objects self.old ≡ Some os → OnOk result (TakesPut os path.now bytes.now (objects self.new)) }
         ensures refused { OnErr result (RefusesPut objects acts path.now bytes.now self.old self.new) }
+        ensures left { (p : Plan) → plan self.old ≡ Some p → OnErr result (LeftAlone objects acts self.old self.new) }
         ensures act { OnOk result (AddsAct (acts self.old) (Act.put path.now bytes.now) (acts self.new)) }
         ensures later { faults self.old ≤ faults self.new }
         ensures still { (result ≡ Err StoreError.Failed) ⊎ (faults self.new ≡ faults self.old) }

@@ -7,7 +7,7 @@ use Rattle.slate_types.specs.Outside.{Objects}
 use Rattle.slate_store.specs.Store.{Act}
 use Rattle.slate_block.specs.RowReading.{refusal}
 use Rattle.slate_filter.specs.Policy.{Policy}
-use Rattle.slate_table.specs.Filtered.{RefusesPart, RefusesQuery}
+use Rattle.slate_table.specs.Filtered.{RefusesFilterPart, RefusesQuery}
 use Rattle.slate_table.specs.Parts.{Encode}
 use Rattle.slate_table.specs.Reading.{Reads, SectionRead, stored_in, IsPart, RefusesFilters}
 
@@ -31,13 +31,13 @@ when_err (Err e) P Q f p = f e p
 
 -- what a part is refused for the section is
 refused_in : (objects : Option Objects) (before after : Option (List Act)) (path : List ℕ) (start size : ℕ) (decode : Encode) (of : Option (List ℕ) → SectionRead) (policies : List Policy) (query : FilterQuery) (part : List ℕ) (e : SlateDBError) →
-    Reads objects before after path start size (λ answer. IsPart decode (of answer) part) → RefusesPart policies query part e → Reads objects before after path start size (λ answer. RefusesQuery decode policies query (of answer) e)
+    Reads objects before after path start size (λ answer. IsPart decode (of answer) part) → RefusesFilterPart policies query part e → Reads objects before after path start size (λ answer. RefusesQuery decode policies query (of answer) e)
 refused_in objects before after path start size decode of policies query part e (answer, read, p) (inl none) = (answer, read, inl (inr (part, p, none)))
 refused_in objects before after path start size decode of policies query part e (answer, read, p) (inr (filters, is, refused, says)) = (answer, read, inr (part, filters, p, is, refused, says))
 
 pub asked_refuses : (A B : SlateDBError → Type 0) (objects : Option Objects) (before after : Option (List Act)) (path : List ℕ) (start size : ℕ) (decode : Encode) (of : Option (List ℕ) → SectionRead) (policies : List Policy) (query : FilterQuery) (part taken : List ℕ) (r : Result Bool SlateDBError) →
-    taken ≡ part → Reads objects before after path start size (λ answer. IsPart decode (of answer) part) → IfErr r (RefusesPart policies query taken) →
+    taken ≡ part → Reads objects before after path start size (λ answer. IsPart decode (of answer) part) → IfErr r (RefusesFilterPart policies query taken) →
     IfErr r (λ e. A e ⊎ B e ⊎ Reads objects before after path start size (λ answer. RefusesQuery decode policies query (of answer) e))
 asked_refuses A B objects before after path start size decode of policies query part taken r same read refuses =
-    when_err r (RefusesPart policies query taken) (λ e. A e ⊎ B e ⊎ Reads objects before after path start size (λ answer. RefusesQuery decode policies query (of answer) e))
-    (λ e h. inr (inr (refused_in objects before after path start size decode of policies query part e read (subst (λ (l : List ℕ). RefusesPart policies query l e) same h)))) refuses
+    when_err r (RefusesFilterPart policies query taken) (λ e. A e ⊎ B e ⊎ Reads objects before after path start size (λ answer. RefusesQuery decode policies query (of answer) e))
+    (λ e h. inr (inr (refused_in objects before after path start size decode of policies query part e read (subst (λ (l : List ℕ). RefusesFilterPart policies query l e) same h)))) refuses

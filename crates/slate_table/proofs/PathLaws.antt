@@ -1,35 +1,55 @@
 -- The digits of a table's id, and that a path has those of one.
-use Rattle.std.proofs.Common.{◌≡◌, ℕ, zero, suc, ◌+◌, ◌*◌, ◌/◌, ◌%◌, ◌^◌, ◌<◌, Bool, true, false, cond, ◌&&◌, ◌==◌, inl, inr, List, ◌∷◌, ◌++◌, length, refl, sym, ap, ◌∙◌, arith}
-use Rattle.std.specs.Prelude.{codes, ltb, slice_index}
+use Rattle.std.proofs.Common.{◌≡◌, ℕ, zero, suc, ◌+◌, ◌*◌, ◌/◌, ◌%◌, ◌^◌, ◌<◌, ◌≤◌, Bool, true, false, cond, ◌&&◌, ◌==◌, List, [], ◌∷◌, ◌++◌, length, take, drop, slice_index, slice_set, refl, sym, ap, ◌∙◌, arith}
+use Rattle.std.proofs.lemmas.List.{append_assoc, append-nil, drop_all, drop_more, take_all, take_more_set, length-set}
+use Rattle.std.specs.Prelude.{codes, ltb}
 use Rattle.std.specs.Int.{w128, byte_at, bytes_high_first, to_be_bytes}
 use Rattle.std.proofs.Math.Arith.{mod-mul}
 use Rattle.std.proofs.Math.Nat.{div-div-eq-div-mul, pow-succ'}
 use Rattle.std.specs.Str.{IsAscii, IsUtf8}
-use Rattle.std.proofs.lemmas.Bool.{and_parts, cases_lt, eqb-true, ltb-true}
-use Rattle.std.proofs.lemmas.Str.{IsUtf8-from_ascii}
+use Rattle.std.proofs.lemmas.Bool.{and_parts, eqb-true, ltb-true}
+use Rattle.std.proofs.lemmas.Str.{IsUtf8-append, IsUtf8-from_ascii}
 use Rattle.std.proofs.lemmas.Str.Ascii.{IsAscii-nil, IsAscii-cons}
-use Rattle.hex.specs.Hex.{encode_lower, encode_with, lower_digits}
 use Rattle.slate_block.proofs.Pieces.{same_head, same_tail, same_ends}
 use Rattle.slate_table.specs.Paths.{hex_digit, hex, path_of}
 
--- the first n digits are those of the table
-abbrev same_digits : ℕ → Bool
-same_digits zero = true
-same_digits (suc n) = (slice_index lower_digits n == hex_digit n) && same_digits n
+-- each byte as two digits, the high four bits first
+unfoldable pub two_digits : List ℕ → List ℕ
+two_digits [] = []
+two_digits (b ∷ rest) = hex_digit (b / 16) ∷ hex_digit (b % 16) ∷ two_digits rest
 
-digit_below : (n k : ℕ) → same_digits n ≡ true → k < n → slice_index lower_digits k ≡ hex_digit k
-digit_below zero k h lt = absurd (omega arith)
-digit_below (suc n) k h lt =
-    let parts = and_parts (slice_index lower_digits n == hex_digit n) (same_digits n) h in
-    elim (cases_lt k n) [
-      | inl below ↦ digit_below n k parts.1 below
-      | inr top ↦
-          let same : k ≡ n = omega arith in
-          rw same (eqb-true (slice_index lower_digits n) (hex_digit n) parts.0)
-    ]
+-- two writes in a row, seen from the front
+two_writes : (xs : List ℕ) (o x y : ℕ) → o + 1 < length xs → take (o + 2) (slice_set (slice_set xs o x) (o + 1) y) ≡ take o xs ++ (x ∷ y ∷ [])
+two_writes xs o x y fits =
+    let len : length (slice_set xs o x) ≡ length xs = length-set xs o x in
+    let two : o + 2 ≡ o + 1 + 1 = omega arith in
+    let second = take_more_set (slice_set xs o x) (o + 1) y (omega (arith, len)) in
+    let first = take_more_set xs o x (omega arith) in
+    rw (two, second, first) (append_assoc (take o xs) (x ∷ []) (y ∷ []))
 
-digit_is : (k : ℕ) → k < 16 → slice_index lower_digits k ≡ hex_digit k
-digit_is k lt = digit_below 16 k refl lt
+-- the digits of what is left, from one byte on
+digits_left : (bytes : List ℕ) (i : ℕ) → i < length bytes →
+    two_digits (drop i bytes) ≡ hex_digit (slice_index bytes i / 16) ∷ hex_digit (slice_index bytes i % 16) ∷ two_digits (drop (i + 1) bytes)
+unfolding two_digits
+digits_left bytes i h = rw (drop_more bytes i 0 h) refl
+
+-- one byte more is written
+pub digits_step : (bytes digits : List ℕ) (i x y : ℕ) → i < length bytes → 2 * i + 1 < length digits →
+    x ≡ hex_digit (slice_index bytes i / 16) → y ≡ hex_digit (slice_index bytes i % 16) → take (2 * i) digits ++ two_digits (drop i bytes) ≡ two_digits bytes →
+    take (2 * (i + 1)) (slice_set (slice_set digits (2 * i) x) (2 * i + 1) y) ++ two_digits (drop (i + 1) bytes) ≡ two_digits bytes
+digits_step bytes digits i x y h fits high low inv =
+    let two : 2 * (i + 1) ≡ 2 * i + 2 = omega arith in
+    let front = two_writes digits (2 * i) x y fits in
+    let rest = digits_left bytes i h in
+    rw (two, front, append_assoc, high, low) (rw rest at inv)
+
+-- every byte is written
+pub digits_done : (bytes digits : List ℕ) (i : ℕ) → length bytes ≤ i → length digits ≡ 2 * length bytes →
+    take (2 * i) digits ++ two_digits (drop i bytes) ≡ two_digits bytes → digits ≡ two_digits bytes
+unfolding two_digits
+digits_done bytes digits i h len inv =
+    let d = drop_all i bytes h in
+    let a = take_all (2 * i) digits (omega arith) in
+    rw (d, a, append-nil) at inv
 
 abbrev twice : ℕ → ℕ
 twice zero = zero
@@ -45,8 +65,8 @@ byte_is : (k n : ℕ) → byte_at k n ≡ n / 256 ^ k % 256
 byte_is zero n = omega arith
 byte_is (suc k) n = refl
 
-digits : (k n : ℕ) → encode_with lower_digits (bytes_high_first k n) ≡ hex (twice k) n
-unfolding encode_with
+digits : (k n : ℕ) → two_digits (bytes_high_first k n) ≡ hex (twice k) n
+unfolding two_digits
 digits zero n = refl
 digits (suc k) n =
     let b = byte_at k n in
@@ -57,11 +77,11 @@ digits (suc k) n =
     let upper : q / 16 ≡ n / 16 ^ suc (twice k) = div-div-eq-div-mul n (256 ^ k) 16 ∙ ap (λ (p : ℕ). n / p) step in
     let high : b / 16 ≡ n / 16 ^ suc (twice k) % 16 = omega (arith, is, upper) in
     let low : b % 16 ≡ n / 16 ^ twice k % 16 = omega (arith, is, lower) in
-    let first = digit_is (b / 16) (omega (arith, is)) ∙ ap hex_digit high in
-    let second = digit_is (b % 16) (omega arith) ∙ ap hex_digit low in
+    let first = ap hex_digit high in
+    let second = ap hex_digit low in
     λ i. first i ∷ second i ∷ digits k n i
 
-pub digits_of_id : (n : ℕ) → encode_lower (to_be_bytes w128 n) ≡ hex 32 n
+pub digits_of_id : (n : ℕ) → two_digits (to_be_bytes w128 n) ≡ hex 32 n
 digits_of_id n = digits 16 n
 
 -- the digits of an id are text
@@ -115,3 +135,48 @@ one_id root other id another below small h =
     let ends = same_ends front start (hex 32 id) (hex 32 another) (digits_count 32 id ∙ sym (digits_count 32 another)) named.0 in
     let same = same_number 32 id another ends.1 in
     omega (arith, same, below, small)
+
+-- ---- a path in its room
+
+-- four pieces, one behind the other
+pub path_spelled : (root : List ℕ) (id : ℕ) (folder digits name first second third fourth : List ℕ) →
+    first ≡ root → second ≡ first ++ folder → third ≡ second ++ digits → fourth ≡ third ++ name →
+    folder ≡ codes "/compacted/" → digits ≡ hex 32 id → name ≡ codes ".sst" → fourth ≡ path_of root id
+path_spelled root id folder digits name first second third fourth e f g h is_folder are_digits is_name =
+    let two = f ∙ ap (λ (xs : List ℕ). xs ++ folder) e in
+    let three = g ∙ ap (λ (xs : List ℕ). xs ++ digits) two in
+    h ∙ ap (λ (xs : List ℕ). xs ++ name) three ∙ (λ i. root ++ is_folder i ++ are_digits i ++ is_name i)
+
+pub path_is_text : (root : List ℕ) (id : ℕ) → IsUtf8 root → IsUtf8 (codes "/compacted/") → IsUtf8 (codes ".sst") → IsUtf8 (path_of root id)
+path_is_text root id front folder name =
+    IsUtf8-append (root ++ codes "/compacted/" ++ hex 32 id) (codes ".sst") (IsUtf8-append (root ++ codes "/compacted/") (hex 32 id) (IsUtf8-append root (codes "/compacted/") front folder) (digits_are_text 32 id)) name
+
+-- ---- a table of digits
+
+abbrev pub are_pairs : ℕ → List ℕ → Bool
+are_pairs b [] = true
+are_pairs b (x ∷ []) = false
+are_pairs b (x ∷ y ∷ rest) = (x == hex_digit (b / 16)) && ((y == hex_digit (b % 16)) && are_pairs (suc b) rest)
+
+pair_is : (t : List ℕ) (b k : ℕ) → are_pairs b t ≡ true → 2 * k + 1 < length t → (slice_index t (2 * k) ≡ hex_digit ((b + k) / 16)) × (slice_index t (2 * k + 1) ≡ hex_digit ((b + k) % 16))
+pair_is [] b k h lt = absurd (omega arith)
+pair_is (x ∷ []) b k h lt = absurd cc
+pair_is (x ∷ y ∷ rest) b zero h lt =
+    let first = and_parts (x == hex_digit (b / 16)) ((y == hex_digit (b % 16)) && are_pairs (suc b) rest) h in
+    let second = and_parts (y == hex_digit (b % 16)) (are_pairs (suc b) rest) first.1 in
+    let same : b ≡ b + 0 = omega arith in
+    (eqb-true x (hex_digit (b / 16)) first.0 ∙ ap (λ (n : ℕ). hex_digit (n / 16)) same, eqb-true y (hex_digit (b % 16)) second.0 ∙ ap (λ (n : ℕ). hex_digit (n % 16)) same)
+pair_is (x ∷ y ∷ rest) b (suc k) h lt =
+    let first = and_parts (x == hex_digit (b / 16)) ((y == hex_digit (b % 16)) && are_pairs (suc b) rest) h in
+    let second = and_parts (y == hex_digit (b % 16)) (are_pairs (suc b) rest) first.1 in
+    let later = pair_is rest (suc b) k second.1 (omega (arith, lt)) in
+    let even : 2 * suc k ≡ suc (suc (2 * k)) = omega arith in
+    let odd : 2 * suc k + 1 ≡ suc (suc (2 * k + 1)) = omega arith in
+    let same : suc b + k ≡ b + suc k = omega arith in
+    (ap (slice_index (x ∷ y ∷ rest)) even ∙ later.0 ∙ ap (λ (n : ℕ). hex_digit (n / 16)) same, ap (slice_index (x ∷ y ∷ rest)) odd ∙ later.1 ∙ ap (λ (n : ℕ). hex_digit (n % 16)) same)
+
+pub pair_of : (t : List ℕ) (byte : ℕ) → are_pairs 0 t ≡ true → 2 * byte + 1 < length t → (slice_index t (2 * byte) ≡ hex_digit (byte / 16)) × (slice_index t (2 * byte + 1) ≡ hex_digit (byte % 16))
+pair_of t byte h lt =
+    let pair = pair_is t 0 byte h lt in
+    let same : 0 + byte ≡ byte = omega arith in
+    (pair.0 ∙ ap (λ (n : ℕ). hex_digit (n / 16)) same, pair.1 ∙ ap (λ (n : ℕ). hex_digit (n % 16)) same)

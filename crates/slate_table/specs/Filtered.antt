@@ -1,7 +1,7 @@
 -- What the filters of a stored table say to a query. The statement is proved in src/filtered_laws.rt.
 --     asks_filters policies len      a reader with these policies reads a filter section of this length
---     AnswersPart policies query part passes      the filters of a part let the query through or deny it
---     RefusesPart policies query part e      a part is no list of filters, or the bytes of one that was asked are refused
+--     AnswersFilterPart policies query part passes      the filters of a part let the query through or deny it
+--     RefusesFilterPart policies query part e      a part is no list of filters, or the bytes of one that was asked are refused
 --     IsAsked decode policies query section passes      filters are read, and let the query through or deny it
 --     RefusesQuery decode policies query section e      the filters are refused, or the bytes of one that was asked
 --     AreLawful policies      their names are distinct, and each is lawful
@@ -36,11 +36,11 @@ abbrev pub asks_filters : List Policy → ℕ → Bool
 asks_filters [] len = false
 asks_filters (p ∷ ps) len = nat_lt 0 len
 
-abbrev pub AnswersPart : List Policy → FilterQuery → List ℕ → Bool → Type 0
-AnswersPart policies query part passes = (filters : List (List ℕ × List ℕ)) × IsFilters part filters × (asked policies filters query ≡ Some passes)
+abbrev pub AnswersFilterPart : List Policy → FilterQuery → List ℕ → Bool → Type 0
+AnswersFilterPart policies query part passes = (filters : List (List ℕ × List ℕ)) × IsFilters part filters × (asked policies filters query ≡ Some passes)
 
-abbrev pub RefusesPart : List Policy → FilterQuery → List ℕ → SlateDBError → Type 0
-RefusesPart policies query part e =
+abbrev pub RefusesFilterPart : List Policy → FilterQuery → List ℕ → SlateDBError → Type 0
+RefusesFilterPart policies query part e =
     AreNoFilters part e ⊎ ((filters : List (List ℕ × List ℕ)) × IsFilters part filters × (asked policies filters query ≡ None) × (e ≡ InvalidFilterBlock (length part)))
 
 abbrev pub IsAsked : Encode → List Policy → FilterQuery → SectionRead → Bool → Type 0

@@ -3,8 +3,8 @@
 --     filter_field bytes at      a name and the bytes of its filter, or the refusal of the first field that fails
 --     filters_from count bytes at      so many filters
 --     filters_in bytes      the filters, or the refusal
---     answers policies query filters      what the filters answer that were read, or why they weren't
---     answered policies query answer filters      what so many filters answer behind an answer so far
+--     filters_say policies query filters      what the filters answer that were read, or why they weren't
+--     filters_say_from policies query answer filters      what so many filters answer behind an answer so far
 --     in_filters len e      a refusal of the fields of a part as the part's own, with its length; want of memory stays
 use Rattle.std.specs.Prelude.{ℕ, zero, suc, Bool, if◌then◌else◌, ◌==◌, List, [], ◌∷◌, length, slice_range, Option, Result, Ok, Err}
 use Rattle.std.specs.Int.{w16, w64}
@@ -41,11 +41,11 @@ filters_in bytes = do
   if filters.1 == length bytes then Ok filters.0 else Err (CorruptTable filters.1)
 
 -- filters that were read, asked
-abbrev pub answers : List Policy → FilterQuery → Result (List (List ℕ × List ℕ)) SlateDBError → Result (Option Bool) SlateDBError
-answers policies query filters = filters >>= λ fs. Ok (asked policies fs query)
+abbrev pub filters_say : List Policy → FilterQuery → Result (List (List ℕ × List ℕ)) SlateDBError → Result (Option Bool) SlateDBError
+filters_say policies query filters = filters >>= λ fs. Ok (asked policies fs query)
 
-abbrev pub answered : List Policy → FilterQuery → Option Bool → Field (List (List ℕ × List ℕ)) → Field (Option Bool)
-answered policies query answer filters = filters >>= λ fs. Ok (also answer (asked policies fs.0 query), fs.1)
+abbrev pub filters_say_from : List Policy → FilterQuery → Option Bool → Field (List (List ℕ × List ℕ)) → Field (Option Bool)
+filters_say_from policies query answer filters = filters >>= λ fs. Ok (also answer (asked policies fs.0 query), fs.1)
 
 -- where a field of a part is refused, the part is
 abbrev pub in_filters : ℕ → SlateDBError → SlateDBError

@@ -5,8 +5,8 @@ ghost use Rattle.slate_block.specs.Damage.{number_field};
 ghost use Rattle.slate_filter.specs.Asking.{also, asked_by};
 ghost use Rattle.slate_filter.specs.Named.{named_pair};
 ghost use Rattle.slate_table.specs.Decoded.{IsFilters};
-ghost use Rattle.slate_table.specs.Filtered.{AnswersPart, RefusesPart};
-ghost use Rattle.slate_table.specs.FiltersReading.{name_field, filter_field, filters_from, filters_in, in_filters, answers, answered};
+ghost use Rattle.slate_table.specs.Filtered.{AnswersFilterPart, RefusesFilterPart};
+ghost use Rattle.slate_table.specs.FiltersReading.{name_field, filter_field, filters_from, filters_in, in_filters, filters_say, filters_say_from};
 ghost use Rattle.slate_table.specs.Reading.{AreNoFilters};
 
 use bytes::Bytes;
@@ -130,8 +130,8 @@ pub(crate) fn ask_filters(
     part: &[u8],
     query: &FilterQuery,
 ) -> Result<bool, SlateDBError>
-    ensures answer { IfOk result (AnswersPart (map (λ p. meaning p) policies.now) query.now part.now) }
-    ensures cause { IfErr result (RefusesPart (map (λ p. meaning p) policies.now) query.now part.now) }
+    ensures answer { IfOk result (AnswersFilterPart (map (λ p. meaning p) policies.now) query.now part.now) }
+    ensures cause { IfErr result (RefusesFilterPart (map (λ p. meaning p) policies.now) query.now part.now) }
 {
     let answer = answer_in(policies, part, query).unwrap_or(None);
     answer.ok_or(SlateDBError::InvalidFilterBlock {
@@ -145,7 +145,7 @@ fn answer_in(
     bytes: &[u8],
     query: &FilterQuery,
 ) -> Result<Option<bool>, SlateDBError>
-    ensures answer { result ≡ answers (map (λ p. meaning p) policies.now) query.now (filters_in bytes.now) }
+    ensures answer { result ≡ filters_say (map (λ p. meaning p) policies.now) query.now (filters_in bytes.now) }
     ensures bytes { IfOk result (λ _. (i : ℕ) → slice_index bytes.now i < 256) }
 {
     let (count, at) = counted(bytes)?;
@@ -165,7 +165,7 @@ fn answers_from(
     query: &FilterQuery,
 ) -> Result<(Option<bool>, usize), SlateDBError>
     requires { at ≤ length bytes.now }
-    ensures { result ≡ answered (map (λ p. meaning p) policies.now) query.now (Some true)
+    ensures { result ≡ filters_say_from (map (λ p. meaning p) policies.now) query.now (Some true)
         (filters_from count bytes.now at) }
 {
     let mut answer = Some(true);

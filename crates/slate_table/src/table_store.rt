@@ -45,7 +45,7 @@ ghost use Rattle.slate_table.specs.Reading.{
 use crate::encoded_table::EncodedSsTable;
 use crate::filters_reading::{ask_filters, decode_filters};
 use crate::info::SsTableHandle;
-use crate::paths::table_path;
+use crate::paths::{LONGEST_ROOT, PATH_ROOM, short_path, table_path};
 use crate::section::{BLOCK_KIND, FILTERS_KIND, INDEX_KIND, SectionPlace, open_section};
 use crate::sst_index::SstIndex;
 use bytes::Bytes;
@@ -285,8 +285,29 @@ pub(crate) fn read<S: Store>(
     ensures none { OnErr result (S.acts store.new ≡ S.acts store.old) }
     ensures reaches { Reaches S.objects S.faults store.old store.new result }
 {
+    if root.len() <= LONGEST_ROOT {
+        let mut room = [0; PATH_ROOM];
+        let path = short_path(&mut room, root, id);
+        return read_at(alloc, store, path, place);
+    }
     let path = table_path(alloc, root, id)?;
-    let answer = store.read_range(alloc, path.as_str(), place.0, place.1)?;
+    read_at(alloc, store, path.as_str(), place)
+}
+
+/// What a store answers to one read of the object at a path, as `read` does.
+fn read_at<S: Store>(
+    alloc: Global,
+    store: &mut S,
+    path: &str,
+    place: (u64, u64),
+) -> Result<Option<Bytes>, SlateDBError>
+    ensures read { IfOk result (λ answer. IsRead (S.objects store.old) (S.acts store.old) (S.acts store.new) path.now place.0 place.1 answer) }
+    ensures whole { IfOk result (λ answer. IfSome answer (λ bytes. length bytes ≡ place.1)) }
+    ensures cause { IfErr result (λ e. IsStoreFault (S.faults store.old) (S.faults store.new) e) }
+    ensures none { OnErr result (S.acts store.new ≡ S.acts store.old) }
+    ensures reaches { Reaches S.objects S.faults store.old store.new result }
+{
+    let answer = store.read_range(alloc, path, place.0, place.1)?;
     Ok(whole_answer(answer, place.1))
 }
 

@@ -13,7 +13,8 @@
 --     IsFault before after e      e is a fault that came in the call, or want of memory
 --     StillBut stays before after result      a count is as it was, and at an error what stays says
 --     IsStoreStill, IsOperatorStill, IsTransformerStill before after result      the part's count is as it was, but where the result is its fault
---     IsStill before after result      each count is as it was, but where the result is a fault of that part
+--     unblamed e counts, unblamed_by result counts      the counts without that of the part whose fault the error, or the result, is
+--     IsStill before after result      the counts are as they were, but for that of the part whose fault the result is
 --     PutsNothing act, AddsReads before after      the act is no put; the acts from before are still told, and behind them more of which none is a put
 --     OnlyReads before after      a call puts nothing in the store and changes no part; no count of faults fell
 --     Puts before after      a call that may put: it changes no part, and no count of faults fell
@@ -116,10 +117,18 @@ IsOperatorStill before after result = StillBut OperatorStays before after result
 abbrev pub IsTransformerStill : {A : Type 0} → ℕ → ℕ → Result A SlateDBError → Type 0
 IsTransformerStill before after result = StillBut TransformerStays before after result
 
-pub record IsStill {A : Type 0} (before after : Counts) (result : Result A SlateDBError) : Type 0 where
-  pub store : IsStoreStill before.store after.store result
-  pub operator : IsOperatorStill before.operator after.operator result
-  pub transformer : IsTransformerStill before.transformer after.transformer result
+unfoldable pub unblamed : SlateDBError → Counts → Counts
+unblamed StoreFault counts = record counts { store = 0 }
+unblamed (Callback m) counts = record counts { operator = 0 }
+unblamed BlockTransformError counts = record counts { transformer = 0 }
+unblamed _ counts = counts
+
+abbrev pub unblamed_by : {A : Type 0} → Result A SlateDBError → Counts → Counts
+unblamed_by (Ok x) counts = counts
+unblamed_by (Err e) counts = unblamed e counts
+
+abbrev pub IsStill : {A : Type 0} → Counts → Counts → Result A SlateDBError → Type 0
+IsStill before after result = unblamed_by result after ≡ unblamed_by result before
 
 -- ---- what a call leaves
 

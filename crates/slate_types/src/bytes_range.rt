@@ -7,6 +7,7 @@ ghost use Rattle.slate_types.specs.Partitions.{counts};
 use crate::byte_range_bounds::ByteRangeBounds;
 use crate::error::SlateDBError;
 use crate::iter::IterationOrder;
+use crate::key_order::compare_keys;
 use bytes::Bytes;
 use std::alloc::{AllocError, Global};
 use std::ops::{Bound, RangeFull};
@@ -132,7 +133,7 @@ impl BytesRange {
 pub(crate) fn is_before(a: &[u8], b: &[u8], upto: bool) -> bool
     ensures { result ≡ counts upto a.now b.now }
 {
-    let order = a.cmp(b);
+    let order = compare_keys(a, b);
     if upto { order.is_le() } else { order.is_lt() }
 }
 

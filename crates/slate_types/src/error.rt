@@ -167,7 +167,7 @@ impl SlateDBError {
     /// What is wrong.
     fn text(&self) -> &'static str {
         match self {
-            Self::TransactionConflict { .. } => "a later commit conflicts",
+            Self::TransactionConflict { .. } => "another commit came first",
             Self::IncompatibleMergeTtls { .. } => "merges of one key differ in expiry",
             Self::InvalidSegmentPrefix { .. } => "segment prefixes nest",
             Self::EmptyKey => "the key is empty",

@@ -1,11 +1,11 @@
 //! Rows in an order, one at a time.
-ghost use Rattle.std.specs.Prelude.{◌≡◌, ◌⊎◌, ◌<◌, ◌≤◌, ◌++◌, ℕ, List, [], Option, Some, None, IfOk, IfErr, IsSome, OnOk};
+ghost use Rattle.std.specs.Prelude.{◌≡◌, ◌⊎◌, ◌<◌, ◌≤◌, ◌++◌, ℕ, List, [], Option, Some, None, Err, IfOk, IfErr, IsSome, OnOk};
 ghost use Rattle.std.specs.List.{AllByRecursion};
 ghost use Rattle.slate_types.specs.declared.error.SlateDBError.{SlateDBError};
 ghost use Rattle.slate_types.specs.declared.iter.IterationOrder.{IterationOrder};
 ghost use Rattle.slate_types.specs.declared.types.RowEntry.{RowEntry};
 ghost use Rattle.slate_types.specs.Iteration.{comes_before, drop_before, IsInOrder, TakesRow};
-ghost use Rattle.slate_types.specs.Outside.{Act, Meaning, Reach, no_reach, IsFault, OnlyReads};
+ghost use Rattle.slate_types.specs.Outside.{Act, Meaning, Reach, no_reach, IsFault, IsStill, OnlyReads};
 ghost use Rattle.slate_types.specs.Refusing.{IsDamage, IsReady, NoMore, NoMoreBut};
 ghost use Rattle.slate_types.specs.Steps.{TakesAll};
 ghost use Rattle.slate_types.specs.World.{World, AnswersWorld, Checks, Made, Sees};
@@ -86,6 +86,9 @@ pub trait RowEntryIterator<E: Outside>: Drop {
     /// calls.
     ghost stays: { Self → Meaning → List Act → Option (List ℕ) → SlateDBError → Self → Type 0 };
 
+    /// That `next` waits for `init`, and answers that alone.
+    ghost unbegun: { Self → Type 0 };
+
     /// The order in which its rows come.
     fn iteration_order(&self) -> IterationOrder
         ensures { result ≡ order self.now };
@@ -100,19 +103,23 @@ pub trait RowEntryIterator<E: Outside>: Drop {
         ensures cause { IfErr result (λ e. Made (E.reach env.old) (E.reach env.new) (λ reads. (IsFault (E.reach env.old) (E.reach env.new) e ⊎ refuses self.old (E.reach env.old).meaning reads None e) × stays self.old (E.reach env.old).meaning reads None e self.new × NoMoreBut e (refuses self.old (E.reach env.old).meaning) reads (refuses self.new (E.reach env.old).meaning))) }
         ensures no_larger { bound self.new ≤ bound self.old }
         ensures order { order self.new ≡ order self.old }
-        ensures reads { OnlyReads (E.reach env.old) (E.reach env.new) };
+        ensures reads { OnlyReads (E.reach env.old) (E.reach env.new) }
+        ensures counts { IsStill (E.reach env.old).faults (E.reach env.new).faults result };
 
     /// The first row of the rest, which is taken off, or `None` at its end.
     fn next(&mut self, alloc: Global, env: &mut E) -> Result<Option<RowEntry>, SlateDBError>
         ensures rows { (w : World) → Sees w (E.reach env.old) (E.reach env.new) → sound self.old w → IfOk result (λ answer. TakesRow (rest self.old w) answer (rest self.new w)) }
         ensures still { (w : World) → Sees w (E.reach env.old) (E.reach env.new) → sound self.old w → sound self.new w }
         ensures checked { (w : World) → sound self.old w → OnOk result (Checks w (E.reach env.old) (E.reach env.new)) }
+        ensures unbegun { unbegun self.old →
+            (result ≡ Err SlateDBError.IteratorNotInitialized) × (self.new ≡ self.old) × (env.new ≡ env.old) }
         ensures taken { IfOk result (λ answer. Made (E.reach env.old) (E.reach env.new) (λ reads. takes self.old (E.reach env.old).meaning reads answer self.new × NoMore (refuses self.old (E.reach env.old).meaning) reads (refuses self.new (E.reach env.old).meaning))) }
         ensures cause { IfErr result (λ e. Made (E.reach env.old) (E.reach env.new) (λ reads. (IsFault (E.reach env.old) (E.reach env.new) e ⊎ refuses self.old (E.reach env.old).meaning reads None e) × stays self.old (E.reach env.old).meaning reads None e self.new × NoMoreBut e (refuses self.old (E.reach env.old).meaning) reads (refuses self.new (E.reach env.old).meaning))) }
         ensures smaller { IfOk result (λ answer. IsSome answer → bound self.new < bound self.old) }
         ensures no_larger { bound self.new ≤ bound self.old }
         ensures order { order self.new ≡ order self.old }
-        ensures reads { OnlyReads (E.reach env.old) (E.reach env.new) };
+        ensures reads { OnlyReads (E.reach env.old) (E.reach env.new) }
+        ensures counts { IsStill (E.reach env.old).faults (E.reach env.new).faults result };
 
     /// Takes off exactly the leading rows that the order puts before the key.
     fn seek(&mut self, alloc: Global, key: &[u8], env: &mut E) -> Result<(), SlateDBError>
@@ -123,7 +130,8 @@ pub trait RowEntryIterator<E: Outside>: Drop {
         ensures cause { IfErr result (λ e. Made (E.reach env.old) (E.reach env.new) (λ reads. (IsFault (E.reach env.old) (E.reach env.new) e ⊎ refuses self.old (E.reach env.old).meaning reads (Some key.now) e) × stays self.old (E.reach env.old).meaning reads (Some key.now) e self.new × NoMoreBut e (refuses self.old (E.reach env.old).meaning) reads (refuses self.new (E.reach env.old).meaning))) }
         ensures no_larger { bound self.new ≤ bound self.old }
         ensures order { order self.new ≡ order self.old }
-        ensures reads { OnlyReads (E.reach env.old) (E.reach env.new) };
+        ensures reads { OnlyReads (E.reach env.old) (E.reach env.new) }
+        ensures counts { IsStill (E.reach env.old).faults (E.reach env.new).faults result };
 
     /// The rest comes in the order.
     ghost rising: { (x : Self) (w : World) → sound x w → IsInOrder (order x) (rest x w) };
@@ -157,6 +165,7 @@ pub fn collect_rows<E: Outside, I: RowEntryIterator<E>>(
     ensures checked { (w : World) → I.sound rows.old w → OnOk result (Checks w (E.reach env.old) (E.reach env.new)) }
     ensures cause { IfErr result (λ e. Made (E.reach env.old) (E.reach env.new) (λ reads. IsFault (E.reach env.old) (E.reach env.new) e ⊎ I.refuses rows.old (E.reach env.old).meaning reads None e)) }
     ensures reads { OnlyReads (E.reach env.old) (E.reach env.new) }
+    ensures counts { IsStill (E.reach env.old).faults (E.reach env.new).faults result }
 {
     let mut taken = Vec::new(alloc);
     while let Some(row) = rows.next(alloc, env)? {

@@ -9,6 +9,7 @@ mod derived;
 pub mod error;
 pub mod filter_policy;
 pub mod iter;
+pub mod key_order;
 pub mod laws;
 pub mod merge_operator;
 pub mod partitioned_keyspace;
@@ -28,6 +29,7 @@ pub use config::{
 pub use error::SlateDBError;
 pub use filter_policy::{FilterContext, FilterQuery, PrefixTarget};
 pub use iter::{IterationOrder, Outside, RowEntryIterator, TrackedRowEntryIterator, collect_rows};
+pub use key_order::compare_keys;
 pub use merge_operator::{MergeOperator, MergeOperatorError, NoOperator};
 pub use partitioned_keyspace::{
     RangePartitionedKeySpace, first_partition_including_key,

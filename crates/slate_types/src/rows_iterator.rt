@@ -74,6 +74,8 @@ impl<E: Outside> RowEntryIterator<E> for RowsIterator {
 
     ghost stays = { λ _ _ _ _ _ _. ⊥ };
 
+    ghost unbegun = { λ _. ⊥ };
+
     ghost rising = { λ _ _ h. h };
 
     ghost more = { λ _ _ _ _ _ _ h. h };

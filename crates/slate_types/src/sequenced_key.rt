@@ -6,6 +6,7 @@ ghost use Rattle.std.specs.Cmp.Rules.{comparing};
 ghost use Rattle.std.specs.Ordering.{as_partial_cmp};
 ghost use Rattle.slate_types.specs.Rows.{sequenced_cmp};
 
+use crate::key_order::compare_keys;
 use bytes::Bytes;
 use std::cmp::Ordering;
 
@@ -36,9 +37,9 @@ impl Ord for SequencedKey {
     ghost matches_eq = { Prim.search (comparing, rules) };
 
     fn cmp(&self, other: &SequencedKey) -> Ordering {
-        self.user_key
-            .cmp(&other.user_key)
-            .then(other.seq.cmp(&self.seq))
+        compare_keys(self.user_key.as_slice(), other.user_key.as_slice()).then(
+            other.seq.cmp(&self.seq),
+        )
     }
 }
 

@@ -1,4 +1,4 @@
-use Rattle.std.proofs.Common.{◌≡◌, ◌≤◌, ◌∙◌, ◌++◌, sym, subst, arith, None, [], List}
+use Rattle.std.proofs.Common.{◌≡◌, ◌≤◌, ◌∙◌, ◌++◌, sym, subst, arith, None, [], List, refl}
 use Rattle.std.specs.BinaryHeap.{heap_items}
 use Rattle.std.proofs.lemmas.List.Sorted.{length_permutation}
 use Rattle.slate_types.specs.declared.iter.IterationOrder.TheVariants.{Ascending}
@@ -17,7 +17,7 @@ use Rattle.slate_merge.proofs.heads.begin_again.Goals as goal
 use Rattle.std.proofs.lemmas.List.{nil_from_length}
 
 pub heads-init : goal.heads-init
-heads-init g c = rw c.new-done.ensures.items (record { moves = λ o. moves_none _ _ _ _ _; brought = sources_none (offers g.I.RowEntryIterator.begins g.I.RowEntryIterator.takes g.I.RowEntryIterator.seeks) g.I.RowEntryIterator.refuses (g.E.Outside.reach c.args.env.now) (begun_sources (heap_items c.args.heads.now)); heap = rw c.new-done.ensures.items at c.new-done.ensures.heap_order; ordered = λ o h. h; same_rows = λ r has. has; ready = tt; no_larger = omega arith; reads = reads_none _ })
+heads-init g c = rw c.new-done.ensures.items (record { moves = λ o. moves_none _ _ _ _ _; brought = sources_none (offers g.I.RowEntryIterator.begins g.I.RowEntryIterator.takes g.I.RowEntryIterator.seeks) g.I.RowEntryIterator.refuses (g.E.Outside.reach c.args.env.now) (begun_sources (heap_items c.args.heads.now)); heap = rw c.new-done.ensures.items at c.new-done.ensures.heap_order; ordered = λ o h. h; same_rows = λ r has. has; ready = tt; no_larger = omega arith; reads = reads_none _; counts = refl })
 
 pub heads-preserved : goal.heads-preserved
 heads-preserved g c =
@@ -42,6 +42,7 @@ heads-preserved g c =
       ready = renew_ready g.I.RowEntryIterator.rest g.I.RowEntryIterator.sound g.I.RowEntryIterator.refuses g.I.RowEntryIterator.bound g.I.RowEntryIterator.order g.I.RowEntryIterator.begins (g.E.Outside.reach c.heads.env) (g.E.Outside.reach c.begin_head.new.env) done new x s (g.E.Outside.reach c.args.env.now).meaning within renews (inv.moves Ascending).made.1.meaning inv.ready;
       no_larger = (let less = renewed_bound g.I.RowEntryIterator.bound done left others new x y out within renews.no_larger [] in omega (arith, less, inv.no_larger));
       reads = reads_then (g.E.Outside.reach c.args.env.now) (g.E.Outside.reach c.heads.env) (g.E.Outside.reach c.begin_head.new.env) inv.reads n.reads;
+      counts = n.counts ∙ inv.counts;
     }
 
 pub heads-smaller : goal.heads-smaller

@@ -1,4 +1,4 @@
-use Rattle.std.proofs.Common.{◌≤◌, ◌++◌, [], length}
+use Rattle.std.proofs.Common.{◌≡◌, ◌≤◌, ◌++◌, [], length}
 use Rattle.std.specs.BinaryHeap.{heap_items, IsHeap}
 use Rattle.slate_types.specs.declared.iter.IterationOrder.{IterationOrder}
 use Rattle.slate_types.specs.declared.types.RowEntry.{RowEntry}
@@ -32,6 +32,7 @@ invariant-heads g l =
       ready : AreReady refuses a.meaning (heap_items l.done);
       no_larger : merging_bound bound [] now ≤ merging_bound bound [] before;
       reads : OnlyReads a b;
+      counts : b.faults ≡ a.faults;
     }
 
 abbrev pub decreases-heads : goal.decreases-heads

@@ -1,4 +1,4 @@
-use Rattle.std.proofs.Common.{◌≡◌, ◌∙◌, sym, ap, subst, arith, None, [], ◌∷◌, List, length}
+use Rattle.std.proofs.Common.{◌≡◌, ◌∙◌, sym, ap, subst, arith, None, [], ◌∷◌, List, length, refl}
 use Rattle.std.specs.BinaryHeap.{heap_items}
 use Rattle.slate_types.specs.Outside.{Meaning}
 use Rattle.slate_types.proofs.Moves.{Moves, moves_none, moves_both}
@@ -11,7 +11,7 @@ use Rattle.slate_merge.proofs.heads.begin_all.Goals as goal
 use Rattle.std.proofs.lemmas.List.{nil_from_length}
 
 pub sources-init : goal.sources-init
-sources-init g c = rw c.new-heads.ensures.items (record { moves = moves_none _ _ _ _ _; brought = sources_none (offers g.I.RowEntryIterator.begins g.I.RowEntryIterator.takes g.I.RowEntryIterator.seeks) g.I.RowEntryIterator.refuses (g.E.Outside.reach c.args.env.now) (waiting_sources c.args.waiting.now.items); heaped = record { heap = rw c.new-heads.ensures.items at c.new-heads.ensures.heap_order; ordered = tt }; ready = tt; no_larger = omega arith; reads = reads_none _ })
+sources-init g c = rw c.new-heads.ensures.items (record { moves = moves_none _ _ _ _ _; brought = sources_none (offers g.I.RowEntryIterator.begins g.I.RowEntryIterator.takes g.I.RowEntryIterator.seeks) g.I.RowEntryIterator.refuses (g.E.Outside.reach c.args.env.now) (waiting_sources c.args.waiting.now.items); heaped = record { heap = rw c.new-heads.ensures.items at c.new-heads.ensures.heap_order; ordered = tt }; ready = tt; no_larger = omega arith; reads = reads_none _; counts = refl })
 
 pub sources-preserved : goal.sources-preserved
 sources-preserved g c =
@@ -39,6 +39,7 @@ sources-preserved g c =
           let same : merging_bound g.I.RowEntryIterator.bound (c.in-Some.source ∷ others) old ≡ merging_bound g.I.RowEntryIterator.bound c.sources.waiting.items old = ap (λ (l : List g.row.I.Denot). merging_bound g.I.RowEntryIterator.bound l old) (sym popped) in
           omega (arith, less, same, inv.no_larger));
       reads = reads_then (g.E.Outside.reach c.args.env.now) (g.E.Outside.reach c.sources.env) (g.E.Outside.reach c.begin_source.new.env) inv.reads n.reads;
+      counts = n.counts ∙ inv.counts;
     }
 
 pub sources-smaller : goal.sources-smaller

@@ -1,4 +1,4 @@
-use Rattle.std.proofs.Common.{◌≤◌, [], length}
+use Rattle.std.proofs.Common.{◌≡◌, ◌≤◌, [], length}
 use Rattle.std.specs.BinaryHeap.{heap_items}
 use Rattle.slate_types.specs.Outside.{OnlyReads}
 use Rattle.slate_types.proofs.Moves.{Moves}
@@ -20,6 +20,7 @@ invariant-sources g l =
       ready : AreReady refuses a.meaning (heap_items l.heads);
       no_larger : merging_bound g.I.RowEntryIterator.bound l.waiting.items (heap_items l.heads) ≤ merging_bound g.I.RowEntryIterator.bound l.initial.waiting.items [];
       reads : OnlyReads a b;
+      counts : b.faults ≡ a.faults;
     }
 
 abbrev pub decreases-sources : goal.decreases-sources

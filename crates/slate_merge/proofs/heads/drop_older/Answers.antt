@@ -1,4 +1,5 @@
-use Rattle.std.proofs.Common.{◌≡◌, ◌∙◌, refl, sym, arith, true, false, None, Some}
+use Rattle.std.proofs.Common.{◌≡◌, ◌∙◌, refl, sym, arith, true, false, None, Some, ap}
+use Rattle.slate_types.specs.Outside.{unblamed}
 use Rattle.std.specs.BinaryHeap.{heap_items}
 use Rattle.slate_types.specs.declared.iter.IterationOrder.{IterationOrder}
 use Rattle.slate_types.specs.declared.iter.IterationOrder.TheVariants.{Ascending}
@@ -16,7 +17,7 @@ use Rattle.slate_merge.proofs.MergeLoops.{top_some, front_key, counts_none, coun
 use Rattle.slate_merge.proofs.heads.drop_older.Goals as goal
 
 pub older-init : goal.older-init
-older-init g c = record { moves = λ o. moves_none _ _ _ _ _; brought = sources_none (offers g.I.RowEntryIterator.begins g.I.RowEntryIterator.takes g.I.RowEntryIterator.seeks) g.I.RowEntryIterator.refuses (g.E.Outside.reach c.args.env.now) (begun_sources (heap_items c.args.heads.now)); heaped = λ o h. h; count = λ _ _ _ _. refl; counts = counts_none _ _; no_larger = omega arith; reads = reads_none _ }
+older-init g c = record { moves = λ o. moves_none _ _ _ _ _; brought = sources_none (offers g.I.RowEntryIterator.begins g.I.RowEntryIterator.takes g.I.RowEntryIterator.seeks) g.I.RowEntryIterator.refuses (g.E.Outside.reach c.args.env.now) (begun_sources (heap_items c.args.heads.now)); heaped = λ o h. h; count = λ _ _ _ _. refl; counts = counts_none _ _; no_larger = omega arith; reads = reads_none _; faults = refl }
 
 pub older-preserved : goal.older-preserved
 older-preserved g c =
@@ -37,6 +38,7 @@ older-preserved g c =
       counts = counts_more c.args.key.now _ _ _ c.in-Ok-Some.row inv.counts (front_key c.args.key.now (heap_items c.older.heads) top.0 c.in-Ok-Some.row top.1 (sym top.2 ∙ c.older-test.true) (n.step Ascending).taken.2.0.0) more;
       no_larger = omega (arith, n.no_larger, inv.no_larger);
       reads = reads_then _ _ _ inv.reads n.reads;
+      faults = n.counts ∙ inv.faults;
     }
 
 pub older-smaller : goal.older-smaller
@@ -62,6 +64,7 @@ returns-in-Err g c =
       no_larger = tt;
       cause = then_fails (blames g.I.RowEntryIterator.refuses (begun_sources (heap_items c.args.heads.now))) (blames g.I.RowEntryIterator.refuses (begun_sources (heap_items c.older.heads))) (g.E.Outside.reach c.args.env.now) (g.E.Outside.reach c.older.env) (g.E.Outside.reach c.take_first.new.env) None c.in-Err.error inv.reads.later (inv.moves Ascending).made n.cause;
       reads = reads_then _ _ _ inv.reads n.reads;
+      counts = n.counts ∙ ap (unblamed c.in-Err.error) inv.faults;
     }
 
 pub returns : goal.returns
@@ -81,4 +84,5 @@ returns g c =
       no_larger = inv.no_larger;
       cause = tt;
       reads = inv.reads;
+      counts = inv.faults;
     }

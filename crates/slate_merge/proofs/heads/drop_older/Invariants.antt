@@ -27,6 +27,7 @@ invariant-older g l =
       counts : CountsKey l.fn.key l.initial.processed l.processed;
       no_larger : merging_bound g.I.RowEntryIterator.bound [] (heap_items l.heads) ≤ merging_bound g.I.RowEntryIterator.bound [] (heap_items l.initial.heads);
       reads : OnlyReads a b;
+      faults : b.faults ≡ a.faults;
     }
 
 abbrev pub decreases-older : goal.decreases-older

@@ -1,4 +1,4 @@
-use Rattle.std.proofs.Common.{◌≤◌, []}
+use Rattle.std.proofs.Common.{◌≡◌, ◌≤◌, []}
 use Rattle.std.specs.BinaryHeap.{heap_items}
 use Rattle.slate_types.specs.declared.iter.IterationOrder.{IterationOrder}
 use Rattle.slate_types.specs.Iteration.{drop_before}
@@ -20,6 +20,7 @@ invariant-sources g l =
       heaped : (o : IterationOrder) → AreHeaped o (heap_items l.initial.heads) → AreHeaped o (heap_items l.heads);
       no_larger : merging_bound g.I.RowEntryIterator.bound [] (heap_items l.heads) ≤ merging_bound g.I.RowEntryIterator.bound [] (heap_items l.initial.heads);
       reads : OnlyReads a b;
+      counts : b.faults ≡ a.faults;
     }
 
 abbrev pub decreases-sources : goal.decreases-sources

@@ -1,4 +1,4 @@
-use Rattle.std.proofs.Common.{◌≤◌, None, sym, subst, []}
+use Rattle.std.proofs.Common.{◌≤◌, None, sym, subst, [], refl}
 use Rattle.std.specs.BinaryHeap.{heap_items}
 use Rattle.std.proofs.lemmas.Result.{IfOk-weaker, IfErr-weaker}
 use Rattle.slate_types.proofs.Moves.{Moves}
@@ -31,6 +31,7 @@ returns-in-New g c =
       cause = IfErr-weaker c.begin_all.result _ (λ e. IsFaultOr (refuses_in g.I.RowEntryIterator.refuses) (g.E.Outside.reach c.args.env.now) (g.E.Outside.reach c.begin_all.new.env) x None e)
           (λ e m. waiting_fails g.I.RowEntryIterator.refuses (g.E.Outside.reach c.args.env.now) (g.E.Outside.reach c.begin_all.new.env) None e x z c.in-New.is tt m) c.begin_all.ensures.cause;
       reads = c.begin_all.ensures.reads;
+      counts = c.begin_all.ensures.counts;
     }
 
 pub returns-in-Begun : goal.returns-in-Begun
@@ -50,6 +51,7 @@ returns-in-Begun g c =
       cause = IfErr-weaker c.begin_again.result _ (λ e. IsFaultOr (refuses_in g.I.RowEntryIterator.refuses) (g.E.Outside.reach c.args.env.now) (g.E.Outside.reach c.begin_again.new.env) x None e)
           (λ e m. begun_fails g.I.RowEntryIterator.refuses (g.E.Outside.reach c.args.env.now) (g.E.Outside.reach c.begin_again.new.env) None e x z c.in-Begun.is tt m) c.begin_again.ensures.cause;
       reads = c.begin_again.ensures.reads;
+      counts = c.begin_again.ensures.counts;
     }
 
 pub returns-in-Refused : goal.returns-in-Refused
@@ -62,4 +64,5 @@ returns-in-Refused g c = record {
   no_larger = tt;
   cause = again_fails g.I.RowEntryIterator.refuses (g.E.Outside.reach c.args.env.now) None c.in-Refused.refusal _ c.args.state.now c.in-Refused.is c.copy_of.ensures;
   reads = reads_none _;
+  counts = refl;
 }

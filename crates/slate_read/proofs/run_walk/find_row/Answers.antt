@@ -1,4 +1,5 @@
-use Rattle.std.proofs.Common.{arith}
+use Rattle.std.proofs.Common.{arith, ◌∙◌, ap}
+use Rattle.slate_types.specs.Outside.{unblamed_by}
 use Rattle.std.proofs.lemmas.Result.{IfErr-weaker, IfOk-weaker, on_ok_weaker}
 use Rattle.slate_types.proofs.Reaching.{reads_then}
 use Rattle.slate_merge.proofs.NoMoreRows.{added_hands}
@@ -19,6 +20,7 @@ returns-in-Ok g c =
       no_larger = on_ok_weaker c.take_row.result (λ k. (let first = s.no_larger in omega (arith, k, first))) t.no_larger;
       hands = IfOk-weaker c.take_row.result _ _ (λ answer k. added_hands (BringsOpen c.args.order) (refuses_open c.args.order) _ _ _ c.args.current.now c.skip_rows.new.current c.take_row.new.current answer s.adds k) t.hands;
       reads = reads_then _ _ _ s.reads t.reads;
+      counts = t.counts ∙ ap (unblamed_by c.take_row.result) s.counts;
     }
 
 pub returns-in-Err : goal.returns-in-Err
@@ -30,4 +32,5 @@ returns-in-Err g c = record {
   no_larger = tt;
   hands = tt;
   reads = c.in-Err.ensures.reads;
+  counts = c.in-Err.ensures.counts;
 }

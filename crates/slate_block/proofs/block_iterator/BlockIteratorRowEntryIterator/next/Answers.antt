@@ -1,3 +1,4 @@
+use Rattle.std.proofs.Common.{refl}
 use Rattle.slate_types.proofs.Reaching.{reads_none}
 use Rattle.slate_block.proofs.StepLaws.{all_checked, step_cause, taken_made, taken_rows, taken_rising, taken_smaller, taken_no_larger}
 use Rattle.slate_block.proofs.block_iterator.BlockIteratorRowEntryIterator.next.Goals as goal
@@ -13,4 +14,6 @@ returns g c = record {
   no_larger = taken_no_larger c.next_row.result c.args.self.now c.next_row.new.self c.next_row.ensures.read c.next_row.ensures.unchanged;
   order = c.next_row.ensures.order;
   reads = reads_none _;
+  counts = refl;
+  unbegun = λ never. absurd never;
 }

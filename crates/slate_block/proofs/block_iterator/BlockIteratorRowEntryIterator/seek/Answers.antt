@@ -1,3 +1,4 @@
+use Rattle.std.proofs.Common.{refl}
 use Rattle.slate_types.proofs.Reaching.{reads_none}
 use Rattle.slate_block.proofs.StepLaws.{all_checked, on_ok_both, seek_cause, sought_made, sought_rows, sought_still, sought_no_larger}
 use Rattle.slate_block.proofs.block_iterator.BlockIteratorRowEntryIterator.seek.Goals as goal
@@ -12,4 +13,5 @@ returns g c = record {
   no_larger = sought_no_larger c.skip_before.result c.args.key.now c.args.self.now c.skip_before.new.self c.skip_before.ensures.past c.skip_before.ensures.unchanged;
   order = c.skip_before.ensures.order;
   reads = reads_none _;
+  counts = refl;
 }

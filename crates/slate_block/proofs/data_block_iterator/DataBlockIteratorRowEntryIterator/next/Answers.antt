@@ -1,4 +1,4 @@
-use Rattle.std.proofs.Common.{ap}
+use Rattle.std.proofs.Common.{ap, refl}
 use Rattle.std.proofs.lemmas.Result.{on_err_weaker}
 use Rattle.slate_block.specs.EitherVersion.{left_of}
 use Rattle.slate_types.proofs.Reaching.{reads_none}
@@ -16,4 +16,6 @@ returns g c = record {
   no_larger = taken_no_larger c.next_row.result (left_of c.args.self.now) (left_of c.next_row.new.self) c.next_row.ensures.read (on_err_weaker c.next_row.result (ap left_of) c.next_row.ensures.unchanged);
   order = c.next_row.ensures.order;
   reads = reads_none _;
+  counts = refl;
+  unbegun = λ never. absurd never;
 }

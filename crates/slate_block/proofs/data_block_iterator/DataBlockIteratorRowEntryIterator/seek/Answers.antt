@@ -1,4 +1,4 @@
-use Rattle.std.proofs.Common.{ap}
+use Rattle.std.proofs.Common.{ap, refl}
 use Rattle.std.proofs.lemmas.Result.{on_err_weaker}
 use Rattle.slate_block.specs.EitherVersion.{left_of}
 use Rattle.slate_types.proofs.Reaching.{reads_none}
@@ -15,4 +15,5 @@ returns g c = record {
   no_larger = sought_no_larger c.skip_before.result c.args.key.now (left_of c.args.self.now) (left_of c.skip_before.new.self) c.skip_before.ensures.past (on_err_weaker c.skip_before.result (ap left_of) c.skip_before.ensures.unchanged);
   order = c.skip_before.ensures.order;
   reads = reads_none _;
+  counts = refl;
 }

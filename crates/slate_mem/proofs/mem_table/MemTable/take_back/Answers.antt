@@ -1,20 +1,27 @@
-use Rattle.std.proofs.Common.{◌∙◌, ◌==◌, not, filter, ap, sym, subst}
-use Rattle.std.specs.Map.{values_of}
+use Rattle.std.proofs.Common.{◌==◌, ◌≤◌, ◌∙◌, not, length, filter, ap, sym, subst, arith}
 use Rattle.slate_types.specs.declared.types.RowEntry.{RowEntry}
+use Rattle.slate_types.proofs.Lists.{AllByRecursion_filter}
+use Rattle.slate_mem.specs.Slots.{NoneLater, standing}
 use Rattle.slate_mem.specs.Table.{MemTableModel}
-use Rattle.slate_mem.specs.Tied.{AreTied}
-use Rattle.slate_mem.proofs.TableLaws.{tied_filtered, values_kept}
+use Rattle.slate_mem.proofs.SlotLaws.{few_kept, others}
 use Rattle.slate_mem.proofs.mem_table.MemTable.take_back.Goals as goal
+
+pub take_back-requires : goal.take_back-requires
+take_back-requires c = c.self.invariant.slots
 
 pub invariant_of-self : goal.invariant_of-self
 invariant_of-self c =
-    let e = c.drop_rows.ensures in
+    let e = c.take_back.ensures in
+    let was = c.self.invariant in
+    let rows = standing c.self.inside.slots.items in
     record {
-      rows = record { tied = subst AreTied (sym e.rows) (tied_filtered (λ f. not (f.1.seq == c.args.seq)) _ c.self.invariant.rows.tied); rising = e.rising };
+      slots = e.slots;
+      low = subst (NoneLater c.self.inside.last) (sym e.rows) (AllByRecursion_filter (λ r. r.seq ≤ c.self.inside.last) (others c.args.seq) rows was.low);
+      fits = was.fits;
+      few = omega (arith, was.few, few_kept (others c.args.seq) rows, ap length e.rows);
+      counted = was.counted;
       rising = c.drop_prefixes.ensures.rising;
     }
 
 pub returns-clause-rows : goal.returns-clause-rows
-returns-clause-rows c =
-    let keeps = λ (r : RowEntry). not (r.seq == c.args.seq) in
-    ap values_of c.drop_rows.ensures.rows ∙ values_kept keeps c.self.inside.rows.entries ∙ ap (λ (t : MemTableModel). filter keeps t.rows) c.self.view_is
+returns-clause-rows c = c.take_back.ensures.rows ∙ ap (λ (t : MemTableModel). filter (λ (r : RowEntry). not (r.seq == c.args.seq)) t.rows) c.self.view_is

@@ -1,7 +1,9 @@
-use Rattle.std.proofs.Common.{◌∙◌, Some, None, refl, sym, ap, arith}
+use Rattle.std.proofs.Common.{◌∙◌, Some, None, refl, sym, ap, subst, arith}
+use Rattle.slate_types.specs.Outside.{unblamed}
 use Rattle.std.proofs.lemmas.Result.{err_from_is_err_and, IfOk-from_err}
 use Rattle.slate_types.proofs.Reaching.{reads_none, reads_then}
 use Rattle.slate_merge.proofs.Filters.{went_none, went_on, went_step, went_still, went_fails}
+use Rattle.slate_merge.proofs.Waitings.{ok_waits}
 use Rattle.slate_merge.proofs.filter_iterator.FilterIteratorRowEntryIterator.next.Goals as goal
 
 pub loop-row-init : goal.loop-row-init
@@ -11,6 +13,8 @@ loop-row-init g c = record {
   bound = omega arith;
   order = refl;
   reads = reads_none _;
+  counts = refl;
+  unbegun = λ waits. (refl, refl);
 }
 
 pub loop-row-preserved : goal.loop-row-preserved
@@ -24,6 +28,8 @@ loop-row-preserved g c =
       bound = omega (arith, i.bound, n.no_larger);
       order = n.order ∙ i.order;
       reads = reads_then _ _ _ i.reads n.reads;
+      counts = n.counts ∙ i.counts;
+      unbegun = λ waits. ok_waits _ _ (n.unbegun (subst (λ s. g.I.RowEntryIterator.unbegun s.iterator) (sym (i.unbegun waits).0) waits)).0;
     }
 
 pub returns-in_err-row : goal.returns-in_err-row
@@ -36,11 +42,13 @@ returns-in_err-row g c =
       still = went_still _ _ _ _ _ _ _ _ _ _ _ _ i.went n.cause.1 n.still;
       checked = λ w h. IfOk-from_err c.from_residual.result _ c.from_residual.ensures.0;
       taken = IfOk-from_err c.from_residual.result _ c.from_residual.ensures.0;
+      unbegun = λ waits. (let u = i.unbegun waits in let v = n.unbegun (subst (λ s. g.I.RowEntryIterator.unbegun s.iterator) (sym u.0) waits) in rw (p.1, p.2) (v.0, (λ j. record c.loop-row.self { iterator = v.1 j }) ∙ u.0, v.2 ∙ u.1));
       cause = rw (p.1, p.2) (went_fails _ _ _ _ g.I.RowEntryIterator.stays _ _ _ _ _ _ _ _ _ _ _ _ i.went i.reads.later n.cause i.predicate);
       smaller = IfOk-from_err c.from_residual.result _ c.from_residual.ensures.0;
       no_larger = omega (arith, i.bound, n.no_larger);
       order = n.order ∙ i.order;
       reads = reads_then _ _ _ i.reads n.reads;
+      counts = rw (p.1, p.2) (n.counts ∙ ap (unblamed c.in_err-row.field-0.0) i.counts);
     }
 
 pub returns-then-keep : goal.returns-then-keep
@@ -54,11 +62,13 @@ returns-then-keep g c =
       still = step.still;
       checked = step.checked;
       taken = (step.taken.0, step.taken.1, ((step.taken.2.0, i.predicate), step.taken.2.1));
+      unbegun = λ waits. ok_waits _ _ (n.unbegun (subst (λ s. g.I.RowEntryIterator.unbegun s.iterator) (sym (i.unbegun waits).0) waits)).0;
       cause = tt;
       smaller = λ some. omega (arith, i.bound, n.smaller refl);
       no_larger = omega (arith, i.bound, n.no_larger);
       order = n.order ∙ i.order;
       reads = reads_then _ _ _ i.reads n.reads;
+      counts = n.counts ∙ i.counts;
     }
 
 pub returns : goal.returns
@@ -71,11 +81,13 @@ returns g c =
       still = step.still;
       checked = step.checked;
       taken = (step.taken.0, step.taken.1, ((step.taken.2.0, i.predicate), step.taken.2.1));
+      unbegun = λ waits. ok_waits _ _ (n.unbegun (subst (λ s. g.I.RowEntryIterator.unbegun s.iterator) (sym (i.unbegun waits).0) waits)).0;
       cause = tt;
       smaller = λ some. cc;
       no_larger = omega (arith, i.bound, n.no_larger);
       order = n.order ∙ i.order;
       reads = reads_then _ _ _ i.reads n.reads;
+      counts = n.counts ∙ i.counts;
     }
 
 pub loop-row-smaller : goal.loop-row-smaller

@@ -10,6 +10,8 @@ invariant-loop-row g l = record {
   bound : g.I.RowEntryIterator.bound l.self.iterator ≤ g.I.RowEntryIterator.bound l.initial.self.iterator;
   order : g.I.RowEntryIterator.order l.self.iterator ≡ g.I.RowEntryIterator.order l.initial.self.iterator;
   reads : OnlyReads (g.E.Outside.reach l.initial.env) (g.E.Outside.reach l.env);
+  counts : (g.E.Outside.reach l.env).faults ≡ (g.E.Outside.reach l.initial.env).faults;
+  unbegun : g.I.RowEntryIterator.unbegun l.initial.self.iterator → (l.self ≡ l.initial.self) × (l.env ≡ l.initial.env);
 }
 
 abbrev pub decreases-loop-row : goal.decreases-loop-row

@@ -43,6 +43,7 @@ linked-preserved g c =
       bound = omega (arith, i.bound, n.no_larger);
       order = n.order ∙ i.order;
       reads = reads_then _ _ _ i.reads n.reads;
+      counts = n.counts ∙ i.counts;
     }
 
 pub returns-in-Ok-None-clause-moved : goal.returns-in-Ok-None-clause-moved

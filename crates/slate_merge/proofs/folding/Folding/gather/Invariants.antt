@@ -17,6 +17,7 @@ invariant-linked g l = record {
   bound : g.I.RowEntryIterator.bound l.iterator' ≤ g.I.RowEntryIterator.bound l.fn.iterator;
   order : g.I.RowEntryIterator.order l.iterator' ≡ g.I.RowEntryIterator.order l.fn.iterator;
   reads : OnlyReads (g.E.Outside.reach l.fn.env) (g.E.Outside.reach l.env);
+  counts : (g.E.Outside.reach l.env).faults ≡ (g.E.Outside.reach l.fn.env).faults;
 }
 
 abbrev pub decreases-linked : goal.decreases-linked

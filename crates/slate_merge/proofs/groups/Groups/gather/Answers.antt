@@ -59,6 +59,7 @@ loop-iterator-preserved g c =
       bound = omega (arith, i.bound, less, size);
       order = n.order ∙ i.order;
       reads = reads_then _ _ _ i.reads n.reads;
+      counts = n.counts ∙ i.counts;
     }
 
 pub returns-in-None-clause-stands : goal.returns-in-None-clause-stands

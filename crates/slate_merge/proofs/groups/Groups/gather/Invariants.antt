@@ -16,6 +16,7 @@ invariant-loop-iterator g l = record {
   bound : g.I.RowEntryIterator.bound l.iterator' + rows_in_groups l.self ≤ g.I.RowEntryIterator.bound l.initial.iterator' + rows_in_groups l.initial.self;
   order : g.I.RowEntryIterator.order l.iterator' ≡ g.I.RowEntryIterator.order l.initial.iterator';
   reads : OnlyReads (g.E.Outside.reach l.initial.env) (g.E.Outside.reach l.env);
+  counts : (g.E.Outside.reach l.env).faults ≡ (g.E.Outside.reach l.initial.env).faults;
 }
 
 abbrev pub decreases-loop-iterator : goal.decreases-loop-iterator

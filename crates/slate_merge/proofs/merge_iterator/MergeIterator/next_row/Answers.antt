@@ -22,6 +22,7 @@ returns-in-New g c = record {
   no_larger = omega arith;
   order = refl;
   reads = reads_none _;
+  counts = refl;
 }
 
 pub returns-in-Refused : goal.returns-in-Refused
@@ -37,6 +38,7 @@ returns-in-Refused g c = record {
   no_larger = omega arith;
   order = refl;
   reads = reads_none _;
+  counts = refl;
 }
 
 pub returns-in-Ok : goal.returns-in-Ok
@@ -56,6 +58,7 @@ returns-in-Ok g c =
       no_larger = subst (λ (x : MergeState g.row.I.Denot). merging_bound bound [] (heap_items c.take_row-answer.new.heads) ≤ bound_in bound x) (sym c.in-Begun.is) n.no_larger;
       order = refl;
       reads = n.reads;
+      counts = n.counts;
     }
 
 pub returns-in-Err : goal.returns-in-Err
@@ -75,4 +78,5 @@ returns-in-Err g c =
       no_larger = copied_bound g.I.RowEntryIterator.bound c.in-Err.error c.refuse.new.self.state (bound_in g.I.RowEntryIterator.bound c.args.self.now.state) r.copied;
       order = r.merge.order;
       reads = n.reads;
+      counts = rw r.same n.counts;
     }

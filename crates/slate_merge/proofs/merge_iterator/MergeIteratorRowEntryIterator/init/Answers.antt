@@ -17,6 +17,7 @@ returns-in-Refused g c = record {
   no_larger = omega arith;
   order = refl;
   reads = reads_none _;
+  counts = refl;
 }
 
 pub returns-in-Ok : goal.returns-in-Ok
@@ -35,6 +36,7 @@ returns-in-Ok g c =
       no_larger = rw b.state n.no_larger;
       order = b.merge.order;
       reads = n.reads;
+      counts = n.counts;
     }
 
 pub returns-in-Err : goal.returns-in-Err
@@ -51,4 +53,5 @@ returns-in-Err g c =
       no_larger = copied_bound g.I.RowEntryIterator.bound c.in-Err.error c.refuse.new.self.state (bound_in g.I.RowEntryIterator.bound c.args.self.now.state) r.copied;
       order = r.merge.order;
       reads = n.reads;
+      counts = rw r.same n.counts;
     }

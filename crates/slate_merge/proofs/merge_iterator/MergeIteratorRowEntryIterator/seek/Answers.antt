@@ -20,6 +20,7 @@ returns-in-New g c = record {
   no_larger = omega arith;
   order = refl;
   reads = reads_none _;
+  counts = refl;
 }
 
 pub returns-in-Refused : goal.returns-in-Refused
@@ -32,6 +33,7 @@ returns-in-Refused g c = record {
   no_larger = omega arith;
   order = refl;
   reads = reads_none _;
+  counts = refl;
 }
 
 pub returns-in-Ok : goal.returns-in-Ok
@@ -49,6 +51,7 @@ returns-in-Ok g c =
       no_larger = subst (λ (x : MergeState g.row.I.Denot). merging_bound bound [] (heap_items c.seek_heads-answer.new.heads) ≤ bound_in bound x) (sym c.in-Begun.is) n.no_larger;
       order = refl;
       reads = n.reads;
+      counts = n.counts;
     }
 
 pub returns-in-Err : goal.returns-in-Err
@@ -65,4 +68,5 @@ returns-in-Err g c =
       no_larger = copied_bound g.I.RowEntryIterator.bound c.in-Err.error c.refuse.new.self.state (bound_in g.I.RowEntryIterator.bound c.args.self.now.state) r.copied;
       order = r.merge.order;
       reads = n.reads;
+      counts = rw r.same n.counts;
     }

@@ -23,6 +23,7 @@ returns-in-Some g c = record {
   no_larger = omega arith;
   order = refl;
   reads = reads_none _;
+  counts = refl;
   operable = λ w sees h op. tt;
   sources = tt;
 }
@@ -51,6 +52,7 @@ returns-in-Ok g c =
       no_larger = unless_no_larger it.refusal _ _ none (omega (arith, n.no_larger));
       order = n.order;
       reads = n.reads;
+      counts = n.counts;
       operable = λ w sees h op. subst (λ (l : List RowEntry). (w.meaning.combine ≡ None → NoneOpen it.folding.snapshot_barrier_seq (with_ahead it.ahead l)) × NoneRises it.folding.merge_different_expire_ts it.folding.snapshot_barrier_seq (with_ahead it.ahead l)) (sym (n.rows w sees (sound_of it.refusal _ none h).0)) op;
       sources = (n.begun.0, n.begun.1, n.begun.2.1);
     }
@@ -72,6 +74,7 @@ returns-in-Err g c =
       no_larger = kept_no_larger c.in-Err.error c.refuse.new.self.refusal _ _ r.keeps;
       order = ap g.I.RowEntryIterator.order r.iterator ∙ n.order;
       reads = n.reads;
+      counts = rw r.same n.counts;
       operable = λ w sees h op. tt;
       sources = tt;
     }

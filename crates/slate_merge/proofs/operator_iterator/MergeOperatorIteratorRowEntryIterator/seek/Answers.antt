@@ -26,6 +26,7 @@ returns-in-Some g c = record {
   no_larger = omega arith;
   order = refl;
   reads = reads_none _;
+  counts = refl;
   operable = λ w sees h op. tt;
   sources = tt;
 }
@@ -40,6 +41,7 @@ returns-then-not-self g c = record {
   no_larger = omega arith;
   order = refl;
   reads = reads_none _;
+  counts = refl;
   operable = λ w sees h op. tt;
   sources = tt;
 }
@@ -60,6 +62,7 @@ returns-then-is_ahead_kept g c =
       no_larger = omega arith;
       order = refl;
       reads = reads_none _;
+      counts = refl;
       operable = λ w sees h op. op;
       sources = ([], call_none _, λ later at e h. h);
     }
@@ -94,6 +97,7 @@ returns-in-Ok g c =
       no_larger = unless_no_larger it.refusal _ _ none (rw after (omega (arith, n.no_larger)));
       order = n.order;
       reads = n.reads;
+      counts = n.counts;
       operable = λ w sees h op. (let different = it.folding.merge_different_expire_ts in let barrier = it.folding.snapshot_barrier_seq in
           subst (λ (o : Option RowEntry). (w.meaning.combine ≡ None → NoneOpen barrier (with_ahead o (g.I.RowEntryIterator.rest c.seek.new.self w))) × NoneRises different barrier (with_ahead o (g.I.RowEntryIterator.rest c.seek.new.self w))) (sym after)
           (subst (λ (l : List RowEntry). (w.meaning.combine ≡ None → NoneOpen barrier l) × NoneRises different barrier l) (sym (n.rows w sees (sound_of it.refusal _ none h).0 ∙ sought_rows order c.args.key.now it.ahead (g.I.RowEntryIterator.rest it.iterator w) gone))
@@ -116,6 +120,7 @@ returns-in-Err g c =
       no_larger = kept_no_larger c.in-Err.error c.refuse.new.self.refusal _ _ r.keeps;
       order = ap g.I.RowEntryIterator.order r.iterator ∙ n.order;
       reads = n.reads;
+      counts = rw r.same n.counts;
       operable = λ w sees h op. tt;
       sources = tt;
     }

@@ -1,4 +1,4 @@
-use Rattle.std.proofs.Common.{◌∙◌, sym, arith}
+use Rattle.std.proofs.Common.{◌∙◌, sym, arith, refl}
 use Rattle.slate_types.proofs.Moves.{moves_none}
 use Rattle.slate_types.proofs.Reaching.{reads_none}
 use Rattle.slate_merge.proofs.Peeks.{ahead_moves, first_kept, head_taken, none_of, none_sound, taken_bound}
@@ -12,6 +12,7 @@ returns-then-is_some g c = record {
   cause = tt;
   no_larger = omega arith;
   reads = reads_none _;
+  counts = refl;
 }
 
 pub returns-in-Ok : goal.returns-in-Ok
@@ -25,6 +26,7 @@ returns-in-Ok g c =
       cause = tt;
       no_larger = taken_bound c.args.self.now.ahead c.in-Ok.answer (g.I.RowEntryIterator.bound c.args.self.now.iterator) (g.I.RowEntryIterator.bound c.next.new.self) none n.smaller n.no_larger;
       reads = n.reads;
+      counts = n.counts;
     }
 
 pub returns-in-Err : goal.returns-in-Err
@@ -38,4 +40,5 @@ returns-in-Err g c =
       cause = (n.cause.0, n.cause.1, n.cause.2.0);
       no_larger = omega (arith, n.no_larger);
       reads = n.reads;
+      counts = n.counts;
     }

@@ -17,6 +17,7 @@ returns-in-Ok g c =
       no_larger = omega (arith, n.no_larger);
       order = n.order;
       reads = n.reads;
+      counts = n.counts;
     }
 
 pub returns-in-Err : goal.returns-in-Err
@@ -33,4 +34,5 @@ returns-in-Err g c =
       no_larger = rw after (omega (arith, n.no_larger));
       order = n.order;
       reads = n.reads;
+      counts = n.counts;
     }

@@ -17,6 +17,7 @@ returns-then-is_ahead_kept g c =
       no_larger = omega arith;
       order = refl;
       reads = reads_none _;
+      counts = refl;
     }
 
 pub returns-in-Ok : goal.returns-in-Ok
@@ -34,6 +35,7 @@ returns-in-Ok g c =
       no_larger = rw after (omega (arith, n.no_larger));
       order = n.order;
       reads = n.reads;
+      counts = n.counts;
     }
 
 pub returns-in-Err : goal.returns-in-Err
@@ -49,4 +51,5 @@ returns-in-Err g c =
       no_larger = rw after (omega (arith, n.no_larger));
       order = n.order;
       reads = n.reads;
+      counts = n.counts;
     }

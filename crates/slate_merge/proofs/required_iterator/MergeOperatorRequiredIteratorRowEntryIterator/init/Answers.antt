@@ -15,6 +15,7 @@ returns-then-self g c = record {
   no_larger = omega arith;
   order = refl;
   reads = reads_none _;
+  counts = refl;
 }
 
 pub returns-in-Ok : goal.returns-in-Ok
@@ -30,6 +31,7 @@ returns-in-Ok g c =
       no_larger = n.no_larger;
       order = n.order;
       reads = n.reads;
+      counts = n.counts;
     }
 
 pub returns-in-Err : goal.returns-in-Err
@@ -45,4 +47,5 @@ returns-in-Err g c =
       no_larger = n.no_larger;
       order = n.order;
       reads = n.reads;
+      counts = n.counts;
     }

@@ -14,6 +14,7 @@ returns-then-self g c = record {
   no_larger = omega arith;
   order = refl;
   reads = reads_none _;
+  counts = refl;
 }
 
 pub returns-in-Ok : goal.returns-in-Ok
@@ -28,6 +29,7 @@ returns-in-Ok g c =
       no_larger = n.no_larger;
       order = n.order;
       reads = n.reads;
+      counts = n.counts;
     }
 
 pub returns-in-Err : goal.returns-in-Err
@@ -42,4 +44,5 @@ returns-in-Err g c =
       no_larger = n.no_larger;
       order = n.order;
       reads = n.reads;
+      counts = n.counts;
     }

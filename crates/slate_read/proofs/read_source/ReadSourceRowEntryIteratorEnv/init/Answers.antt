@@ -15,6 +15,7 @@ returns-in-Internal g c = record {
   no_larger = rw c.in-Internal.is c.init-in-Internal.ensures.no_larger;
   order = rw c.in-Internal.is c.init-in-Internal.ensures.order;
   reads = c.init-in-Internal.ensures.reads;
+  counts = c.init-in-Internal.ensures.counts;
 }
 
 pub returns-in-Table : goal.returns-in-Table
@@ -28,6 +29,7 @@ returns-in-Table g c = record {
   no_larger = rw c.in-Table.is c.init-in-Table.ensures.no_larger;
   order = rw c.in-Table.is c.init-in-Table.ensures.order;
   reads = c.init-in-Table.ensures.reads;
+  counts = c.init-in-Table.ensures.counts;
 }
 
 pub returns-in-Run : goal.returns-in-Run
@@ -41,6 +43,7 @@ returns-in-Run g c = record {
   no_larger = rw c.in-Run.is c.init-in-Run.ensures.no_larger;
   order = rw c.in-Run.is c.init-in-Run.ensures.order;
   reads = c.init-in-Run.ensures.reads;
+  counts = c.init-in-Run.ensures.counts;
 }
 
 pub returns-in-Segments : goal.returns-in-Segments
@@ -54,6 +57,7 @@ returns-in-Segments g c = record {
   no_larger = rw c.in-Segments.is c.init-in-Segments.ensures.no_larger;
   order = rw c.in-Segments.is c.init-in-Segments.ensures.order;
   reads = c.init-in-Segments.ensures.reads;
+  counts = c.init-in-Segments.ensures.counts;
 }
 
 pub returns-in-Batch-clause-checked : goal.returns-in-Batch-clause-checked

@@ -1,4 +1,6 @@
+use Rattle.std.proofs.Common.{ap}
 use Rattle.std.proofs.lemmas.Result.{IfErr-weaker, IfOk-weaker}
+use Rattle.slate_read.specs.declared.read_source.ReadSource.TheVariants.{Internal, Run, Segments, Table}
 use Rattle.slate_read.proofs.SourceBringings.{list_handed, nothing_handed}
 use Rattle.slate_read.proofs.read_source.ReadSourceRowEntryIteratorEnv.next.Goals as goal
 
@@ -8,11 +10,13 @@ returns-in-Internal g c = record {
   still = rw c.in-Internal.is c.next-in-Internal.ensures.still;
   checked = rw c.in-Internal.is c.next-in-Internal.ensures.checked;
   taken = rw c.in-Internal.is (IfOk-weaker c.next-in-Internal.result _ _ (λ answer k. (k.0, k.1, ((k.2.0.3, tt), k.2.1))) c.next-in-Internal.ensures.taken);
+  unbegun = rw c.in-Internal.is (λ waits. (let u = c.next-in-Internal.ensures.unbegun waits in (u.0, ap Internal u.1, u.2)));
   cause = rw c.in-Internal.is (IfErr-weaker c.next-in-Internal.result _ _ (λ e k. (k.0, k.1, (k.2.0, tt, k.2.2))) c.next-in-Internal.ensures.cause);
   smaller = rw c.in-Internal.is c.next-in-Internal.ensures.smaller;
   no_larger = rw c.in-Internal.is c.next-in-Internal.ensures.no_larger;
   order = rw c.in-Internal.is c.next-in-Internal.ensures.order;
   reads = c.next-in-Internal.ensures.reads;
+  counts = c.next-in-Internal.ensures.counts;
 }
 
 pub returns-in-Table : goal.returns-in-Table
@@ -21,11 +25,13 @@ returns-in-Table g c = record {
   still = rw c.in-Table.is c.next-in-Table.ensures.still;
   checked = rw c.in-Table.is c.next-in-Table.ensures.checked;
   taken = rw c.in-Table.is (IfOk-weaker c.next-in-Table.result _ _ (λ answer k. (k.0, k.1, ((k.2.0.3, tt), k.2.1))) c.next-in-Table.ensures.taken);
+  unbegun = rw c.in-Table.is (λ waits. (let u = c.next-in-Table.ensures.unbegun waits in (u.0, ap Table u.1, u.2)));
   cause = rw c.in-Table.is (IfErr-weaker c.next-in-Table.result _ _ (λ e k. (k.0, k.1, (k.2.0, tt, k.2.2))) c.next-in-Table.ensures.cause);
   smaller = rw c.in-Table.is c.next-in-Table.ensures.smaller;
   no_larger = rw c.in-Table.is c.next-in-Table.ensures.no_larger;
   order = rw c.in-Table.is c.next-in-Table.ensures.order;
   reads = c.next-in-Table.ensures.reads;
+  counts = c.next-in-Table.ensures.counts;
 }
 
 pub returns-in-Run : goal.returns-in-Run
@@ -34,11 +40,13 @@ returns-in-Run g c = record {
   still = rw c.in-Run.is c.next-in-Run.ensures.still;
   checked = rw c.in-Run.is c.next-in-Run.ensures.checked;
   taken = rw c.in-Run.is (IfOk-weaker c.next-in-Run.result _ _ (λ answer k. (k.0, k.1, ((k.2.0.3, tt), k.2.1))) c.next-in-Run.ensures.taken);
+  unbegun = rw c.in-Run.is (λ waits. (let u = c.next-in-Run.ensures.unbegun waits in (u.0, ap Run u.1, u.2)));
   cause = rw c.in-Run.is (IfErr-weaker c.next-in-Run.result _ _ (λ e k. (k.0, k.1, (k.2.0, tt, k.2.2))) c.next-in-Run.ensures.cause);
   smaller = rw c.in-Run.is c.next-in-Run.ensures.smaller;
   no_larger = rw c.in-Run.is c.next-in-Run.ensures.no_larger;
   order = rw c.in-Run.is c.next-in-Run.ensures.order;
   reads = c.next-in-Run.ensures.reads;
+  counts = c.next-in-Run.ensures.counts;
 }
 
 pub returns-in-Segments : goal.returns-in-Segments
@@ -47,11 +55,13 @@ returns-in-Segments g c = record {
   still = rw c.in-Segments.is c.next-in-Segments.ensures.still;
   checked = rw c.in-Segments.is c.next-in-Segments.ensures.checked;
   taken = rw c.in-Segments.is (IfOk-weaker c.next-in-Segments.result _ _ (λ answer k. (k.0, k.1, ((k.2.0.1, tt), k.2.1))) c.next-in-Segments.ensures.taken);
+  unbegun = rw c.in-Segments.is (λ waits. (let u = c.next-in-Segments.ensures.unbegun waits in (u.0, ap Segments u.1, u.2)));
   cause = rw c.in-Segments.is (IfErr-weaker c.next-in-Segments.result _ _ (λ e k. (k.0, k.1, (k.2.0, tt, k.2.2))) c.next-in-Segments.ensures.cause);
   smaller = rw c.in-Segments.is c.next-in-Segments.ensures.smaller;
   no_larger = rw c.in-Segments.is c.next-in-Segments.ensures.no_larger;
   order = rw c.in-Segments.is c.next-in-Segments.ensures.order;
   reads = c.next-in-Segments.ensures.reads;
+  counts = c.next-in-Segments.ensures.counts;
 }
 
 pub returns-in-Batch-clause-checked : goal.returns-in-Batch-clause-checked
@@ -71,3 +81,12 @@ returns-in-Memory-clause-taken g c = rw c.in-Memory.is (IfOk-weaker c.next-in-Me
 
 pub returns-in-Memory-clause-cause : goal.returns-in-Memory-clause-cause
 returns-in-Memory-clause-cause g c = rw c.in-Memory.is (IfErr-weaker c.next-in-Memory.result _ _ (λ e k. (k.0, k.1, (k.2.0, tt, k.2.2))) c.next-in-Memory.ensures.cause)
+
+pub returns-in-Empty-clause-unbegun : goal.returns-in-Empty-clause-unbegun
+returns-in-Empty-clause-unbegun g c = rw c.in-Empty.is (λ never. absurd never)
+
+pub returns-in-Batch-clause-unbegun : goal.returns-in-Batch-clause-unbegun
+returns-in-Batch-clause-unbegun g c = rw c.in-Batch.is (λ never. absurd never)
+
+pub returns-in-Memory-clause-unbegun : goal.returns-in-Memory-clause-unbegun
+returns-in-Memory-clause-unbegun g c = rw c.in-Memory.is (λ never. absurd never)

@@ -12,6 +12,7 @@ returns-in-Internal g c = record {
   no_larger = rw c.in-Internal.is c.seek-in-Internal.ensures.no_larger;
   order = rw c.in-Internal.is c.seek-in-Internal.ensures.order;
   reads = c.seek-in-Internal.ensures.reads;
+  counts = c.seek-in-Internal.ensures.counts;
 }
 
 pub returns-in-Table : goal.returns-in-Table
@@ -24,6 +25,7 @@ returns-in-Table g c = record {
   no_larger = rw c.in-Table.is c.seek-in-Table.ensures.no_larger;
   order = rw c.in-Table.is c.seek-in-Table.ensures.order;
   reads = c.seek-in-Table.ensures.reads;
+  counts = c.seek-in-Table.ensures.counts;
 }
 
 pub returns-in-Run : goal.returns-in-Run
@@ -36,6 +38,7 @@ returns-in-Run g c = record {
   no_larger = rw c.in-Run.is c.seek-in-Run.ensures.no_larger;
   order = rw c.in-Run.is c.seek-in-Run.ensures.order;
   reads = c.seek-in-Run.ensures.reads;
+  counts = c.seek-in-Run.ensures.counts;
 }
 
 pub returns-in-Segments : goal.returns-in-Segments
@@ -48,6 +51,7 @@ returns-in-Segments g c = record {
   no_larger = rw c.in-Segments.is c.seek-in-Segments.ensures.no_larger;
   order = rw c.in-Segments.is c.seek-in-Segments.ensures.order;
   reads = c.seek-in-Segments.ensures.reads;
+  counts = c.seek-in-Segments.ensures.counts;
 }
 
 pub returns-in-Batch-clause-still : goal.returns-in-Batch-clause-still

@@ -18,6 +18,7 @@ returns-in-Going g c =
       no_larger = omega arith;
       order = refl;
       reads = reads_none _;
+      counts = refl;
     }
 
 pub returns-in-Refused : goal.returns-in-Refused
@@ -33,6 +34,7 @@ returns-in-Refused g c =
       no_larger = omega arith;
       order = refl;
       reads = reads_none _;
+      counts = refl;
     }
 
 pub returns-in-Ok : goal.returns-in-Ok
@@ -52,6 +54,7 @@ returns-in-Ok g c =
       no_larger = begun_bound c.args.self.now.state c.replace.new.dest c.args.self.now.cursor c.begin.new.self new going n.no_larger;
       order = refl;
       reads = n.reads;
+      counts = n.counts;
     }
 
 pub returns-in-Err : goal.returns-in-Err
@@ -71,4 +74,5 @@ returns-in-Err g c =
       no_larger = refused_bound c.refuse.new.self.state c.refuse.new.self.cursor c.in-Err.error _ r.keeps;
       order = r.order;
       reads = n.reads;
+      counts = rw r.same n.counts;
     }

@@ -16,6 +16,7 @@ returns-in-New g c =
       no_larger = omega arith;
       order = refl;
       reads = reads_none _;
+      counts = refl;
     }
 
 pub returns-in-Refused : goal.returns-in-Refused
@@ -30,6 +31,7 @@ returns-in-Refused g c =
       no_larger = omega arith;
       order = refl;
       reads = reads_none _;
+      counts = refl;
     }
 
 pub returns-in-Ok : goal.returns-in-Ok
@@ -47,6 +49,7 @@ returns-in-Ok g c =
       no_larger = going_bound c.args.self.now.state c.args.self.now.cursor c.seek.new.self is n.no_larger;
       order = refl;
       reads = n.reads;
+      counts = n.counts;
     }
 
 pub returns-in-Err : goal.returns-in-Err
@@ -65,4 +68,5 @@ returns-in-Err g c =
       no_larger = refused_bound c.refuse.new.self.state c.refuse.new.self.cursor c.in-Err.error _ r.keeps;
       order = r.order;
       reads = n.reads;
+      counts = rw r.same n.counts;
     }

@@ -1,4 +1,5 @@
-use Rattle.std.proofs.Common.{◌∙◌, None, Some, refl, sym, arith}
+use Rattle.std.proofs.Common.{◌∙◌, None, Some, refl, sym, arith, ap}
+use Rattle.slate_types.specs.Outside.{unblamed}
 use Rattle.std.proofs.lemmas.Result.{err_from_is_err_and, IfOk-from_err}
 use Rattle.slate_types.proofs.Moves.{moves_both, moves_fails, moves_none, moves_step}
 use Rattle.slate_types.proofs.Reaching.{reads_none, reads_then}
@@ -18,6 +19,7 @@ loop-row-init g c = record {
   none = none_of c.args.self.now.ahead (sym c.is_some.ensures ∙ c.if-is_some.false);
   bound = omega arith;
   reads = reads_none _;
+  counts = refl;
 }
 
 pub loop-row-preserved : goal.loop-row-preserved
@@ -37,6 +39,7 @@ loop-row-preserved g c =
       none = opened_ahead c.args.range.now _ _ (record c.loop-row.self { current = c.take_row.new.current }) c.open_next.new.self c.in_ok-open_next.field-0 o.opened ∙ i.none;
       bound = omega (arith, i.bound, t.no_larger, less);
       reads = reads_then _ _ _ i.reads (reads_then _ _ _ t.reads o.reads);
+      counts = o.counts ∙ t.counts ∙ i.counts;
     }
 
 pub loop-row-smaller : goal.loop-row-smaller
@@ -53,6 +56,7 @@ returns-in_err-row g c =
       no_larger = rw p.1 tt;
       hands = IfOk-from_err c.from_residual.result _ c.from_residual.ensures.0;
       reads = reads_then _ _ _ i.reads c.in_err-row.ensures.reads;
+      counts = rw (p.1, p.2) (c.in_err-row.ensures.counts ∙ ap (unblamed c.in_err-row.field-0.0) i.counts);
     }
 
 pub returns-in-Some : goal.returns-in-Some
@@ -68,6 +72,7 @@ returns-in-Some g c =
       no_larger = omega (arith, i.bound, less);
       hands = added_hands (brings_run c.args.order) (refuses_run c.args.order) _ _ _ c.args.self.now c.loop-row.self (record c.loop-row.self { current = c.take_row.new.current }) (Some c.in-Some.row) i.adds (run_hands c.args.order _ _ c.loop-row.self (record c.loop-row.self { current = c.take_row.new.current }) (Some c.in-Some.row) (rw c.in-Some.is at t.hands) refl refl);
       reads = reads_then _ _ _ i.reads t.reads;
+      counts = t.counts ∙ i.counts;
     }
 
 pub returns-in_err-open_next : goal.returns-in_err-open_next
@@ -85,6 +90,7 @@ returns-in_err-open_next g c =
       no_larger = rw p.1 tt;
       hands = IfOk-from_err c.from_residual-in_err-open_next.result _ c.from_residual-in_err-open_next.ensures.0;
       reads = reads_then _ _ _ reads o.reads;
+      counts = rw (p.1, p.2) (o.counts ∙ ap (unblamed c.in_err-open_next.field-0.0) (t.counts ∙ i.counts));
     }
 
 pub returns-then-not-branch : goal.returns-then-not-branch
@@ -105,6 +111,7 @@ returns-then-not-branch g c =
           (added_hands (brings_run c.args.order) (refuses_run c.args.order) _ _ _ c.loop-row.self (record c.loop-row.self { current = c.take_row.new.current }) c.open_next.new.self None (run_spent_adds c.args.order _ _ c.loop-row.self (record c.loop-row.self { current = c.take_row.new.current }) (rw c.in_default.is at t.hands) refl refl)
           (end_hands c.args.range.now c.args.order _ _ (record c.loop-row.self { current = c.take_row.new.current }) c.open_next.new.self c.in_ok-open_next.field-0 c.if-not-branch.true i.none closed o.opened));
       reads = reads_then _ _ _ i.reads (reads_then _ _ _ t.reads o.reads);
+      counts = o.counts ∙ t.counts ∙ i.counts;
     }
 
 pub returns-then-is_some-clause-hands : goal.returns-then-is_some-clause-hands

@@ -18,6 +18,7 @@ invariant-loop-row g l = record {
   none : l.self.ahead ≡ None;
   bound : bound_run l.self ≤ bound_run l.initial.self;
   reads : OnlyReads (reach_of g.S.Store g.M.MergeOperator g.T.BlockTransformer l.initial.env) (reach_of g.S.Store g.M.MergeOperator g.T.BlockTransformer l.env);
+  counts : (reach_of g.S.Store g.M.MergeOperator g.T.BlockTransformer l.env).faults ≡ (reach_of g.S.Store g.M.MergeOperator g.T.BlockTransformer l.initial.env).faults;
 }
 
 abbrev pub decreases-loop-row : goal.decreases-loop-row

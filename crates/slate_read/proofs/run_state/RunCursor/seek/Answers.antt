@@ -16,6 +16,7 @@ returns-then-is_ahead_kept g c = record {
   no_larger = omega arith;
   adds = none_added (brings_run c.args.order) (refuses_run c.args.order) _ c.args.self.now;
   reads = reads_none _;
+  counts = refl;
 }
 
 pub returns : goal.returns
@@ -29,4 +30,5 @@ returns g c =
       no_larger = on_ok_weaker c.seek_tables.result (λ k. omega (arith, k, none)) o.no_larger;
       adds = on_ok_weaker c.seek_tables.result (λ k. both_added (brings_run c.args.order) (refuses_run c.args.order) _ _ _ c.args.self.now (record c.args.self.now { ahead = c.take.new.self }) c.seek_tables.new.self (let_go_adds c.args.order _ c.args.self.now (record c.args.self.now { ahead = c.take.new.self }) c.take.ensures.after refl refl) k) o.adds;
       reads = o.reads;
+      counts = o.counts;
     }

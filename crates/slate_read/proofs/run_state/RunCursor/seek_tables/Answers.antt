@@ -1,4 +1,5 @@
 use Rattle.std.proofs.Common.{◌∙◌, None, length, refl, ap, arith}
+use Rattle.slate_types.specs.Outside.{unblamed}
 use Rattle.slate_merge.proofs.NoMoreRows.{both_added, none_added}
 use Rattle.slate_read.specs.RunBringing.{brings_run}
 use Rattle.slate_read.specs.RunWalk.{refuses_run, rows_ahead}
@@ -17,6 +18,7 @@ loop-row-init g c = record {
   none = c.requires.none;
   bound = omega arith;
   reads = reads_none _;
+  counts = refl;
 }
 
 pub loop-row-preserved : goal.loop-row-preserved
@@ -39,6 +41,7 @@ loop-row-preserved g c =
       none = opened_ahead c.args.range.now _ _ c.pass_over.new.self c.open_next.new.self c.in_ok-open_next.field-0 o.opened ∙ p.ahead ∙ i.none;
       bound = omega (arith, i.bound, t.no_larger, fewer, less);
       reads = reads_then _ _ _ i.reads (reads_then _ _ _ t.reads o.reads);
+      counts = o.counts ∙ t.counts ∙ i.counts;
     }
 
 pub loop-row-smaller : goal.loop-row-smaller
@@ -57,6 +60,7 @@ returns-in_err-row g c =
       no_larger = rw p.1 tt;
       adds = rw p.1 tt;
       reads = reads_then _ _ _ i.reads c.in_err-row.ensures.reads;
+      counts = rw (p.1, p.2) (c.in_err-row.ensures.counts ∙ ap (unblamed c.in_err-row.field-0.0) i.counts);
     }
 
 pub returns-in-Some : goal.returns-in-Some
@@ -72,6 +76,7 @@ returns-in-Some g c =
       no_larger = omega (arith, i.bound, less, one);
       adds = both_added (brings_run c.args.order) (refuses_run c.args.order) _ _ _ c.args.self.now c.loop-row.self (record { ahead = c.replace.new.dest; current = c.find_row.new.current; tables = c.loop-row.self.tables; limits = c.loop-row.self.limits }) i.adds (found_adds c.args.order _ _ c.loop-row.self (record { ahead = c.replace.new.dest; current = c.find_row.new.current; tables = c.loop-row.self.tables; limits = c.loop-row.self.limits }) c.in-Some.row (rw c.in-Some.is at t.hands) c.replace.ensures.after refl);
       reads = reads_then _ _ _ i.reads t.reads;
+      counts = t.counts ∙ i.counts;
     }
 
 pub returns-in_err-open_next : goal.returns-in_err-open_next
@@ -91,6 +96,7 @@ returns-in_err-open_next g c =
       no_larger = rw p.1 tt;
       adds = rw p.1 tt;
       reads = reads_then _ _ _ reads o.reads;
+      counts = rw (p.1, p.2) (o.counts ∙ ap (unblamed c.in_err-open_next.field-0.0) (t.counts ∙ i.counts));
     }
 
 pub returns-then-not-branch : goal.returns-then-not-branch
@@ -113,4 +119,5 @@ returns-then-not-branch g c =
           (both_added (brings_run c.args.order) (refuses_run c.args.order) _ _ _ c.loop-row.self (record c.loop-row.self { current = c.find_row.new.current }) c.open_next.new.self (run_spent_adds c.args.order _ _ c.loop-row.self (record c.loop-row.self { current = c.find_row.new.current }) (rw c.in_default.is at t.hands) refl refl)
           (both_added (brings_run c.args.order) (refuses_run c.args.order) _ _ _ (record c.loop-row.self { current = c.find_row.new.current }) c.pass_over.new.self c.open_next.new.self (passes_adds c.args.order c.args.key.now _ (record c.loop-row.self { current = c.find_row.new.current }) c.pass_over.new.self p) (next_adds c.args.range.now c.args.order _ _ c.pass_over.new.self c.open_next.new.self c.in_ok-open_next.field-0 o.opened)));
       reads = reads_then _ _ _ i.reads (reads_then _ _ _ t.reads o.reads);
+      counts = o.counts ∙ t.counts ∙ i.counts;
     }

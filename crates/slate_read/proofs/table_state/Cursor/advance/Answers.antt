@@ -1,4 +1,5 @@
-use Rattle.std.proofs.Common.{◌≡◌, ◌-◌, None, Some, arith}
+use Rattle.std.proofs.Common.{◌≡◌, ◌-◌, None, Some, arith, ◌∙◌, ap, refl}
+use Rattle.slate_types.specs.Outside.{unblamed}
 use Rattle.std.proofs.lemmas.Result.{err_from_is_err_and, IfOk-from_err}
 use Rattle.slate_types.proofs.Reaching.{reads_none, reads_then}
 use Rattle.slate_read.proofs.Bringings.{adds_both, adds_hands, adds_none, end_hands, row_hands, spent_adds}
@@ -12,6 +13,7 @@ loop-row-init g c = record {
   adds = adds_none c.args.table.now c.args.order _ c.args.self.now;
   bound = omega arith;
   reads = reads_none _;
+  counts = refl;
 }
 
 pub loop-row-preserved : goal.loop-row-preserved
@@ -27,6 +29,7 @@ loop-row-preserved g c =
       adds = adds_both c.args.table.now c.args.order _ _ _ c.args.self.now c.loop-row.self c.open.new.self i.adds (adds_both c.args.table.now c.args.order _ _ _ c.loop-row.self c.row.new.self c.open.new.self (spent_adds c.args.table.now c.args.order _ c.loop-row.self c.row.new.self took r.index r.ready) o.adds);
       bound = omega (arith, i.bound, o.small, o.fewer, d);
       reads = reads_then _ _ _ i.reads o.reads;
+      counts = o.counts ∙ i.counts;
     }
 
 pub loop-row-smaller : goal.loop-row-smaller
@@ -47,6 +50,7 @@ returns-in_err-row g c =
       hands = IfOk-from_err c.from_residual.result _ c.from_residual.ensures.0;
       no_larger = rw p.1 tt;
       reads = i.reads;
+      counts = rw (p.1, p.2) (ap (unblamed c.in_err-row.field-0.0) i.counts);
     }
 
 pub returns-in-Some : goal.returns-in-Some
@@ -63,6 +67,7 @@ returns-in-Some g c =
       hands = adds_hands c.args.table.now c.args.order _ _ _ c.args.self.now c.loop-row.self c.row.new.self (Some c.in-Some.row) i.adds (row_hands c.args.table.now c.args.order _ c.loop-row.self c.row.new.self c.in-Some.row took r.index r.ready);
       no_larger = omega (arith, i.bound, less, d);
       reads = i.reads;
+      counts = i.counts;
     }
 
 pub returns-then-self : goal.returns-then-self
@@ -80,6 +85,7 @@ returns-then-self g c =
       hands = adds_hands c.args.table.now c.args.order _ _ _ c.args.self.now c.loop-row.self c.row.new.self None i.adds (adds_hands c.args.table.now c.args.order _ _ _ c.loop-row.self c.row.new.self c.row.new.self None (spent_adds c.args.table.now c.args.order _ c.loop-row.self c.row.new.self took r.index r.ready) (end_hands c.args.table.now c.args.order _ c.row.new.self));
       no_larger = omega (arith, i.bound, none, d);
       reads = i.reads;
+      counts = i.counts;
     }
 
 pub returns-in_err-open : goal.returns-in_err-open
@@ -97,4 +103,5 @@ returns-in_err-open g c =
       hands = IfOk-from_err c.from_residual-in_err-open.result _ c.from_residual-in_err-open.ensures.0;
       no_larger = rw p.1 tt;
       reads = reads_then _ _ _ i.reads o.reads;
+      counts = rw (p.1, p.2) (o.counts ∙ ap (unblamed c.in_err-open.field-0.0) i.counts);
     }

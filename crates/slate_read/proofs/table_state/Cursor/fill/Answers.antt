@@ -1,4 +1,5 @@
-use Rattle.std.proofs.Common.{◌∙◌, None}
+use Rattle.std.proofs.Common.{◌∙◌, None, ap}
+use Rattle.slate_types.specs.Outside.{unblamed}
 use Rattle.std.proofs.lemmas.Result.{err_from_is_err_and}
 use Rattle.slate_types.proofs.Moves.{moves_both, moves_fails}
 use Rattle.slate_types.proofs.Reaching.{reads_then}
@@ -20,6 +21,7 @@ returns-in_err-read_ahead g c =
       some = rw p.1 tt;
       adds = rw p.1 tt;
       reads = e.reads;
+      counts = rw (p.1, p.2) (e.counts);
     }
 
 pub loop-init : goal.loop-init
@@ -34,6 +36,7 @@ loop-init g c =
       rows = f.rows;
       some = fetched_some _ c.args.table.now c.args.order c.args.limits.bytes e.fetched.0 c.args.self.now c.read_ahead.new.self f;
       reads = e.reads;
+      counts = e.counts;
     }
 
 pub loop-preserved : goal.loop-preserved
@@ -49,6 +52,7 @@ loop-preserved g c =
       rows = f.rows ∙ i.rows;
       some = fetched_some _ c.args.table.now c.args.order c.args.limits.bytes e.fetched.0 c.loop.self c.read_ahead-in-loop.new.self f;
       reads = reads_then _ _ _ i.reads e.reads;
+      counts = e.counts ∙ i.counts;
     }
 
 pub returns-in_err-read_ahead-2 : goal.returns-in_err-read_ahead-2
@@ -65,4 +69,5 @@ returns-in_err-read_ahead-2 g c =
       some = rw p.1 tt;
       adds = rw p.1 tt;
       reads = reads_then _ _ _ i.reads e.reads;
+      counts = rw (p.1, p.2) (e.counts ∙ ap (unblamed c.in_err-read_ahead-2.field-0.0) i.counts);
     }

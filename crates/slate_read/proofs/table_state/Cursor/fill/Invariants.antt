@@ -19,4 +19,5 @@ invariant-loop g l = record {
   rows : l.self.rows ≡ l.fn.self.rows;
   some : 0 < length l.self.ready.items;
   reads : OnlyReads (reach_of g.S.Store g.M.MergeOperator g.T.BlockTransformer l.fn.env) (reach_of g.S.Store g.M.MergeOperator g.T.BlockTransformer l.env);
+  counts : (reach_of g.S.Store g.M.MergeOperator g.T.BlockTransformer l.env).faults ≡ (reach_of g.S.Store g.M.MergeOperator g.T.BlockTransformer l.fn.env).faults;
 }

@@ -1,4 +1,4 @@
-use Rattle.std.proofs.Common.{◌≡◌, ◌≤◌, ◌-◌, ap, Some, arith}
+use Rattle.std.proofs.Common.{◌≡◌, ◌≤◌, ◌-◌, ap, Some, arith, refl}
 use Rattle.std.proofs.lemmas.Result.{err_from_is_err_and, on_ok_weaker, IfErr-weaker}
 use Rattle.slate_types.proofs.Reaching.{later_none, reads_none}
 use Rattle.slate_types.proofs.Moves.{moves_both, moves_fails, moves_none}
@@ -18,6 +18,7 @@ returns-in_err-skip g c =
       no_larger = rw p.1 tt;
       adds = rw p.1 tt;
       reads = reads_none _;
+      counts = refl;
     }
 
 pub returns-then-branch : goal.returns-then-branch
@@ -32,6 +33,7 @@ returns-then-branch g c =
       no_larger = omega (arith, less, d);
       adds = skip_adds c.args.table.now c.args.order c.args.key.now _ c.args.self.now c.skip.new.self _ skips r.index r.ready;
       reads = reads_none _;
+      counts = refl;
     }
 
 pub returns : goal.returns
@@ -55,4 +57,5 @@ returns g c =
       no_larger = on_ok_weaker c.walk_to.result (λ k. omega (arith, k, smaller)) o.no_larger;
       adds = on_ok_weaker c.walk_to.result (λ k. adds_both c.args.table.now c.args.order _ _ _ c.args.self.now c.jump.new.self c.walk_to.new.self (adds_both c.args.table.now c.args.order _ _ _ c.args.self.now c.skip.new.self c.jump.new.self (skip_adds c.args.table.now c.args.order c.args.key.now _ c.args.self.now c.skip.new.self _ skips r.index r.ready) (jump_adds c.args.table.now c.args.order c.args.key.now _ c.skip.new.self c.jump.new.self j)) k) o.adds;
       reads = o.reads;
+      counts = o.counts;
     }

@@ -1,4 +1,5 @@
-use Rattle.std.proofs.Common.{◌≡◌, ◌-◌, Some, arith}
+use Rattle.std.proofs.Common.{◌≡◌, ◌-◌, Some, arith, ◌∙◌, ap, refl}
+use Rattle.slate_types.specs.Outside.{unblamed}
 use Rattle.std.proofs.lemmas.Result.{err_from_is_err_and}
 use Rattle.slate_types.proofs.Reaching.{reads_none, reads_then}
 use Rattle.slate_read.proofs.Bringings.{adds_both, adds_none, skip_adds}
@@ -13,6 +14,7 @@ loop-self-init g c = record {
   adds = adds_none c.args.table.now c.args.order _ c.args.self.now;
   bound = omega arith;
   reads = reads_none _;
+  counts = refl;
 }
 
 pub loop-self-preserved : goal.loop-self-preserved
@@ -30,6 +32,7 @@ loop-self-preserved g c =
       adds = adds_both c.args.table.now c.args.order _ _ _ c.args.self.now c.loop-self.self c.open.new.self i.adds (adds_both c.args.table.now c.args.order _ _ _ c.loop-self.self c.skip.new.self c.open.new.self (skip_adds c.args.table.now c.args.order c.args.key.now _ c.loop-self.self c.skip.new.self _ skips r.index r.ready) o.adds);
       bound = omega (arith, i.bound, o.small, o.fewer, d);
       reads = reads_then _ _ _ i.reads o.reads;
+      counts = o.counts ∙ i.counts;
     }
 
 pub loop-self-smaller : goal.loop-self-smaller
@@ -49,6 +52,7 @@ returns-in_err-skip g c =
       no_larger = rw p.1 tt;
       adds = rw p.1 tt;
       reads = i.reads;
+      counts = rw (p.1, p.2) (ap (unblamed c.in_err-skip.field-0.0) i.counts);
     }
 
 pub returns-then-branch : goal.returns-then-branch
@@ -64,6 +68,7 @@ returns-then-branch g c =
       no_larger = omega (arith, i.bound, less, d);
       adds = adds_both c.args.table.now c.args.order _ _ _ c.args.self.now c.loop-self.self c.skip.new.self i.adds (skip_adds c.args.table.now c.args.order c.args.key.now _ c.loop-self.self c.skip.new.self _ skips r.index r.ready);
       reads = i.reads;
+      counts = i.counts;
     }
 
 pub returns-then-self : goal.returns-then-self
@@ -79,6 +84,7 @@ returns-then-self g c =
       no_larger = omega (arith, i.bound, less, d);
       adds = adds_both c.args.table.now c.args.order _ _ _ c.args.self.now c.loop-self.self c.skip.new.self i.adds (skip_adds c.args.table.now c.args.order c.args.key.now _ c.loop-self.self c.skip.new.self _ skips r.index r.ready);
       reads = i.reads;
+      counts = i.counts;
     }
 
 pub returns-in_err-open : goal.returns-in_err-open
@@ -95,4 +101,5 @@ returns-in_err-open g c =
       no_larger = rw p.1 tt;
       adds = rw p.1 tt;
       reads = reads_then _ _ _ i.reads o.reads;
+      counts = rw (p.1, p.2) (o.counts ∙ ap (unblamed c.in_err-open.field-0.0) i.counts);
     }

@@ -13,4 +13,4 @@ returns-clause-reads c =
 pub returns-clause-honest : goal.returns-clause-honest
 returns-clause-honest c =
     subst (λ (s : LyingStoreModel). IsHonest (told_objects s.answers s.objects) → AreAnswered [] [] s.acts) c.self.view_is
-    (honest_answered c.self.inside.answers.items c.self.inside.objects.entries (acts_of c.self.inside.noted.items c.self.inside.reads.items) c.self.invariant.answered)
+    (honest_answered c.self.inside.answers.items c.self.inside.objects (acts_of c.self.inside.noted.items c.self.inside.reads.items) c.self.invariant.answered)

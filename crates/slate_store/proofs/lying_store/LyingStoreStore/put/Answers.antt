@@ -10,8 +10,8 @@ pub invariant_of-self-else-is_err : goal.invariant_of-self-else-is_err
 invariant_of-self-else-is_err c =
     let pushed = c.in_ok-push.ensures.items ∙ ap (λ (noted : Noted). c.self.inside.noted.items ++ (noted ∷ [])) c.in_ok-noted.ensures in
     let taken = not_err c.put_object-done.result (sym c.is_err.ensures.value ∙ c.if-is_err.false) c.put_object-done.ensures.taken in
-    subst (λ noted. IsConsistent c.self.inside.answers.items c.put_object-done.new.objects.entries noted c.self.inside.reads.items) (sym pushed)
-    (keeps_put c.self.inside.answers.items c.self.inside.objects.entries c.put_object-done.new.objects.entries c.self.inside.noted.items c.self.inside.reads.items c.args.path.now c.args.bytes.now c.self.invariant taken)
+    subst (λ noted. IsConsistent c.self.inside.answers.items c.put_object-done.new.objects noted c.self.inside.reads.items) (sym pushed)
+    (keeps_put c.self.inside.answers.items c.self.inside.objects c.put_object-done.new.objects c.self.inside.noted.items c.self.inside.reads.items c.args.path.now c.args.bytes.now c.self.invariant taken)
 
 pub returns-else-is_err-clause-act : goal.returns-else-is_err-clause-act
 returns-else-is_err-clause-act c =

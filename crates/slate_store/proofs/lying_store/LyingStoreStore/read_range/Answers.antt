@@ -9,9 +9,9 @@ use Rattle.slate_store.proofs.lying_store.LyingStoreStore.read_range.Goals as go
 
 pub invariant_of-self-in-Ok : goal.invariant_of-self-in-Ok
 invariant_of-self-in-Ok c =
-    subst (λ noted. IsConsistent c.self.inside.answers.items c.self.inside.objects.entries noted c.push-2.new.self.items) (sym c.in_ok-push.ensures.items)
-    (subst (λ reads. IsConsistent c.self.inside.answers.items c.self.inside.objects.entries (c.self.inside.noted.items ++ (Read ∷ [])) reads) (sym c.in-Ok.ensures.items)
-    (read_kept c.args.self.now c.self.inside.noted.items c.self.inside.reads.items c.in_ok-read.read c.args.path.now c.args.start c.args.len c.in_ok-answer.answer c.self.inside.answers.items c.self.inside.objects.entries c.self.invariant
+    subst (λ noted. IsConsistent c.self.inside.answers.items c.self.inside.objects noted c.push-2.new.self.items) (sym c.in_ok-push.ensures.items)
+    (subst (λ reads. IsConsistent c.self.inside.answers.items c.self.inside.objects (c.self.inside.noted.items ++ (Read ∷ [])) reads) (sym c.in-Ok.ensures.items)
+    (read_kept c.args.self.now c.self.inside.noted.items c.self.inside.reads.items c.in_ok-read.read c.args.path.now c.args.start c.args.len c.in_ok-answer.answer c.self.inside.answers.items c.self.inside.objects c.self.invariant
     (ap (λ (s : LyingStoreModel). s.answers) c.self.view_is) (ap (λ (s : LyingStoreModel). s.objects) c.self.view_is) (ap (λ (s : LyingStoreModel). s.acts) c.self.view_is)
     c.in_ok-read.ensures.path c.in_ok-read.ensures.start c.in_ok-read.ensures.len c.in_ok-read.ensures.bytes c.in_ok-answer.ensures))
 

@@ -11,6 +11,7 @@ returns-in_err-step c =
     record {
       taken = λ os is. IfOk-from_err c.from_residual.result _ c.from_residual.ensures.0;
       refused = on_err c.from_residual.result (inl (record { stands = ap (λ s. Some s.objects) c.self.view_is; told = refl }));
+      left = λ p is. on_err c.from_residual.result (record { stands = ap (λ s. Some s.objects) c.self.view_is; told = refl });
       act = IfOk-from_err c.from_residual.result _ c.from_residual.ensures.0;
       later = subst (λ s. s.faults ≤ c.step.new.self.faults.count) c.self.view_is c.in_err-step.ensures.later;
       still = inl (p.1 ∙ ap Err p.2);
