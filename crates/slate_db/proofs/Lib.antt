@@ -112,7 +112,6 @@ mod ScanMerges
 pub mod RowDamage
 mod Serial
 mod ScansLeft
-mod Stills
 mod Places
 mod Behind
 mod KeyBlocks

@@ -9,7 +9,7 @@ use Rattle.slate_types.specs.declared.filter_policy.FilterQuery.{FilterQuery}
 use Rattle.slate_types.specs.declared.iter.IterationOrder.{IterationOrder}
 use Rattle.slate_types.specs.declared.types.RowEntry.{RowEntry}
 use Rattle.slate_types.specs.Iteration.{RowList}
-use Rattle.slate_types.specs.Outside.{Act, IsFault, Meaning, Objects, OnlyReads, Reach}
+use Rattle.slate_types.specs.Outside.{Act, IsFault, Meaning, Objects, OnlyReads, Reach, unblamed}
 use Rattle.slate_types.specs.World.{Checks, Made, Sees, World}
 use Rattle.slate_types.proofs.Calls.{call_both}
 use Rattle.slate_filter.specs.Policy.{Policy}
@@ -94,13 +94,14 @@ layers_there c range n active has r k =
 
 -- asking filters was refused
 pub asking_opens : (policies : List Policy) (query : Option FilterQuery) (before after : Reach) (c : CoreModel) (range : BytesRange) (n : ℕ) (active : Rows) (frozen : List Rows) (runs : List SortedRun) (id : List ℕ) (from : Reader) (order : IterationOrder) (e : SlateDBError)
-    (result : Result DbIterator SlateDBError) → result ≡ Err e → FailsAsking policies query before after (handles_of runs) e → StandsIn c range n active frozen runs → IsOpened policies query before after c n from.ops range order result
-asking_opens policies query before after c range n active frozen runs id from order e result is fails st = subst (IsOpened policies query before after c n from.ops range order) (sym is) (record {
+    (result : Result DbIterator SlateDBError) → result ≡ Err e → FailsAsking policies query before after (handles_of runs) e → StandsIn c range n active frozen runs → unblamed e after.faults ≡ unblamed e before.faults → IsOpened policies query before after c n from.ops range order result
+asking_opens policies query before after c range n active frozen runs id from order e result is fails st still = subst (IsOpened policies query before after c n from.ops range order) (sym is) (record {
   opened = λ above a. tt;
   checked = λ above os r. tt;
   later = tt;
   undamaged = λ above a. refused.undamaged a.os (runs_there policies before.meaning a.os c st.unseen st.whole a.readable) (runs_filtered policies before.meaning a.os c st.unseen st.whole a.readable) a.answers;
   cause = asking_refused policies query before after c st.unseen st.whole e refused.cause;
+  still = still;
 })
   where
     refused : FailsAsking policies query before after (handles_of st.unseen.runs) e
@@ -126,8 +127,8 @@ module _ (policies : List Policy) (query : Option FilterQuery) (before middle af
       ((v : World) → AllByRecursion (CanOpen v order) sources → Checks v middle after) →
       Made middle after (λ reads. (later : List Act) (at : Option (List ℕ)) (e : SlateDBError) → merge_refuses rows.iterator middle.meaning later at e → IsBlamedFor sources middle.meaning (reads ++ later) at e) →
       Made middle after (λ reads. (later : List Act) (at : Option (List ℕ)) (e : SlateDBError) → Folds rows middle.meaning later at e → FoldsRefuse sources middle.meaning (reads ++ later) at e) →
-      IsOpened policies query before after c n from.ops range order (Ok it)
-  sources_open rows it state_is range_is order_is going sound rest op checks blamed brought = record {
+      after.faults ≡ before.faults → IsOpened policies query before after c n from.ops range order (Ok it)
+  sources_open rows it state_is range_is order_is going sound rest op checks blamed brought still = record {
     opened = λ above a. (opens above).answered a;
     checked = λ above os r. (opens above).checked os r;
     later = (
@@ -144,6 +145,7 @@ module _ (policies : List Policy) (query : Option FilterQuery) (before middle af
     );
     undamaged = λ above a. tt;
     cause = tt;
+    still = still;
   }
     where
       opens : c.floor ≤ n → OpensScan policies before after c n from.ops range order it
@@ -154,11 +156,12 @@ module _ (policies : List Policy) (query : Option FilterQuery) (before middle af
           scan_refused middle.meaning c st.unseen st.whole lefts.left asked_here.among range order n from.ops (active ∷ reverse c.frozen) sources here
           (λ k. own_of_reader c id from k (own_rows from.ops k) mine.open_there refl) (layers_there c range n active st.active_has) rows it brought.0 state_is range_is going.0 brought.2 later at e h
 
-  pub rows_refused : (e : SlateDBError) (result : Result DbIterator SlateDBError) → result ≡ Err e → Made middle after (λ reads. IsFault middle after e ⊎ IsBlamedFor sources middle.meaning reads None e) → IsOpened policies query before after c n from.ops range order result
-  rows_refused e result is made = subst (IsOpened policies query before after c n from.ops range order) (sym is) (record {
+  pub rows_refused : (e : SlateDBError) (result : Result DbIterator SlateDBError) → result ≡ Err e → Made middle after (λ reads. IsFault middle after e ⊎ IsBlamedFor sources middle.meaning reads None e) → unblamed e after.faults ≡ unblamed e before.faults → IsOpened policies query before after c n from.ops range order result
+  rows_refused e result is made still = subst (IsOpened policies query before after c n from.ops range order) (sym is) (record {
     opened = λ above a. tt;
     checked = λ above os r. tt;
     later = tt;
     undamaged = λ above a. opening_whole policies before middle after c st.unseen st.whole lefts.left range asked_here first last order n from.ops mine.fine above active st.active_has sources here plain e made a;
     cause = opening_refused middle.meaning c st.unseen st.whole lefts.left asked_here.among range order n from.ops (active ∷ reverse c.frozen) sources here policies query before middle after e refl first asked made;
+    still = still;
   })

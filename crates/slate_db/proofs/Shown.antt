@@ -19,10 +19,7 @@ use Rattle.slate_block.specs.declared.block.Block.{Block}
 use Rattle.slate_block.specs.BlockWalks.{TakesRead}
 use Rattle.slate_block.specs.ReadingLaws.{EachIsAByte}
 use Rattle.slate_block.specs.Walks.{RowRead, are_named, block_reads, block_reads_v1, reads_v2}
-use Rattle.slate_mem.specs.Lookup.{Brings, IsCallback, is_merge_among, newest_first}
-use Rattle.slate_mem.specs.Table.{newest}
-use Rattle.slate_mem.proofs.LayerLaws.{first_both}
-use Rattle.slate_mem.proofs.Brought.{newest_among}
+use Rattle.slate_mem.specs.Lookup.{Brings, IsCallback, is_merge_among}
 use Rattle.slate_block.proofs.Versions.{known_or_not, not_first}
 use Rattle.slate_table.specs.declared.info.SsTableHandle.{SsTableHandle}
 use Rattle.slate_table.specs.Parts.{Encode}
@@ -31,9 +28,9 @@ use Rattle.slate_table.specs.Reading.{Reads, IsStoreFault, FailsDecoding, IsInde
 use Rattle.slate_table.proofs.ReadCalls.{call_of, call_quiet}
 use Rattle.slate_db.specs.Installs.{AreHandles, root, tables_of}
 use Rattle.slate_db.specs.Lookup.{IsUnknown}
-use Rattle.slate_db.specs.Model.{CoreModel, memory}
+use Rattle.slate_db.specs.Model.{CoreModel}
 use Rattle.slate_db.specs.Parts.{IsTableError}
-use Rattle.slate_db.specs.Readable.{IsOwnRow, IsReadError, IsRefusedBy, LacksOperator}
+use Rattle.slate_db.specs.Readable.{IsMemoryAsked, IsOwnAsked, IsReadError, IsRefusedBy, LacksOperator}
 use Rattle.slate_db.specs.Shown.{Asking, index_act, blocks_act, LetsThrough, IsOpened, section_at, HasBlock, IsRowOf, RefusesRow, HasRow, HasRowRead, IsUnreadable, RefusesFiltersRead, Shows, ShowsRead, BringsRow, BringsRows, ShowsDamage}
 use Rattle.slate_db.proofs.Causes.{callback_fault, store_fault, transform_fault}
 use Rattle.slate_db.proofs.Damaged.{block_unreadable, index_unreadable}
@@ -334,13 +331,8 @@ operand_among P (r ∷ rs) h is = by (is_operand r) refl (operand_among P rs h.1
     by true e next k = (r, h.0, e)
     by false e next k = next k
 
-pub from_memory : (c : CoreModel) (k : List ℕ) (n : ℕ) (near : List RowEntry) (r : RowEntry) → near ≡ newest k n (c.active ++ newest_first c.frozen) → Contains near r → Contains (newest_first (memory c)) r
-from_memory c k n near r is among =
-    subst (λ (xs : List RowEntry). Contains xs r) (sym (first_both c.frozen (c.active ∷ []) ∙ ap (λ (xs : List RowEntry). xs ++ newest_first c.frozen) (append-nil c.active)))
-    (newest_among k n (c.active ++ newest_first c.frozen) r (subst (λ (xs : List RowEntry). Contains xs r) is among))
-
 -- what a fold of the rows that were found is refused for
-pub fold_refused : (asking : Asking) (a b d : Reach) (c : CoreModel) (hs : List SsTableHandle) (near found : List RowEntry) (e : SlateDBError) → AreHandles (tables_of c.events) hs → ((r : RowEntry) → Contains near r → IsOwnRow c r ⊎ Contains (newest_first (memory c)) r) → IsLater a.faults b.faults →
+pub fold_refused : (asking : Asking) (a b d : Reach) (c : CoreModel) (hs : List SsTableHandle) (near found : List RowEntry) (e : SlateDBError) → AreHandles (tables_of c.events) hs → ((r : RowEntry) → Contains near r → IsOwnAsked asking c r ⊎ IsMemoryAsked asking c r) → IsLater a.faults b.faults →
     d.objects ≡ b.objects → d.meaning ≡ b.meaning → d.acts ≡ b.acts → Made a b (λ reads. AllByRecursion (λ r. Contains near r ⊎ BringsRow a.meaning.decode asking hs reads r) found) →
     (e ≡ OutOfMemory) ⊎ ((e ≡ MergeOperatorMissing) × (b.meaning.combine ≡ None) × (is_merge_among found ≡ true)) ⊎ IsCallback b.faults.operator d.faults.operator e → IsReadError asking a d c e
 fold_refused asking a b d c hs near found e are is later objects meaning acts made (inl m) = inl (subst (IsCounted a.faults d.faults) (sym m) tt)
@@ -356,11 +348,11 @@ fold_refused asking a b d c hs near found e are is later objects meaning acts ma
       },
     )
   where
-    near_is : (r : RowEntry) → IsOwnRow c r ⊎ Contains (newest_first (memory c)) r → IsOwnRow c r ⊎ Contains (newest_first (memory c)) r ⊎ BringsRow a.meaning.decode asking hs made.0 r
+    near_is : (r : RowEntry) → IsOwnAsked asking c r ⊎ IsMemoryAsked asking c r → IsOwnAsked asking c r ⊎ IsMemoryAsked asking c r ⊎ BringsRow a.meaning.decode asking hs made.0 r
     near_is r (inl o) = inl o
     near_is r (inr m) = inr (inl m)
 
-    by : (r : RowEntry) → Contains near r ⊎ BringsRow a.meaning.decode asking hs made.0 r → IsOwnRow c r ⊎ Contains (newest_first (memory c)) r ⊎ BringsRow a.meaning.decode asking hs made.0 r
+    by : (r : RowEntry) → Contains near r ⊎ BringsRow a.meaning.decode asking hs made.0 r → IsOwnAsked asking c r ⊎ IsMemoryAsked asking c r ⊎ BringsRow a.meaning.decode asking hs made.0 r
     by r (inl m) = near_is r (is r m)
     by r (inr b) = inr (inr b)
 fold_refused asking a b d c hs near found e are is later objects meaning acts made (inr (inr k)) = inl (counted_earlier a.faults b.faults d.faults e later (callback_fault b.faults d.faults e k))

@@ -7,7 +7,7 @@ use Rattle.slate_types.specs.declared.error.SlateDBError.TheVariants.{OutOfMemor
 use Rattle.slate_types.specs.declared.filter_policy.FilterQuery.{FilterQuery}
 use Rattle.slate_types.specs.declared.types.RowEntry.{RowEntry}
 use Rattle.slate_types.specs.Fold.{Combine, fold_rows}
-use Rattle.slate_types.specs.Outside.{Reach}
+use Rattle.slate_types.specs.Outside.{Reach, unblamed}
 use Rattle.slate_types.proofs.Calls.{call_none}
 use Rattle.slate_types.proofs.Reaching.{reads_none}
 use Rattle.slate_filter.specs.Policy.{Policy}
@@ -41,14 +41,14 @@ under_own c id t k own there rows fine undecided = record {
 
 pub read_under : (by : Asking) (before after : Reach) (c : CoreModel) (k : List ℕ) (t : Tx) (own : Rows) (r : Result (Option RowEntry) SlateDBError) → c.floor ≤ t.begin → own ≡ map (own_row k) (reverse (kept t.ops k)) → IsSeen by before after c k t.begin own r → IsKeyRead by before after c k t IsFolded r
 read_under by before after c k t own (Ok row) above rows s = record {
-  read = record { answer = λ is. s.read.answer is above ∙ ap (λ (xs : Rows). fold_rows (combine_of before.meaning k) (key_rows (rules_of c.settings before.meaning) k (up_to t.begin c.state.commits) ++ xs)) (oldest_first k t.ops own rows); undamaged = s.read.undamaged; checked = s.read.checked; cause = s.read.cause; reads = s.read.reads };
+  read = record { answer = λ is. s.read.answer is above ∙ ap (λ (xs : Rows). fold_rows (combine_of before.meaning k) (key_rows (rules_of c.settings before.meaning) k (up_to t.begin c.state.commits) ++ xs)) (oldest_first k t.ops own rows); undamaged = s.read.undamaged; checked = s.read.checked; cause = s.read.cause; reads = s.read.reads; still = s.read.still };
   asks = s.asks;
   finds = λ is needs. s.finds above is (ap (λ (xs : Rows). takes_flushed c.state (key_rows (rules_of c.settings before.meaning) k (up_to t.begin c.state.commits) ++ xs)) (oldest_first k t.ops own rows) ∙ needs);
   missing = λ lacks some. s.missing lacks (own_some k t.ops own rows some);
   operand = λ lacks meets. s.merged lacks meets.1;
 }
 read_under by before after c k t own (Err e) above rows s = record {
-  read = record { answer = λ is. tt; undamaged = s.read.undamaged; checked = s.read.checked; cause = s.read.cause; reads = s.read.reads };
+  read = record { answer = λ is. tt; undamaged = s.read.undamaged; checked = s.read.checked; cause = s.read.cause; reads = s.read.reads; still = s.read.still };
   asks = s.asks;
   finds = λ is needs. tt;
   missing = λ lacks some. tt;
@@ -69,11 +69,12 @@ own_refused {A} a k t means r is = subst (IsOwnAnswer a a k t means) (sym is) (r
   own = λ op one replaces. record { answer = tt; cause = refl; reached = refl };
   missing = λ lacks some. tt;
   cause = inl tt;
+  still = refl;
 })
 
 pub seen_refused : (by : Asking) (a : Reach) (c : CoreModel) (k : List ℕ) (n : ℕ) (own : Rows) (r : Result (Option RowEntry) SlateDBError) → r ≡ Err OutOfMemory → IsSeen by a a c k n own r
 seen_refused by a c k n own r is = subst (IsSeen by a a c k n own) (sym is) (record {
-  read = record { answer = λ is. tt; undamaged = λ is. tt; checked = λ os is. tt; cause = inl tt; reads = reads_none a };
+  read = record { answer = λ is. tt; undamaged = λ is. tt; checked = λ os is. tt; cause = inl tt; reads = reads_none a; still = refl };
   asks = asks_none by a a c (call_none a);
   finds = λ above is needs. tt;
   missing = λ lacks some. tt;
@@ -85,7 +86,7 @@ seen_refused by a c k n own r is = subst (IsSeen by a a c k n own) (sym is) (rec
 module _ {A B : Type 0} (by : Asking) (a b : Reach) (c : CoreModel) (k : List ℕ) (t : Tx) (first : Combine → Rows → A → Type 0) (then : Combine → Rows → B → Type 0) where
   pub read_on : (x : A) (y : B) → ((f : Combine) (rows : Rows) → first f rows x → then f rows y) → IsKeyRead by a b c k t first (Ok x) → IsKeyRead by a b c k t then (Ok y)
   read_on x y so r = record {
-    read = record { answer = λ is. so _ _ (r.read.answer is); undamaged = r.read.undamaged; checked = r.read.checked; cause = r.read.cause; reads = r.read.reads };
+    read = record { answer = λ is. so _ _ (r.read.answer is); undamaged = r.read.undamaged; checked = r.read.checked; cause = r.read.cause; reads = r.read.reads; still = r.read.still };
     asks = r.asks;
     finds = r.finds;
     missing = r.missing;
@@ -94,7 +95,7 @@ module _ {A B : Type 0} (by : Asking) (a b : Reach) (c : CoreModel) (k : List �
 
   pub read_refused : (e : SlateDBError) → IsKeyRead by a b c k t first (Err e) → IsKeyRead by a b c k t then (Err e)
   read_refused e r = record {
-    read = record { answer = λ is. tt; undamaged = r.read.undamaged; checked = r.read.checked; cause = r.read.cause; reads = r.read.reads };
+    read = record { answer = λ is. tt; undamaged = r.read.undamaged; checked = r.read.checked; cause = r.read.cause; reads = r.read.reads; still = r.read.still };
     asks = r.asks;
     finds = λ is needs. tt;
     missing = λ lacks some. tt;
@@ -103,7 +104,7 @@ module _ {A B : Type 0} (by : Asking) (a b : Reach) (c : CoreModel) (k : List �
 
   pub read_unnoted : (x : A) → IsKeyRead by a b c k t first (Ok x) → IsKeyRead by a b c k t then (Err OutOfMemory)
   read_unnoted x r = record {
-    read = record { answer = λ is. tt; undamaged = λ is. tt; checked = λ os is. tt; cause = inl tt; reads = r.read.reads };
+    read = record { answer = λ is. tt; undamaged = λ is. tt; checked = λ os is. tt; cause = inl tt; reads = r.read.reads; still = ap (unblamed OutOfMemory) r.read.still };
     asks = r.asks;
     finds = λ is needs. tt;
     missing = λ lacks some. tt;
@@ -118,6 +119,7 @@ module _ {A B : Type 0} (a b : Reach) (k : List ℕ) (t : Tx) (first : Combine �
     own = λ op one replaces. let o = r.own op one replaces in record { answer = λ f. so _ _ (o.answer f); cause = o.cause; reached = o.reached };
     missing = r.missing;
     cause = r.cause;
+    still = r.still;
   }
 
   pub own_not : (e : SlateDBError) → IsOwnAnswer a b k t first (Err e) → IsOwnAnswer a b k t then (Err e)
@@ -127,6 +129,7 @@ module _ {A B : Type 0} (a b : Reach) (k : List ℕ) (t : Tx) (first : Combine �
     own = λ op one replaces. let o = r.own op one replaces in record { answer = tt; cause = o.cause; reached = o.reached };
     missing = λ lacks some. tt;
     cause = r.cause;
+    still = r.still;
   }
 
   pub own_unnoted : (x : A) → IsOwnAnswer a b k t first (Ok x) → IsOwnAnswer a b k t then (Err OutOfMemory)
@@ -136,6 +139,7 @@ module _ {A B : Type 0} (a b : Reach) (k : List ℕ) (t : Tx) (first : Combine �
     own = λ op one replaces. let o = r.own op one replaces in record { answer = tt; cause = refl; reached = o.reached };
     missing = λ lacks some. tt;
     cause = inl tt;
+    still = ap (unblamed OutOfMemory) r.still;
   }
 
 -- ---- operations of which none is a merge

@@ -16,7 +16,7 @@ use Rattle.slate_types.specs.declared.error.SlateDBError.TheVariants.{MergeOpera
 use Rattle.slate_types.specs.declared.types.KeyValue.{KeyValue}
 use Rattle.slate_types.specs.declared.types.RowEntry.{RowEntry}
 use Rattle.slate_types.specs.Fold.{AreShort, Combine, IsLawful, KeepsShort, fold_rows, shown}
-use Rattle.slate_types.specs.Outside.{Reach, IsFault}
+use Rattle.slate_types.specs.Outside.{Reach, IsFault, IsStill}
 use Rattle.slate_types.specs.Rows.{is_operand, key_value}
 use Rattle.slate_types.specs.World.{IsCall}
 use Rattle.slate_mem.specs.declared.WriteOp.{WriteOp}
@@ -82,6 +82,7 @@ pub record IsOwnAnswer {A : Type 0} (before after : Reach) (k : List ℕ) (t : T
   pub own : (op : WriteOp) → kept t.ops k ≡ op ∷ [] → replaces op ≡ true → IsOwnRead before after (λ a. (f : Combine) → means f (own_row k op ∷ []) a) result
   pub missing : before.meaning.combine ≡ None → keeps_merge k t.ops ≡ true → IfOk result (λ a. ⊥)
   pub cause : IfErr result (λ e. IsFault before after e ⊎ ((e ≡ MergeOperatorMissing) × (before.meaning.combine ≡ None) × (keeps_merge k t.ops ≡ true)))
+  pub still : IsStill before.faults after.faults result
 
 abbrev pub IsFolded : Combine → Rows → Option RowEntry → Type 0
 IsFolded f rows row = row ≡ fold_rows f rows

@@ -15,7 +15,7 @@ use Rattle.slate_types.specs.declared.iter.IterationOrder.{IterationOrder}
 use Rattle.slate_types.specs.declared.types.RowEntry.{RowEntry}
 use Rattle.slate_types.specs.Iteration.{RowList}
 use Rattle.slate_types.specs.Keys.{in_range}
-use Rattle.slate_types.specs.Outside.{Act, IsFault, Meaning, Objects, Reach}
+use Rattle.slate_types.specs.Outside.{Act, IsFault, Meaning, Objects, Reach, IsStill}
 use Rattle.slate_types.specs.Rows.{of_key}
 use Rattle.slate_types.specs.World.{World, Made}
 use Rattle.slate_filter.specs.Policy.{Policy}
@@ -73,3 +73,4 @@ pub record IsOpened (policies : List Policy) (query : Option FilterQuery) (befor
   pub later : IfOk result (λ it. IsFor before.meaning it × Made before after (λ reads. (later : List Act) (at : Option (List ℕ)) (e : SlateDBError) → ScanRefuses it before.meaning later at e → IsRefusedByScan before.meaning c (reads ++ later) at e))
   pub undamaged : c.floor ≤ n → IsAnswered policies before after c → IfErr result (IsFault before after)
   pub cause : IfErr result (IsOpeningError policies query before after c)
+  pub still : IsStill before.faults after.faults result

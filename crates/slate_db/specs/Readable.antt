@@ -3,6 +3,8 @@
 --     IsReadable policies m os c      parts and policies are lawful, for them what is kept of the rows holds, and these objects hold the tables that the journal names, with their filters
 --     IsAnswered policies before after c      objects of which this is true answered each read of the call
 --     IsOwnRow c row      the row of an operation that an open transaction has among its own
+--     IsOwnAsked by c row      such a row, of the key that is asked for
+--     IsMemoryAsked by c row      a row of that key in memory, among those up to a sequence, down to the first that decides
 --     LacksOperator by m c hs reads e      there is no operator, and an operand was found, among own operations, in memory or by the reads
 --     IsRefusedBy by m c reads e      the reads show so of the tables that the journal names
 --     IsReadError by before after c e      a fault that came in the call, or want of memory, or such a refusal by its reads
@@ -15,9 +17,10 @@ use Rattle.std.specs.Prelude.{◌≡◌, ◌⊎◌, ℕ, Bool, true, false, not,
 use Rattle.std.specs.List.{AllByRecursion, list_any}
 use Rattle.slate_types.specs.declared.error.SlateDBError.{SlateDBError}
 use Rattle.slate_types.specs.declared.error.SlateDBError.TheVariants.{MergeOperatorMissing, OutOfMemory}
+use Rattle.slate_types.specs.declared.filter_policy.PrefixTarget.TheVariants.{Point}
 use Rattle.slate_types.specs.declared.types.RowEntry.{RowEntry}
 use Rattle.slate_types.specs.declared.types.Ulid.{Ulid}
-use Rattle.slate_types.specs.Outside.{Act, Objects, IsFault, Meaning, OnlyReads, Reach}
+use Rattle.slate_types.specs.Outside.{Act, Objects, IsFault, Meaning, OnlyReads, Reach, IsStill}
 use Rattle.slate_types.specs.Rows.{is_operand}
 use Rattle.slate_types.specs.World.{Made}
 use Rattle.slate_mem.specs.declared.WriteOp.{WriteOp}
@@ -63,12 +66,18 @@ pub record IsOwnRow (c : CoreModel) (row : RowEntry) : Type 0 where
   pub among : Contains (kept tx.ops key) op
   pub is : row ≡ own_row key op
 
+abbrev pub IsOwnAsked : Asking → CoreModel → RowEntry → Type 0
+IsOwnAsked by c row = IsOwnRow c row × (by.query.target ≡ Point row.key)
+
+abbrev pub IsMemoryAsked : Asking → CoreModel → RowEntry → Type 0
+IsMemoryAsked by c row = (k : List ℕ) × (n : ℕ) × (by.query.target ≡ Point k) × Contains (newest k n (newest_first (memory c))) row
+
 pub record LacksOperator (by : Asking) (m : Meaning) (c : CoreModel) (hs : List SsTableHandle) (reads : List Act) (e : SlateDBError) : Type 0 where
   pub is : e ≡ MergeOperatorMissing
   pub none : m.combine ≡ None
   pub row : RowEntry
   pub operand : is_operand row ≡ true
-  pub found : IsOwnRow c row ⊎ Contains (newest_first (memory c)) row ⊎ BringsRow m.decode by hs reads row
+  pub found : IsOwnAsked by c row ⊎ IsMemoryAsked by c row ⊎ BringsRow m.decode by hs reads row
 
 -- handles: what is kept of the tables that the journal names
 pub record IsRefusedBy (by : Asking) (m : Meaning) (c : CoreModel) (reads : List Act) (e : SlateDBError) : Type 0 where
@@ -86,6 +95,7 @@ pub record IsRead {A : Type 0} (by : Asking) (before after : Reach) (c : CoreMod
   pub checked : (os : Objects) → IsReadable by.policies before.meaning os c → OnOk result (ChecksFrom os before after)
   pub cause : IfErr result (IsReadError by before after c)
   pub reads : OnlyReads before after
+  pub still : IsStill before.faults after.faults result
 
 pub record IsOwnRead {A : Type 0} (before after : Reach) (means : A → Type 0) (result : Result A SlateDBError) : Type 0 where
   pub answer : IfOk result means

@@ -7,7 +7,7 @@ use Rattle.slate_types.specs.declared.error.SlateDBError.{SlateDBError}
 use Rattle.slate_types.specs.declared.types.KeyValue.{KeyValue}
 use Rattle.slate_types.specs.declared.types.RowEntry.{RowEntry}
 use Rattle.slate_types.specs.Iteration.{drop_before}
-use Rattle.slate_types.specs.Outside.{IsFault, OnlyReads, Reach}
+use Rattle.slate_types.specs.Outside.{IsFault, OnlyReads, Reach, IsStill}
 use Rattle.slate_types.specs.Refusing.{NoMore}
 use Rattle.slate_types.specs.World.{Checks, Made, Sees, World}
 use Rattle.slate_txn.specs.Alone.{first_left}
@@ -24,6 +24,7 @@ pub record IsStep {A : Type 0} (at : Option (List ℕ)) (more : List RowEntry �
   pub refused : (kept : SlateDBError) → IsRefusedScan kept (scan_of old) → AnswersAgain kept result × (new ≡ old) × same
   pub names : IsScanOf (id_of old) (number_of old) (scan_of old).order (scan_of old).range new
   pub reads : OnlyReads before after
+  pub still : IsStill before.faults after.faults result
 
 abbrev pub IsNext : Reach → Reach → Type 0 → TxnIterator → TxnIterator → Result (Option KeyValue) SlateDBError → Type 0
 IsNext before after same old new result = IsStep None (drop 1) (λ rows a. a ≡ first_left rows) before after same old new result

@@ -6,7 +6,7 @@ ghost use Rattle.slate_types.specs.declared.filter_policy.PrefixTarget.{PrefixTa
 ghost use Rattle.slate_types.specs.declared.iter.IterationOrder.{IterationOrder};
 ghost use Rattle.slate_types.specs.declared.types.RowEntry.{RowEntry};
 ghost use Rattle.slate_types.specs.Iteration.{IsInOrder};
-ghost use Rattle.slate_types.specs.Outside.{Objects, IsFault, OnlyReads};
+ghost use Rattle.slate_types.specs.Outside.{Objects, IsFault, IsStill, OnlyReads};
 ghost use Rattle.slate_types.specs.Partitions.{CanHold};
 ghost use Rattle.slate_types.specs.Rows.{of_key};
 ghost use Rattle.slate_types.specs.World.{Made};
@@ -176,6 +176,8 @@ fn lets_through<S: Store, M: MergeOperator, T: BlockTransformer>(
     ensures alone { let reach = ⟦<EnvOf<S, M, T> as Outside>⟧.reach in Made (reach env.old) (reach env.new) (AllByRecursion (IsFiltersRead table.now)) }
     ensures checked { let reach = ⟦<EnvOf<S, M, T> as Outside>⟧.reach in (rows : Rows) (os : Objects) → IsStoredAs (reach env.old).meaning os table.now rows → OnOk result (ChecksFrom os (reach env.old) (reach env.new)) }
     ensures reads { let reach = ⟦<EnvOf<S, M, T> as Outside>⟧.reach in OnlyReads (reach env.old) (reach env.new) }
+    ensures still { let reach = ⟦<EnvOf<S, M, T> as Outside>⟧.reach in
+        IsStill (reach env.old).faults (reach env.new).faults result }
 {
     TableStore::might_match(
         alloc,
@@ -203,6 +205,8 @@ fn newest_of_enclosing<S: Store, M: MergeOperator, T: BlockTransformer>(
     ensures alone { let reach = ⟦<EnvOf<S, M, T> as Outside>⟧.reach in Made (reach env.old) (reach env.new) (AllByRecursion (IsReadOf table.now)) }
     ensures checked { let reach = ⟦<EnvOf<S, M, T> as Outside>⟧.reach in (rows : Rows) (os : Objects) → IsStoredAs (reach env.old).meaning os table.now rows → OnOk result (ChecksFrom os (reach env.old) (reach env.new)) }
     ensures reads { let reach = ⟦<EnvOf<S, M, T> as Outside>⟧.reach in OnlyReads (reach env.old) (reach env.new) }
+    ensures still { let reach = ⟦<EnvOf<S, M, T> as Outside>⟧.reach in
+        IsStill (reach env.old).faults (reach env.new).faults result }
 {
     let index = TableStore::read_index(alloc, env.store, ROOT, table, &mut env.transformer)?;
     let covered = covering(&index, key);
@@ -246,6 +250,8 @@ fn newest_of_table<S: Store, M: MergeOperator, T: BlockTransformer>(
         Made (reach env.old) (reach env.new) (AreBehindFilters (reach env.old).meaning.decode by (table.now ∷ [])) }
     ensures checked { let reach = ⟦<EnvOf<S, M, T> as Outside>⟧.reach in (rows : Rows) (os : Objects) → IsStoredAs (reach env.old).meaning os table.now rows → OnOk result (ChecksFrom os (reach env.old) (reach env.new)) }
     ensures reads { let reach = ⟦<EnvOf<S, M, T> as Outside>⟧.reach in OnlyReads (reach env.old) (reach env.new) }
+    ensures still { let reach = ⟦<EnvOf<S, M, T> as Outside>⟧.reach in
+        IsStill (reach env.old).faults (reach env.new).faults result }
 {
     if !encloses(&table.info, key) {
         return Ok(Vec::new(alloc));
@@ -309,6 +315,8 @@ fn newest_of_tables<S: Store, M: MergeOperator, T: BlockTransformer>(
         Made (reach env.old) (reach env.new) (AreBehindFilters (reach env.old).meaning.decode by tables.now) }
     ensures checked { let reach = ⟦<EnvOf<S, M, T> as Outside>⟧.reach in (layers : List Rows) (os : Objects) → AreStoredAs (reach env.old).meaning os tables.now layers → OnOk result (ChecksFrom os (reach env.old) (reach env.new)) }
     ensures reads { let reach = ⟦<EnvOf<S, M, T> as Outside>⟧.reach in OnlyReads (reach env.old) (reach env.new) }
+    ensures still { let reach = ⟦<EnvOf<S, M, T> as Outside>⟧.reach in
+        IsStill (reach env.old).faults (reach env.new).faults result }
 {
     let mut found = newer;
     let mut i = tables.len();
@@ -349,6 +357,8 @@ pub fn newest_of_runs<S: Store, M: MergeOperator, T: BlockTransformer>(
         Made (reach env.old) (reach env.new) (AreBehindFilters (reach env.old).meaning.decode by (handles_of runs.now)) }
     ensures checked { let reach = ⟦<EnvOf<S, M, T> as Outside>⟧.reach in (layers : List Rows) (os : Objects) → AreStoredAs (reach env.old).meaning os (handles_of runs.now) layers → OnOk result (ChecksFrom os (reach env.old) (reach env.new)) }
     ensures reads { let reach = ⟦<EnvOf<S, M, T> as Outside>⟧.reach in OnlyReads (reach env.old) (reach env.new) }
+    ensures still { let reach = ⟦<EnvOf<S, M, T> as Outside>⟧.reach in
+        IsStill (reach env.old).faults (reach env.new).faults result }
 {
     let mut found = newer;
     let mut at = runs.len();

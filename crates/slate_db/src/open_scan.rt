@@ -5,7 +5,7 @@ ghost use Rattle.slate_types.specs.declared.error.SlateDBError.{SlateDBError};
 ghost use Rattle.slate_types.specs.declared.iter.IterationOrder.{IterationOrder};
 ghost use Rattle.slate_types.specs.Iteration.{IsInOrder};
 ghost use Rattle.slate_types.specs.Keys.{in_range, is_refused};
-ghost use Rattle.slate_types.specs.Outside.{Act, IsFault, OnlyReads};
+ghost use Rattle.slate_types.specs.Outside.{Act, IsFault, IsStill, OnlyReads};
 ghost use Rattle.slate_types.specs.RowTurns.{AreInTurn, row_before};
 ghost use Rattle.slate_types.specs.World.{World, Checks, Made, Sees};
 ghost use Rattle.slate_mem.specs.Batch.{Ops};
@@ -291,6 +291,8 @@ fn asked_sources<'a, S: Store, M: MergeOperator, T: BlockTransformer>(
     ensures refused { let reach = ⟦<EnvOf<S, M, T> as Outside>⟧.reach in
         IfErr result (FailsAsking (map (λ p. meaning p) policies.now) (scan_query range.now options.now.prefix options.now.filter_context) (reach env.old) (reach env.new) (handles_of runs.now)) }
     ensures reads { let reach = ⟦<EnvOf<S, M, T> as Outside>⟧.reach in OnlyReads (reach env.old) (reach env.new) }
+    ensures still { let reach = ⟦<EnvOf<S, M, T> as Outside>⟧.reach in
+        IsStill (reach env.old).faults (reach env.new).faults result }
 {
     let query = scan_query(range, options)?;
     let left = runs_left(alloc, runs, range, policies, &query, env)?;
@@ -312,7 +314,8 @@ fn asked_sources<'a, S: Store, M: MergeOperator, T: BlockTransformer>(
 
 /// What a refused opening answers. No iterator refuses its own `init` for want of one, but what they promise doesn't say that.
 fn refusal_of_opening(error: SlateDBError) -> SlateDBError
-    ensures { ((result ≡ error) × (error ≢ SlateDBError.IteratorNotInitialized)) ⊎ (result ≡ SlateDBError.OutOfMemory) }
+    ensures refusal { ((result ≡ error) × (error ≢ SlateDBError.IteratorNotInitialized)) ⊎ (result ≡ SlateDBError.OutOfMemory) }
+    ensures waits { (result ≡ error) ⊎ (error ≡ SlateDBError.IteratorNotInitialized) }
 {
     match error {
         SlateDBError::IteratorNotInitialized => SlateDBError::OutOfMemory,
@@ -340,6 +343,8 @@ pub(crate) fn merged<'a, S: Store, M: MergeOperator, T: BlockTransformer>(
     ensures brought { let reach = ⟦<EnvOf<S, M, T> as Outside>⟧.reach in IfOk result (λ rows. Made (reach env.old) (reach env.new) (λ reads. (later : List Act) (at : Option (List ℕ)) (e : SlateDBError) → refuses_folding merge_refuses merge_offers rows (reach env.old).meaning later at e → FoldsRefuse sources.entry.items (reach env.old).meaning (reads ++ later) at e)) }
     ensures cause { let reach = ⟦<EnvOf<S, M, T> as Outside>⟧.reach in IfErr result (λ e. Made (reach env.old) (reach env.new) (λ reads. IsFault (reach env.old) (reach env.new) e ⊎ IsBlamedFor sources.entry.items (reach env.old).meaning reads None e)) }
     ensures reads { let reach = ⟦<EnvOf<S, M, T> as Outside>⟧.reach in OnlyReads (reach env.old) (reach env.new) }
+    ensures still { let reach = ⟦<EnvOf<S, M, T> as Outside>⟧.reach in
+        IsStill (reach env.old).faults (reach env.new).faults result }
 {
     let merge = MergeIterator::new_with_order(sources, order);
     let Ok(mut rows) = MergeOperatorIterator::new(merge, true, None) else {
@@ -373,6 +378,8 @@ pub(crate) fn opened_over<'a, S: Store, M: MergeOperator, T: BlockTransformer>(
     ensures range { IfOk result (λ it. it.range ≡ range) }
     ensures order { IfOk result (λ it. it.order ≡ how.order) }
     ensures reads { let reach = ⟦<EnvOf<S, M, T> as Outside>⟧.reach in OnlyReads (reach env.old) (reach env.new) }
+    ensures still { let reach = ⟦<EnvOf<S, M, T> as Outside>⟧.reach in
+        IsStill (reach env.old).faults (reach env.new).faults result }
 {
     let order = how.order;
     let sources = asked_sources(

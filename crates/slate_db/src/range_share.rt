@@ -5,7 +5,7 @@ ghost use Rattle.slate_types.specs.declared.bytes_range.BytesRange.{BytesRange};
 ghost use Rattle.slate_types.specs.declared.error.SlateDBError.{SlateDBError};
 ghost use Rattle.slate_types.specs.declared.filter_policy.PrefixTarget.{PrefixTarget};
 ghost use Rattle.slate_types.specs.Keys.{in_range, is_refused};
-ghost use Rattle.slate_types.specs.Outside.{OnlyReads};
+ghost use Rattle.slate_types.specs.Outside.{IsStill, OnlyReads};
 ghost use Rattle.slate_mem.specs.Lookup.{newest_first};
 ghost use Rattle.slate_mem.specs.Table.{newest};
 ghost use Rattle.slate_read.specs.SstOptions.{CanFetch};
@@ -108,6 +108,8 @@ impl RangeShare {
         ensures range { IfOk result (λ it. it.range ≡ range) }
         ensures order { IfOk result (λ it. it.order ≡ how.order) }
         ensures reads { let reach = ⟦<EnvOf<S, M, T> as Outside>⟧.reach in OnlyReads (reach env.old) (reach env.new) }
+        ensures still { let reach = ⟦<EnvOf<S, M, T> as Outside>⟧.reach in
+            IsStill (reach env.old).faults (reach env.new).faults result }
     {
         let (active, frozen) = (&self.active, self.frozen.as_slice());
         let runs = self.runs.as_slice();

@@ -6,7 +6,7 @@ ghost use Rattle.slate_types.specs.declared.iter.IterationOrder.{IterationOrder}
 ghost use Rattle.slate_types.specs.declared.types.RowEntry.{RowEntry};
 ghost use Rattle.slate_types.specs.Iteration.{drop_before};
 ghost use Rattle.slate_types.specs.Keys.{is_past_start};
-ghost use Rattle.slate_types.specs.Outside.{IsFault, OnlyReads};
+ghost use Rattle.slate_types.specs.Outside.{IsFault, IsStill, OnlyReads};
 ghost use Rattle.slate_types.specs.Refusing.{NoMore};
 ghost use Rattle.slate_types.specs.World.{World, Checks, Made, Sees};
 ghost use Rattle.slate_txn.specs.Alone.{first_left};
@@ -53,6 +53,8 @@ fn next_in<S: Store, M: MergeOperator, T: BlockTransformer>(
     ensures later { let reach = ⟦<EnvOf<S, M, T> as Outside>⟧.reach in (range : BytesRange) → OnOk result (Made (reach env.old) (reach env.new) (λ reads. NoMore (RefusesIn range state.old (reach env.old).meaning) reads (RefusesIn range state.new (reach env.old).meaning))) }
     ensures cause { let reach = ⟦<EnvOf<S, M, T> as Outside>⟧.reach in (range : BytesRange) → IfErr result (λ e. Made (reach env.old) (reach env.new) (λ reads. IsFault (reach env.old) (reach env.new) e ⊎ RefusesIn range state.old (reach env.old).meaning reads None e)) }
     ensures reads { let reach = ⟦<EnvOf<S, M, T> as Outside>⟧.reach in OnlyReads (reach env.old) (reach env.new) }
+    ensures still { let reach = ⟦<EnvOf<S, M, T> as Outside>⟧.reach in
+        IsStill (reach env.old).faults (reach env.new).faults result }
 {
     match state {
         ScanState::Walking(rows) => next_value(alloc, rows, env),
@@ -82,6 +84,8 @@ fn seek_in<S: Store, M: MergeOperator, T: BlockTransformer>(
     ensures cause { let reach = ⟦<EnvOf<S, M, T> as Outside>⟧.reach in (range : BytesRange) → is_past_start range.start key.now ≡ true →
         IfErr result (λ e. Made (reach env.old) (reach env.new) (λ reads. IsFault (reach env.old) (reach env.new) e ⊎ RefusesIn range state.old (reach env.old).meaning reads (Some key.now) e)) }
     ensures reads { let reach = ⟦<EnvOf<S, M, T> as Outside>⟧.reach in OnlyReads (reach env.old) (reach env.new) }
+    ensures still { let reach = ⟦<EnvOf<S, M, T> as Outside>⟧.reach in
+        IsStill (reach env.old).faults (reach env.new).faults result }
 {
     match state {
         ScanState::Walking(rows) => seek_values(alloc, rows, key, env),
@@ -134,6 +138,8 @@ impl DbIterator<'_> {
         ensures range { self.new.range ≡ self.old.range }
         ensures order { self.new.order ≡ self.old.order }
         ensures reads { let reach = ⟦<EnvOf<S, M, T> as Outside>⟧.reach in OnlyReads (reach env.old) (reach env.new) }
+        ensures still { let reach = ⟦<EnvOf<S, M, T> as Outside>⟧.reach in
+            IsStill (reach env.old).faults (reach env.new).faults result }
     {
         if let ScanState::Refused(error) = &self.state {
             return Err(copy_of(error));
@@ -162,6 +168,8 @@ impl DbIterator<'_> {
         ensures range { self.new.range ≡ self.old.range }
         ensures order { self.new.order ≡ self.old.order }
         ensures reads { let reach = ⟦<EnvOf<S, M, T> as Outside>⟧.reach in OnlyReads (reach env.old) (reach env.new) }
+        ensures still { let reach = ⟦<EnvOf<S, M, T> as Outside>⟧.reach in
+            IsStill (reach env.old).faults (reach env.new).faults result }
     {
         if let ScanState::Refused(kept) = &self.state {
             return Err(copy_of(kept));

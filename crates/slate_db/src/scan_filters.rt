@@ -3,7 +3,7 @@ ghost use Rattle.std.specs.Prelude.{◌≡◌, ◌++◌, ◌∷◌, [], ℕ, Lis
 ghost use Rattle.std.specs.List.{starts_with};
 ghost use Rattle.slate_types.specs.declared.error.SlateDBError.{SlateDBError};
 ghost use Rattle.slate_types.specs.Keys.{in_range};
-ghost use Rattle.slate_types.specs.Outside.{Objects, OnlyReads};
+ghost use Rattle.slate_types.specs.Outside.{IsStill, Objects, OnlyReads};
 ghost use Rattle.slate_types.specs.World.{Made};
 ghost use Rattle.slate_mem.specs.Table.{ranged};
 ghost use Rattle.slate_db.specs.Answered.{AnswersFrom};
@@ -62,6 +62,8 @@ fn is_left<S: Store, M: MergeOperator, T: BlockTransformer>(
     ensures made { let reach = ⟦<EnvOf<S, M, T> as Outside>⟧.reach in OnOk result (Made (reach env.old) (reach env.new) (λ _. Unit {0})) }
     ensures refused { let reach = ⟦<EnvOf<S, M, T> as Outside>⟧.reach in IfErr result (FailsAsking (map (λ p. meaning p) policies.now) query.now (reach env.old) (reach env.new) (table.now ∷ [])) }
     ensures reads { let reach = ⟦<EnvOf<S, M, T> as Outside>⟧.reach in OnlyReads (reach env.old) (reach env.new) }
+    ensures still { let reach = ⟦<EnvOf<S, M, T> as Outside>⟧.reach in
+        IsStill (reach env.old).faults (reach env.new).faults result }
 {
     if !can_reach(range, &table.info) {
         return Ok(false);
@@ -103,6 +105,8 @@ fn add_left<S: Store, M: MergeOperator, T: BlockTransformer>(
     ensures made { let reach = ⟦<EnvOf<S, M, T> as Outside>⟧.reach in OnOk result (Made (reach env.old) (reach env.new) (λ _. Unit {0})) }
     ensures refused { let reach = ⟦<EnvOf<S, M, T> as Outside>⟧.reach in IfErr result (FailsAsking (map (λ p. meaning p) policies.now) query.now (reach env.old) (reach env.new) (table.now ∷ [])) }
     ensures reads { let reach = ⟦<EnvOf<S, M, T> as Outside>⟧.reach in OnlyReads (reach env.old) (reach env.new) }
+    ensures still { let reach = ⟦<EnvOf<S, M, T> as Outside>⟧.reach in
+        IsStill (reach env.old).faults (reach env.new).faults result }
 {
     let passes = is_left(alloc, table, range, policies, query, env)?;
     if !passes {
@@ -126,6 +130,8 @@ fn tables_left<S: Store, M: MergeOperator, T: BlockTransformer>(
     ensures made { let reach = ⟦<EnvOf<S, M, T> as Outside>⟧.reach in OnOk result (Made (reach env.old) (reach env.new) (λ _. Unit {0})) }
     ensures refused { let reach = ⟦<EnvOf<S, M, T> as Outside>⟧.reach in IfErr result (FailsAsking (map (λ p. meaning p) policies.now) query.now (reach env.old) (reach env.new) tables.now) }
     ensures reads { let reach = ⟦<EnvOf<S, M, T> as Outside>⟧.reach in OnlyReads (reach env.old) (reach env.new) }
+    ensures still { let reach = ⟦<EnvOf<S, M, T> as Outside>⟧.reach in
+        IsStill (reach env.old).faults (reach env.new).faults result }
 {
     let mut left = Vec::new(alloc);
     for table in tables {
@@ -148,6 +154,8 @@ fn run_left<S: Store, M: MergeOperator, T: BlockTransformer>(
     ensures made { let reach = ⟦<EnvOf<S, M, T> as Outside>⟧.reach in OnOk result (Made (reach env.old) (reach env.new) (λ _. Unit {0})) }
     ensures refused { let reach = ⟦<EnvOf<S, M, T> as Outside>⟧.reach in IfErr result (FailsAsking (map (λ p. meaning p) policies.now) query.now (reach env.old) (reach env.new) run.now.tables.items) }
     ensures reads { let reach = ⟦<EnvOf<S, M, T> as Outside>⟧.reach in OnlyReads (reach env.old) (reach env.new) }
+    ensures still { let reach = ⟦<EnvOf<S, M, T> as Outside>⟧.reach in
+        IsStill (reach env.old).faults (reach env.new).faults result }
 {
     let prefix = run.prefix.clone()?;
     let tables = tables_left(alloc, run.tables.as_slice(), range, policies, query, env)?;
@@ -179,6 +187,8 @@ pub(crate) fn runs_left<S: Store, M: MergeOperator, T: BlockTransformer>(
     ensures made { let reach = ⟦<EnvOf<S, M, T> as Outside>⟧.reach in OnOk result (Made (reach env.old) (reach env.new) (λ _. Unit {0})) }
     ensures refused { let reach = ⟦<EnvOf<S, M, T> as Outside>⟧.reach in IfErr result (FailsAsking (map (λ p. meaning p) policies.now) query.now (reach env.old) (reach env.new) (handles_of runs.now)) }
     ensures reads { let reach = ⟦<EnvOf<S, M, T> as Outside>⟧.reach in OnlyReads (reach env.old) (reach env.new) }
+    ensures still { let reach = ⟦<EnvOf<S, M, T> as Outside>⟧.reach in
+        IsStill (reach env.old).faults (reach env.new).faults result }
 {
     let mut left = Vec::new(alloc);
     for run in runs {

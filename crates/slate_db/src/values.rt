@@ -4,7 +4,7 @@ ghost use Rattle.slate_types.specs.declared.bytes_range.BytesRange.{BytesRange};
 ghost use Rattle.slate_types.specs.declared.error.SlateDBError.{SlateDBError};
 ghost use Rattle.slate_types.specs.declared.types.RowEntry.{RowEntry};
 ghost use Rattle.slate_types.specs.Iteration.{drop_before};
-ghost use Rattle.slate_types.specs.Outside.{IsFault, OnlyReads};
+ghost use Rattle.slate_types.specs.Outside.{IsFault, IsStill, OnlyReads};
 ghost use Rattle.slate_types.specs.Refusing.{IsDamage, NoMore};
 ghost use Rattle.slate_types.specs.Rows.{key_value};
 ghost use Rattle.slate_types.specs.World.{World, Checks, Made, Sees};
@@ -52,6 +52,7 @@ pub(crate) fn next_value<E: Operates, I: RowEntryIterator<E>>(
     ensures cause { IfErr result (λ e. Made (E.reach env.old) (E.reach env.new) (λ reads. IsFault (E.reach env.old) (E.reach env.new) e ⊎ refuses_folding I.refuses (offers I.begins I.takes I.seeks) rows.old (E.reach env.old).meaning reads None e)) }
     ensures order { I.order rows.new.iterator ≡ I.order rows.old.iterator }
     ensures reads { OnlyReads (E.reach env.old) (E.reach env.new) }
+    ensures counts { IsStill (E.reach env.old).faults (E.reach env.new).faults result }
 {
     while let Some(row) = rows.next_row(alloc, env)? {
         if let Some(value) = value_of(row) {
@@ -81,6 +82,7 @@ pub(crate) fn seek_values<E: Operates, I: RowEntryIterator<E>>(
     ensures cause { IfErr result (λ e. Made (E.reach env.old) (E.reach env.new) (λ reads. IsFault (E.reach env.old) (E.reach env.new) e ⊎ refuses_folding I.refuses (offers I.begins I.takes I.seeks) rows.old (E.reach env.old).meaning reads (Some key.now) e)) }
     ensures order { I.order rows.new.iterator ≡ I.order rows.old.iterator }
     ensures reads { OnlyReads (E.reach env.old) (E.reach env.new) }
+    ensures counts { IsStill (E.reach env.old).faults (E.reach env.new).faults result }
 {
     rows.seek(alloc, key, env)
 }

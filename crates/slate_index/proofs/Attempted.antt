@@ -29,11 +29,11 @@ use Rattle.slate_txn.specs.Settings.{settings_of}
 use Rattle.slate_txn.specs.State.{Commit, Rules, Tx, combine_at, last_of}
 use Rattle.slate_db.specs.Meaning.{Meaning, rules_of}
 use Rattle.slate_shared.specs.Passes.{Opened, PassModel}
-use Rattle.slate_steps.specs.Attempts.{HasCommittedBehind, HasEndedBehind, IsAttempt, IsReadErrorOn, IsRefusedBehind, IsStoreTrue, IsVouchedThere, SeesOnly}
+use Rattle.slate_steps.specs.Attempts.{HasCommittedBehind, HasEndedBehind, IsAttempt, IsReadErrorOn, IsRefusedBehind, IsStoreTrue, IsUnbegun, IsVouchedThere, SeesOnly}
 use Rattle.slate_steps.proofs.StoreTruth.{store_within}
 use Rattle.slate_index.specs.declared.error.IndexError.{IndexError}
 use Rattle.slate_index.specs.declared.error.IndexError.TheVariants.{Db}
-use Rattle.slate_index.specs.Attempting.{HasTakenThere, IsBeginErrorThere, IsChangeAttempt, IsChangeErrorThere, IsPlainlyRefused, IsRefusedAtBegin, IsStoppedThere, IsTurnedBack, absent, begins, faults, of_fault, of_value, reads, stops, turned_back, values_begun}
+use Rattle.slate_index.specs.Attempting.{HasTakenThere, IsChangeAttempt, IsChangeErrorThere, IsPlainlyRefused, IsRefusedAtBegin, IsStoppedThere, IsTurnedBack, absent, begins, faults, of_fault, of_value, reads, stops, turned_back, values_begun}
 use Rattle.slate_index.specs.Calls.{change_steps}
 use Rattle.slate_index.specs.Changes.{change_puts}
 use Rattle.slate_index.specs.Commits.{IsChange, IsPlainName, change_ops, own_steps, value_of}
@@ -109,7 +109,7 @@ module _ (o : Options) (m : Meaning) (policies : List Policy) (fs : FieldsModel)
   key_there e attempt is = memory_there [] e attempt is
 
   -- the read is refused
-  pub read_there : (x : SlateDBError) → IsAttempt o from SerializableSnapshot [] t → IsReadErrorOn policies before after t.seen x → (IsStoreTrue policies m t.seen before after → IsFault before after x) →
+  pub read_there : (x : SlateDBError) → IsAttempt o from SerializableSnapshot [] t → IsReadErrorOn o policies before after t.seen x → (IsStoreTrue policies m t.seen before after → IsFault before after x) →
       IsStoppedThere o m policies fs id new from before after t (Db x)
   read_there x attempt error undamaged = record {
     steps = [];
@@ -173,7 +173,7 @@ sees_itself p = record { more = record { table = refl; parts = refl; seen = pref
 
 -- before a transaction began
 not_there : (o : Options) (m : Meaning) (policies : List Policy) (fs : FieldsModel) (id : List ℕ) (new : Option (List ℕ)) (now : ℤ) (r : Reach) (old : PassModel) (e : IndexError) →
-    (((v : List ℕ) × (new ≡ Some v) × (put_refusal fs v ≡ Some e)) ⊎ ((x : SlateDBError) × (e ≡ Db x) × IsBeginErrorThere old.seen x)) →
+    (((v : List ℕ) × (new ≡ Some v) × (put_refusal fs v ≡ Some e)) ⊎ ((x : SlateDBError) × (e ≡ Db x) × IsUnbegun old old x)) →
     IsChangeAttempt o m policies fs id new now r r old old (Err e)
 not_there o m policies fs id new now r old e why = record {
   changes = tt;
@@ -185,7 +185,7 @@ not_there o m policies fs id new now r old e why = record {
   reads = reads_none r;
 }
   where
-    plainly : (((v : List ℕ) × (new ≡ Some v) × (put_refusal fs v ≡ Some e)) ⊎ ((x : SlateDBError) × (e ≡ Db x) × IsBeginErrorThere old.seen x)) → IsPlainlyRefused o m fs id new r r old old e
+    plainly : (((v : List ℕ) × (new ≡ Some v) × (put_refusal fs v ≡ Some e)) ⊎ ((x : SlateDBError) × (e ≡ Db x) × IsUnbegun old old x)) → IsPlainlyRefused o m fs id new r r old old e
     plainly (inl (v, is, refused)) = inl (record {
       start = old.seen;
       known = prefix_itself old.seen;
@@ -194,7 +194,7 @@ not_there o m policies fs id new now r old e why = record {
     })
     plainly (inr (x, is, error)) = inr (x, is, inl error)
 
-    by : (((v : List ℕ) × (new ≡ Some v) × (put_refusal fs v ≡ Some e)) ⊎ ((x : SlateDBError) × (e ≡ Db x) × IsBeginErrorThere old.seen x)) → IsChangeErrorThere o policies fs id new r r old old e
+    by : (((v : List ℕ) × (new ≡ Some v) × (put_refusal fs v ≡ Some e)) ⊎ ((x : SlateDBError) × (e ≡ Db x) × IsUnbegun old old x)) → IsChangeErrorThere o policies fs id new r r old old e
     by (inl (v, is, refused)) = of_value v is refused
     by (inr (x, is, error)) = begins x is error
 
@@ -202,13 +202,20 @@ not_there o m policies fs id new now r old e why = record {
 pub untried_there : (o : Options) (m : Meaning) (policies : List Policy) (fs : FieldsModel) (id v : List ℕ) (now : ℤ) (r : Reach) (old : PassModel) (e : IndexError) → (put_refusal fs v ≡ Some e) ⊎ (e ≡ Db OutOfMemory) →
     IsChangeAttempt o m policies fs id (Some v) now r r old old (Err e)
 untried_there o m policies fs id v now r old e (inl is) = not_there o m policies fs id (Some v) now r old e (inl (v, refl, is))
-untried_there o m policies fs id v now r old e (inr memory) = not_there o m policies fs id (Some v) now r old e (inr (OutOfMemory, memory, inl refl))
+untried_there o m policies fs id v now r old e (inr memory) = not_there o m policies fs id (Some v) now r old e (inr (OutOfMemory, memory, record { only = sees_itself old; cause = inl refl }))
 
 -- no transaction begins
-pub none_there : (o : Options) (m : Meaning) (policies : List Policy) (fs : FieldsModel) (id : List ℕ) (new : Option (List ℕ)) (now : ℤ) (r : Reach) (old pass : PassModel) (x : SlateDBError) → pass ≡ old → IsBeginErrorThere old.seen x →
+pub none_there : (o : Options) (m : Meaning) (policies : List Policy) (fs : FieldsModel) (id : List ℕ) (new : Option (List ℕ)) (now : ℤ) (r : Reach) (old pass : PassModel) (x : SlateDBError) → IsUnbegun old pass x →
     IsChangeAttempt o m policies fs id new now r r old pass (Err (Db x))
-none_there o m policies fs id new now r old pass x same error =
-    subst (λ (p : PassModel). IsChangeAttempt o m policies fs id new now r r old p (Err (Db x))) (sym same) (not_there o m policies fs id new now r old (Db x) (inr (x, refl, error)))
+none_there o m policies fs id new now r old pass x none = record {
+  changes = tt;
+  only = none.only;
+  left = inr (inl (x, refl, none));
+  more = none.only.more;
+  undamaged = λ h. inr (x, refl, inl none);
+  cause = begins x refl none;
+  reads = reads_none r;
+}
 
 module _ (o : Options) (m : Meaning) (policies : List Policy) (fs : FieldsModel) (id : List ℕ) (new : Option (List ℕ)) (now : ℤ) (before after : Reach) (old pass : PassModel) (t : Opened) where
   -- it stopped, and was rolled back
@@ -217,7 +224,7 @@ module _ (o : Options) (m : Meaning) (policies : List Policy) (fs : FieldsModel)
   left_there e stopped ended known legal asked = record {
     changes = tt;
     only = ended.only;
-    left = inr (t, stopped.steps, stopped.attempt, ended);
+    left = inr (inr (t, stopped.steps, stopped.attempt, ended));
     more = ended.only.more;
     undamaged = λ h. plainly (stopped.undamaged (store_within policies m pass.seen t.seen before before after after h known (reads_none before) asked (reads_none after)) pass.seen known legal);
     cause = stops t stopped.steps stopped.attempt known stopped.cause;
@@ -237,7 +244,7 @@ module _ (o : Options) (m : Meaning) (policies : List Policy) (fs : FieldsModel)
     turned_there x ended why = record {
       changes = tt;
       only = ended.only;
-      left = inr (t, change_steps fs id taken.answer new, taken.attempt, ended);
+      left = inr (inr (t, change_steps fs id taken.answer new, taken.attempt, ended));
       more = ended.only.more;
       undamaged = λ h. plainly why;
       cause = by why;

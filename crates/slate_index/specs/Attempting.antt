@@ -2,10 +2,9 @@
 -- reached; old, pass: the pass before the call and behind it; from: the journal that it had seen before
 --     values_begun o m seen n      the value of each key in the state at a sequence, by a journal
 --     IsRefusedAtBegin o m fs id new from seen e      the change is refused so by the state at the newest sequence of a journal between these
---     IsBeginErrorThere from e      what refuses a begin
 --     IsStepError o policies fs id new from before after t e      what refuses the steps of an attempt that has come so far
 --     IsTurnedBack o fs id new old pass e      the commit of all steps was refused: another one conflicts, or no sequence is left
---     IsLeftThere o old pass      nothing was done, or one attempt began and ended without a commit
+--     IsLeftThere o old pass e      nothing was done; or nothing begun, as the refusal says; or one attempt began and ended without a commit
 --     HasTakenThere o m policies fs id new from before after t      all steps were taken
 --     IsStoppedThere o m policies fs id new from before after t e      some were, and then the change was refused
 --     ChangesBehind o m policies fs id new now before after old pass n      the newest place of the pass has a commit of this number, which changes the record from the value that it read
@@ -17,7 +16,6 @@ use mathlib.Core.List.{IsPrefix}
 use Rattle.slate_types.specs.declared.config.IsolationLevel.TheVariants.{SerializableSnapshot}
 use Rattle.slate_types.specs.declared.config.Options.{Options}
 use Rattle.slate_types.specs.declared.error.SlateDBError.{SlateDBError}
-use Rattle.slate_types.specs.declared.error.SlateDBError.TheVariants.{LimitReached, OutOfMemory}
 use Rattle.slate_types.specs.declared.types.KeyValue.{KeyValue}
 use Rattle.slate_types.specs.Outside.{IsFault, OnlyReads, Reach}
 use Rattle.slate_filter.specs.Policy.{Policy}
@@ -28,11 +26,9 @@ use Rattle.slate_txn.specs.declared.event.TranscriptStep.TheVariants.{Get}
 use Rattle.slate_txn.specs.Replay.{IsLegal, replay}
 use Rattle.slate_txn.specs.Settings.{settings_of}
 use Rattle.slate_txn.specs.State.{last_of}
-use Rattle.slate_db.specs.Log.{LIMIT}
 use Rattle.slate_db.specs.Meaning.{Meaning, rules_of}
-use Rattle.slate_shared.specs.LockedModel.{IsFull}
 use Rattle.slate_shared.specs.Passes.{Opened, PassModel}
-use Rattle.slate_steps.specs.Attempts.{HasCommittedBehind, HasEndedBehind, IsAttempt, IsReadErrorOn, IsRefusedBehind, IsStoreTrue, IsVouchedThere, SeesMore, SeesOnly}
+use Rattle.slate_steps.specs.Attempts.{HasCommittedBehind, HasEndedBehind, IsAttempt, IsReadErrorOn, IsRefusedBehind, IsStoreTrue, IsUnbegun, IsVouchedThere, SeesMore, SeesOnly}
 use Rattle.slate_index.specs.declared.error.IndexError.{IndexError}
 use Rattle.slate_index.specs.declared.error.IndexError.TheVariants.{Db}
 use Rattle.slate_index.specs.Calls.{change_steps}
@@ -52,13 +48,10 @@ pub record IsRefusedAtBegin (o : Options) (m : Meaning) (fs : FieldsModel) (id :
   pub later : IsPrefix start seen
   pub refused : change_refusal fs id (values_begun o m seen (last_of o.start_seq (replay start).commits) (record_key id)) new ≡ Some e
 
-abbrev pub IsBeginErrorThere : List Event → SlateDBError → Type 0
-IsBeginErrorThere from e = (e ≡ OutOfMemory) ⊎ ((e ≡ LimitReached LIMIT) × ((start : List Event) × IsPrefix from start × IsFull 2 start))
-
 pub data IsStepError (o : Options) (policies : List Policy) (fs : FieldsModel) (id : List ℕ) (new : Option (List ℕ)) (from : List Event) (before after : Reach) (t : Opened) (e : IndexError) : Type 0 where
   absent : (answer : Option KeyValue) (us : List TranscriptStep) → IsAttempt o from SerializableSnapshot (Get (record_key id) answer ∷ us) t → new ≡ None → delete_refusal id (value_of answer) ≡ Some e →
       IsStepError o policies fs id new from before after t e
-  reads : (x : SlateDBError) → e ≡ Db x → IsReadErrorOn policies before after t.seen x → IsStepError o policies fs id new from before after t e
+  reads : (x : SlateDBError) → e ≡ Db x → IsReadErrorOn o policies before after t.seen x → IsStepError o policies fs id new from before after t e
   faults : (x : SlateDBError) → e ≡ Db x → IsFault before after x → IsStepError o policies fs id new from before after t e
 
 pub record IsTurnedBack (o : Options) (fs : FieldsModel) (id : List ℕ) (new : Option (List ℕ)) (old pass : PassModel) (e : SlateDBError) : Type 0 where
@@ -67,8 +60,8 @@ pub record IsTurnedBack (o : Options) (fs : FieldsModel) (id : List ℕ) (new : 
   pub attempt : IsAttempt o old.seen SerializableSnapshot (change_steps fs id answer new) t
   pub refused : IsRefusedBehind o t old pass e
 
-abbrev pub IsLeftThere : Options → PassModel → PassModel → Type 0
-IsLeftThere o old pass = (pass ≡ old) ⊎ ((t : Opened) × (ts : List TranscriptStep) × IsAttempt o old.seen SerializableSnapshot ts t × HasEndedBehind t old pass)
+abbrev pub IsLeftThere : Options → PassModel → PassModel → IndexError → Type 0
+IsLeftThere o old pass e = (pass ≡ old) ⊎ ((x : SlateDBError) × (e ≡ Db x) × IsUnbegun old pass x) ⊎ ((t : Opened) × (ts : List TranscriptStep) × IsAttempt o old.seen SerializableSnapshot ts t × HasEndedBehind t old pass)
 
 -- ---- its steps
 
@@ -102,7 +95,7 @@ pub record ChangesBehind (o : Options) (m : Meaning) (policies : List Policy) (f
 
 pub data IsChangeErrorThere (o : Options) (policies : List Policy) (fs : FieldsModel) (id : List ℕ) (new : Option (List ℕ)) (before after : Reach) (old pass : PassModel) (e : IndexError) : Type 0 where
   of_value : (v : List ℕ) → new ≡ Some v → put_refusal fs v ≡ Some e → IsChangeErrorThere o policies fs id new before after old pass e
-  begins : (x : SlateDBError) → e ≡ Db x → IsBeginErrorThere old.seen x → IsChangeErrorThere o policies fs id new before after old pass e
+  begins : (x : SlateDBError) → e ≡ Db x → IsUnbegun old pass x → IsChangeErrorThere o policies fs id new before after old pass e
   stops : (t : Opened) (ts : List TranscriptStep) → IsAttempt o old.seen SerializableSnapshot ts t → IsPrefix t.seen pass.seen → IsStepError o policies fs id new old.seen before after t e →
       IsChangeErrorThere o policies fs id new before after old pass e
   turned_back : (x : SlateDBError) → e ≡ Db x → IsTurnedBack o fs id new old pass x → IsChangeErrorThere o policies fs id new before after old pass e
@@ -111,12 +104,12 @@ pub data IsChangeErrorThere (o : Options) (policies : List Policy) (fs : FieldsM
 abbrev pub IsPlainlyRefused : Options → Meaning → FieldsModel → List ℕ → Option (List ℕ) → Reach → Reach → PassModel → PassModel → IndexError → Type 0
 IsPlainlyRefused o m fs id new before after old pass e =
     IsRefusedAtBegin o m fs id new old.seen pass.seen e
-    ⊎ ((x : SlateDBError) × (e ≡ Db x) × (IsBeginErrorThere old.seen x ⊎ IsTurnedBack o fs id new old pass x ⊎ IsFault before after x))
+    ⊎ ((x : SlateDBError) × (e ≡ Db x) × (IsUnbegun old pass x ⊎ IsTurnedBack o fs id new old pass x ⊎ IsFault before after x))
 
 pub record IsChangeAttempt (o : Options) (m : Meaning) (policies : List Policy) (fs : FieldsModel) (id : List ℕ) (new : Option (List ℕ)) (now : ℤ) (before after : Reach) (old pass : PassModel) (result : Result ℕ IndexError) : Type 0 where
   pub changes : IfOk result (ChangesBehind o m policies fs id new now before after old pass)
   pub only : OnErr result (SeesOnly old pass)
-  pub left : OnErr result (IsLeftThere o old pass)
+  pub left : IfErr result (IsLeftThere o old pass)
   pub more : SeesMore old pass
   pub undamaged : IsStoreTrue policies m pass.seen before after → IfErr result (IsPlainlyRefused o m fs id new before after old pass)
   pub cause : IfErr result (IsChangeErrorThere o policies fs id new before after old pass)

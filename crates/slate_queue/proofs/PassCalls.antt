@@ -5,7 +5,6 @@ use mathlib.Core.List.{IsPrefix}
 use Rattle.slate_types.specs.declared.config.IsolationLevel.TheVariants.{SerializableSnapshot}
 use Rattle.slate_types.specs.declared.config.Options.{Options}
 use Rattle.slate_types.specs.declared.error.SlateDBError.{SlateDBError}
-use Rattle.slate_types.specs.declared.error.SlateDBError.TheVariants.{LimitReached, OutOfMemory}
 use Rattle.slate_types.specs.Outside.{IsFault, OnlyReads, Reach}
 use Rattle.slate_types.proofs.Reaching.{fault_earlier, reads_none, reads_then}
 use Rattle.slate_filter.specs.Policy.{Policy}
@@ -16,12 +15,10 @@ use Rattle.slate_txn.specs.Alone.{IsAlone, own_of}
 use Rattle.slate_txn.specs.Replay.{IsLegal, replay}
 use Rattle.slate_txn.specs.Settings.{settings_of}
 use Rattle.slate_txn.specs.State.{Commit, Rules, Tx}
-use Rattle.slate_db.specs.Log.{LIMIT}
 use Rattle.slate_db.specs.Meaning.{Meaning, rules_of}
-use Rattle.slate_shared.specs.LockedModel.{IsFull}
 use Rattle.slate_shared.specs.Passes.{Opened, PassModel}
 use Rattle.slate_shared.proofs.Lists.{prefix_self}
-use Rattle.slate_steps.specs.Attempts.{HasCommittedBehind, HasEndedBehind, IsAttempt, IsRefusedBehind, IsStoreTrue, IsVouchedThere, SeesOnly}
+use Rattle.slate_steps.specs.Attempts.{HasCommittedBehind, HasEndedBehind, IsAttempt, IsRefusedBehind, IsStoreTrue, IsUnbegun, IsVouchedThere, SeesOnly}
 use Rattle.slate_queue.specs.declared.claims.Claim.{Claim}
 use Rattle.slate_queue.specs.declared.error.QueueError.{QueueError}
 use Rattle.slate_queue.specs.declared.error.QueueError.TheVariants as errors
@@ -62,41 +59,34 @@ module _ {T : Type 0} (ends : T → Type 0) (call : Call) (own : QueueError → 
   pub untouched_on : (a : Reach) (e : QueueError) → new ≡ old → own e → ((q : Queue) → queue_step q call ≡ Err e) → CallsOn ends call own takes o m policies a a old new (Err e)
   untouched_on a e same is step = record {
     done = tt;
-    refused = leaves_same o old new same;
+    refused = inl (leaves_same o old new same);
     step = λ s. IsStepRefusal.by_call step;
     cause = IsRefusalOn.by_call is;
     reads = reads_none a;
   }
 
-  pub not_begun_on : (a : Reach) (error : SlateDBError) → new ≡ old → (error ≡ OutOfMemory) ⊎ ((error ≡ LimitReached LIMIT) × ((before : List Event) × IsPrefix old.seen before × IsFull 2 before)) → CallsOn ends call own takes o m policies a a old new (Err (errors.Db error))
-  not_begun_on a error same (inl memory) = record {
+  pub not_begun_on : (a : Reach) (error : SlateDBError) → IsUnbegun old new error → CallsOn ends call own takes o m policies a a old new (Err (errors.Db error))
+  not_begun_on a error none = record {
     done = tt;
-    refused = leaves_same o old new same;
-    step = λ s. IsStepRefusal.by_fault error refl (subst (IsFault a a) (sym memory) tt);
-    cause = IsRefusalOn.by_fault error refl (subst (IsFault a a) (sym memory) tt);
-    reads = reads_none a;
-  }
-  not_begun_on a error same (inr limit) = record {
-    done = tt;
-    refused = leaves_same o old new same;
-    step = λ s. IsStepRefusal.by_limit (ap errors.Db limit.0) limit.1;
-    cause = IsRefusalOn.at_begin (ap errors.Db limit.0) limit.1;
+    refused = inr (error, refl, none);
+    step = λ s. IsStepRefusal.at_begin error refl none;
+    cause = IsRefusalOn.at_begin error refl none;
     reads = reads_none a;
   }
 
   -- rolled back
   pub stopped_on : (stops : QueueError → List TranscriptStep → Type 0) (before after : Reach) (t : Opened) (e : QueueError) → OnlyReads before after →
-      TookOn o m policies old.seen before after (λ ts. stops e ts ⊎ IsReadRefusal m policies before after t.seen e) t → LeavesOn o old new → IsPrefix t.seen new.seen → IsLegal o.start_seq new.seen → ((ts : List TranscriptStep) → stops e ts → own e) →
+      TookOn o m policies old.seen before after (λ ts. stops e ts ⊎ IsReadRefusal o m policies before after t.seen e) t → LeavesOn o old new → IsPrefix t.seen new.seen → IsLegal o.start_seq new.seen → ((ts : List TranscriptStep) → stops e ts → own e) →
       ((r : Rules) (cs : List Commit) (n : ℕ) (ts : List TranscriptStep) → IsAlone r cs n ts → stops e ts → IsRefusedWith call e (value_from r cs n)) → CallsOn ends call own takes o m policies before after old new (Err e)
   stopped_on stops before after t e reads took left known legal owns refuses = record {
     done = tt;
-    refused = left;
+    refused = inl left;
     step = λ s. by (true_earlier policies m t.seen new.seen before after after known reads (reads_none after) s) took.is;
     cause = cause_by took.is;
     reads = reads;
   }
     where
-      by : IsStoreTrue policies m t.seen before after → stops e took.steps ⊎ IsReadRefusal m policies before after t.seen e → IsStepRefusal call takes o m before after old new e
+      by : IsStoreTrue policies m t.seen before after → stops e took.steps ⊎ IsReadRefusal o m policies before after t.seen e → IsStepRefusal call takes o m before after old new e
       by s (inl h) = IsStepRefusal.by_step (record {
         txn = t;
         steps = took.steps;
@@ -106,7 +96,7 @@ module _ {T : Type 0} (ends : T → Type 0) (call : Call) (own : QueueError → 
       })
       by s (inr h) = IsStepRefusal.by_fault h.error h.is (h.undamaged s)
 
-      cause_by : stops e took.steps ⊎ IsReadRefusal m policies before after t.seen e → IsRefusalOn own takes o policies before after old new e
+      cause_by : stops e took.steps ⊎ IsReadRefusal o m policies before after t.seen e → IsRefusalOn own takes o policies before after old new e
       cause_by (inl h) = IsRefusalOn.by_call (owns took.steps h)
       cause_by (inr h) = IsRefusalOn.at_read h.error h.is t.seen known h.cause
 
@@ -116,7 +106,7 @@ module _ {T : Type 0} (ends : T → Type 0) (call : Call) (own : QueueError → 
       IsFault middle after error ⊎ IsRefusedBehind o t old new error → CallsOn ends call own takes o m policies before after old new (Err (errors.Db error))
   uncommitted_on means a before middle after t error first later took all some tells left known legal vouched (inl fault) = record {
     done = tt;
-    refused = left;
+    refused = inl left;
     step = λ s. IsStepRefusal.by_fault error refl (fault_earlier before middle after error first.later fault);
     cause = IsRefusalOn.by_fault error refl (fault_earlier before middle after error first.later fault);
     reads = reads_then before middle after first later;
@@ -125,7 +115,7 @@ module _ {T : Type 0} (ends : T → Type 0) (call : Call) (own : QueueError → 
       let turned_back : IsUncommitted takes o old new error = record { txn = t; steps = took.steps; attempt = took.attempt; all = all; refused = refused; legal = legal } in
       record {
         done = tt;
-        refused = left;
+        refused = inl left;
         step = λ s.
             let v : IsVouchedThere o m t = took.sees (true_earlier policies m t.seen new.seen before middle after known first later s) in
             IsStepRefusal.by_commit error refl turned_back (vouched v)
@@ -148,6 +138,9 @@ refused_from o t fault e a b c same h = subst (λ (p : PassModel). fault ⊎ IsR
 
 pub pass_same : (a b : PassModel) → b ≡ a → (b.table ≡ a.table) × (b.parts ≡ a.parts)
 pass_same a b same = (ap (λ (p : PassModel). p.table) same, ap (λ (p : PassModel). p.parts) same)
+
+pub pass_unbegun : (a b : PassModel) (e : SlateDBError) → IsUnbegun a b e → (b.table ≡ a.table) × (b.parts ≡ a.parts)
+pass_unbegun a b e h = (h.only.more.table, h.only.more.parts)
 
 pub pass_left : (o : Options) (a b : PassModel) → LeavesOn o a b → (b.table ≡ a.table) × (b.parts ≡ a.parts)
 pass_left o a b h = (h.only.more.table, h.only.more.parts)
@@ -272,9 +265,9 @@ module _ (payload : List ℕ) (now : ℤ) (o : Options) (m : Meaning) (policies 
       subst (λ (k : ℕ). AddsOn payload now o m policies a a old new (Err (errors.PayloadTooLong k))) (sym is)
       (untouched_on (ends_add a a) (Call.Add payload) (AddRefuses payload) adds o m policies old new a (errors.PayloadTooLong (length payload)) same (inl (long, refl)) (λ q. too_long q payload long))
 
-  pub add_not_begun_on : (a : Reach) (error : SlateDBError) → new ≡ old → (error ≡ OutOfMemory) ⊎ ((error ≡ LimitReached LIMIT) × ((before : List Event) × IsPrefix old.seen before × IsFull 2 before)) →
+  pub add_not_begun_on : (a : Reach) (error : SlateDBError) → IsUnbegun old new error →
       AddsOn payload now o m policies a a old new (Err (errors.Db error))
-  add_not_begun_on a error same cause = not_begun_on (ends_add a a) (Call.Add payload) (AddRefuses payload) adds o m policies old new a error same cause
+  add_not_begun_on a error none = not_begun_on (ends_add a a) (Call.Add payload) (AddRefuses payload) adds o m policies old new a error none
 
   pub add_stopped_on : (before after : Reach) (t : Opened) (e : QueueError) → length payload ≤ longest → OnlyReads before after → AttemptsOn (Adds payload) AddStops o m policies old.seen before after t (Err e) → LeavesOn o old new →
       IsPrefix t.seen new.seen → IsLegal o.start_seq new.seen → AddsOn payload now o m policies before after old new (Err e)
@@ -302,9 +295,9 @@ module _ (id lease : ℕ) (now : ℤ) (o : Options) (m : Meaning) (policies : Li
   abbrev ends_finish : Reach → Reach → Unit {0} → Type 0
   ends_finish before after done = CommitsOn (IsFinishOf id lease) (Call.Finish id lease) model.Answer.Finished now o m policies before after old new
 
-  pub finish_not_begun_on : (a : Reach) (error : SlateDBError) → new ≡ old → (error ≡ OutOfMemory) ⊎ ((error ≡ LimitReached LIMIT) × ((before : List Event) × IsPrefix old.seen before × IsFull 2 before)) →
+  pub finish_not_begun_on : (a : Reach) (error : SlateDBError) → IsUnbegun old new error →
       FinishesOn id lease now o m policies a a old new (Err (errors.Db error))
-  finish_not_begun_on a error same cause = not_begun_on {T = Unit} (ends_finish a a) (Call.Finish id lease) (FinishRefuses id lease) (Finishes id lease) o m policies old new a error same cause
+  finish_not_begun_on a error none = not_begun_on {T = Unit} (ends_finish a a) (Call.Finish id lease) (FinishRefuses id lease) (Finishes id lease) o m policies old new a error none
 
   pub finish_stopped_on : (before after : Reach) (t : Opened) (e : QueueError) → id < 2 ^ 64 → OnlyReads before after → AttemptsOn {T = Unit} (λ done. Finishes id lease) (FinishStops id lease) o m policies old.seen before after t (Err e) → LeavesOn o old new →
       IsPrefix t.seen new.seen → IsLegal o.start_seq new.seen → FinishesOn id lease now o m policies before after old new (Err e)
@@ -332,9 +325,9 @@ module _ (now : ℤ) (ms : ℕ) (o : Options) (m : Meaning) (policies : List Pol
   abbrev claims : List TranscriptStep → Type 0
   claims ts = (claim : Claim) × Claims now ms claim ts
 
-  pub claim_not_begun_on : (a : Reach) (error : SlateDBError) → new ≡ old → (error ≡ OutOfMemory) ⊎ ((error ≡ LimitReached LIMIT) × ((before : List Event) × IsPrefix old.seen before × IsFull 2 before)) →
+  pub claim_not_begun_on : (a : Reach) (error : SlateDBError) → IsUnbegun old new error →
       ClaimsOn now ms o m policies a a old new (Err (errors.Db error))
-  claim_not_begun_on a error same cause = not_begun_on (EndsClaim now ms o m policies a a old new) (Call.Claim now ms) (ClaimRefuses now) claims o m policies old new a error same cause
+  claim_not_begun_on a error none = not_begun_on (EndsClaim now ms o m policies a a old new) (Call.Claim now ms) (ClaimRefuses now) claims o m policies old new a error none
 
   pub claim_stopped_on : (before after : Reach) (t : Opened) (e : QueueError) → OnlyReads before after → AttemptsOn (MayClaim now ms) (ClaimStops now) o m policies old.seen before after t (Err e) → LeavesOn o old new →
       IsPrefix t.seen new.seen → IsLegal o.start_seq new.seen → ClaimsOn now ms o m policies before after old new (Err e)

@@ -44,7 +44,7 @@ pub record HasOpenedOn (o : Options) (m : Meaning) (policies : List Policy) (fro
   pub rows : List RowEntry
   pub reading : (s : IsStoreTrue policies m t.seen before middle) → IsReadingOn s.os o m t x rows
   pub vouched : IsVouchedThere o m t
-  pub since : IsScanSinceOn before middle t.seen x
+  pub since : IsScanSinceOn o before middle t.seen x
   pub meaning : before.meaning ≡ m
   pub reads : OnlyReads before middle
 
@@ -69,14 +69,14 @@ module _ (now : ℤ) (o : Options) (m : Meaning) (policies : List Policy) (from 
     sees = λ s. let there : IsStoreTrue policies m t.seen before after = true_there walks.seen s in walks.sees there.os opened.rows (open_to there) opened.vouched;
   }
 
-  failed_on : (us : List TranscriptStep) (q : QueueError) → ScanFailsOn o m middle after t u x us q → IsReadRefusal m policies before after u.seen q
+  failed_on : (us : List TranscriptStep) (q : QueueError) → ScanFailsOn o m middle after t u x us q → IsReadRefusal o m policies before after u.seen q
   failed_on us q h = record {
     error = h.error;
     is = h.is;
     undamaged = λ s.
         let there : IsStoreTrue policies m t.seen before after = true_there h.walks.seen s in
         fault_earlier before middle after h.error opened.reads.later (h.undamaged there.os opened.rows (open_to there));
-    cause = subst (λ (es : List Event). IsReadErrorOn policies before after es h.error) (sym h.walks.seen) (h.cause before policies opened.reads opened.since);
+    cause = subst (λ (es : List Event). IsReadErrorOn o policies before after es h.error) (sym h.walks.seen) (h.cause before policies opened.reads opened.since);
   }
 
   pub found_on : (result : Result (Option FreeJob) QueueError) → IfOk result (WalksToOn now o m middle after t u x) → IfErr result (WalkHalts now o m middle after t u x) → AttemptsOn (MayFind now) (FindStops now) o m policies from before after u result
@@ -84,11 +84,11 @@ module _ (now : ℤ) (o : Options) (m : Meaning) (policies : List Policy) (from 
   found_on (Ok (Some j)) h g = record { done = walked_on (MayFind now (Some j)) (nexts (h.0 ++ (j.row ∷ []))) h.3 (h.2, (h.0, h.1, refl)); refused = tt }
   found_on (Err q) h (WalkHalts.bad passed kv passes bad walks) = record {
     done = tt;
-    refused = walked_on (λ ts. FindStops now q ts ⊎ IsReadRefusal m policies before after u.seen q) (nexts (passed ++ (kv ∷ []))) walks (inl (record { passed = passed; kv = kv; passes = passes; bad = bad; steps = refl }));
+    refused = walked_on (λ ts. FindStops now q ts ⊎ IsReadRefusal o m policies before after u.seen q) (nexts (passed ++ (kv ∷ []))) walks (inl (record { passed = passed; kv = kv; passes = passes; bad = bad; steps = refl }));
   }
   found_on (Err q) h (WalkHalts.fails kvs fails) = record {
     done = tt;
-    refused = walked_on (λ ts. FindStops now q ts ⊎ IsReadRefusal m policies before after u.seen q) (nexts kvs) fails.walks (inr (failed_on (nexts kvs) q fails));
+    refused = walked_on (λ ts. FindStops now q ts ⊎ IsReadRefusal o m policies before after u.seen q) (nexts kvs) fails.walks (inr (failed_on (nexts kvs) q fails));
   }
 
 -- ---- the job that is taken
@@ -100,7 +100,7 @@ module _ (now : ℤ) (ms : ℕ) (o : Options) (m : Meaning) (policies : List Pol
   pub not_found_on : (q : QueueError) → AttemptsOn (MayFind now) (FindStops now) o m policies from before after t (Err q) → AttemptsOn (MayClaim now ms) (ClaimStops now) o m policies from before after t (Err q)
   not_found_on q h = record { done = tt; refused = record { steps = h.refused.steps; attempt = h.refused.attempt; is = by h.refused.is; sees = h.refused.sees } }
     where
-      by : FindStops now q h.refused.steps ⊎ IsReadRefusal m policies before after t.seen q → ClaimStops now q h.refused.steps ⊎ IsReadRefusal m policies before after t.seen q
+      by : FindStops now q h.refused.steps ⊎ IsReadRefusal o m policies before after t.seen q → ClaimStops now q h.refused.steps ⊎ IsReadRefusal o m policies before after t.seen q
       by (inl s) = inl (ClaimStops.bad s.passed s.kv s.passes s.bad s.steps)
       by (inr s) = inr s
 
@@ -113,7 +113,7 @@ module _ (now : ℤ) (ms : ℕ) (o : Options) (m : Meaning) (policies : List Pol
       found : IsFound now j
       found = h.done.is.0
 
-      by : RaiseStops j q → ClaimStops now q h.done.steps ⊎ IsReadRefusal m policies before after t.seen q
+      by : RaiseStops j q → ClaimStops now q h.done.steps ⊎ IsReadRefusal o m policies before after t.seen q
       by (inl s) = inl (ClaimStops.spent j.row j.id found.job (takes_of now j h.done.steps h.done.is) (let l : j.lease ≡ found.job.lease = found.lease in let k : last_number ≤ j.lease = s.0 in subst (λ (n : ℕ). last_number ≤ n) l k) s.1)
       by (inr s) = inr (memory_on o m policies from before after t.seen q s)
 

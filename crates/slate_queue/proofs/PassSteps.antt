@@ -28,12 +28,12 @@ use Rattle.slate_queue.proofs.Attempting.{IsClaimedBy, claimed_by}
 use Rattle.slate_queue.proofs.PassTruths.{begun_vouched}
 
 module _ (o : Options) (m : Meaning) (policies : List Policy) (from : List Event) (before after : Reach) where
-  pub memory_on : (seen : List Event) (e : QueueError) → e ≡ errors.Db OutOfMemory → IsReadRefusal m policies before after seen e
+  pub memory_on : (seen : List Event) (e : QueueError) → e ≡ errors.Db OutOfMemory → IsReadRefusal o m policies before after seen e
   memory_on seen e is = record { error = OutOfMemory; is = is; undamaged = λ s. tt; cause = inl tt }
 
   -- the first read was refused
   pub refused_on : {T : Type 0} (means : T → List TranscriptStep → Type 0) (stops : QueueError → List TranscriptStep → Type 0) (t : Opened) (error : SlateDBError) → IsAttempt o from SerializableSnapshot [] t →
-      (IsStoreTrue policies m t.seen before after → IsFault before after error) → IsReadErrorOn policies before after t.seen error → AttemptsOn means stops o m policies from before after t (Err (errors.Db error))
+      (IsStoreTrue policies m t.seen before after → IsFault before after error) → IsReadErrorOn o policies before after t.seen error → AttemptsOn means stops o m policies from before after t (Err (errors.Db error))
   refused_on means stops t error attempt undamaged cause = record {
     done = tt;
     refused = record {
@@ -58,7 +58,7 @@ module _ (o : Options) (m : Meaning) (policies : List Policy) (from : List Event
     refused = record { steps = steps.Get counter_key answer ∷ []; attempt = attempt; is = by g; sees = sees };
   }
     where
-      by : (e ≡ errors.Db OutOfMemory) ⊎ (counter_refusal (counter_in (value_of answer)) ≡ Some e) → AddStops e (steps.Get counter_key answer ∷ []) ⊎ IsReadRefusal m policies before after t.seen e
+      by : (e ≡ errors.Db OutOfMemory) ⊎ (counter_refusal (counter_in (value_of answer)) ≡ Some e) → AddStops e (steps.Get counter_key answer ∷ []) ⊎ IsReadRefusal o m policies before after t.seen e
       by (inl memory) = inr (memory_on t.seen e memory)
       by (inr refusal) = inl (record { answer = answer; refusal = refusal; steps = refl })
 
@@ -102,7 +102,7 @@ module _ (o : Options) (m : Meaning) (policies : List Policy) (from : List Event
     refused = record { steps = steps.Get k answer ∷ []; attempt = attempt; is = by h; sees = sees };
   }
     where
-      by : (e ≡ errors.Db OutOfMemory) ⊎ (job_refusal job lease (job_in (value_of answer)) ≡ Some e) → FinishStops job lease e (steps.Get k answer ∷ []) ⊎ IsReadRefusal m policies before after t.seen e
+      by : (e ≡ errors.Db OutOfMemory) ⊎ (job_refusal job lease (job_in (value_of answer)) ≡ Some e) → FinishStops job lease e (steps.Get k answer ∷ []) ⊎ IsReadRefusal o m policies before after t.seen e
       by (inl memory) = inr (memory_on t.seen e memory)
       by (inr refusal) = inl (record { answer = answer; refusal = refusal; steps = ap (λ (j : List ℕ). steps.Get j answer ∷ []) is })
 

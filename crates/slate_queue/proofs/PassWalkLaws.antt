@@ -88,8 +88,8 @@ module _ (o : Options) (m : Meaning) where
     walks = walks_then_on a b c t u v x y us vs first second.reads second.walks;
     reading = λ os rows opened. let left = opened_last a b c t u x y us os rows first second.reads opened in second.reading os left.0 left.1;
     since = λ from h.
-        subst (λ (es : List Event). IsScanSinceOn from c es z) first.walks.seen
-        (second.since from (subst (λ (es : List Event). IsScanSinceOn from b es y) (sym first.walks.seen) (first.since from h)));
+        subst (λ (es : List Event). IsScanSinceOn o from c es z) first.walks.seen
+        (second.since from (subst (λ (es : List Event). IsScanSinceOn o from b es y) (sym first.walks.seen) (first.since from h)));
     named = record {
       named = second.named.named ∙ first.named.named;
       number = second.named.number ∙ first.named.number;
@@ -108,8 +108,8 @@ module _ (o : Options) (m : Meaning) where
         let left = opened_last a b c t u x y us os rows first second.reads opened in
         fault_earlier a b c second.error first.reads.later (second.undamaged os left.0 left.1);
     cause = λ from policies reads since.
-        subst (λ (es : List Event). IsReadErrorOn policies from c es second.error) first.walks.seen
-        (second.cause from policies (reads_then from a b reads first.reads) (subst (λ (es : List Event). IsScanSinceOn from b es y) (sym first.walks.seen) (first.since from since)));
+        subst (λ (es : List Event). IsReadErrorOn o policies from c es second.error) first.walks.seen
+        (second.cause from policies (reads_then from a b reads first.reads) (subst (λ (es : List Event). IsScanSinceOn o from b es y) (sym first.walks.seen) (first.since from since)));
     reads = reads_then a b c first.reads second.reads;
   }
 
@@ -148,7 +148,7 @@ module _ (o : Options) (m : Meaning) where
       ((from : List Event) (level : IsolationLevel) (ts : List TranscriptStep) → IsAttempt o from level ts t → IsAttempt o from level (ts ++ (steps.Next (number_of x) a ∷ [])) u) →
       IsScanOf (id_of x) (number_of x) (scan_of x).order (scan_of x).range y →
       ((os : Objects) (rows : List RowEntry) → before.meaning ≡ m → AnswersFrom os before after → IsReadingOn os o m t x rows → (a ≡ first_left rows) × IsReadingOn os o m u y (drop 1 rows) × (IsVouchedThere o m t → IsVouchedThere o m u)) →
-      ((from : Reach) → IsScanSinceOn from before t.seen x → IsScanSinceOn from after t.seen y) → u.seen ≡ t.seen → OnlyReads before after → WalkedOn o m before after t u x y (steps.Next 0 b ∷ [])
+      ((from : Reach) → IsScanSinceOn o from before t.seen x → IsScanSinceOn o from after t.seen y) → u.seen ≡ t.seen → OnlyReads before after → WalkedOn o m before after t u x y (steps.Next 0 b ∷ [])
   next_walked_on before after t u x y a b same first within named reading since seen reads =
       subst (λ (e : Option KeyValue). WalkedOn o m before after t u x y (steps.Next 0 e ∷ [])) same (record {
         walks = record {
@@ -164,7 +164,7 @@ module _ (o : Options) (m : Meaning) where
 
   pub next_fails_on : (before after : Reach) (t u : Opened) (x y : TxnIterator) (error : SlateDBError) → u ≡ t →
       ((os : Objects) (rows : List RowEntry) → before.meaning ≡ m → AnswersFrom os before after → IsReadingOn os o m t x rows → IsFault before after error) →
-      ((from : Reach) (policies : List Policy) → OnlyReads from before → IsScanSinceOn from before t.seen x → IsReadErrorOn policies from after t.seen error) → OnlyReads before after →
+      ((from : Reach) (policies : List Policy) → OnlyReads from before → IsScanSinceOn o from before t.seen x → IsReadErrorOn o policies from after t.seen error) → OnlyReads before after →
       HaltsOn o m before after t u x y (errors.Db error)
   next_fails_on before after t u x y error same undamaged cause reads = HaltsOn.fails [] (record {
     walks = subst (λ (v : Opened). WalksOn o m before after t v x []) (sym same) (record {

@@ -6,7 +6,7 @@
 --     IsBadValue value k      what stands at the key of a job or of the counter has a wrong length
 --     AtStart o m means old new      of the values where the call's attempt began, behind what the pass had seen, this is true, by the journal that it has seen then
 --     LeavesOn o old new      the pass has no place more of its own, and nothing was done, or a transaction was begun and ended without a commit
---     HasNoPlace old      a journal that begins with what the pass had seen has no place for a begin and an end
+--     RefusesOn o old new e      so does a refusal; or nothing was begun, as it says
 --     IsUncommitted takes o old new error      the commit of an attempt that took all steps was refused: it conflicts, or no sequence is left
 --     TookOn means t, IsReadRefusal e, AttemptsOn means stops t result      an attempt within its transaction: its steps, and why it is refused
 --     AnswersOn call a t before seen      a commit behind a journal, where the store was true: what it read is what a reader at its begin reads, and a vouched journal stays one; the answer
@@ -16,12 +16,11 @@
 --     IsStepRefusal, IsRefusalOn own      why a call is refused: where the store was true; whatever the store answered
 --     CallsOn ends call own takes result      a whole call
 --     AddsOn payload now, FinishesOn id lease now, ClaimsOn now ms      each of them
-use Rattle.std.specs.Prelude.{◌≡◌, ◌⊎◌, ℕ, ℤ, List, Option, Some, None, IsSome, Result, Ok, Err, IfOk, IfErr, OnErr}
+use Rattle.std.specs.Prelude.{◌≡◌, ◌⊎◌, ℕ, ℤ, List, Option, Some, None, IsSome, Result, Ok, Err, IfOk, IfErr}
 use mathlib.Core.List.{IsPrefix}
 use Rattle.slate_types.specs.declared.config.IsolationLevel.TheVariants.{SerializableSnapshot}
 use Rattle.slate_types.specs.declared.config.Options.{Options}
 use Rattle.slate_types.specs.declared.error.SlateDBError.{SlateDBError}
-use Rattle.slate_types.specs.declared.error.SlateDBError.TheVariants.{LimitReached}
 use Rattle.slate_types.specs.Outside.{IsFault, OnlyReads, Reach}
 use Rattle.slate_filter.specs.Policy.{Policy}
 use Rattle.slate_mem.specs.Batch.{batch_keys, kept_ops}
@@ -31,11 +30,9 @@ use Rattle.slate_txn.specs.Audited.{AreOfKind}
 use Rattle.slate_txn.specs.Replay.{IsLegal, replay}
 use Rattle.slate_txn.specs.Settings.{settings_of}
 use Rattle.slate_txn.specs.Vouched.{AreVouched}
-use Rattle.slate_db.specs.Log.{LIMIT}
 use Rattle.slate_db.specs.Meaning.{Meaning, rules_of}
-use Rattle.slate_shared.specs.LockedModel.{IsFull}
 use Rattle.slate_shared.specs.Passes.{Opened, PassModel}
-use Rattle.slate_steps.specs.Attempts.{HasCommittedBehind, HasEndedBehind, IsAttempt, IsReadErrorOn, IsRefusedBehind, IsStoreTrue, IsVouchedThere, SeesOnly}
+use Rattle.slate_steps.specs.Attempts.{HasCommittedBehind, HasEndedBehind, IsAttempt, IsReadErrorOn, IsRefusedBehind, IsStoreTrue, IsUnbegun, IsVouchedThere, SeesOnly}
 use Rattle.slate_queue.specs.declared.claims.Claim.{Claim}
 use Rattle.slate_queue.specs.declared.error.QueueError.{QueueError}
 use Rattle.slate_queue.specs.declared.error.QueueError.TheVariants as errors
@@ -82,8 +79,8 @@ pub record LeavesOn (o : Options) (old new : PassModel) : Type 0 where
   pub only : SeesOnly old new
   pub ended : (new ≡ old) ⊎ ((t : Opened) × (ts : List TranscriptStep) × IsAttempt o old.seen SerializableSnapshot ts t × HasEndedBehind t old new)
 
-abbrev pub HasNoPlace : PassModel → Type 0
-HasNoPlace old = (before : List Event) × IsPrefix old.seen before × IsFull 2 before
+abbrev pub RefusesOn : Options → PassModel → PassModel → QueueError → Type 0
+RefusesOn o old new e = LeavesOn o old new ⊎ ((error : SlateDBError) × (e ≡ errors.Db error) × IsUnbegun old new error)
 
 pub record IsUncommitted (takes : List TranscriptStep → Type 0) (o : Options) (old new : PassModel) (error : SlateDBError) : Type 0 where
   pub txn : Opened
@@ -101,15 +98,15 @@ pub record TookOn (o : Options) (m : Meaning) (policies : List Policy) (from : L
   pub is : means steps
   pub sees : IsStoreTrue policies m t.seen before after → IsVouchedThere o m t
 
-pub record IsReadRefusal (m : Meaning) (policies : List Policy) (before after : Reach) (seen : List Event) (e : QueueError) : Type 0 where
+pub record IsReadRefusal (o : Options) (m : Meaning) (policies : List Policy) (before after : Reach) (seen : List Event) (e : QueueError) : Type 0 where
   pub error : SlateDBError
   pub is : e ≡ errors.Db error
   pub undamaged : IsStoreTrue policies m seen before after → IsFault before after error
-  pub cause : IsReadErrorOn policies before after seen error
+  pub cause : IsReadErrorOn o policies before after seen error
 
 pub record AttemptsOn {T : Type 0} (means : T → List TranscriptStep → Type 0) (stops : QueueError → List TranscriptStep → Type 0) (o : Options) (m : Meaning) (policies : List Policy) (from : List Event) (before after : Reach) (t : Opened) (result : Result T QueueError) : Type 0 where
   pub done : IfOk result (λ a. TookOn o m policies from before after (means a) t)
-  pub refused : IfErr result (λ e. TookOn o m policies from before after (λ ts. stops e ts ⊎ IsReadRefusal m policies before after t.seen e) t)
+  pub refused : IfErr result (λ e. TookOn o m policies from before after (λ ts. stops e ts ⊎ IsReadRefusal o m policies before after t.seen e) t)
 
 -- ---- a commit
 
@@ -142,19 +139,19 @@ pub data IsStepRefusal (call : Call) (takes : List TranscriptStep → Type 0) (o
   by_fault : (error : SlateDBError) → e ≡ errors.Db error → IsFault before after error → IsStepRefusal call takes o m before after old new e
   by_commit : (error : SlateDBError) → e ≡ errors.Db error → (u : IsUncommitted takes o old new error) → IsVouchedThere o m (record u.txn { seen = new.seen }) →
       StepsToCommit call (value_from (rules_of (settings_of o) m) (replay new.seen).commits u.txn.tx.begin) → IsStepRefusal call takes o m before after old new e
-  by_limit : e ≡ errors.Db (LimitReached LIMIT) → HasNoPlace old → IsStepRefusal call takes o m before after old new e
+  at_begin : (error : SlateDBError) → e ≡ errors.Db error → IsUnbegun old new error → IsStepRefusal call takes o m before after old new e
 
 -- own: the call's own refusals, by the steps that it took; takes: all its steps
 pub data IsRefusalOn (own : QueueError → Type 0) (takes : List TranscriptStep → Type 0) (o : Options) (policies : List Policy) (before after : Reach) (old new : PassModel) (e : QueueError) : Type 0 where
   by_call : own e → IsRefusalOn own takes o policies before after old new e
-  at_begin : e ≡ errors.Db (LimitReached LIMIT) → HasNoPlace old → IsRefusalOn own takes o policies before after old new e
-  at_read : (error : SlateDBError) → e ≡ errors.Db error → (seen : List Event) → IsPrefix seen new.seen → IsReadErrorOn policies before after seen error → IsRefusalOn own takes o policies before after old new e
+  at_begin : (error : SlateDBError) → e ≡ errors.Db error → IsUnbegun old new error → IsRefusalOn own takes o policies before after old new e
+  at_read : (error : SlateDBError) → e ≡ errors.Db error → (seen : List Event) → IsPrefix seen new.seen → IsReadErrorOn o policies before after seen error → IsRefusalOn own takes o policies before after old new e
   at_commit : (error : SlateDBError) → e ≡ errors.Db error → IsUncommitted takes o old new error → IsRefusalOn own takes o policies before after old new e
   by_fault : (error : SlateDBError) → e ≡ errors.Db error → IsFault before after error → IsRefusalOn own takes o policies before after old new e
 
 pub record CallsOn {T : Type 0} (ends : T → Type 0) (call : Call) (own : QueueError → Type 0) (takes : List TranscriptStep → Type 0) (o : Options) (m : Meaning) (policies : List Policy) (before after : Reach) (old new : PassModel) (result : Result T QueueError) : Type 0 where
   pub done : IfOk result ends
-  pub refused : OnErr result (LeavesOn o old new)
+  pub refused : IfErr result (RefusesOn o old new)
   pub step : IsStoreTrue policies m new.seen before after → IfErr result (IsStepRefusal call takes o m before after old new)
   pub cause : IfErr result (IsRefusalOn own takes o policies before after old new)
   pub reads : OnlyReads before after

@@ -58,7 +58,7 @@ pub record WalksOn (o : Options) (m : Meaning) (before after : Reach) (t u : Ope
 pub record WalkedOn (o : Options) (m : Meaning) (before after : Reach) (t u : Opened) (x y : TxnIterator) (us : List TranscriptStep) : Type 0 where
   pub walks : WalksOn o m before after t u x us
   pub reading : (os : Objects) (rows : List RowEntry) → IsOpenTo o m t x before after os rows → (left : List RowEntry) × IsReadingOn os o m u y left
-  pub since : (from : Reach) → IsScanSinceOn from before t.seen x → IsScanSinceOn from after t.seen y
+  pub since : (from : Reach) → IsScanSinceOn o from before t.seen x → IsScanSinceOn o from after t.seen y
   pub named : IsScanOf (id_of x) (number_of x) (scan_of x).order (scan_of x).range y
   pub reads : OnlyReads before after
 
@@ -67,7 +67,7 @@ pub record ScanFailsOn (o : Options) (m : Meaning) (before after : Reach) (t u :
   pub error : SlateDBError
   pub is : q ≡ errors.Db error
   pub undamaged : (os : Objects) (rows : List RowEntry) → IsOpenTo o m t x before after os rows → IsFault before after error
-  pub cause : (from : Reach) (policies : List Policy) → OnlyReads from before → IsScanSinceOn from before t.seen x → IsReadErrorOn policies from after t.seen error
+  pub cause : (from : Reach) (policies : List Policy) → OnlyReads from before → IsScanSinceOn o from before t.seen x → IsReadErrorOn o policies from after t.seen error
   pub reads : OnlyReads before after
 
 -- ---- one step

@@ -6,12 +6,12 @@ use Rattle.std.proofs.lemmas.Grind.{flat_map-append}
 use mathlib.Core.List.{IsPrefix}
 use Rattle.slate_types.specs.declared.error.SlateDBError.{SlateDBError}
 use Rattle.slate_types.specs.Outside.{Objects}
-use Rattle.slate_filter.specs.Policy.{Policy}
 use Rattle.slate_mem.specs.BatchModel.{BatchModel}
 use Rattle.slate_mem.specs.KeyTests.{Segments}
 use Rattle.slate_txn.specs.declared.event.Event.{Event}
 use Rattle.slate_txn.specs.declared.event.Event.TheVariants as events
 use Rattle.slate_txn.specs.Settings.{Settings}
+use Rattle.slate_db.specs.Flushed.{Layout}
 use Rattle.slate_db.specs.Installs.{Holds, tables_in, tables_of}
 use Rattle.slate_db.specs.Meaning.{Meaning}
 use Rattle.slate_db.specs.Readable.{AreFiltered}
@@ -135,7 +135,7 @@ module _ (fault : SlateDBError → Type 0) (m : Meaning) (g : Segments) (o : Set
       earlier (Ok None) p short some = w p some
       earlier (Err e) p short some = w p some
 
-module _ (m : Meaning) (ps : List Policy) (n : ℕ) (before after : Option Objects) (old : List Event) (own : List ℕ) (new : List Event) (own' : List ℕ) (h : HasLanded m ps n before after old own new own') (w : Within own old) where
+module _ (o : Settings) (m : Meaning) (layout : Layout) (n : ℕ) (before after : Option Objects) (old : List Event) (own : List ℕ) (new : List Event) (own' : List ℕ) (h : HasLanded o m layout n before after old own new own') (w : Within own old) where
   pub within_landed : Within own' new
   within_landed = subst (λ (x : List ℕ × List Event). Within x.0 x.1) (λ i. (sym h.place i, sym h.event i)) (within_more own h.journal (events.Install n h.tables) (within_later own old h.journal w h.seen))
 

@@ -76,6 +76,16 @@ longer_covers (x ∷ xs) (y ∷ ys) (z ∷ zs) p q =
     let head : y ≡ x = cc (p.1, q.1) in
     (r.0, cc (head, r.1))
 
+-- a list that the second begins with is no longer
+pub longer_whole : (xs ys : List Event) → IsPrefix xs ys → longer xs ys ≡ ys
+longer_whole [] [] p = refl
+longer_whole (x ∷ xs) [] p = absurd (cc (p.1))
+longer_whole [] (y ∷ ys) p = refl
+longer_whole (x ∷ xs) (y ∷ ys) p =
+    let r = longer_whole xs ys (p.0, cc (p.1)) in
+    let head : x ≡ y = cc (p.1) in
+    cc (head, r)
+
 pub prefix_trans : (xs ys zs : List Event) → IsPrefix xs ys → IsPrefix ys zs → IsPrefix xs zs
 prefix_trans xs ys zs p q = (p.0 ++ q.0, sym (append_assoc xs p.0 q.0) ∙ (ap (λ (l : List Event). l ++ q.0) p.1 ∙ q.1))
 

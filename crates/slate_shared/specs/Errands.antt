@@ -11,7 +11,9 @@
 --     Refusal n journal e      memory is wanting, or the journal has no place for so many events
 --     Departs o m journal seen flight r      a flush sets off behind this journal, with this flight; or finds nothing that waits, or is refused; seen: the journal then
 --     Lands journal tables flight old seen new r      a flush lands behind this journal, which has its number next, with one event, which is its own; or is refused, with none
---     HasLanded m ps n before after old own new own'      an install of tables through n ends the journal that is seen then, its place is one's own, a store that tells its objects holds them beside the earlier ones, and all that the journal names have the filters of these policies
+--     IsFlushFrom o m old from journal number layers      behind `from`, which begins with `old`, a flush took the rows of these memtables, all that wait there; it ends behind `journal`, which has its number next
+--     HasLanded o m layout n before after old own new own'      an install of the tables of such a flush, through n, ends the journal that is seen then, its place is one's own, a store that tells its objects took the tables and nothing else, and holds them beside the earlier ones, and all that the journal names have the filters of these policies
+--     HasGivenUp o m layout before after old new      such a flush was given up: of a store that tells its objects nothing is changed, or it took some first of the tables
 --     HasTableTooLarge o m layout journal e      a table of the rows that wait would have too many blocks
 --     IsOverLimit o m layout journal e      that, or the journal has no place for an event
 use Rattle.std.specs.Prelude.{◌≡◌, ◌⊎◌, ℕ, ◌+◌, ◌≤◌, false, List, [], ◌∷◌, ◌++◌, map, length, slice_get, Option, None, Some, Result, IfOk, IfErr, IfSome, OnErr}
@@ -21,8 +23,8 @@ use Rattle.slate_types.specs.declared.error.SlateDBError.TheVariants.{LimitReach
 use Rattle.slate_types.specs.declared.types.Ulid.{Ulid}
 use Rattle.slate_types.specs.declared.config.Options.{Options}
 use Rattle.slate_types.specs.Outside.{Objects}
-use Rattle.slate_filter.specs.Policy.{Policy}
 use Rattle.atomic_table.specs.Table.{Me}
+use Rattle.slate_read.specs.declared.sorted_run.SortedRun.{SortedRun}
 use Rattle.slate_mem.specs.Lookup.{is_merge_among, newest_first}
 use Rattle.slate_table.specs.Table.{AreInOrder}
 use Rattle.slate_txn.specs.declared.event.Event.{Event}
@@ -34,7 +36,7 @@ use Rattle.slate_txn.specs.Replay.{replay}
 use Rattle.slate_txn.specs.Settings.{Settings, settings_of}
 use Rattle.slate_txn.specs.State.{last_of}
 use Rattle.slate_db.specs.declared.flight.Flight.{Flight}
-use Rattle.slate_db.specs.Flushed.{CanFlush, HasTooLarge, IsFolded, Layout}
+use Rattle.slate_db.specs.Flushed.{AreSomeOfFlush, CanFlush, HasTooLarge, IsFolded, IsPut, Layout, MayTakeTables}
 use Rattle.slate_db.specs.Flying.{took}
 use Rattle.slate_db.specs.Installs.{Holds, NumberedFrom, installed, runs_of, tables_of}
 use Rattle.slate_db.specs.Log.{LIMIT}
@@ -125,12 +127,33 @@ pub record Lands (journal : List Event) (tables : List (Ulid × List ℕ)) (flig
   pub same : OnErr r ((seen ≡ journal) × (new ≡ old))
   pub cause : IfErr r (Refusal 1 journal)
 
+-- from: the journal behind which it set off; journal: that behind which it ends
+pub record IsFlushFrom (o : Settings) (m : Meaning) (old from journal : List Event) (number : ℕ) (layers : List Rows) : Type 0 where
+  pub known : IsPrefix old from
+  pub later : IsPrefix from journal
+  pub next : IsNextFlush number journal
+  pub rows : IsRowsOf o m from layers
+
 -- before, after: the store's objects; old, new: the events seen; own, own': the places of a seat's own events
-pub record HasLanded (m : Meaning) (ps : List Policy) (n : ℕ) (before after : Option Objects) (old : List Event) (own : List ℕ) (new : List Event) (own' : List ℕ) : Type 0 where
+pub record HasLanded (o : Settings) (m : Meaning) (layout : Layout) (n : ℕ) (before after : Option Objects) (old : List Event) (own : List ℕ) (new : List Event) (own' : List ℕ) : Type 0 where
   pub journal : List Event
   pub seen : IsPrefix old journal
   pub tables : List (Ulid × List ℕ)
   pub event : new ≡ journal ++ Install n tables ∷ []
   pub place : own' ≡ own ++ length journal ∷ []
+  pub from : List Event
+  pub through : n ≡ newest_of o from
+  pub number : ℕ
+  pub layers : List Rows
+  pub taken : IsFlushFrom o m old from journal number layers
+  pub runs : List SortedRun
+  pub put : IsPut m layout number (barrier_of o from) layers tables runs before after
   pub stored : StoresOn journal tables before after
-  pub filtered : AreFiltered m.encode ps (tables_of new)
+  pub filtered : AreFiltered m.encode layout.policies (tables_of new)
+
+pub record HasGivenUp (o : Settings) (m : Meaning) (layout : Layout) (before after : Option Objects) (old new : List Event) : Type 0 where
+  pub from : List Event
+  pub number : ℕ
+  pub layers : List Rows
+  pub taken : IsFlushFrom o m old from new number layers
+  pub put : MayTakeTables (AreSomeOfFlush m layout number (barrier_of o from) layers) before after

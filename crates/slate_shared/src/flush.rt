@@ -20,7 +20,7 @@ ghost use Rattle.slate_db.specs.Installs.{AreRunsOf, Holds, tables_of};
 ghost use Rattle.slate_db.specs.Log.{LIMIT};
 ghost use Rattle.slate_db.specs.Meaning.{segments_by};
 ghost use Rattle.slate_db.specs.Readable.{AreFiltered};
-ghost use Rattle.slate_shared.specs.Errands.{Departs, HasErrand, HasLanded, IsNextFlush, IsOverLimit, IsRested, KeepsOn, Lands, HasTableTooLarge};
+ghost use Rattle.slate_shared.specs.Errands.{Departs, HasErrand, HasGivenUp, HasLanded, IsNextFlush, IsOverLimit, IsRested, KeepsOn, Lands, HasTableTooLarge};
 ghost use Rattle.slate_shared.specs.Given.{AreGiven};
 ghost use Rattle.slate_shared.specs.LockedModel.{IsFull, frozen_by, holds_at};
 ghost use Rattle.slate_shared.specs.Shared.{IsSameSeat, IsSized, MayFly, flight_after};
@@ -49,7 +49,8 @@ impl<P: Parts> Pass<P> {
     /// `BlockTransformError` and `Callback`, each only where its count of faults rose; by `LimitReached` where the journal has no
     /// place for an event, or where a table would pass a limit; and by `OutOfMemory`. Then the rows are in memory as before, or
     /// frozen, and the store's objects are as they were, or have some first of the tables, which no event names. Either way a store
-    /// that tells its objects keeps each table that it held of what the journal names.
+    /// that tells its objects keeps each table that it held of what the journal names, and takes nothing but tables of the rows that
+    /// waited.
     pub fn flush<R: Wait, S: Store, M: MergeOperator, T: BlockTransformer, X: PrefixExtractor>(
         &mut self,
         rt: &R,
@@ -67,11 +68,15 @@ impl<P: Parts> Pass<P> {
         ensures newest { IfOk result (λ n. (before : List Event) × IsPrefix self.old.seen before × IsPrefix before self.new.seen × (n ≡ last_of P.options.start_seq (replay before).commits)) }
         ensures through { IfOk result (λ n. AllByRecursion (λ c. n < c.seq) (above_install self.new.seen)) }
         ensures own { let reach = ⟦<EnvOf<S, M, T> as Outside>⟧.reach in
-            IfOk result (λ n. ((self.new.own ≡ self.old.own) × (env.new ≡ env.old)) ⊎ HasLanded P.meaning P.policies n (reach env.old).objects (reach env.new).objects self.old.seen self.old.own self.new.seen self.new.own) }
+            let layout = layout_of P.options P.policies P.segments in
+            IfOk result (λ n. ((self.new.own ≡ self.old.own) × (env.new ≡ env.old)) ⊎ HasLanded (settings_of P.options) P.meaning layout n (reach env.old).objects (reach env.new).objects self.old.seen self.old.own self.new.seen self.new.own) }
         ensures refused { let reach = ⟦<EnvOf<S, M, T> as Outside>⟧.reach in OnErr result ((self.new.own ≡ self.old.own) × KeepsOn self.new.seen (reach env.old).objects (reach env.new).objects) }
+        ensures left { let reach = ⟦<EnvOf<S, M, T> as Outside>⟧.reach in
+            let layout = layout_of P.options P.policies P.segments in
+            OnErr result ((env.new ≡ env.old) ⊎ HasGivenUp (settings_of P.options) P.meaning layout (reach env.old).objects (reach env.new).objects self.old.seen self.new.seen) }
         ensures cause { let reach = ⟦<EnvOf<S, M, T> as Outside>⟧.reach in
             let layout = layout_of laws.now.options (map (λ p. (⟦<dyn FilterPolicy as FilterPolicy>⟧ p.vtable).meaning p.value) laws.now.policies.items) (segments_by X.lengths laws.now.segments) in
-            IfErr result (λ e. IsFault (reach env.old) (reach env.new) e ⊎ ((before : List Event) × IsPrefix self.old.seen before × IsOverLimit (settings_of P.options) P.meaning layout before e)) }
+            IfErr result (λ e. IsFault (reach env.old) (reach env.new) e ⊎ ((before : List Event) × IsPrefix self.old.seen before × IsPrefix before self.new.seen × IsOverLimit (settings_of P.options) P.meaning layout before e)) }
         ensures puts { let reach = ⟦<EnvOf<S, M, T> as Outside>⟧.reach in Puts (reach env.old) (reach env.new) }
     {
         let top = &db.board.shared;
@@ -166,18 +171,26 @@ fn carry_out<
     requires meaning { let reach = ⟦<EnvOf<S, M, T> as Outside>⟧.reach in (reach env.old).meaning ≡ P.meaning }
     requires valid { IsValid laws.now.options }
     requires names { AreValidNames (map (λ p. ((⟦<dyn FilterPolicy as FilterPolicy>⟧ p.vtable).meaning p.value).name) laws.now.policies.items) }
-    requires policies { map (λ p. (⟦<dyn FilterPolicy as FilterPolicy>⟧ p.vtable).meaning p.value) laws.now.policies.items ≡ P.policies }
+    requires laws { AreGiven P.options P.segments P.policies laws.now.options (segments_by X.lengths laws.now.segments) (map (λ p. (⟦<dyn FilterPolicy as FilterPolicy>⟧ p.vtable).meaning p.value) laws.now.policies.items) }
     ensures seat { IsSameSeat place.old place.new × IsRested place.old.me place.new.me × (place.new.me.0.flight ≡ None) }
     ensures seen { IsPrefix place.old.me.0.seen place.new.me.0.seen }
     ensures landed { let reach = ⟦<EnvOf<S, M, T> as Outside>⟧.reach in
-        IfOk result (λ n. HasLanded P.meaning P.policies n (reach env.old).objects (reach env.new).objects place.old.me.0.seen place.old.me.0.own place.new.me.0.seen place.new.me.0.own) }
+        let o = settings_of P.options in
+        let layout = layout_of P.options P.policies P.segments in
+        (from : List Event) → IsPrefix from place.old.me.0.seen → HasErrand o P.meaning from place.old.me.0.flight errand →
+        IfOk result (λ n. HasLanded o P.meaning layout n (reach env.old).objects (reach env.new).objects from place.old.me.0.own place.new.me.0.seen place.new.me.0.own) }
     ensures through { (f : Flight) → place.old.me.0.flight ≡ Some f → IfOk result (λ n. n ≡ f.through) }
     ensures refused { let reach = ⟦<EnvOf<S, M, T> as Outside>⟧.reach in OnErr result ((place.new.me.0.own ≡ place.old.me.0.own) × KeepsOn place.new.me.0.seen (reach env.old).objects (reach env.new).objects) }
+    ensures left { let reach = ⟦<EnvOf<S, M, T> as Outside>⟧.reach in
+        let o = settings_of P.options in
+        let layout = layout_of P.options P.policies P.segments in
+        (from : List Event) → IsPrefix from place.old.me.0.seen → HasErrand o P.meaning from place.old.me.0.flight errand →
+        OnErr result (HasGivenUp o P.meaning layout (reach env.old).objects (reach env.new).objects from place.new.me.0.seen) }
     ensures cause { let reach = ⟦<EnvOf<S, M, T> as Outside>⟧.reach in
         let layout = layout_of laws.now.options (map (λ p. (⟦<dyn FilterPolicy as FilterPolicy>⟧ p.vtable).meaning p.value) laws.now.policies.items) (segments_by X.lengths laws.now.segments) in
         (journal : List Event) → HasErrand (settings_of P.options) P.meaning journal place.old.me.0.flight errand →
         IfErr result (λ e. IsFault (reach env.old) (reach env.new) e
-        ⊎ ((e ≡ SlateDBError.LimitReached LIMIT) × ((before : List Event) × IsPrefix place.old.me.0.seen before × IsFull 1 before))
+        ⊎ ((e ≡ SlateDBError.LimitReached LIMIT) × IsFull 1 place.new.me.0.seen)
         ⊎ HasTableTooLarge (settings_of P.options) P.meaning layout journal e) }
     ensures puts { let reach = ⟦<EnvOf<S, M, T> as Outside>⟧.reach in Puts (reach env.old) (reach env.new) }
 {

@@ -1,5 +1,5 @@
 //! What a thread uses the database with.
-ghost use Rattle.std.specs.Prelude.{◌≡◌, ◌⊎◌, ◌+◌, ◌<◌, [], ◌∷◌, ◌++◌, List, IfOk, IfErr, OnErr, IsOkUnless};
+ghost use Rattle.std.specs.Prelude.{◌≡◌, ◌⊎◌, ◌+◌, ◌<◌, [], ◌∷◌, ◌++◌, List, IfOk, IfErr, OnErr, OnOk, IsOkUnless};
 ghost use mathlib.Core.List.{IsPrefix};
 ghost use Rattle.slate_types.specs.declared.error.SlateDBError.{SlateDBError};
 ghost use Rattle.slate_txn.specs.declared.event.Event.{Event};
@@ -69,7 +69,8 @@ impl<P: Parts> Pass<P> {
     }
 
     /// Opens a transaction at the last sequence of a journal that begins with what the pass has seen. Refuses by `LimitReached` where
-    /// the journal has no place for its begin and its end, and by `OutOfMemory`, and then nothing is opened.
+    /// the journal has no place for its begin and its end, and by `OutOfMemory`. Then nothing is opened, and the pass has seen all of
+    /// that journal.
     pub fn begin<R: Wait>(
         &mut self,
         rt: &R,
@@ -77,10 +78,12 @@ impl<P: Parts> Pass<P> {
         level: IsolationLevel,
     ) -> Result<DbTransaction<P>, SlateDBError>
         requires { self.old.table ≡ db.now }
-        ensures same { self.new ≡ self.old }
+        ensures same { (self.new.table ≡ self.old.table) × (self.new.parts ≡ self.old.parts) × (self.new.own ≡ self.old.own) }
+        ensures seen { IsPrefix self.old.seen self.new.seen }
+        ensures opened { OnOk result (self.new ≡ self.old) }
         ensures begun { IfOk result (λ t. (t.table ≡ self.old.table) × (t.tx ≡ begun level t.tx.begin) × ((before : List Event) × IsPrefix self.old.seen before × (t.seen ≡ before ++ Begin t.id level t.tx.begin ∷ []) × (t.tx.begin ≡ last_of P.options.start_seq (replay before).commits))) }
         ensures legal { IfOk result (λ t. IsLegal P.options.start_seq t.seen) }
-        ensures cause { IfErr result (λ e. (e ≡ SlateDBError.OutOfMemory) ⊎ ((e ≡ SlateDBError.LimitReached LIMIT) × ((before : List Event) × IsPrefix self.old.seen before × IsFull 2 before))) }
+        ensures cause { IfErr result (λ e. (e ≡ SlateDBError.OutOfMemory) ⊎ ((e ≡ SlateDBError.LimitReached LIMIT) × IsFull 2 self.new.seen)) }
     {
         let top = &db.board.shared;
         let mut seat = top.split_seat::<Offshoot>(&mut self.seat);
@@ -89,6 +92,7 @@ impl<P: Parts> Pass<P> {
             Ok(opened) => opened,
             Err(refused) => {
                 keep(top, &mut seat, locked);
+                top.join_seat::<Merge>(&mut self.seat, seat);
                 return Err(refused);
             }
         };

@@ -8,7 +8,7 @@ use Rattle.slate_types.specs.declared.config.Options.{Options}
 use Rattle.slate_types.specs.declared.config.PutOptions.{PutOptions}
 use Rattle.slate_types.specs.declared.config.Ttl.TheVariants.{Default}
 use Rattle.slate_types.specs.declared.error.SlateDBError.{SlateDBError}
-use Rattle.slate_types.specs.declared.error.SlateDBError.TheVariants.{MergeOperatorMissing, OutOfMemory, SequenceExhausted}
+use Rattle.slate_types.specs.declared.error.SlateDBError.TheVariants.{LimitReached, MergeOperatorMissing, OutOfMemory, SequenceExhausted}
 use Rattle.slate_types.specs.declared.filter_policy.FilterQuery.{FilterQuery}
 use Rattle.slate_types.specs.declared.iter.IterationOrder.{IterationOrder}
 use Rattle.slate_types.specs.declared.types.KeyValue.{KeyValue}
@@ -20,7 +20,7 @@ use Rattle.slate_filter.specs.Policy.{Policy}
 use Rattle.slate_mem.specs.Batch.{batch_keys, kept_ops}
 use Rattle.slate_mem.specs.declared.WriteOp.{WriteOp}
 use Rattle.slate_mem.specs.declared.WriteOp.TheVariants.{Put}
-use Rattle.slate_mem.specs.BatchModel.{is_merge_op, plain_put}
+use Rattle.slate_mem.specs.BatchModel.{holds_merge, is_merge_op, plain_put}
 use Rattle.slate_mem.specs.KeyTests.{Segments}
 use Rattle.slate_mem.proofs.PlainLaws.{plain_passes}
 use Rattle.slate_txn.specs.declared.event.Event.{Event}
@@ -40,6 +40,7 @@ use Rattle.slate_db.specs.Answered.{AnswersFrom}
 use Rattle.slate_db.specs.BatchTests.{IsTestRefusal}
 use Rattle.slate_db.specs.Committed.{IsFull, IsNextOf}
 use Rattle.slate_db.specs.KeyShares.{IsKeyRead, IsOwnAnswer, IsShown}
+use Rattle.slate_db.specs.Log.{LIMIT}
 use Rattle.slate_db.specs.Meaning.{Meaning, rules_of}
 use Rattle.slate_db.specs.Model.{CoreModel}
 use Rattle.slate_db.specs.RangeShares.{IsOpened}
@@ -51,16 +52,20 @@ use Rattle.slate_db.proofs.ScanWorlds.{sees_world, world_holds}
 use Rattle.slate_db.proofs.UnderKeys.{plain_keeps}
 use Rattle.slate_shared.specs.Ended.{HasEnded}
 use Rattle.slate_shared.specs.KeyReads.{IsCoreOf, IsGet, got}
+use Rattle.slate_shared.specs.LockedModel.{IsFull as IsNoPlace}
 use Rattle.slate_shared.specs.Passes.{Opened, PassModel}
 use Rattle.slate_shared.specs.Scans.{IsLeftOf, IsScanOpened, noted_next, noted_scan, rows_in, rows_of_range}
 use Rattle.slate_shared.proofs.Lists.{prefix_more, prefix_self, prefix_trans}
-use Rattle.slate_steps.specs.Attempts.{HasCommittedBehind, HasEndedBehind, IsAttempt, IsReadErrorOn, IsReadingOn, IsRefusedBehind, IsScanSinceOn, IsStoreTrue, IsVouchedThere, SeesMore, SeesOnly}
+use Rattle.slate_steps.specs.Attempts.{HasCommittedBehind, HasEndedBehind, IsAttempt, IsReadCore, IsReadErrorOn, IsReadingOn, IsRefusedBehind, IsScanSinceOn, IsStoreTrue, IsUnbegun, IsVouchedThere, SeesMore, SeesOnly}
 use Rattle.slate_steps.specs.Reads.{IsReadError, IsScanSince, of_get}
 use Rattle.slate_steps.specs.Steps.{IsNext}
 use Rattle.slate_steps.proofs.Attempts.{attempt_alone, attempt_alone_before, attempt_left, attempt_noted, attempt_own_more, attempt_plain, attempt_stays, vouched_begun, vouched_on, vouched_own}
 use Rattle.slate_steps.proofs.Ending.{all_tracked}
 use Rattle.slate_steps.proofs.Reading.{if_err_map, if_ok_map, next_error, on_ok_map, scan_error, since_next}
 use Rattle.slate_steps.proofs.StoreTruth.{store_answered}
+
+read_core : (o : Options) (m n : Meaning) (t : Opened) (seen : List Event) (c : CoreModel) → m ≡ n → holds_merge t.tx.ops ≡ false → IsCoreOf o m t seen c → IsReadCore o n seen c
+read_core o m n t seen c meant plain core = record { reader = t; plain = plain; core = subst (λ (x : Meaning). IsCoreOf o x t seen c) meant core }
 
 -- ---- a get
 
@@ -95,20 +100,20 @@ module _ (o : Options) (m : Meaning) (policies : List Policy) (query : FilterQue
       IsStoreTrue policies m new.seen before after → IfErr r (IsFault before after)
   get_undamaged r g from level ts h s = g.undamaged (store_answered policies m new.seen old.tx.ops before after (attempt_plain o from level ts old h) s)
 
-  pub get_cause : (r : Result (Option KeyValue) SlateDBError) → Got r → (from : List Event) (level : IsolationLevel) (ts : List TranscriptStep) → IsAttempt o from level ts old → IfErr r (IsReadErrorOn policies before after new.seen)
-  get_cause (Ok a) g from level ts h = tt
-  get_cause (Err e) g from level ts h = by (decides_own k old.tx.ops) refl
+  pub get_cause : (r : Result (Option KeyValue) SlateDBError) → Got r → (from : List Event) (level : IsolationLevel) (ts : List TranscriptStep) → IsAttempt o from level ts old → m ≡ before.meaning → IfErr r (IsReadErrorOn o policies before after new.seen)
+  get_cause (Ok a) g from level ts h meant = tt
+  get_cause (Err e) g from level ts h meant = by (decides_own k old.tx.ops) refl
     where
-      own : IsFault before after e ⊎ ((e ≡ MergeOperatorMissing) × (before.meaning.combine ≡ None) × (keeps_merge k old.tx.ops ≡ true)) → IsReadErrorOn policies before after new.seen e
+      own : IsFault before after e ⊎ ((e ≡ MergeOperatorMissing) × (before.meaning.combine ≡ None) × (keeps_merge k old.tx.ops ≡ true)) → IsReadErrorOn o policies before after new.seen e
       own (inl fault) = inl fault
       own (inr (is, lacks, some)) = let clash : true ≡ false = sym some ∙ plain_keeps k old.tx.ops (attempt_plain o from level ts old h) in cc
 
       read : (◌≡◌ {A = Result (Option KeyValue) SlateDBError} (Err e) (Err OutOfMemory) × (after ≡ before)) ⊎ ((c : CoreModel) × IsCoreOf o m old new.seen c × IsKeyRead (record { policies = policies; query = query }) before after c k old.tx IsShown (Err e)) →
-          IsReadErrorOn policies before after new.seen e
+          IsReadErrorOn o policies before after new.seen e
       read (inl nothing) = let out : e ≡ OutOfMemory = cc nothing.0 in inl (subst (IsCounted before.faults after.faults) (sym out) tt)
-      read (inr (c, core, r)) = inr (c, core.events, of_get query r.read.cause)
+      read (inr (c, core, r)) = inr (c, read_core o m before.meaning old new.seen c meant (attempt_plain o from level ts old h) core, of_get query r.read.cause)
 
-      by : (d : Bool) → decides_own k old.tx.ops ≡ d → IsReadErrorOn policies before after new.seen e
+      by : (d : Bool) → decides_own k old.tx.ops ≡ d → IsReadErrorOn o policies before after new.seen e
       by true some = own ((g.decided some).1.cause)
       by false none = read (g.read none)
 
@@ -151,30 +156,30 @@ module _ (o : Options) (m : Meaning) (policies : List Policy) (query : Option Fi
       IsStoreTrue policies m new.seen before after → IfErr r (IsFault before after)
   scan_undamaged r h from level ts a s = h.undamaged (store_answered policies m new.seen old.tx.ops before after (attempt_plain o from level ts old a) s)
 
-  pub scan_since : (r : Result TxnIterator SlateDBError) → Opens r → IfOk r (IsScanSinceOn before after new.seen)
-  scan_since (Err e) h = tt
-  scan_since (Ok it) h = by h.opened
+  pub scan_since : (r : Result TxnIterator SlateDBError) → Opens r → (from : List Event) (level : IsolationLevel) (ts : List TranscriptStep) → IsAttempt o from level ts old → m ≡ before.meaning → IfOk r (IsScanSinceOn o before after new.seen)
+  scan_since (Err e) h from level ts a meant = tt
+  scan_since (Ok it) h from level ts a meant = by h.opened
     where
       by : (◌≡◌ {A = Result TxnIterator SlateDBError} (Ok it) (Err OutOfMemory) × quiet) ⊎
           ((c : CoreModel) × IsCoreOf o m old new.seen c × (◌≡◌ {A = Result TxnIterator SlateDBError} (Ok it) (Err OutOfMemory) ⊎ IsOpened policies query before after c old.tx.begin old.tx.ops range order (rows_in (Ok it)))) →
-          IsScanSinceOn before after new.seen it
+          IsScanSinceOn o before after new.seen it
       by (inl nothing) = cc nothing.0
       by (inr (c, core, inl is)) = cc is
-      by (inr (c, core, inr is)) = (c, core.events, is.later.1)
+      by (inr (c, core, inr is)) = (c, read_core o m before.meaning old new.seen c meant (attempt_plain o from level ts old a) core, is.later.1)
 
-  pub scan_cause : (r : Result TxnIterator SlateDBError) → Opens r → IfErr r (IsReadErrorOn policies before after new.seen)
-  scan_cause (Ok it) h = tt
-  scan_cause (Err e) h = by h.opened
+  pub scan_cause : (r : Result TxnIterator SlateDBError) → Opens r → (from : List Event) (level : IsolationLevel) (ts : List TranscriptStep) → IsAttempt o from level ts old → m ≡ before.meaning → IfErr r (IsReadErrorOn o policies before after new.seen)
+  scan_cause (Ok it) h from level ts a meant = tt
+  scan_cause (Err e) h from level ts a meant = by h.opened
     where
-      memory : ◌≡◌ {A = Result TxnIterator SlateDBError} (Err e) (Err OutOfMemory) → IsReadErrorOn policies before after new.seen e
+      memory : ◌≡◌ {A = Result TxnIterator SlateDBError} (Err e) (Err OutOfMemory) → IsReadErrorOn o policies before after new.seen e
       memory is = let out : e ≡ OutOfMemory = cc is in inl (subst (IsCounted before.faults after.faults) (sym out) tt)
 
       by : (◌≡◌ {A = Result TxnIterator SlateDBError} (Err e) (Err OutOfMemory) × quiet) ⊎
           ((c : CoreModel) × IsCoreOf o m old new.seen c × (◌≡◌ {A = Result TxnIterator SlateDBError} (Err e) (Err OutOfMemory) ⊎ IsOpened policies query before after c old.tx.begin old.tx.ops range order (rows_in (Err e)))) →
-          IsReadErrorOn policies before after new.seen e
+          IsReadErrorOn o policies before after new.seen e
       by (inl nothing) = memory nothing.0
       by (inr (c, core, inl is)) = memory is
-      by (inr (c, core, inr is)) = inr (c, core.events, scan_error {A = TxnIterator} (Err e) policies query before after c is.cause)
+      by (inr (c, core, inr is)) = inr (c, read_core o m before.meaning old new.seen c meant (attempt_plain o from level ts old a) core, scan_error {A = TxnIterator} (Err e) policies query before after c is.cause)
 
 -- ---- a next
 
@@ -221,15 +226,19 @@ module _ (o : Options) (m : Meaning) (t u : Opened) (x y : TxnIterator) (before 
       by : LeavesIn os m x rows → IfErr r (IsFault before after)
       by (w, is, leaves) = undamaged w rows leaves (sees_world os w before after (is.meaning ∙ sym meant) (world_holds os m w is) answered)
 
-pub next_since_on : {A E : Type 0} (r : Result A E) (from before after : Reach) (seen : List Event) (x y : TxnIterator) → IsScanSinceOn from before seen x →
-    OnOk r (Made before after (λ reads. NoMore (ScanRefuses (scan_of x) before.meaning) reads (ScanRefuses (scan_of y) before.meaning))) → OnOk r (IsScanSinceOn from after seen y)
-next_since_on r from before after seen x y (c, is, since) later = on_ok_map r _ _ (λ s. (c, is, s)) (since_next r from before after c x y since later)
+pub next_since_on : {A E : Type 0} (r : Result A E) (o : Options) (from before after : Reach) (seen : List Event) (x y : TxnIterator) → IsScanSinceOn o from before seen x →
+    OnOk r (Made before after (λ reads. NoMore (ScanRefuses (scan_of x) before.meaning) reads (ScanRefuses (scan_of y) before.meaning))) → OnOk r (IsScanSinceOn o from after seen y)
+next_since_on r o from before after seen x y (c, is, since) later = on_ok_map r _ _ (λ s. (c, is, s)) (since_next r from before after c x y since later)
 
-pub next_cause_on : {A : Type 0} (r : Result A SlateDBError) (policies : List Policy) (from before after : Reach) (seen : List Event) (x : TxnIterator) → OnlyReads from before → IsScanSinceOn from before seen x →
-    IfErr r (λ e. Made before after (λ reads. IsFault before after e ⊎ ScanRefuses (scan_of x) before.meaning reads None e)) → IfErr r (IsReadErrorOn policies from after seen)
-next_cause_on r policies from before after seen x only (c, is, since) cause = if_err_map r _ _ (λ e refused. inr (c, is, refused)) (next_error r policies from before after c x only since cause)
+pub next_cause_on : {A : Type 0} (r : Result A SlateDBError) (o : Options) (policies : List Policy) (from before after : Reach) (seen : List Event) (x : TxnIterator) → OnlyReads from before → IsScanSinceOn o from before seen x →
+    IfErr r (λ e. Made before after (λ reads. IsFault before after e ⊎ ScanRefuses (scan_of x) before.meaning reads None e)) → IfErr r (IsReadErrorOn o policies from after seen)
+next_cause_on r o policies from before after seen x only (c, is, since) cause = if_err_map r _ _ (λ e refused. inr (c, is, refused)) (next_error r policies from before after c x only since cause)
 
 -- ---- passes
+
+pub unbegun : {A : Type 0} (r : Result A SlateDBError) (old new : PassModel) → SeesOnly old new → IfErr r (λ e. (e ≡ OutOfMemory) ⊎ ((e ≡ LimitReached LIMIT) × IsNoPlace 2 new.seen)) → IfErr r (IsUnbegun old new)
+unbegun (Ok a) old new only cause = tt
+unbegun (Err e) old new only cause = record { only = only; cause = cause }
 
 pub sees_self : (p : PassModel) → SeesOnly p p
 sees_self p = record { more = record { table = refl; parts = refl; seen = prefix_self p.seen }; own = refl }

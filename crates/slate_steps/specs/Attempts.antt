@@ -7,15 +7,17 @@
 --     HasCommittedBehind o t n now old new      a pass whose newest place has the commit of t, behind a journal with which nothing conflicts
 --     HasEndedBehind t old new      a pass that has seen the end of t, without a commit, at the end of a journal
 --     IsRefusedBehind o t old new e      a commit that conflicts, or finds no sequence left, behind the journal that the pass has seen
---     IsReadErrorOn policies before after seen e      a read is refused so: by a fault that came in it, or by what its reads show of the tables that the journal names
+--     IsUnbegun old new e      nothing was begun, for want of memory, or since the journal has no place for two events; all of it is seen then
+--     IsReadCore o m seen c      the core of a journal, in which a transaction that merges nothing stands open
+--     IsReadErrorOn o policies before after seen e      a read is refused so: by a fault that came in it, or by what its reads show of the tables that the journal names
 --     IsReadingOn os o m t it rows      by these objects a scan that the transaction opened has these rows left, by each such journal
---     IsScanSinceOn from now seen it      by the reads since its opening, which reached `from`, the scan may be refused as one of that journal's core
+--     IsScanSinceOn o from now seen it      by the reads since its opening, which reached `from`, the scan may be refused as one of that journal's core
 use Rattle.std.specs.Prelude.{◌≡◌, ◌⊎◌, ℕ, ◌-◌, ◌^◌, false, List, [], ◌∷◌, ◌++◌, length, Option, None, ℤ}
 use mathlib.Core.List.{IsPrefix}
 use Rattle.slate_types.specs.declared.config.IsolationLevel.{IsolationLevel}
 use Rattle.slate_types.specs.declared.config.Options.{Options}
 use Rattle.slate_types.specs.declared.error.SlateDBError.{SlateDBError}
-use Rattle.slate_types.specs.declared.error.SlateDBError.TheVariants.{SequenceExhausted}
+use Rattle.slate_types.specs.declared.error.SlateDBError.TheVariants.{LimitReached, OutOfMemory, SequenceExhausted}
 use Rattle.slate_types.specs.declared.types.RowEntry.{RowEntry}
 use Rattle.slate_types.specs.Outside.{IsFault, Objects, Reach}
 use Rattle.slate_filter.specs.Policy.{Policy}
@@ -31,10 +33,12 @@ use Rattle.slate_txn.specs.Replay.{IsLegal, replay}
 use Rattle.slate_txn.specs.Settings.{settings_of}
 use Rattle.slate_txn.specs.State.{last_of}
 use Rattle.slate_db.specs.declared.scan.TxnIterator.{TxnIterator}
+use Rattle.slate_db.specs.Log.{LIMIT}
 use Rattle.slate_db.specs.Meaning.{Meaning, rules_of}
 use Rattle.slate_db.specs.Model.{CoreModel}
 use Rattle.slate_db.specs.Scans.{LeavesIn}
-use Rattle.slate_shared.specs.KeyReads.{IsAnsweredBy}
+use Rattle.slate_shared.specs.KeyReads.{IsAnsweredBy, IsCoreOf}
+use Rattle.slate_shared.specs.LockedModel.{IsFull}
 use Rattle.slate_shared.specs.Passes.{Opened, PassModel}
 use Rattle.slate_shared.specs.Scans.{IsLeftOf}
 use Rattle.slate_steps.specs.Reads.{IsReadError, IsScanSince}
@@ -90,12 +94,21 @@ pub record IsRefusedBehind (o : Options) (t : Opened) (old new : PassModel) (e :
   pub after : new.seen ≡ before ++ (events.End t.id ∷ [])
   pub is : IsConflict (conflict (replay before).commits t.tx) e ⊎ ((e ≡ SequenceExhausted) × (last_of o.start_seq (replay before).commits ≡ 2 ^ 64 - 2))
 
-abbrev pub IsReadErrorOn : List Policy → Reach → Reach → List Event → SlateDBError → Type 0
-IsReadErrorOn policies before after seen e = IsFault before after e ⊎ ((c : CoreModel) × (c.events ≡ seen) × IsReadError policies before after c e)
+pub record IsUnbegun (old new : PassModel) (e : SlateDBError) : Type 0 where
+  pub only : SeesOnly old new
+  pub cause : (e ≡ OutOfMemory) ⊎ ((e ≡ LimitReached LIMIT) × IsFull 2 new.seen)
+
+pub record IsReadCore (o : Options) (m : Meaning) (seen : List Event) (c : CoreModel) : Type 0 where
+  pub reader : Opened
+  pub plain : holds_merge reader.tx.ops ≡ false
+  pub core : IsCoreOf o m reader seen c
+
+abbrev pub IsReadErrorOn : Options → List Policy → Reach → Reach → List Event → SlateDBError → Type 0
+IsReadErrorOn o policies before after seen e = IsFault before after e ⊎ ((c : CoreModel) × IsReadCore o before.meaning seen c × IsReadError policies before after c e)
 
 pub record IsReadingOn (os : Objects) (o : Options) (m : Meaning) (t : Opened) (it : TxnIterator) (rows : List RowEntry) : Type 0 where
   pub left : (es : List Event) → IsPrefix t.seen es → IsLegal o.start_seq es → IsLeftOf o m (record t { seen = es }) it rows
   pub leaves : LeavesIn os m it rows
 
-abbrev pub IsScanSinceOn : Reach → Reach → List Event → TxnIterator → Type 0
-IsScanSinceOn from now seen it = (c : CoreModel) × (c.events ≡ seen) × IsScanSince from now c it
+abbrev pub IsScanSinceOn : Options → Reach → Reach → List Event → TxnIterator → Type 0
+IsScanSinceOn o from now seen it = (c : CoreModel) × IsReadCore o from.meaning seen c × IsScanSince from now c it

@@ -19,13 +19,11 @@ ghost use Rattle.slate_txn.specs.Alone.{first_left};
 ghost use Rattle.slate_txn.specs.Replay.{IsLegal};
 ghost use Rattle.slate_txn.specs.Step.{is_scan};
 ghost use Rattle.slate_db.specs.Answered.{AnswersFrom};
-ghost use Rattle.slate_db.specs.Log.{LIMIT};
 ghost use Rattle.slate_db.specs.Meaning.{segments_by};
 ghost use Rattle.slate_db.specs.Scans.{IsScanOf, id_of, number_of, scan_of};
 ghost use Rattle.slate_shared.specs.Given.{AreGiven};
-ghost use Rattle.slate_shared.specs.LockedModel.{IsFull};
 ghost use Rattle.slate_shared.specs.Scans.{rows_of_range};
-ghost use Rattle.slate_steps.specs.Attempts.{HasCommittedBehind, HasEndedBehind, IsAttempt, IsReadErrorOn, IsReadingOn, IsRefusedBehind, IsScanSinceOn, IsStoreTrue, IsVouchedThere, SeesMore, SeesOnly};
+ghost use Rattle.slate_steps.specs.Attempts.{HasCommittedBehind, HasEndedBehind, IsAttempt, IsReadErrorOn, IsReadingOn, IsRefusedBehind, IsScanSinceOn, IsStoreTrue, IsUnbegun, IsVouchedThere, SeesMore, SeesOnly};
 
 use slate_db::laws::Laws;
 use slate_db::scan::TxnIterator;
@@ -40,7 +38,7 @@ use std::ops::RangeFull;
 use std::sync::Wait;
 
 /// Begins a transaction at the newest sequence of a journal that begins with what the pass has seen. Refuses by `LimitReached` where
-/// the journal has no place for two events, and by `OutOfMemory`, and then nothing is begun.
+/// the journal has no place for two events, and by `OutOfMemory`. Then nothing is begun, and the pass has seen all of that journal.
 pub fn begin<P: Parts, R: Wait>(
     rt: &R,
     db: &Database<P>,
@@ -51,8 +49,8 @@ pub fn begin<P: Parts, R: Wait>(
     ensures begun { IfOk result (λ t. (t.table ≡ db.now) × IsAttempt P.options pass.old.seen level [] t) }
     ensures legal { IfOk result (λ t. IsLegal P.options.start_seq t.seen) }
     ensures vouched { IfOk result (IsVouchedThere P.options P.meaning) }
-    ensures same { pass.new ≡ pass.old }
-    ensures cause { IfErr result (λ e. (e ≡ SlateDBError.OutOfMemory) ⊎ ((e ≡ SlateDBError.LimitReached LIMIT) × ((before : List Event) × IsPrefix pass.old.seen before × IsFull 2 before))) }
+    ensures same { OnOk result (pass.new ≡ pass.old) }
+    ensures unbegun { IfErr result (IsUnbegun pass.old pass.new) }
 {
     pass.begin(rt, db, level)
 }
@@ -83,7 +81,7 @@ pub fn get<P: Parts, R: Wait, S: Store, M: MergeOperator, T: BlockTransformer, X
         IsStoreTrue P.policies P.meaning txn.new.seen (reach env.old) (reach env.new) → IfErr result (IsFault (reach env.old) (reach env.new)) }
     ensures cause { let reach = ⟦<EnvOf<S, M, T> as Outside>⟧.reach in
         (from : List Event) (level : IsolationLevel) (ts : List TranscriptStep) → IsAttempt P.options from level ts txn.old →
-        IfErr result (IsReadErrorOn P.policies (reach env.old) (reach env.new) txn.new.seen) }
+        IfErr result (IsReadErrorOn P.options P.policies (reach env.old) (reach env.new) txn.new.seen) }
     ensures more { (txn.new.table ≡ txn.old.table) × (txn.new.id ≡ txn.old.id) × IsPrefix txn.old.seen txn.new.seen }
     ensures reads { let reach = ⟦<EnvOf<S, M, T> as Outside>⟧.reach in OnlyReads (reach env.old) (reach env.new) }
 {
@@ -159,8 +157,12 @@ pub fn scan_prefix<
     ensures undamaged { let reach = ⟦<EnvOf<S, M, T> as Outside>⟧.reach in
         (from : List Event) (level : IsolationLevel) (ts : List TranscriptStep) → IsAttempt P.options from level ts txn.old →
         IsStoreTrue P.policies P.meaning txn.new.seen (reach env.old) (reach env.new) → IfErr result (IsFault (reach env.old) (reach env.new)) }
-    ensures since { let reach = ⟦<EnvOf<S, M, T> as Outside>⟧.reach in IfOk result (IsScanSinceOn (reach env.old) (reach env.new) txn.new.seen) }
-    ensures cause { let reach = ⟦<EnvOf<S, M, T> as Outside>⟧.reach in IfErr result (IsReadErrorOn P.policies (reach env.old) (reach env.new) txn.new.seen) }
+    ensures since { let reach = ⟦<EnvOf<S, M, T> as Outside>⟧.reach in
+        (from : List Event) (level : IsolationLevel) (ts : List TranscriptStep) → IsAttempt P.options from level ts txn.old →
+        IfOk result (IsScanSinceOn P.options (reach env.old) (reach env.new) txn.new.seen) }
+    ensures cause { let reach = ⟦<EnvOf<S, M, T> as Outside>⟧.reach in
+        (from : List Event) (level : IsolationLevel) (ts : List TranscriptStep) → IsAttempt P.options from level ts txn.old →
+        IfErr result (IsReadErrorOn P.options P.policies (reach env.old) (reach env.new) txn.new.seen) }
     ensures more { (txn.new.table ≡ txn.old.table) × (txn.new.id ≡ txn.old.id) × IsPrefix txn.old.seen txn.new.seen }
     ensures reads { let reach = ⟦<EnvOf<S, M, T> as Outside>⟧.reach in OnlyReads (reach env.old) (reach env.new) }
 {
@@ -186,10 +188,10 @@ pub fn next<P: Parts, S: Store, M: MergeOperator, T: BlockTransformer>(
         (os : Objects) (rows : List RowEntry) → (reach env.old).meaning ≡ P.meaning → AnswersFrom os (reach env.old) (reach env.new) → IsReadingOn os P.options P.meaning txn.old it.old rows →
         IfErr result (IsFault (reach env.old) (reach env.new)) }
     ensures since { let reach = ⟦<EnvOf<S, M, T> as Outside>⟧.reach in
-        (from : Reach) (seen : List Event) → IsScanSinceOn from (reach env.old) seen it.old → OnOk result (IsScanSinceOn from (reach env.new) seen it.new) }
+        (from : Reach) (seen : List Event) → IsScanSinceOn P.options from (reach env.old) seen it.old → OnOk result (IsScanSinceOn P.options from (reach env.new) seen it.new) }
     ensures cause { let reach = ⟦<EnvOf<S, M, T> as Outside>⟧.reach in
-        (from : Reach) (policies : List Policy) (seen : List Event) → OnlyReads from (reach env.old) → IsScanSinceOn from (reach env.old) seen it.old →
-        IfErr result (IsReadErrorOn policies from (reach env.new) seen) }
+        (from : Reach) (policies : List Policy) (seen : List Event) → OnlyReads from (reach env.old) → IsScanSinceOn P.options from (reach env.old) seen it.old →
+        IfErr result (IsReadErrorOn P.options policies from (reach env.new) seen) }
     ensures more { (txn.new.table ≡ txn.old.table) × (txn.new.id ≡ txn.old.id) × (txn.new.seen ≡ txn.old.seen) }
     ensures same { OnErr result (txn.new ≡ txn.old) }
     ensures reads { let reach = ⟦<EnvOf<S, M, T> as Outside>⟧.reach in OnlyReads (reach env.old) (reach env.new) }

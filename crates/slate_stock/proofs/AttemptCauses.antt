@@ -1,6 +1,6 @@
 -- What an order's attempt is refused for, from call to call.
 use Rattle.std.proofs.Common.{◌≡◌, ◌<◌, ◌⊎◌, inl, inr, ℕ, List, [], ◌∷◌, ◌++◌, length, get_or, Option, Some, None, option_map, sym, subst, ◌∙◌}
-use Rattle.std.specs.Prelude.{Contains}
+use Rattle.std.specs.Prelude.{Contains, Err, IfErr, Ok, OnErr, Result}
 use Rattle.std.proofs.lemmas.List.Elements.{Contains-get_or}
 use mathlib.Core.List.{IsPrefix}
 use Rattle.slate_types.specs.declared.config.IsolationLevel.TheVariants.{SerializableSnapshot}
@@ -21,28 +21,26 @@ use Rattle.slate_txn.specs.Reads.{seen}
 use Rattle.slate_txn.specs.Replay.{IsLegal, replay}
 use Rattle.slate_txn.specs.Settings.{settings_of}
 use Rattle.slate_txn.proofs.ReadLaws.{alone_rest}
-use Rattle.slate_db.specs.Log.{LIMIT}
 use Rattle.slate_db.specs.Meaning.{rules_of}
-use Rattle.slate_shared.specs.LockedModel.{IsFull}
 use Rattle.slate_shared.specs.Passes.{Opened, PassModel}
 use Rattle.slate_shared.proofs.Lists.{prefix_self, prefix_trans}
-use Rattle.slate_steps.specs.Attempts.{IsAttempt, IsReadErrorOn, IsRefusedBehind, IsVouchedThere}
+use Rattle.slate_steps.specs.Attempts.{IsAttempt, IsReadErrorOn, IsRefusedBehind, IsUnbegun, IsVouchedThere}
 use Rattle.slate_stock.specs.declared.error.StockError.{StockError}
 use Rattle.slate_stock.specs.declared.error.StockError.TheVariants.{Db}
 use Rattle.slate_stock.specs.declared.order.Order.{Order}
 use Rattle.slate_stock.specs.Amounts.{Amounts}
 use Rattle.slate_stock.specs.Orders.{order_keys, order_refusal}
 use Rattle.slate_stock.specs.Running.{IsBad, IsDb}
-use Rattle.slate_stock.specs.Attempting.{HasTakenOn, IsBadBehind, IsBadSince, IsDbCauseOn, IsDbTruthOn, IsGetCauseOn, IsGetTruthOn, IsOpenFrom, IsOrderCauseOn, IsOrderTruthOn, IsReadWithin, IsReadsCauseOn, IsReadsTruthOn, IsTakeCauseOn, IsTakeTruthOn, amounts_behind, amounts_since}
+use Rattle.slate_stock.specs.Attempting.{HasEndedOn, HasTakenOn, IsBadBehind, IsBadSince, IsDbCauseOn, IsDbTruthOn, IsGetCauseOn, IsGetTruthOn, IsLeftOn, IsOpenFrom, IsOrderCauseOn, IsOrderTruthOn, IsReadWithin, IsReadsCauseOn, IsReadsTruthOn, IsTakeCauseOn, IsTakeTruthOn, amounts_behind, amounts_since}
 use Rattle.slate_stock.proofs.AttemptLaws.{alone_since, amounts_at_start, at_its_start, row_at_start}
 use Rattle.slate_stock.proofs.CauseLaws.{IsFoundCause, bad_map, db_is, db_map}
 use Rattle.slate_stock.proofs.StepLaws.{bad_there}
 
 -- ---- one get
 
-pub found_cause_on : (policies : List Policy) (a b : Reach) (es : List Event) (k : List ℕ) (found : Option KeyValue) (e : StockError) → IsFoundCause found k e → IsGetCauseOn policies a b es k e
-found_cause_on policies a b es k found e (inl is) = inl (db_is _ e errors.OutOfMemory is (inl tt))
-found_cause_on policies a b es k found e (inr bad) = inr bad.0
+pub found_cause_on : (o : Options) (policies : List Policy) (a b : Reach) (es : List Event) (k : List ℕ) (found : Option KeyValue) (e : StockError) → IsFoundCause found k e → IsGetCauseOn o policies a b es k e
+found_cause_on o policies a b es k found e (inl is) = inl (db_is _ e errors.OutOfMemory is (inl tt))
+found_cause_on o policies a b es k found e (inr bad) = inr bad.0
 
 pub found_truth_on : (o : Options) (m : Meaning) (a b : Reach) (from es : List Event) (k : List ℕ) (ts : List TranscriptStep) (t : Opened) (found : Option KeyValue) (e : StockError) → own_of ts ≡ [] →
     IsAttempt o from SerializableSnapshot (ts ++ (steps.Get k found ∷ [])) t → IsPrefix t.seen es → IsLegal o.start_seq es → IsVouchedThere o m t → IsFoundCause found k e → IsGetTruthOn o m a b es t.tx.begin k e
@@ -57,11 +55,11 @@ found_truth_on o m a b from es k ts t found e none h later legal v (inr (is, (ro
 
 -- ---- several
 
-pub reads_cause_on : (policies : List Policy) (a b z : Reach) (es : List Event) (keys : List (List ℕ)) (i : ℕ) (d k : List ℕ) (e : StockError) → OnlyReads a b → i < length keys → k ≡ get_or keys i d →
-    IsGetCauseOn policies b z es k e → IsReadsCauseOn policies a z es keys e
-reads_cause_on policies a b z es keys i d k e reads within is (inl h) =
-    inl (db_map (IsReadErrorOn policies b z es) (IsReadWithin policies a z es) e (λ x f. record { from = b; upto = z; first = reads; later = reads_none z; by = es; known = prefix_self es; refused = f }) h)
-reads_cause_on policies a b z es keys i d k e reads within is (inr bad) = inr (subst (IsBad (λ j. Contains keys j)) (sym bad) (subst (Contains keys) (sym is) (Contains-get_or keys i d within)))
+pub reads_cause_on : (o : Options) (policies : List Policy) (a b z : Reach) (es : List Event) (keys : List (List ℕ)) (i : ℕ) (d k : List ℕ) (e : StockError) → OnlyReads a b → i < length keys → k ≡ get_or keys i d →
+    IsGetCauseOn o policies b z es k e → IsReadsCauseOn o policies a z es keys e
+reads_cause_on o policies a b z es keys i d k e reads within is (inl h) =
+    inl (db_map (IsReadErrorOn o policies b z es) (IsReadWithin o policies a z es) e (λ x f. record { from = b; upto = z; first = reads; later = reads_none z; by = es; known = prefix_self es; refused = f }) h)
+reads_cause_on o policies a b z es keys i d k e reads within is (inr bad) = inr (subst (IsBad (λ j. Contains keys j)) (sym bad) (subst (Contains keys) (sym is) (Contains-get_or keys i d within)))
 
 pub reads_truth_on : (o : Options) (m : Meaning) (a b z : Reach) (es : List Event) (n : ℕ) (keys : List (List ℕ)) (i : ℕ) (d k : List ℕ) (e : StockError) → OnlyReads a b → i < length keys → k ≡ get_or keys i d →
     IsGetTruthOn o m b z es n k e → IsReadsTruthOn o m a z es n keys e
@@ -70,14 +68,14 @@ reads_truth_on o m a b z es n keys i d k e reads within is (inr (bad, value)) =
     inr (subst (IsBad (λ j. Contains keys j × IsBadSince o m es n j)) (sym bad) (subst (Contains keys) (sym is) (Contains-get_or keys i d within), value))
 
 -- want of memory between reads and puts
-pub memory_cause_on : (policies : List Policy) (a z : Reach) (es : List Event) (keys : List (List ℕ)) → IsReadsCauseOn policies a z es keys (Db errors.OutOfMemory)
-memory_cause_on policies a z es keys = inl (record { from = a; upto = z; first = reads_none a; later = reads_none z; by = es; known = prefix_self es; refused = inl tt })
+pub memory_cause_on : (o : Options) (policies : List Policy) (a z : Reach) (es : List Event) (keys : List (List ℕ)) → IsReadsCauseOn o policies a z es keys (Db errors.OutOfMemory)
+memory_cause_on o policies a z es keys = inl (record { from = a; upto = z; first = reads_none a; later = reads_none z; by = es; known = prefix_self es; refused = inl tt })
 
 pub memory_truth_on : (o : Options) (m : Meaning) (a z : Reach) (es : List Event) (n : ℕ) (keys : List (List ℕ)) → IsReadsTruthOn o m a z es n keys (Db errors.OutOfMemory)
 memory_truth_on o m a z es n keys = inl tt
 
-pub wanting_cause_on : (policies : List Policy) (a z : Reach) (es : List Event) (keys : List (List ℕ)) (x : SlateDBError) → x ≡ errors.OutOfMemory → IsReadsCauseOn policies a z es keys (Db x)
-wanting_cause_on policies a z es keys x is = subst (λ (y : SlateDBError). IsReadsCauseOn policies a z es keys (Db y)) (sym is) (memory_cause_on policies a z es keys)
+pub wanting_cause_on : (o : Options) (policies : List Policy) (a z : Reach) (es : List Event) (keys : List (List ℕ)) (x : SlateDBError) → x ≡ errors.OutOfMemory → IsReadsCauseOn o policies a z es keys (Db x)
+wanting_cause_on o policies a z es keys x is = subst (λ (y : SlateDBError). IsReadsCauseOn o policies a z es keys (Db y)) (sym is) (memory_cause_on o policies a z es keys)
 
 pub wanting_truth_on : (o : Options) (m : Meaning) (a z : Reach) (es : List Event) (n : ℕ) (keys : List (List ℕ)) (x : SlateDBError) → x ≡ errors.OutOfMemory → IsReadsTruthOn o m a z es n keys (Db x)
 wanting_truth_on o m a z es n keys x is = subst (λ (y : SlateDBError). IsReadsTruthOn o m a z es n keys (Db y)) (sym is) (memory_truth_on o m a z es n keys)
@@ -87,9 +85,9 @@ wanting_truth_on o m a z es n keys x is = subst (λ (y : SlateDBError). IsReadsT
 abbrev pub IsPutCause : Order → Opened → Opened → Amounts → StockError → Type 0
 IsPutCause order t u m e = (e ≡ Db errors.OutOfMemory) ⊎ ((u ≡ t) × (order_refusal m order ≡ Some e))
 
-pub put_cause_on : (policies : List Policy) (a z : Reach) (es : List Event) (order : Order) (t u : Opened) (m : Amounts) (e : StockError) → IsPutCause order t u m e → IsTakeCauseOn policies a z es order e
-put_cause_on policies a z es order t u m e (inl is) = inl (subst (IsReadsCauseOn policies a z es (order_keys order)) (sym is) (memory_cause_on policies a z es (order_keys order)))
-put_cause_on policies a z es order t u m e (inr (same, refused)) = inr (m, refused)
+pub put_cause_on : (o : Options) (policies : List Policy) (a z : Reach) (es : List Event) (order : Order) (t u : Opened) (m : Amounts) (e : StockError) → IsPutCause order t u m e → IsTakeCauseOn o policies a z es order e
+put_cause_on o policies a z es order t u m e (inl is) = inl (subst (IsReadsCauseOn o policies a z es (order_keys order)) (sym is) (memory_cause_on o policies a z es (order_keys order)))
+put_cause_on o policies a z es order t u m e (inr (same, refused)) = inr (m, refused)
 
 pub put_truth_on : (o : Options) (m : Meaning) (a z : Reach) (es : List Event) (order : Order) (t u : Opened) (e : StockError) → IsPutCause order t u (amounts_since o m es t.tx.begin) e → IsTakeTruthOn o m a z es u.tx.begin order e
 put_truth_on o m a z es order t u e (inl is) = inl (subst (IsReadsTruthOn o m a z es u.tx.begin (order_keys order)) (sym is) (memory_truth_on o m a z es u.tx.begin (order_keys order)))
@@ -112,9 +110,9 @@ module _ (o : Options) (a b z : Reach) (old new : PassModel) (order : Order) (t 
 
 -- ---- or its rollback
 
-pub take_cause_on : (o : Options) (policies : List Policy) (a z : Reach) (old new : PassModel) (order : Order) (es : List Event) (e : StockError) → IsPrefix es new.seen → IsTakeCauseOn policies a z es order e → IsOrderCauseOn o policies a z old new order e
+pub take_cause_on : (o : Options) (policies : List Policy) (a z : Reach) (old new : PassModel) (order : Order) (es : List Event) (e : StockError) → IsPrefix es new.seen → IsTakeCauseOn o policies a z es order e → IsOrderCauseOn o policies a z old new order e
 take_cause_on o policies a z old new order es e begins (inl (inl h)) =
-    inl (db_map (IsReadWithin policies a z es) (IsDbCauseOn o policies a z old new order) e
+    inl (db_map (IsReadWithin o policies a z es) (IsDbCauseOn o policies a z old new order) e
     (λ x f. IsDbCauseOn.read (record { from = f.from; upto = f.upto; first = f.first; later = f.later; by = f.by; known = prefix_trans f.by es new.seen f.known begins; refused = f.refused })) h)
 take_cause_on o policies a z old new order es e begins (inl (inr bad)) = inr (inl bad)
 take_cause_on o policies a z old new order es e begins (inr refused) = inr (inr refused)
@@ -132,13 +130,12 @@ take_truth_on o m a z old new order t e (ts, h) later legal (inr refused) =
 
 -- ---- its begin
 
-abbrev pub IsBeginCause : PassModel → SlateDBError → Type 0
-IsBeginCause old x = (x ≡ errors.OutOfMemory) ⊎ ((x ≡ errors.LimitReached LIMIT) × ((start : List Event) × IsPrefix old.seen start × IsFull 2 start))
+pub begin_cause_on : (o : Options) (policies : List Policy) (a z : Reach) (old new : PassModel) (order : Order) (x : SlateDBError) → IsUnbegun old new x → IsOrderCauseOn o policies a z old new order (Db x)
+begin_cause_on o policies a z old new order x none = inl (IsDbCauseOn.unbegun none)
 
-pub begin_cause_on : (o : Options) (policies : List Policy) (a z : Reach) (old new : PassModel) (order : Order) (x : SlateDBError) → IsBeginCause old x → IsOrderCauseOn o policies a z old new order (Db x)
-begin_cause_on o policies a z old new order x (inl is) = inl (IsDbCauseOn.fault (subst (IsFault a z) (sym is) tt))
-begin_cause_on o policies a z old new order x (inr (is, (start, begins, full))) = inl (IsDbCauseOn.full start is begins full)
+pub begin_truth_on : (o : Options) (m : Meaning) (a z : Reach) (old new : PassModel) (order : Order) (x : SlateDBError) → IsUnbegun old new x → IsOrderTruthOn o m a z old new order (Db x)
+begin_truth_on o m a z old new order x none = IsOrderTruthOn.database (IsDbTruthOn.unbegun none)
 
-pub begin_truth_on : (o : Options) (m : Meaning) (a z : Reach) (old new : PassModel) (order : Order) (x : SlateDBError) → IsBeginCause old x → IsOrderTruthOn o m a z old new order (Db x)
-begin_truth_on o m a z old new order x (inl is) = IsOrderTruthOn.database (IsDbTruthOn.fault (subst (IsFault a z) (sym is) tt))
-begin_truth_on o m a z old new order x (inr (is, (start, begins, full))) = IsOrderTruthOn.database (IsDbTruthOn.full start is begins full)
+pub left_ended : (o : Options) (old new : PassModel) (r : Result ℕ StockError) → OnErr r (HasEndedOn o old new) → IfErr r (IsLeftOn o old new)
+left_ended o old new (Ok n) ended = tt
+left_ended o old new (Err e) ended = inr (inr ended)

@@ -10,9 +10,9 @@
 --     HasSteppedOn o m order now n old new      so it was, by the amounts at its start: behind it those of its keys are the step's, and all others are as just before it
 --     OrdersGoOn old new      behind what other threads added the call adds an event, and where all before it are orders', so are all
 --     HasEndedOn o old new      a transaction began in the call, and ended without a commit
---     IsLeftOn o old new      what a refused order leaves: the pass as it was, or a transaction that began and ended without a commit
+--     IsLeftOn o old new e      what a refused order leaves: the pass as it was; or nothing begun, as the refusal says; or a transaction that began and ended without a commit
 --     HasBegunAt o old new start      a transaction began behind this journal, which begins with what the pass had seen
---     IsReadWithin policies before after seen x      a read in the call was refused so, by some journal that begins what is seen then
+--     IsReadWithin o policies before after seen x      a read in the call was refused so, by some journal that begins what is seen then
 --     IsGetCauseOn, IsReadsCauseOn, IsTakeCauseOn      what a read of a key, reads of keys, and an order before its commit are refused for
 --     IsGetTruthOn, IsReadsTruthOn, IsTakeTruthOn      the same over a store that holds the journal's tables, by the state at the begin n
 --     IsDbCauseOn, IsOrderCauseOn      what an order is refused for, by its causes
@@ -22,7 +22,6 @@ use mathlib.Core.List.{IsPrefix}
 use Rattle.slate_types.specs.declared.config.IsolationLevel.TheVariants.{SerializableSnapshot}
 use Rattle.slate_types.specs.declared.config.Options.{Options}
 use Rattle.slate_types.specs.declared.error.SlateDBError.{SlateDBError}
-use Rattle.slate_types.specs.declared.error.SlateDBError.TheVariants.{LimitReached}
 use Rattle.slate_types.specs.declared.types.KeyValue.{KeyValue}
 use Rattle.slate_types.specs.declared.types.RowEntry.{RowEntry}
 use Rattle.slate_types.specs.Outside.{IsFault, Meaning, OnlyReads, Reach}
@@ -38,11 +37,9 @@ use Rattle.slate_txn.specs.Reads.{state_at}
 use Rattle.slate_txn.specs.Replay.{replay, IsLegal}
 use Rattle.slate_txn.specs.Settings.{settings_of}
 use Rattle.slate_txn.specs.State.{last_of}
-use Rattle.slate_db.specs.Log.{LIMIT}
 use Rattle.slate_db.specs.Meaning.{rules_of}
-use Rattle.slate_shared.specs.LockedModel.{IsFull}
 use Rattle.slate_shared.specs.Passes.{Opened, PassModel}
-use Rattle.slate_steps.specs.Attempts.{HasCommittedBehind, HasEndedBehind, IsAttempt, IsReadErrorOn, IsRefusedBehind, IsVouchedThere}
+use Rattle.slate_steps.specs.Attempts.{HasCommittedBehind, HasEndedBehind, IsAttempt, IsReadErrorOn, IsRefusedBehind, IsUnbegun, IsVouchedThere}
 use Rattle.slate_stock.specs.declared.order.Order.{Order}
 use Rattle.slate_stock.specs.declared.error.StockError.{StockError}
 use Rattle.slate_stock.specs.declared.error.StockError.TheVariants.{BadAmount}
@@ -114,8 +111,8 @@ pub record OrdersGoOn (old new : PassModel) : Type 0 where
 abbrev pub HasEndedOn : Options → PassModel → PassModel → Type 0
 HasEndedOn o old new = (t : Opened) × IsOpenFrom o old.seen t × HasEndedBehind t old new
 
-abbrev pub IsLeftOn : Options → PassModel → PassModel → Type 0
-IsLeftOn o old new = (new ≡ old) ⊎ HasEndedOn o old new
+abbrev pub IsLeftOn : Options → PassModel → PassModel → StockError → Type 0
+IsLeftOn o old new e = (new ≡ old) ⊎ IsDb (IsUnbegun old new) e ⊎ HasEndedOn o old new
 
 -- ---- why it was refused
 
@@ -125,23 +122,23 @@ pub record HasBegunAt (o : Options) (old new : List Event) (start : List Event) 
   pub begun : IsPrefix (start ++ (events.Begin id SerializableSnapshot (last_of o.start_seq (replay start).commits) ∷ [])) new
 
 -- from, upto: what the refused read reached; by: the journal that it was answered by
-pub record IsReadWithin (policies : List Policy) (before after : Reach) (seen : List Event) (x : SlateDBError) : Type 0 where
+pub record IsReadWithin (o : Options) (policies : List Policy) (before after : Reach) (seen : List Event) (x : SlateDBError) : Type 0 where
   pub from : Reach
   pub upto : Reach
   pub first : OnlyReads before from
   pub later : OnlyReads upto after
   pub by : List Event
   pub known : IsPrefix by seen
-  pub refused : IsReadErrorOn policies from upto by x
+  pub refused : IsReadErrorOn o policies from upto by x
 
-abbrev pub IsGetCauseOn : List Policy → Reach → Reach → List Event → List ℕ → StockError → Type 0
-IsGetCauseOn policies before after seen k e = IsDb (IsReadErrorOn policies before after seen) e ⊎ (e ≡ BadAmount k)
+abbrev pub IsGetCauseOn : Options → List Policy → Reach → Reach → List Event → List ℕ → StockError → Type 0
+IsGetCauseOn o policies before after seen k e = IsDb (IsReadErrorOn o policies before after seen) e ⊎ (e ≡ BadAmount k)
 
-abbrev pub IsReadsCauseOn : List Policy → Reach → Reach → List Event → List (List ℕ) → StockError → Type 0
-IsReadsCauseOn policies before after seen keys e = IsDb (IsReadWithin policies before after seen) e ⊎ IsBad (λ k. Contains keys k) e
+abbrev pub IsReadsCauseOn : Options → List Policy → Reach → Reach → List Event → List (List ℕ) → StockError → Type 0
+IsReadsCauseOn o policies before after seen keys e = IsDb (IsReadWithin o policies before after seen) e ⊎ IsBad (λ k. Contains keys k) e
 
-abbrev pub IsTakeCauseOn : List Policy → Reach → Reach → List Event → Order → StockError → Type 0
-IsTakeCauseOn policies before after seen order e = IsReadsCauseOn policies before after seen (order_keys order) e ⊎ ((m : Amounts) × (order_refusal m order ≡ Some e))
+abbrev pub IsTakeCauseOn : Options → List Policy → Reach → Reach → List Event → Order → StockError → Type 0
+IsTakeCauseOn o policies before after seen order e = IsReadsCauseOn o policies before after seen (order_keys order) e ⊎ ((m : Amounts) × (order_refusal m order ≡ Some e))
 
 abbrev pub IsGetTruthOn : Options → Meaning → Reach → Reach → List Event → ℕ → List ℕ → StockError → Type 0
 IsGetTruthOn o m before after es n k e = IsDb (IsFault before after) e ⊎ ((e ≡ BadAmount k) × IsBadSince o m es n k)
@@ -155,8 +152,8 @@ IsTakeTruthOn o m before after es n order e = IsReadsTruthOn o m before after es
 -- want of memory or a fault, a read that was refused, want of a place for events, a conflict or want of a sequence
 pub data IsDbCauseOn (o : Options) (policies : List Policy) (before after : Reach) (old new : PassModel) (order : Order) (x : SlateDBError) : Type 0 where
   fault : IsFault before after x → IsDbCauseOn o policies before after old new order x
-  read : IsReadWithin policies before after new.seen x → IsDbCauseOn o policies before after old new order x
-  full : (start : List Event) → x ≡ LimitReached LIMIT → IsPrefix old.seen start → IsFull 2 start → IsDbCauseOn o policies before after old new order x
+  read : IsReadWithin o policies before after new.seen x → IsDbCauseOn o policies before after old new order x
+  unbegun : IsUnbegun old new x → IsDbCauseOn o policies before after old new order x
   refused : (t : Opened) → HasTakenOn o old.seen order t → IsRefusedBehind o t old new x → IsDbCauseOn o policies before after old new order x
 
 abbrev pub IsOrderCauseOn : Options → List Policy → Reach → Reach → PassModel → PassModel → Order → StockError → Type 0
@@ -164,7 +161,7 @@ IsOrderCauseOn o policies before after old new order e = IsDb (IsDbCauseOn o pol
 
 pub data IsDbTruthOn (o : Options) (m : Meaning) (before after : Reach) (old new : PassModel) (order : Order) (x : SlateDBError) : Type 0 where
   fault : IsFault before after x → IsDbTruthOn o m before after old new order x
-  full : (start : List Event) → x ≡ LimitReached LIMIT → IsPrefix old.seen start → IsFull 2 start → IsDbTruthOn o m before after old new order x
+  unbegun : IsUnbegun old new x → IsDbTruthOn o m before after old new order x
   refused : (t : Opened) → (h : HasTakenOn o old.seen order t) → IsRefusedBehind o t old new x → order_refusal (amounts_behind o m h.within.start) order ≡ None → IsDbTruthOn o m before after old new order x
 
 -- what the order alone shows is tested first, and then nothing is begun

@@ -70,7 +70,7 @@ pub fn run_order<
     ensures same { (pass.new.table ≡ pass.old.table) × (pass.new.parts ≡ pass.old.parts) }
     ensures committed { IfOk result (λ n. HasOrderedOn P.options order.now now n pass.old pass.new) }
     ensures only { OnErr result (SeesOnly pass.old pass.new) }
-    ensures left { OnErr result (IsLeftOn P.options pass.old pass.new) }
+    ensures left { IfErr result (IsLeftOn P.options pass.old pass.new) }
     ensures cause { let reach = ⟦<EnvOf<S, M, T> as Outside>⟧.reach in
         IfErr result (IsOrderCauseOn P.options P.policies (reach env.old) (reach env.new) pass.old pass.new order.now) }
     ensures answer { let reach = ⟦<EnvOf<S, M, T> as Outside>⟧.reach in
@@ -121,7 +121,7 @@ fn make_order<
     requires keys { keys.now ≡ order_keys order.now }
     ensures committed { IfOk result (λ n. HasOrderedOn P.options order.now now n pass.old pass.new) }
     ensures only { OnErr result (SeesOnly pass.old pass.new) }
-    ensures left { OnErr result (IsLeftOn P.options pass.old pass.new) }
+    ensures left { IfErr result (IsLeftOn P.options pass.old pass.new) }
     ensures cause { let reach = ⟦<EnvOf<S, M, T> as Outside>⟧.reach in
         IfErr result (IsOrderCauseOn P.options P.policies (reach env.old) (reach env.new) pass.old pass.new order.now) }
     ensures answer { let reach = ⟦<EnvOf<S, M, T> as Outside>⟧.reach in
@@ -260,7 +260,7 @@ fn take_order<
         IsVouchedThere P.options P.meaning txn.old → OnOk result (IsVouchedThere P.options P.meaning txn.new) }
     ensures cause { let reach = ⟦<EnvOf<S, M, T> as Outside>⟧.reach in
         (from : List Event) → IsAttempt P.options from IsolationLevel.SerializableSnapshot [] txn.old →
-        IfErr result (IsTakeCauseOn P.policies (reach env.old) (reach env.new) txn.new.seen order.now) }
+        IfErr result (IsTakeCauseOn P.options P.policies (reach env.old) (reach env.new) txn.new.seen order.now) }
     ensures truth { let reach = ⟦<EnvOf<S, M, T> as Outside>⟧.reach in
         (from es : List Event) → IsAttempt P.options from IsolationLevel.SerializableSnapshot [] txn.old → IsStoreTrue P.policies P.meaning txn.new.seen (reach env.old) (reach env.new) →
         IsVouchedThere P.options P.meaning txn.old → IsPrefix txn.new.seen es → IsLegal P.options.start_seq es →
@@ -336,7 +336,7 @@ fn read_amounts<
         IsVouchedThere P.options P.meaning txn.old → OnOk result (IsVouchedThere P.options P.meaning txn.new) }
     ensures cause { let reach = ⟦<EnvOf<S, M, T> as Outside>⟧.reach in
         (from : List Event) → IsAttempt P.options from IsolationLevel.SerializableSnapshot [] txn.old →
-        IfErr result (IsReadsCauseOn P.policies (reach env.old) (reach env.new) txn.new.seen keys.now) }
+        IfErr result (IsReadsCauseOn P.options P.policies (reach env.old) (reach env.new) txn.new.seen keys.now) }
     ensures truth { let reach = ⟦<EnvOf<S, M, T> as Outside>⟧.reach in
         (from es : List Event) → IsAttempt P.options from IsolationLevel.SerializableSnapshot [] txn.old → IsStoreTrue P.policies P.meaning txn.new.seen (reach env.old) (reach env.new) →
         IsVouchedThere P.options P.meaning txn.old → IsPrefix txn.new.seen es → IsLegal P.options.start_seq es →
@@ -384,7 +384,7 @@ fn read_amount<
         IsStoreTrue P.policies P.meaning txn.new.seen (reach env.old) (reach env.new) → IsVouchedThere P.options P.meaning txn.old → OnOk result (IsVouchedThere P.options P.meaning txn.new) }
     ensures cause { let reach = ⟦<EnvOf<S, M, T> as Outside>⟧.reach in
         (from : List Event) (ts : List TranscriptStep) → IsAttempt P.options from IsolationLevel.SerializableSnapshot ts txn.old →
-        IfErr result (IsGetCauseOn P.policies (reach env.old) (reach env.new) txn.new.seen key.now) }
+        IfErr result (IsGetCauseOn P.options P.policies (reach env.old) (reach env.new) txn.new.seen key.now) }
     ensures truth { let reach = ⟦<EnvOf<S, M, T> as Outside>⟧.reach in
         (from es : List Event) (ts : List TranscriptStep) → IsAttempt P.options from IsolationLevel.SerializableSnapshot ts txn.old → own_of ts ≡ [] →
         IsStoreTrue P.policies P.meaning txn.new.seen (reach env.old) (reach env.new) → IsVouchedThere P.options P.meaning txn.old → IsPrefix txn.new.seen es → IsLegal P.options.start_seq es →

@@ -1,12 +1,14 @@
 -- What a journal commits of whose commits and writes one is one's own, and the others are nobody's.
-use Rattle.std.proofs.Common.{◌≡◌, ◌⊎◌, inl, inr, ℕ, zero, suc, ◌+◌, ◌<◌, Bool, true, false, List, [], ◌∷◌, ◌++◌, length, Some, slice_get, refl, sym, ap, ◌∙◌, subst, arith, length-append, ℤ}
+use Rattle.std.proofs.Common.{◌≡◌, ◌⊎◌, inl, inr, ℕ, zero, suc, ◌+◌, ◌<◌, Bool, true, false, List, [], ◌∷◌, ◌++◌, length, None, Some, slice_get, refl, sym, ap, ◌∙◌, subst, arith, length-append, ℤ}
 use mathlib.Core.List.{IsPrefix}
 use Rattle.slate_types.specs.declared.types.Ulid.{Ulid}
 use Rattle.slate_mem.specs.Batch.{Ops, batch_keys}
 use Rattle.slate_txn.specs.declared.event.Event.{Event}
 use Rattle.slate_txn.specs.declared.event.Event.TheVariants as events
+use Rattle.slate_txn.specs.Places.{install_of, last_install, newer_or}
 use Rattle.slate_txn.specs.Replay.{apply, apply_all, replay}
 use Rattle.slate_txn.specs.State.{Commit, State, opening}
+use Rattle.slate_db.specs.Installs.{installed}
 use Rattle.slate_shared.specs.Shared.{OwnsAll, is_own, times}
 
 abbrev is_commit : Event → Bool
@@ -77,6 +79,41 @@ adds_none s (e ∷ es) none = adds_none (apply s e) es (λ i x at. none (suc i) 
     one (events.Snapshot id n) clear = refl
     one (events.Release id) clear = refl
 
+-- none of the events is an install
+abbrev pub AddsNoInstall : List Event → Type 0
+AddsNoInstall es = (i through : ℕ) (tables : List (Ulid × List ℕ)) → slice_get es i ≡ Some (events.Install through tables) → ⊥
+
+none_flushed : (s : State) (es : List Event) → AddsNoInstall es → (apply_all s es).flushed ≡ s.flushed
+none_flushed s [] none = refl
+none_flushed s (e ∷ es) none = none_flushed (apply s e) es (λ i through tables at. none (suc i) through tables at) ∙ one e (λ through tables is. none zero through tables (ap Some is))
+  where
+    one : (x : Event) → ((through : ℕ) (tables : List (Ulid × List ℕ)) → x ≡ events.Install through tables → ⊥) → (apply s x).flushed ≡ s.flushed
+    one (events.Begin id level start) clear = refl
+    one (events.End id) clear = refl
+    one (events.Commit id n now ops tracked ts) clear = refl
+    one (events.Write n now ops) clear = refl
+    one events.Freeze clear = refl
+    one (events.Install through tables) clear = absurd (clear through tables refl)
+    one (events.Snapshot id n) clear = refl
+    one (events.Release id) clear = refl
+
+pub nothing_installed : (es : List Event) → AddsNoInstall es → installed es ≡ 0
+nothing_installed es none = none_flushed opening es none
+
+pub none_last : (es : List Event) → AddsNoInstall es → last_install es ≡ None
+none_last [] none = refl
+none_last (e ∷ es) none = ap (λ o. newer_or o (install_of e)) (none_last es (λ i through tables at. none (suc i) through tables at)) ∙ one e (λ through tables is. none zero through tables (ap Some is))
+  where
+    one : (x : Event) → ((through : ℕ) (tables : List (Ulid × List ℕ)) → x ≡ events.Install through tables → ⊥) → install_of x ≡ None
+    one (events.Begin id level start) clear = refl
+    one (events.End id) clear = refl
+    one (events.Commit id n now ops tracked ts) clear = refl
+    one (events.Write n now ops) clear = refl
+    one events.Freeze clear = refl
+    one (events.Install through tables) clear = absurd (clear through tables refl)
+    one (events.Snapshot id n) clear = refl
+    one (events.Release id) clear = refl
+
 abbrev pub commit_of : ℕ → ℤ → Ops → Commit
 commit_of n now ops = record { seq = n; now = now; ops = ops; tracked = batch_keys ops }
 
@@ -130,6 +167,19 @@ module _ (own : List ℕ) (es before : List Event) (n : ℕ) (now : ℤ) (ops : 
 
         by : times at_place own ≡ 1 → ⊥
         by once = apart at_place refl (places at_place (omega (arith, once)))
+
+    -- no install stands in a beginning whose own places are no place but the write's
+    pub no_install : (j : List Event) → IsPrefix j es → ((i : ℕ) → 0 < times i own → i < length j → i ≡ length before) → AddsNoInstall j
+    no_install j pre only i through tables at = cc (sym there ∙ ap (slice_get es) is ∙ get_last before es (events.Write n now ops) written)
+      where
+        there : slice_get es i ≡ Some (events.Install through tables)
+        there = get_within j es i (events.Install through tables) pre at
+
+        once : times i own ≡ 1
+        once = all i (events.Install through tables) there refl
+
+        is : i ≡ length before
+        is = only i (omega (arith, once)) (below j (events.Install through tables) i at)
 
     pub none_before : (replay before).commits ≡ []
     none_before = adds_none opening before front

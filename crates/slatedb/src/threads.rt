@@ -1,11 +1,11 @@
 //! A database that threads share: a service of two threads, and one thread with one pass.
-ghost use Rattle.std.specs.Prelude.{◌≡◌, ℕ, [], None, List, Some, IfOk};
-ghost use Rattle.slate_types.specs.Outside.{Objects, no_parts};
+ghost use Rattle.std.specs.Prelude.{◌≡◌, ℕ, [], None, List, Some, IfOk, OnOk};
+ghost use Rattle.slate_types.specs.Outside.{Objects, OnlyReads, no_parts};
 ghost use Rattle.slate_mem.specs.BatchModel.{no_ops, plain_put, with_op};
 ghost use Rattle.slate_txn.specs.declared.event.Event.{Event};
 ghost use Rattle.slate_shared.specs.Given.{ArePlain};
 ghost use Rattle.slatedb.specs.FirstSteps.{first_put};
-ghost use Rattle.slatedb.specs.ReadBack.{IsAllOwn, IsReadBy};
+ghost use Rattle.slatedb.specs.ReadBack.{IsAllOwn, IsReadBy, TakesFirstPut};
 
 use crate::{
     Database, DbTransaction, Env, IsolationLevel, KeyValue, Laws, NoExtractor, NoOperator,
@@ -314,6 +314,7 @@ fn read_once<R: Wait, S: Store>(
     ensures own { pass.new.own ≡ pass.old.own }
     ensures read { let reach = ⟦<EnvOf<S, NoOperator, NoTransformer> as Outside>⟧.reach in
         IfOk result (IsReadBy key.now pass.old pass.new (reach env.old) (reach env.new)) }
+    ensures reads { let reach = ⟦<EnvOf<S, NoOperator, NoTransformer> as Outside>⟧.reach in OnlyReads (reach env.old) (reach env.new) }
 {
     let mut txn = pass.begin(rt, db, IsolationLevel::Snapshot)?;
     let found = txn.get_key_value(rt, db, key, env, laws);

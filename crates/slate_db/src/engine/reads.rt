@@ -10,7 +10,7 @@ ghost use Rattle.slate_types.specs.Rows.{is_operand, key_value};
 ghost use Rattle.slate_types.specs.declared.types.RowEntry.{RowEntry};
 ghost use Rattle.slate_types.specs.Iteration.{drop_before};
 ghost use Rattle.slate_types.specs.Keys.{in_range, is_refused};
-ghost use Rattle.slate_types.specs.Outside.{Act, IsFault, Objects, OnlyReads};
+ghost use Rattle.slate_types.specs.Outside.{Act, IsFault, IsStill, Objects, OnlyReads};
 ghost use Rattle.slate_types.specs.Refusing.{NoMore};
 ghost use Rattle.slate_types.specs.World.{World, Checks, IsCall, Made, Sees};
 ghost use Rattle.slate_mem.specs.Lookup.{is_merge_among, newest_first};
@@ -310,6 +310,8 @@ impl Core {
         ensures range { IfOk result (λ it. it.range ≡ range) }
         ensures order { IfOk result (λ it. it.order ≡ how.order) }
         ensures reads { let reach = ⟦<EnvOf<S, M, T> as Outside>⟧.reach in OnlyReads (reach env.old) (reach env.new) }
+        ensures still { let reach = ⟦<EnvOf<S, M, T> as Outside>⟧.reach in
+            IsStill (reach env.old).faults (reach env.new).faults result }
     {
         let alloc = self.alloc;
         let own = self.transactions.own_range(alloc, id, &range, how.order)?;
@@ -382,6 +384,8 @@ impl Core {
         ensures kept { (m : Meaning) → IsKept m self.old → IsKept m self.new }
         ensures settings { self.new.settings ≡ self.old.settings }
         ensures reads { let reach = ⟦<EnvOf<S, M, T> as Outside>⟧.reach in OnlyReads (reach env.old) (reach env.new) }
+        ensures still { let reach = ⟦<EnvOf<S, M, T> as Outside>⟧.reach in
+            IsStill (reach env.old).faults (reach env.new).faults result }
         ensures stay { StayOpen self.old self.new }
         ensures opens { IfOk result (IsOpenScan self.new) }
     {
@@ -432,6 +436,8 @@ impl Core {
         ensures kept { (m : Meaning) → IsKept m self.old → IsKept m self.new }
         ensures settings { self.new.settings ≡ self.old.settings }
         ensures reads { let reach = ⟦<EnvOf<S, M, T> as Outside>⟧.reach in OnlyReads (reach env.old) (reach env.new) }
+        ensures still { let reach = ⟦<EnvOf<S, M, T> as Outside>⟧.reach in
+            IsStill (reach env.old).faults (reach env.new).faults result }
         ensures stay { StayOpen self.old self.new }
         ensures opened { IsOpenScan self.new it.new }
     {
@@ -474,6 +480,8 @@ impl Core {
         ensures kept { (m : Meaning) → IsKept m self.old → IsKept m self.new }
         ensures settings { self.new.settings ≡ self.old.settings }
         ensures reads { let reach = ⟦<EnvOf<S, M, T> as Outside>⟧.reach in OnlyReads (reach env.old) (reach env.new) }
+        ensures still { let reach = ⟦<EnvOf<S, M, T> as Outside>⟧.reach in
+            IsStill (reach env.old).faults (reach env.new).faults result }
         ensures stay { StayOpen self.old self.new }
         ensures opened { IsOpenScan self.new it.new }
     {

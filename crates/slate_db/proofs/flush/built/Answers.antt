@@ -15,8 +15,7 @@ use Rattle.slate_db.specs.Meaning.{segments_by}
 use Rattle.slate_db.specs.Model.{Rows}
 use Rattle.slate_db.proofs.Built.{can_take, begun_encoded, one_more, row_fits, row_order, all_taken, add_refused, built_as, wider_fault}
 use Rattle.slate_types.specs.Outside.{TransformerStays}
-use Rattle.slate_types.proofs.StillLaws.{stays_behind}
-use Rattle.slate_db.proofs.Stills.{transformer_at, transformer_then, transformer_told}
+use Rattle.slate_types.proofs.StillLaws.{stays_behind, transformer_at, transformer_then, transformer_told}
 use Rattle.slate_db.proofs.flush.built.Goals as goal
 
 pub loop-row-init : goal.loop-row-init

@@ -6,7 +6,7 @@ use Rattle.slate_db.specs.Answered.{AddsPuts}
 use Rattle.slate_db.specs.StoredParts.{IsOneTable, IsTablePut}
 use Rattle.slate_db.proofs.Adding.{adds_act, adds_refused, adds_same}
 use Rattle.slate_db.proofs.Built.{takes, may_take, may_keep, handle_of}
-use Rattle.slate_db.proofs.Stills.{store_stays, store_told}
+use Rattle.slate_types.proofs.StillLaws.{store_stays, store_told}
 use Rattle.slate_db.proofs.flush.put.Goals as goal
 
 pub returns : goal.returns

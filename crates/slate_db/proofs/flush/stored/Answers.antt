@@ -9,7 +9,7 @@ use Rattle.slate_db.proofs.Adding.{adds_same}
 use Rattle.slate_db.proofs.Built.{may_keep}
 use Rattle.slate_db.proofs.Operands.{combine_is}
 use Rattle.slate_db.proofs.RunSoFar.{can_build, has_too_large, rows_cause, run_cause, run_is_put, some_of_flush}
-use Rattle.slate_db.proofs.Stills.{still_then, store_stays, transformer_stays, unasked_still}
+use Rattle.slate_types.proofs.StillLaws.{still_then, store_stays, transformer_stays, unasked_still, unblamed_of}
 use Rattle.slate_db.proofs.flush.stored.Goals as goal
 use Rattle.slate_types.proofs.Exits.{if_ok_both, on_err_weaker}
 
@@ -65,7 +65,7 @@ returns-in_err-rows g c =
       cause = rw (p.1, p.2) (rows_cause before.faults now.faults m (map (λ t. t.rows) c.args.frozen.now) c.in_err-rows.field-0.0 (c.in_err-rows.ensures.missing m operator) c.in_err-rows.ensures.cause);
       wanted = λ none among. IfOk-from_err c.from_residual.result _ c.from_residual.ensures.0;
       puts = puts_of before now same refl refl (record { store = omega arith; operator = c.in_err-rows.ensures.later; transformer = omega arith }) refl;
-      still = rw (p.1, p.2) (record { store = store_stays _ _ c.in_err-rows.field-0.0 refl; operator = c.in_err-rows.ensures.still; transformer = transformer_stays _ _ c.in_err-rows.field-0.0 refl });
+      still = rw (p.1, p.2) (unblamed_of before.faults now.faults c.in_err-rows.field-0.0 (store_stays _ _ c.in_err-rows.field-0.0 refl) c.in_err-rows.ensures.still (transformer_stays _ _ c.in_err-rows.field-0.0 refl));
     }
 
 pub returns-in_err-parts : goal.returns-in_err-parts

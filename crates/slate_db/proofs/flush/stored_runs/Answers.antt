@@ -1,11 +1,11 @@
 use Rattle.std.proofs.Common.{◌∷◌, [], map, length, inl, refl, arith, ap, sym, subst, ◌∙◌, length-append}
 use Rattle.std.proofs.lemmas.Result.{IfOk-from_err, err_from_is_err_and}
-use Rattle.slate_types.specs.Outside.{IsCounted, Meaning}
+use Rattle.slate_types.specs.Outside.{IsCounted, Meaning, unblamed, unblamed_by}
 use Rattle.slate_types.proofs.Reaching.{puts_then}
 use Rattle.slate_store.specs.Reach.{reach_of}
 use Rattle.slate_db.proofs.Adding.{adds_puts, adds_then}
 use Rattle.slate_db.proofs.RunSoFar.{next_builds, one_so_far, one_stands, refused_run, so_far_taken, some_taken}
-use Rattle.slate_db.proofs.Stills.{still_err, still_same, still_then, unasked_still}
+use Rattle.slate_types.proofs.StillLaws.{unasked_still}
 use Rattle.slate_db.proofs.flush.stored_runs.Goals as goal
 
 pub stored_table-requires-clause-ready : goal.stored_table-requires-clause-ready
@@ -31,7 +31,7 @@ returns-in_err-table g c =
       cause = rw (p.1, p.2) (refused_run before now after _ _ _ _ _ _ _ _ _ was.far next was.puts.later c.in_err-table.ensures.cause);
       operator = c.stored_table.ensures.operator ∙ was.operator;
       puts = puts_then _ _ _ was.puts c.stored_table.ensures.puts;
-      still = rw (p.1, p.2) (still_then _ _ _ _ was.still (still_err _ _ c.in_err-table.field-0.0 c.in_err-table.ensures.still));
+      still = rw (p.1, p.2) (c.in_err-table.ensures.still ∙ ap (unblamed c.in_err-table.field-0.0) was.still);
     }
 
 pub returns-in_err-add_table : goal.returns-in_err-add_table
@@ -54,7 +54,7 @@ returns-in_err-add_table g c =
       cause = rw (p.1, p.2) (inl (subst (IsCounted before.faults after.faults) (sym c.in_err-add_table.ensures.cause) tt));
       operator = c.stored_table.ensures.operator ∙ was.operator;
       puts = puts_then _ _ _ was.puts c.stored_table.ensures.puts;
-      still = still_then _ _ _ _ (still_same _ _ _ c.in_ok-table.ensures.still ∙ was.still) (unasked_still after.faults c.from_residual-in_err-add_table.result);
+      still = ap (unblamed_by c.from_residual-in_err-add_table.result) (c.in_ok-table.ensures.still ∙ was.still);
     }
 
 pub loop-part-preserved : goal.loop-part-preserved
@@ -74,14 +74,14 @@ loop-part-preserved g c =
       room_tables = omega (arith, was.room_tables, left, tables, c.push_reserved.ensures.capacity);
       operator = c.stored_table.ensures.operator ∙ was.operator;
       puts = puts_then _ _ _ was.puts c.stored_table.ensures.puts;
-      still = still_same now.faults after.faults _ c.in_ok-table.ensures.still ∙ was.still;
+      still = c.in_ok-table.ensures.still ∙ was.still;
     }
 
 pub returns-clause-adds : goal.returns-clause-adds
 returns-clause-adds g c = adds_puts _ _ _ c.loop-part.invariant.far.acts
 
 pub returns-clause-still : goal.returns-clause-still
-returns-clause-still g c = still_then _ _ _ _ c.loop-part.invariant.still (unasked_still _ _)
+returns-clause-still g c = c.loop-part.invariant.still
 
 pub returns-in_err-tables-clause-still : goal.returns-in_err-tables-clause-still
 returns-in_err-tables-clause-still g c = unasked_still _ c.from_residual.result

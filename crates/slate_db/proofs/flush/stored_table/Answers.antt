@@ -1,6 +1,7 @@
 use Rattle.std.proofs.Common.{ℕ, map, inl, inr, arith, refl, ◌⊎◌}
 use Rattle.std.proofs.lemmas.Result.{IfOk-from_err, err_from_is_err_and, IfErr-weaker}
 use Rattle.slate_types.specs.declared.error.SlateDBError.{SlateDBError}
+use Rattle.slate_types.specs.Faults.{faults_of}
 use Rattle.slate_types.specs.Outside.{Counts, IsCounted}
 use Rattle.slate_types.proofs.Reaching.{puts_of}
 use Rattle.slate_table.specs.SectionReading.{changed_by, IsTransformFault}
@@ -10,8 +11,8 @@ use Rattle.slate_db.specs.StoredParts.{IsPlace}
 use Rattle.slate_db.proofs.Adding.{adds_same}
 use Rattle.slate_db.proofs.Causes.{store_fault, transform_fault}
 use Rattle.slate_db.proofs.Built.{read_again, version_known, may_keep}
-use Rattle.slate_db.proofs.Stills.{store_stays, transformer_at}
-use Rattle.slate_types.proofs.StillLaws.{stays_at, still_at}
+use Rattle.slate_types.proofs.StillLaws.{stays_at, still_at, still_of_parts, store_stays, transformer_at, unblamed_of}
+use Rattle.slate_store.specs.Reach.{reach_of}
 use Rattle.slate_db.proofs.flush.stored_table.Goals as goal
 use Rattle.slate_db.proofs.flush.stored_table.Given as given
 
@@ -38,7 +39,7 @@ returns g c =
       cause = IfErr-weaker c.put-kept.result _ _ (λ e h. inl (store_fault _ _ e h)) c.put-kept.ensures.cause;
       operator = refl;
       puts = puts_of _ _ refl c.built.ensures.same_encoded c.built.ensures.same_decoded (record { store = c.put-kept.ensures.later; operator = omega arith; transformer = c.built.ensures.later }) refl;
-      still = record { store = c.put-kept.ensures.still; operator = still_at _ _ c.put-kept.result refl; transformer = transformer_at _ _ c.put-kept.result c.in_ok-table.ensures.still };
+      still = still_of_parts (reach_of g.S.Store g.M.MergeOperator g.T.BlockTransformer c.args.env.now).faults (record (reach_of g.S.Store g.M.MergeOperator g.T.BlockTransformer c.args.env.now).faults { store = g.S.Store.faults c.put-kept.new.store; transformer = faults_of g.T.BlockTransformer.faults c.built.new.transformer }) c.put-kept.result c.put-kept.ensures.still (still_at _ _ c.put-kept.result refl) (transformer_at _ _ c.put-kept.result c.in_ok-table.ensures.still);
     }
 
 pub returns-in_err-table : goal.returns-in_err-table
@@ -52,5 +53,5 @@ returns-in_err-table g c =
       cause = rw (p.1, p.2) (or_large _ _ _ c.in_err-table.ensures.cause);
       operator = refl;
       puts = puts_of _ _ refl c.built.ensures.same_encoded c.built.ensures.same_decoded (record { store = omega arith; operator = omega arith; transformer = c.built.ensures.later }) refl;
-      still = rw (p.1, p.2) (record { store = store_stays _ _ c.in_err-table.field-0.0 refl; operator = stays_at _ _ c.in_err-table.field-0.0 refl; transformer = c.in_err-table.ensures.still });
+      still = rw (p.1, p.2) (unblamed_of (reach_of g.S.Store g.M.MergeOperator g.T.BlockTransformer c.args.env.now).faults (record (reach_of g.S.Store g.M.MergeOperator g.T.BlockTransformer c.args.env.now).faults { transformer = faults_of g.T.BlockTransformer.faults c.built.new.transformer }) c.in_err-table.field-0.0 (store_stays _ _ c.in_err-table.field-0.0 refl) (stays_at _ _ c.in_err-table.field-0.0 refl) c.in_err-table.ensures.still);
     }

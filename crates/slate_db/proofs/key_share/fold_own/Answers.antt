@@ -20,6 +20,7 @@ use Rattle.slate_db.specs.Readable.{keeps_merge}
 use Rattle.slate_db.proofs.Causes.{fold_fault}
 use Rattle.slate_db.proofs.Gets.{own_pairs}
 use Rattle.slate_db.proofs.OwnRows.{merge_kept, oldest_first, own_keys, own_merges, own_short, plain_alone}
+use Rattle.slate_types.proofs.StillLaws.{asked_still}
 use Rattle.slate_db.proofs.key_share.fold_own.Goals as goal
 use Rattle.slate_db.proofs.key_share.fold_own.Given as given
 
@@ -52,6 +53,7 @@ returns g c = record {
         };
     missing = λ lacks some. subst (λ (r : Result (Option RowEntry) SlateDBError). IfOk r (λ row. ⊥)) (sym (c.fold_found.ensures.missing lacks (own_merges k t.ops c.args.own.items rows some))) tt;
     cause = IfErr-weaker c.fold_found.result _ _ (refused g c k t rows) c.fold_found.ensures.cause;
+    still = asked_still (before g c).faults (after g c).faults c.fold_found.result refl c.fold_found.ensures.still refl;
   };
   outside = refl;
   reads = reads_of (before g c) (after g c) refl c.fold_found.ensures.same refl refl (adds_none (before g c).acts) (record { store = omega arith; operator = c.fold_found.ensures.later; transformer = omega arith }) refl;

@@ -9,7 +9,7 @@ use Rattle.std.specs.List.{AllByRecursion}
 use Rattle.slate_types.specs.Fold.{IsLawful, IsShort, KeepsShort, fold_rows, operator_at}
 use Rattle.slate_types.specs.Rows.{operand}
 use Rattle.slate_types.specs.World.{Made}
-use Rattle.slate_types.specs.Outside.{IsCounted, Reach}
+use Rattle.slate_types.specs.Outside.{IsCounted, Reach, unblamed_by}
 use Rattle.slate_store.specs.Reach.{reach_of}
 use Rattle.slate_types.proofs.Calls.{call_none}
 use Rattle.slate_types.proofs.Reaching.{adds_none, reads_none, reads_of, reads_then}
@@ -25,14 +25,14 @@ use Rattle.slate_db.specs.Shown.{Asking}
 use Rattle.slate_txn.specs.Reads.{key_rows, up_to}
 use Rattle.slate_db.specs.Model.{CoreModel, Rows, memory}
 use Rattle.slate_db.specs.KeyShares.{IsSeen, IsUnder, Stands, rows_under}
-use Rattle.slate_db.specs.Readable.{IsAnswered, IsOwnRow}
+use Rattle.slate_db.specs.Readable.{IsAnswered, IsMemoryAsked, IsOwnAsked, IsOwnRow}
 use Rattle.slate_db.specs.Sound.{IsSound}
 use Rattle.slate_db.specs.Whole.{IsWhole}
 use Rattle.slate_db.proofs.Behind.{acts_answered, asks_by, asks_none, made_quiet}
 use Rattle.slate_db.proofs.Blocks.{if_ok_where}
 use Rattle.slate_db.proofs.Causes.{fold_fault}
 use Rattle.slate_db.proofs.Checks.{checks_err, checks_ok}
-use Rattle.slate_db.proofs.Shown.{fold_refused, found_rows, from_memory, journal_damage}
+use Rattle.slate_db.proofs.Shown.{fold_refused, found_rows, journal_damage}
 use Rattle.slate_db.proofs.Filters.{filtered_known}
 use Rattle.slate_db.proofs.Finds.{brought_key, if_any, none_brought, some_brought}
 use Rattle.slate_db.proofs.Gets.{found_bases, found_folds, stored_as, Folds}
@@ -40,6 +40,7 @@ use Rattle.slate_db.proofs.Runs.{all_handles}
 use Rattle.slate_db.proofs.SharedRuns.{same_handles}
 use Rattle.slate_db.proofs.UnderOwn.{memory_first, merge_found, operand_found}
 use Rattle.slate_db.proofs.Versions.{twice}
+use Rattle.slate_types.proofs.StillLaws.{asked_still}
 use Rattle.slate_db.proofs.key_share.seen_behind.Goals as goal
 use Rattle.slate_db.proofs.key_share.seen_behind.Given as given
 use Rattle.slate_types.proofs.Lists.{AllByRecursion_weaken}
@@ -76,12 +77,18 @@ module _ (g : given.Over) (c : goal.After-fold_found g) (v : CoreModel) (own row
   abbrev n : ℕ
   n = c.args.at
 
-  near_among : (r : RowEntry) → Contains c.args.near.items r → IsOwnRow v r ⊎ Contains (newest_first (memory v)) r
+  abbrev asking : Asking
+  asking = record { policies = policies g c; query = c.args.query.now }
+
+  near_among : (r : RowEntry) → Contains c.args.near.items r → IsOwnAsked asking v r ⊎ IsMemoryAsked asking v r
   near_among r among = by (Contains-append_cases own rows r (subst (λ (xs : List RowEntry). Contains xs r) near among))
     where
-      by : Contains own r ⊎ Contains rows r → IsOwnRow v r ⊎ Contains (newest_first (memory v)) r
-      by (inl o) = inl (All-contains (IsOwnRow v) own r (All-from_recursion _ own un.own) o)
-      by (inr found) = inr (from_memory v k n rows r (memory_rows v k n rows c.args.runs.now st) found)
+      keyed : Contains own r → r.key ≡ k
+      keyed o = All-contains (λ (x : RowEntry). x.key ≡ k) own r (All-from_recursion _ own un.keys) o
+
+      by : Contains own r ⊎ Contains rows r → IsOwnAsked asking v r ⊎ IsMemoryAsked asking v r
+      by (inl o) = inl (All-contains (IsOwnRow v) own r (All-from_recursion _ own un.own) o, c.requires ∙ ap Point (sym (keyed o)))
+      by (inr found) = inr (k, n, c.requires, subst (λ (xs : List RowEntry). Contains xs r) st.rows found)
 
   handles : AreHandles (tables_of v.events) (handles_of c.args.runs.now)
   handles = known_handles v k n rows c.args.runs.now st
@@ -144,6 +151,7 @@ module _ (g : given.Over) (c : goal.After-fold_found g) (v : CoreModel) (own row
               checks_ok c.fold_found.result os (before g c) (after g c)
               (c.in_ok-found.ensures.checked all.layers os (stored_as (before g c).meaning v v st.unseen (handles_of c.args.runs.now) os all.layers refl (known_runs v k n rows c.args.runs.now st) st.whole is.lawful all.tables is.holds)));
           reads = reads_then _ _ _ tables (reads_of _ _ refl c.fold_found.ensures.same refl refl (adds_none _) (record { store = omega arith; operator = c.fold_found.ensures.later; transformer = omega arith }) refl);
+          still = asked_still (between g c).faults (after g c).faults c.fold_found.result refl c.fold_found.ensures.still refl ∙ ap (unblamed_by c.fold_found.result) c.in_ok-found.ensures.still;
         };
         asks = asks_by (record { policies = policies g c; query = c.args.query.now }) (before g c) (after g c) v (handles_of c.args.runs.now) handles
             (made_quiet (before g c) (between g c) (after g c) _ refl (λ i. record (between g c).meaning { combine = c.fold_found.ensures.same i }) refl c.newest_of_runs.ensures.behind);
@@ -174,6 +182,7 @@ returns-in_err-found g c = λ v own rows near st un.
         cause = rw (p.1, p.2) (journal_damage _ _ _ v (handles_of c.args.runs.now) _ handles c.in_err-found.ensures.cause);
         checked = λ os is. checks_err c.from_residual.result os (reach_of g.S.Store g.M.MergeOperator g.T.BlockTransformer c.args.env.now) (reach_of g.S.Store g.M.MergeOperator g.T.BlockTransformer c.newest_of_runs.new.env) c.from_residual.ensures.0;
         reads = c.newest_of_runs.ensures.reads;
+        still = rw (p.1, p.2) c.in_err-found.ensures.still;
       };
       asks = asks_by (record { policies = map (λ p. (goal.FilterPolicy-dyn g (p.vtable, p.value)).meaning p.value) c.args.policies.now; query = c.args.query.now }) _ _ v (handles_of c.args.runs.now) handles c.newest_of_runs.ensures.behind;
       finds = λ above is needs. IfOk-from_err c.from_residual.result _ c.from_residual.ensures.0;

@@ -7,6 +7,7 @@ use Rattle.slate_table.specs.SectionReading.{changed_by}
 use Rattle.slate_db.specs.Shown.{Asking}
 use Rattle.slate_db.proofs.Filters.{IsAsking, asked_adds, asked_alone, asked_cause, asked_denied, asked_passes, asked_whole}
 use Rattle.slate_db.proofs.TableChecks.{filters_checked}
+use Rattle.slate_types.proofs.StillLaws.{told_still}
 use Rattle.slate_db.proofs.lookup.lets_through.Goals as goal
 
 pub returns : goal.returns
@@ -39,4 +40,5 @@ returns g c =
       reads = reads_of _ _ c.might_match.ensures.objects refl c.might_match.ensures.same_encoded c.might_match.ensures.same_decoded
           (asked_adds _ _ _ _ _ _ _ _ c.might_match.result (λ no. let n = c.might_match.ensures.none no in (n.0, ap g.S.Store.acts n.1)) c.might_match.ensures.asked c.might_match.ensures.once)
           (record { store = c.might_match.ensures.later; operator = omega arith; transformer = c.might_match.ensures.later_transformer }) refl;
+      still = told_still before.faults after.faults c.might_match.result refl c.might_match.ensures.still c.might_match.ensures.still_transformer;
     }

@@ -1,7 +1,7 @@
-use Rattle.std.proofs.Common.{Some, ◌∙◌, refl, arith, subst, sym}
+use Rattle.std.proofs.Common.{Some, ◌∙◌, refl, arith, subst, sym, Ok, Err, ap}
 use Rattle.std.proofs.lemmas.Result.{err_from_is_err_and, IfOk-from_err, IfOk-weaker, IfErr-weaker}
 use Rattle.slate_types.specs.Faults.{faults_of}
-use Rattle.slate_types.specs.Outside.{IsCounted, Reach}
+use Rattle.slate_types.specs.Outside.{IsCounted, Reach, unblamed, unblamed_by}
 use Rattle.slate_types.proofs.Reaching.{adds_both, reads_of}
 use Rattle.slate_store.specs.Reach.{reach_of}
 use Rattle.slate_table.specs.IndexValue.{entries_of}
@@ -14,6 +14,7 @@ use Rattle.slate_db.proofs.Newest.{newest_same}
 use Rattle.slate_db.proofs.Shown.{blocks_refused, index_refused, no_rows_read, row_refused, table_rows}
 use Rattle.slate_db.proofs.TableChecks.{blocks_checked, index_checked}
 use Rattle.slate_db.proofs.Tables.{answered_by, blocks_whole, faults_earlier, index_whole, key_nowhere, key_read}
+use Rattle.slate_types.proofs.StillLaws.{told_still}
 use Rattle.slate_db.proofs.lookup.newest_of_enclosing.Goals as goal
 
 pub returns-in_err-index : goal.returns-in_err-index
@@ -37,6 +38,7 @@ returns-in_err-index g c =
           } in
           checks_err c.from_residual.result os before after c.from_residual.ensures.0);
       reads = reads_of _ _ c.read_index.ensures.objects refl c.read_index.ensures.same_encoded c.read_index.ensures.same_decoded (adds_once _ _ _ _ _ _ c.in_err-index.ensures.once) (record { store = c.read_index.ensures.later; operator = omega arith; transformer = c.read_index.ensures.later_transformer }) refl;
+      still = rw (p.1, p.2) (told_still (reach_of g.S.Store g.M.MergeOperator g.T.BlockTransformer c.args.env.now).faults (record (reach_of g.S.Store g.M.MergeOperator g.T.BlockTransformer c.args.env.now).faults { store = g.S.Store.faults c.read_index.new.store; transformer = faults_of g.T.BlockTransformer.faults c.read_index.new.transformer }) (Err c.in_err-index.field-0.0) refl c.in_err-index.ensures.still c.in_err-index.ensures.still_transformer);
     }
 
 pub returns-then-covered : goal.returns-then-covered
@@ -60,6 +62,7 @@ returns-then-covered g c =
           } in
           index_checked before after c.args.table.now (entries_of c.in_ok-index.index) rows os stored c.in_ok-index.ensures.found);
       reads = reads_of _ _ c.read_index.ensures.objects refl c.read_index.ensures.same_encoded c.read_index.ensures.same_decoded (adds_read _ _ _ _ _ _ _ c.in_ok-index.ensures.found) (record { store = c.read_index.ensures.later; operator = omega arith; transformer = c.read_index.ensures.later_transformer }) refl;
+      still = told_still (reach_of g.S.Store g.M.MergeOperator g.T.BlockTransformer c.args.env.now).faults (record (reach_of g.S.Store g.M.MergeOperator g.T.BlockTransformer c.args.env.now).faults { store = g.S.Store.faults c.read_index.new.store; transformer = faults_of g.T.BlockTransformer.faults c.read_index.new.transformer }) (Ok c.in_ok-index.index) refl c.in_ok-index.ensures.still c.in_ok-index.ensures.still_transformer;
     }
 
 pub returns-in_err-blocks : goal.returns-in_err-blocks
@@ -101,6 +104,7 @@ returns-in_err-blocks g c =
           checks_err c.from_residual-in_err-blocks.result os before after c.from_residual-in_err-blocks.ensures.0);
       reads = reads_of _ _ (c.read_blocks.ensures.objects ∙ c.read_index.ensures.objects) refl (c.read_blocks.ensures.same_encoded ∙ c.read_index.ensures.same_encoded) (c.read_blocks.ensures.same_decoded ∙ c.read_index.ensures.same_decoded)
           (adds_both _ _ _ (adds_read _ _ _ _ _ _ _ c.in_ok-index.ensures.found) (adds_once _ _ _ _ _ _ c.in_err-blocks.ensures.once)) (record { store = omega (arith, c.read_index.ensures.later, c.read_blocks.ensures.later); operator = omega arith; transformer = omega (arith, c.read_index.ensures.later_transformer, c.read_blocks.ensures.later_transformer) }) refl;
+      still = rw (p.1, p.2) (told_still (record (reach_of g.S.Store g.M.MergeOperator g.T.BlockTransformer c.args.env.now).faults { store = g.S.Store.faults c.read_index.new.store; transformer = faults_of g.T.BlockTransformer.faults c.read_index.new.transformer }) (record (reach_of g.S.Store g.M.MergeOperator g.T.BlockTransformer c.args.env.now).faults { store = g.S.Store.faults c.read_blocks.new.store; transformer = faults_of g.T.BlockTransformer.faults c.read_blocks.new.transformer }) (Err c.in_err-blocks.field-0.0) refl c.in_err-blocks.ensures.still c.in_err-blocks.ensures.still_transformer ∙ ap (unblamed c.in_err-blocks.field-0.0) (told_still (reach_of g.S.Store g.M.MergeOperator g.T.BlockTransformer c.args.env.now).faults (record (reach_of g.S.Store g.M.MergeOperator g.T.BlockTransformer c.args.env.now).faults { store = g.S.Store.faults c.read_index.new.store; transformer = faults_of g.T.BlockTransformer.faults c.read_index.new.transformer }) (Ok c.in_ok-index.index) refl c.in_ok-index.ensures.still c.in_ok-index.ensures.still_transformer));
     }
 
 pub returns : goal.returns
@@ -162,4 +166,5 @@ returns g c =
           c.in_ok-index.ensures.found c.if-covered.false c.covering-covered.ensures.within c.in_ok-blocks.ensures.count (c.in_ok-blocks.ensures.found c.if-covered.false)));
       reads = reads_of _ _ (c.read_blocks.ensures.objects ∙ c.read_index.ensures.objects) refl (c.read_blocks.ensures.same_encoded ∙ c.read_index.ensures.same_encoded) (c.read_blocks.ensures.same_decoded ∙ c.read_index.ensures.same_decoded)
           (adds_both _ _ _ (adds_read _ _ _ _ _ _ _ c.in_ok-index.ensures.found) (adds_read _ _ _ _ _ _ _ (c.in_ok-blocks.ensures.found c.if-covered.false))) (record { store = omega (arith, c.read_index.ensures.later, c.read_blocks.ensures.later); operator = omega arith; transformer = omega (arith, c.read_index.ensures.later_transformer, c.read_blocks.ensures.later_transformer) }) refl;
+      still = ap (unblamed_by c.newest_of_blocks.result) (told_still (record (reach_of g.S.Store g.M.MergeOperator g.T.BlockTransformer c.args.env.now).faults { store = g.S.Store.faults c.read_index.new.store; transformer = faults_of g.T.BlockTransformer.faults c.read_index.new.transformer }) (record (reach_of g.S.Store g.M.MergeOperator g.T.BlockTransformer c.args.env.now).faults { store = g.S.Store.faults c.read_blocks.new.store; transformer = faults_of g.T.BlockTransformer.faults c.read_blocks.new.transformer }) (Ok c.in_ok-blocks.blocks) refl c.in_ok-blocks.ensures.still c.in_ok-blocks.ensures.still_transformer ∙ told_still (reach_of g.S.Store g.M.MergeOperator g.T.BlockTransformer c.args.env.now).faults (record (reach_of g.S.Store g.M.MergeOperator g.T.BlockTransformer c.args.env.now).faults { store = g.S.Store.faults c.read_index.new.store; transformer = faults_of g.T.BlockTransformer.faults c.read_index.new.transformer }) (Ok c.in_ok-index.index) refl c.in_ok-index.ensures.still c.in_ok-index.ensures.still_transformer);
     }

@@ -3,7 +3,7 @@ use Rattle.std.specs.Prelude.{Contains}
 use Rattle.std.proofs.lemmas.Result.{err_from_is_err_and, IfOk-from_err}
 use Rattle.slate_types.proofs.OutsideLaws.{counted_earlier}
 use Rattle.slate_types.proofs.Reaching.{reads_none, reads_then}
-use Rattle.slate_types.specs.Outside.{Meaning}
+use Rattle.slate_types.specs.Outside.{Meaning, unblamed}
 use Rattle.slate_read.specs.declared.sorted_run.SortedRun.{SortedRun}
 use Rattle.slate_store.specs.Reach.{reach_of}
 use Rattle.slate_table.specs.declared.info.SsTableHandle.{SsTableHandle}
@@ -32,6 +32,7 @@ loop-at-init g c = record {
   extends = extends_none c.args.newer.items;
   rows = no_rows _ (record { policies = map (λ p. (goal.FilterPolicy-dyn g (p.vtable, p.value)).meaning p.value) c.args.policies.now; query = c.args.query.now }) (handles_of c.args.runs.now) c.args.newer.items;
   found = λ os filtered answers. none_found (reach_of g.S.Store g.M.MergeOperator g.T.BlockTransformer c.args.env.now).meaning os c.args.runs.now (length c.args.runs.now) c.args.key.now c.args.max_seq c.args.newer.items refl;
+  still = refl;
 }
 
 pub loop-at-preserved : goal.loop-at-preserved
@@ -60,6 +61,7 @@ loop-at-preserved g c =
           (subst (λ (x : Meaning). AreStoredAs x os c.as_slice.result.now layers) (sym first.meaning) (subst (λ (hs : List SsTableHandle). AreStoredAs m os hs layers) (sym slice) are))
           (filtered_some _ m _ os (handles_of c.args.runs.now) c.as_slice.result.now first.meaning filtered (among c.args.runs.now i run c.as_slice.result.now below c.index-runs-at.is slice))
           (from_last os _ _ _ first last answers));
+      still = c.in_ok-found.ensures.still ∙ c.loop-at.invariant.still;
     }
 
 pub returns : goal.returns
@@ -77,6 +79,7 @@ returns g c =
       behind = c.loop-at.invariant.behind;
       checked = c.loop-at.invariant.checked;
       reads = c.loop-at.invariant.reads;
+      still = c.loop-at.invariant.still;
     }
 
 pub returns-in_err-found : goal.returns-in_err-found
@@ -103,4 +106,5 @@ returns-in_err-found g c =
       behind = behind_more _ _ _ (record { policies = map (λ p. (goal.FilterPolicy-dyn g (p.vtable, p.value)).meaning p.value) c.args.policies.now; query = c.args.query.now }) (handles_of c.args.runs.now) c.as_slice.result.now (among c.args.runs.now (c.loop-at.at - 1) run c.as_slice.result.now below c.index-runs-at.is slice) c.loop-at.invariant.behind c.newest_of_tables.ensures.behind;
       checked = λ layers os are. checks_err c.from_residual.result os (reach_of g.S.Store g.M.MergeOperator g.T.BlockTransformer c.args.env.now) (reach_of g.S.Store g.M.MergeOperator g.T.BlockTransformer c.newest_of_tables.new.env) c.from_residual.ensures.0;
       reads = reads_then _ _ _ first last;
+      still = rw (p.1, p.2) (c.in_err-found.ensures.still ∙ ap (unblamed c.in_err-found.field-0.0) c.loop-at.invariant.still);
     }

@@ -1,4 +1,4 @@
-use Rattle.std.proofs.Common.{◌≤◌, List, drop, length, map}
+use Rattle.std.proofs.Common.{◌≤◌, List, drop, length, map, ◌≡◌}
 use Rattle.slate_types.specs.Outside.{Objects, OnlyReads}
 use Rattle.slate_types.specs.World.{Made}
 use Rattle.slate_store.specs.Reach.{reach_of}
@@ -20,6 +20,7 @@ invariant-loop-at g l =
     record {
       within : l.at ≤ length l.runs;
       reads : OnlyReads before now;
+      still : now.faults ≡ before.faults;
       behind : Made before now (AreBehindFilters before.meaning.decode asking (handles_of l.runs));
       checked : (layers : List Rows) (os : Objects) → AreStoredAs before.meaning os (handles_of l.runs) layers → ChecksFrom os before now;
       extends : Extends l.initial.found.items l.found.items;

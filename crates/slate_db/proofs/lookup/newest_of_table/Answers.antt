@@ -1,9 +1,9 @@
-use Rattle.std.proofs.Common.{[], ◌∷◌, ◌∙◌, ◌≡◌, false, true, map, rules, sym}
+use Rattle.std.proofs.Common.{[], ◌∷◌, ◌∙◌, ◌≡◌, false, true, map, rules, sym, refl, ap}
 use Rattle.std.proofs.lemmas.Result.{err_from_is_err_and, IfOk-from_err, IfOk-weaker, IfErr-weaker}
 use Rattle.slate_types.proofs.Calls.{call_none}
 use Rattle.slate_types.proofs.OutsideLaws.{counted_earlier}
 use Rattle.slate_types.proofs.Reaching.{reads_none, reads_then}
-use Rattle.slate_types.specs.Outside.{Reach}
+use Rattle.slate_types.specs.Outside.{Reach, unblamed_by}
 use Rattle.slate_types.specs.World.{Made}
 use Rattle.slate_store.specs.Reach.{reach_of}
 use Rattle.slate_table.specs.Finding.{encloses}
@@ -30,6 +30,7 @@ returns-then-not-encloses g c =
       behind = behind_none _ (record { policies = map (λ p. (goal.FilterPolicy-dyn g (p.vtable, p.value)).meaning p.value) c.args.policies.now; query = c.args.query.now }) (c.args.table.now ∷ []);
       checked = λ rows os stored. checks_none os (reach_of g.S.Store g.M.MergeOperator g.T.BlockTransformer c.args.env.now);
       reads = reads_none _;
+      still = refl;
     }
 
 pub returns-in_err-passes : goal.returns-in_err-passes
@@ -44,6 +45,7 @@ returns-in_err-passes g c =
       behind = behind_filters _ _ asking c.args.table.now c.lets_through.ensures.alone;
       checked = λ rows os stored. checks_err c.from_residual.result os (reach_of g.S.Store g.M.MergeOperator g.T.BlockTransformer c.args.env.now) (reach_of g.S.Store g.M.MergeOperator g.T.BlockTransformer c.lets_through.new.env) c.from_residual.ensures.0;
       reads = c.lets_through.ensures.reads;
+      still = rw (p.1, p.2) c.in_err-passes.ensures.still;
     }
 
 pub returns-then-not-passes : goal.returns-then-not-passes
@@ -58,6 +60,7 @@ returns-then-not-passes g c =
       behind = behind_filters _ _ (record { policies = map (λ p. (goal.FilterPolicy-dyn g (p.vtable, p.value)).meaning p.value) c.args.policies.now; query = c.args.query.now }) c.args.table.now c.lets_through.ensures.alone;
       checked = c.in_ok-passes.ensures.checked;
       reads = c.lets_through.ensures.reads;
+      still = c.in_ok-passes.ensures.still;
     }
 
 pub returns : goal.returns
@@ -83,4 +86,5 @@ returns g c =
       checked = λ rows os stored. checks_then c.newest_of_enclosing.result os before middle after first last (c.in_ok-passes.ensures.checked rows os stored)
           (c.newest_of_enclosing.ensures.checked rows os (stored_still _ _ os c.args.table.now rows first.meaning stored));
       reads = reads_then _ _ _ first last;
+      still = c.newest_of_enclosing.ensures.still ∙ ap (unblamed_by c.newest_of_enclosing.result) c.in_ok-passes.ensures.still;
     }

@@ -1,4 +1,4 @@
-use Rattle.std.proofs.Common.{◌≡◌, [], ◌+◌, ◌-◌, ◌∙◌, ◌++◌, false, drop, length, map, rules, ap, arith, inl}
+use Rattle.std.proofs.Common.{◌≡◌, [], ◌+◌, ◌-◌, ◌∙◌, ◌++◌, false, drop, length, map, rules, ap, arith, inl, refl}
 use Rattle.std.proofs.lemmas.Result.{err_from_is_err_and, IfOk-from_err}
 use Rattle.slate_types.proofs.OutsideLaws.{counted_earlier}
 use Rattle.slate_types.proofs.Reaching.{reads_none, reads_then}
@@ -12,6 +12,8 @@ use Rattle.slate_db.proofs.Filters.{filtered_one}
 use Rattle.slate_db.proofs.Shown.{at_table, damage_on, no_rows, rows_on}
 use Rattle.slate_db.proofs.UnderOwn.{behind_begin, behind_decide, behind_end, behind_step, extends_more, extends_none}
 use Rattle.slate_db.proofs.Tables.{as_many, table_as}
+use Rattle.slate_types.specs.Outside.{unblamed}
+use Rattle.slate_types.specs.declared.error.SlateDBError.TheVariants.{OutOfMemory}
 use Rattle.slate_db.proofs.lookup.newest_of_tables.Goals as goal
 use Rattle.slate_db.proofs.lookup.newest_of_tables.Goals.{then-loop-i-test+else-not-is_decided, else-loop-i-test}
 
@@ -26,6 +28,7 @@ loop-i-init g c = record {
   found = λ layers os are filtered answers own above operands h.
       behind_begin c.args.key.now c.args.max_seq own operands (length c.args.tables.now) above c.args.newer.items layers h
       (as_many _ _ _ c.args.tables.now layers are);
+  still = refl;
 }
 
 pub loop-i-preserved : goal.loop-i-preserved
@@ -48,6 +51,7 @@ loop-i-preserved g c =
           let at = table_as _ _ os c.args.tables.now layers i c.index-tables-i.result first.meaning are (omega (arith, c.loop-i-test.true, c.loop-i.invariant.within)) c.index-tables-i.is in
           behind_step c.args.key.now c.args.max_seq own operands i above c.loop-i.found.items c.in_ok-more.more.items c.append.new.self.items at.rows layers at.here
           (c.loop-i.invariant.found layers os are filtered (from_first os _ _ _ first last answers) own above operands h ∙ ap (λ j. own ++ newest c.args.key.now c.args.max_seq (above ++ newest_first (drop j layers))) next) undecided (c.in_ok-more.ensures.found at.rows os at.is (filtered_one _ _ _ os c.args.tables.now c.index-tables-i.result first.meaning filtered (at_table c.args.tables.now i c.index-tables-i.result (omega (arith, c.loop-i-test.true, c.loop-i.invariant.within)) c.index-tables-i.is)) (from_last os _ _ _ first last answers)) c.in_ok-append.ensures.items;
+      still = c.in_ok-more.ensures.still ∙ c.loop-i.invariant.still;
     }
 
 pub returns : goal.returns
@@ -65,6 +69,7 @@ returns g c =
       behind = c.loop-i.invariant.behind;
       checked = c.loop-i.invariant.checked;
       reads = c.loop-i.invariant.reads;
+      still = c.loop-i.invariant.still;
     }
 
 pub returns-in_err-more : goal.returns-in_err-more
@@ -84,6 +89,7 @@ returns-in_err-more g c =
       behind = behind_one _ _ _ (record { policies = map (λ p. (goal.FilterPolicy-dyn g (p.vtable, p.value)).meaning p.value) c.args.policies.now; query = c.args.query.now }) c.args.tables.now c.index-tables-i.result (at_table c.args.tables.now (c.loop-i.i - 1) c.index-tables-i.result (omega (arith, c.loop-i-test.true, c.loop-i.invariant.within)) c.index-tables-i.is) c.loop-i.invariant.behind c.newest_of_table.ensures.behind;
       checked = λ layers os are. checks_err c.from_residual.result os (reach_of g.S.Store g.M.MergeOperator g.T.BlockTransformer c.args.env.now) (reach_of g.S.Store g.M.MergeOperator g.T.BlockTransformer c.newest_of_table.new.env) c.from_residual.ensures.0;
       reads = reads_then _ _ _ first last;
+      still = rw (p.1, p.2) (c.in_err-more.ensures.still ∙ ap (unblamed c.in_err-more.field-0.0) c.loop-i.invariant.still);
     }
 
 pub returns-in_err-append : goal.returns-in_err-append
@@ -98,4 +104,5 @@ returns-in_err-append g c =
       behind = behind_one _ _ _ (record { policies = map (λ p. (goal.FilterPolicy-dyn g (p.vtable, p.value)).meaning p.value) c.args.policies.now; query = c.args.query.now }) c.args.tables.now c.index-tables-i.result (at_table c.args.tables.now (c.loop-i.i - 1) c.index-tables-i.result (omega (arith, c.loop-i-test.true, c.loop-i.invariant.within)) c.index-tables-i.is) c.loop-i.invariant.behind c.newest_of_table.ensures.behind;
       checked = λ layers os are. checks_err c.from_residual-in_err-append.result os (reach_of g.S.Store g.M.MergeOperator g.T.BlockTransformer c.args.env.now) (reach_of g.S.Store g.M.MergeOperator g.T.BlockTransformer c.newest_of_table.new.env) c.from_residual-in_err-append.ensures.0;
       reads = reads_then _ _ _ c.loop-i.invariant.reads c.newest_of_table.ensures.reads;
+      still = rw (p.1, p.2) (ap (unblamed OutOfMemory) (c.in_ok-more.ensures.still ∙ c.loop-i.invariant.still));
     }

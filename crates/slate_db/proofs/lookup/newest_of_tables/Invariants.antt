@@ -1,4 +1,4 @@
-use Rattle.std.proofs.Common.{◌≤◌, List, drop, length, map}
+use Rattle.std.proofs.Common.{◌≤◌, List, drop, length, map, ◌≡◌}
 use Rattle.slate_types.specs.Outside.{Objects, OnlyReads}
 use Rattle.slate_types.specs.World.{Made}
 use Rattle.slate_store.specs.Reach.{reach_of}
@@ -18,6 +18,7 @@ invariant-loop-i g l =
     record {
       within : l.i ≤ length l.tables;
       reads : OnlyReads before now;
+      still : now.faults ≡ before.faults;
       behind : Made before now (AreBehindFilters before.meaning.decode asking l.tables);
       checked : (layers : List Rows) (os : Objects) → AreStoredAs before.meaning os l.tables layers → ChecksFrom os before now;
       extends : Extends l.initial.found.items l.found.items;

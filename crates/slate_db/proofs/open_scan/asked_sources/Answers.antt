@@ -1,5 +1,5 @@
-use Rattle.std.proofs.Common.{◌∷◌, List, Option, map, reverse, subst, sym}
-use Rattle.std.proofs.lemmas.Result.{IfOk-from_err}
+use Rattle.std.proofs.Common.{◌∷◌, List, Option, map, reverse, subst, sym, refl, ap}
+use Rattle.std.proofs.lemmas.Result.{err_from_is_err_and, IfOk-from_err}
 use Rattle.slate_types.specs.declared.filter_policy.FilterQuery.{FilterQuery}
 use Rattle.slate_types.proofs.Exits.{err_exit}
 use Rattle.slate_types.proofs.Reaching.{reads_none}
@@ -11,6 +11,7 @@ use Rattle.slate_db.specs.OpenScans.{AreScanSources}
 use Rattle.slate_db.specs.ScanFilters.{Covers, FailsAsking, scan_query}
 use Rattle.slate_db.proofs.RangeFilters.{scan_covers}
 use Rattle.slate_db.proofs.ScanFilters.{fails_memory}
+use Rattle.slate_types.specs.Outside.{unblamed_by}
 use Rattle.slate_db.proofs.open_scan.asked_sources.Goals as goal
 
 pub runs_left-requires : goal.runs_left-requires
@@ -22,6 +23,7 @@ returns-in_err-query g c = record {
   made = IfOk-from_err c.from_residual.result _ c.from_residual.ensures.0;
   refused = err_exit c.from_residual.result _ c.from_residual.ensures.1 _ (fails_memory _ _ _ _ _ _ c.in_err-query.ensures.cause);
   reads = reads_none _;
+  still = refl;
 }
 
 pub returns-in_err-left : goal.returns-in_err-left
@@ -31,6 +33,7 @@ returns-in_err-left g c = record {
   refused = err_exit c.from_residual-in_err-left.result _ c.from_residual-in_err-left.ensures.1 _
       (subst (λ (q : Option FilterQuery). FailsAsking (map (λ p. (goal.FilterPolicy-dyn g (p.vtable, p.value)).meaning p.value) c.args.policies.now) q (reach_of g.S.Store g.M.MergeOperator g.T.BlockTransformer c.args.env.now) (reach_of g.S.Store g.M.MergeOperator g.T.BlockTransformer c.runs_left.new.env) (handles_of c.args.runs.now) c.in_err-left.field-0.0) c.in_ok-query.ensures.query c.in_err-left.ensures.refused);
   reads = c.runs_left.ensures.reads;
+  still = (let p = err_from_is_err_and c.from_residual-in_err-left.result c.from_residual-in_err-left.ensures.1 in rw (p.1, p.2) (c.in_err-left.ensures.still));
 }
 
 pub returns-in_err-sources : goal.returns-in_err-sources
@@ -39,6 +42,7 @@ returns-in_err-sources g c = record {
   made = IfOk-from_err c.from_residual-in_err-sources.result _ c.from_residual-in_err-sources.ensures.0;
   refused = err_exit c.from_residual-in_err-sources.result _ c.from_residual-in_err-sources.ensures.1 _ (fails_memory _ _ _ _ _ _ c.in_err-sources.ensures.cause);
   reads = c.runs_left.ensures.reads;
+  still = ap (unblamed_by c.from_residual-in_err-sources.result) c.in_ok-left.ensures.still;
 }
 
 pub returns : goal.returns
@@ -52,4 +56,5 @@ returns g c =
       made = c.in_ok-left.ensures.made;
       refused = tt;
       reads = c.runs_left.ensures.reads;
+      still = c.in_ok-left.ensures.still;
     }

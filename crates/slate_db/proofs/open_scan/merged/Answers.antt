@@ -1,8 +1,17 @@
-use Rattle.std.proofs.Common.{◌≡◌, ◌∙◌, ap}
+use Rattle.std.proofs.Common.{◌≡◌, ◌∙◌, ap, ◌⊎◌, inl, inr, sym, subst}
+use Rattle.slate_types.specs.declared.error.SlateDBError.{SlateDBError}
+use Rattle.slate_types.specs.declared.error.SlateDBError.TheVariants.{IteratorNotInitialized}
+use Rattle.slate_types.specs.Outside.{Counts, unblamed}
 use Rattle.slate_store.specs.Reach.{reach_of}
 use Rattle.slate_db.specs.Scans.{MergedSources, merge_takes, source_refuses}
 use Rattle.slate_db.proofs.ScanMerges.{fresh_operable, fresh_rows, fresh_sound, fresh_waits, opened_brought, opened_folds, opened_later, opened_operable, opening_own, refusal_blamed}
 use Rattle.slate_db.proofs.open_scan.merged.Goals as goal
+
+-- the counts by what is answered in place of a refusal
+opening_still : (a b : Counts) (e d : SlateDBError) → (d ≡ e) ⊎ (e ≡ IteratorNotInitialized) → unblamed e b ≡ unblamed e a → unblamed d b ≡ unblamed d a
+unfolding unblamed
+opening_still a b e d (inl same) h = subst (λ (x : SlateDBError). unblamed x b ≡ unblamed x a) (sym same) h
+opening_still a b e d (inr waits) h = let kept : b ≡ a = subst (λ (x : SlateDBError). unblamed x b ≡ unblamed x a) waits h in ap (unblamed d) kept
 
 pub unreachable-requires : goal.unreachable-requires
 unreachable-requires g c = let never = c.in_default.ensures.fine in cc
@@ -29,6 +38,7 @@ returns-in-Ok-init g c =
       brought = (e.begun.0, e.begun.1, opened_brought sources order merge made it new v m e.begun.0 e.ready e.begun.2.1);
       cause = tt;
       reads = e.reads;
+      still = e.counts;
     }
 
 pub returns-clause-cause : goal.returns-clause-cause
@@ -42,5 +52,8 @@ returns-clause-cause g c =
     let it = c.in-Ok.rows in
     let new = c.in-Ok.ensures.folding in
     let cause = c.in-Err.ensures.cause in
-    refusal_blamed source_refuses sources it.iterator.state (fresh_waits sources order merge made it new) a b c.in-Err.error c.refusal_of_opening.result c.refusal_of_opening.ensures cause.0 cause.1
+    refusal_blamed source_refuses sources it.iterator.state (fresh_waits sources order merge made it new) a b c.in-Err.error c.refusal_of_opening.result c.refusal_of_opening.ensures.refusal cause.0 cause.1
     (opening_own sources order merge made it new (λ u k reads answer x. merge_takes u k reads answer x) (λ u x k reads answer t. t.0.0) c.init.new.self a b cause.0 c.in-Err.error cause.2.1 cause.2.0)
+
+pub returns-clause-still : goal.returns-clause-still
+returns-clause-still g c = opening_still _ _ c.in-Err.error c.refusal_of_opening.result c.refusal_of_opening.ensures.waits c.in-Err.ensures.counts

@@ -1,4 +1,4 @@
-use Rattle.std.proofs.Common.{[], None, subst}
+use Rattle.std.proofs.Common.{[], None, subst, refl}
 use Rattle.slate_types.specs.World.{Checks}
 use Rattle.slate_types.proofs.Calls.{call_none, checks_none}
 use Rattle.slate_types.proofs.Reaching.{reads_none}
@@ -29,6 +29,7 @@ returns-in-Walking g c =
       later = λ range. later_walk r range a b x u v is n.going n.later;
       cause = λ range. cause_walk r range None a b x u is tt n.cause;
       reads = n.reads;
+      still = n.counts;
     }
 
 pub returns-in-Done : goal.returns-in-Done
@@ -41,6 +42,7 @@ returns-in-Done g c = record {
   later = λ range. ([], call_none _, λ later at e h. h);
   cause = λ range. tt;
   reads = reads_none _;
+  still = refl;
 }
 
 pub unreachable-requires : goal.unreachable-requires

@@ -13,6 +13,7 @@ use Rattle.slate_db.proofs.Filters.{IsAsking, asked_adds}
 use Rattle.slate_db.proofs.RangeFilters.{out_of_reach}
 use Rattle.slate_db.proofs.ScanFilters.{left_denied, left_made, left_refused}
 use Rattle.slate_db.proofs.TableChecks.{filters_checked}
+use Rattle.slate_types.proofs.StillLaws.{told_still}
 use Rattle.slate_db.proofs.scan_filters.is_left.Goals as goal
 
 pub returns-then-not-can_reach-clause-denied : goal.returns-then-not-can_reach-clause-denied
@@ -54,4 +55,5 @@ returns g c =
       reads = reads_of _ _ c.might_match.ensures.objects refl c.might_match.ensures.same_encoded c.might_match.ensures.same_decoded
           (asked_adds _ _ _ _ _ _ _ _ c.might_match.result (λ no. let n = c.might_match.ensures.none no in (n.0, ap g.S.Store.acts n.1)) c.might_match.ensures.asked c.might_match.ensures.once)
           (record { store = c.might_match.ensures.later; operator = omega arith; transformer = c.might_match.ensures.later_transformer }) refl;
+      still = told_still before.faults after.faults c.might_match.result refl c.might_match.ensures.still c.might_match.ensures.still_transformer;
     }

@@ -1,4 +1,4 @@
-use Rattle.std.proofs.Common.{map}
+use Rattle.std.proofs.Common.{map, ◌≡◌}
 use Rattle.std.specs.Prelude.{Contains}
 use Rattle.slate_types.specs.Outside.{OnlyReads}
 use Rattle.slate_types.specs.World.{Made}
@@ -15,6 +15,7 @@ invariant-loop-run g l =
     record {
       made : Made before now (λ _. Unit {0});
       reads : OnlyReads before now;
+      still : now.faults ≡ before.faults;
       among : (h : SsTableHandle) → Contains (handles_of l.left.items) h → Contains (handles_of l.runs) h;
       so_far : RunsSoFar (map (λ p. (goal.FilterPolicy-dyn g (p.vtable, p.value)).meaning p.value) l.policies) before now l.range l.runs l.run-index l.left.items;
       checked : RunsChecked before now l.runs;

@@ -1,17 +1,19 @@
-use Rattle.std.proofs.Common.{[], map}
-use Rattle.std.proofs.lemmas.Result.{IfOk-from_err}
+use Rattle.std.proofs.Common.{[], map, refl, ap, ◌∙◌}
+use Rattle.std.proofs.lemmas.Result.{err_from_is_err_and, IfOk-from_err}
 use Rattle.slate_types.proofs.Calls.{call_none}
 use Rattle.slate_types.proofs.Exits.{err_exit}
 use Rattle.slate_types.proofs.Reaching.{reads_none, reads_then}
 use Rattle.slate_store.specs.Reach.{reach_of}
 use Rattle.slate_db.proofs.Checks.{checks_none}
 use Rattle.slate_db.proofs.ScanFilters.{among_more, among_none, fails_more, made_both, one_among, so_far_all, so_far_more, so_far_none, tables_checked_more}
+use Rattle.slate_types.specs.Outside.{unblamed}
 use Rattle.slate_db.proofs.scan_filters.tables_left.Goals as goal
 
 pub loop-table-init : goal.loop-table-init
 loop-table-init g c = record {
   made = ([], call_none _, tt);
   reads = reads_none _;
+  still = refl;
   among = among_none c.args.tables.now c.new-left.result.items c.new-left.ensures.items;
   so_far = so_far_none (map (λ p. (goal.FilterPolicy-dyn g (p.vtable, p.value)).meaning p.value) c.args.policies.now) (reach_of g.S.Store g.M.MergeOperator g.T.BlockTransformer c.args.env.now) c.args.range.now c.args.tables.now c.new-left.result.items c.new-left.ensures.items;
   checked = λ layers os stored. checks_none os (reach_of g.S.Store g.M.MergeOperator g.T.BlockTransformer c.args.env.now);
@@ -24,6 +26,7 @@ loop-table-preserved g c =
     record {
       made = made_both _ _ _ i.made c.in_ok-add_left.ensures.made;
       reads = reads_then _ _ _ i.reads c.add_left.ensures.reads;
+      still = c.in_ok-add_left.ensures.still ∙ i.still;
       among = among_more c.args.tables.now c.loop-table.table-index c.table-item.result c.loop-table.left.items c.add_left.new.left.items added.kept c.loop-table-test.true c.table-item.is added.are i.among;
       so_far = so_far_more _ _ _ _ c.args.range.now c.args.tables.now c.loop-table.table-index c.table-item.result c.loop-table.left.items c.add_left.new.left.items i.reads c.add_left.ensures.reads c.loop-table-test.true c.table-item.is i.so_far added;
       checked = tables_checked_more (reach_of g.S.Store g.M.MergeOperator g.T.BlockTransformer c.args.env.now) (reach_of g.S.Store g.M.MergeOperator g.T.BlockTransformer c.loop-table.env) (reach_of g.S.Store g.M.MergeOperator g.T.BlockTransformer c.add_left.new.env) c.args.tables.now c.loop-table.table-index c.table-item.result i.reads c.add_left.ensures.reads c.loop-table-test.true c.table-item.is i.checked added.checked;
@@ -37,6 +40,7 @@ returns g c =
       made = i.made;
       refused = tt;
       reads = i.reads;
+      still = i.still;
     }
 
 pub returns-in_err-add_left : goal.returns-in_err-add_left
@@ -48,4 +52,5 @@ returns-in_err-add_left g c =
       refused = err_exit c.from_residual.result _ c.from_residual.ensures.1 _
           (fails_more _ _ _ _ _ _ c.args.tables.now _ (one_among c.args.tables.now c.loop-table.table-index c.table-item.result c.loop-table-test.true c.table-item.is) i.made i.reads c.add_left.ensures.reads c.in_err-add_left.ensures.refused);
       reads = reads_then _ _ _ i.reads c.add_left.ensures.reads;
+      still = (let p = err_from_is_err_and c.from_residual.result c.from_residual.ensures.1 in rw (p.1, p.2) (c.in_err-add_left.ensures.still ∙ ap (unblamed c.in_err-add_left.field-0.0) i.still));
     }

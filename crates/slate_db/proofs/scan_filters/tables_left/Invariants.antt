@@ -1,4 +1,4 @@
-use Rattle.std.proofs.Common.{map}
+use Rattle.std.proofs.Common.{map, ◌≡◌}
 use Rattle.std.specs.Prelude.{Contains}
 use Rattle.slate_types.specs.Outside.{OnlyReads}
 use Rattle.slate_types.specs.World.{Made}
@@ -14,6 +14,7 @@ invariant-loop-table g l =
     record {
       made : Made before now (λ _. Unit {0});
       reads : OnlyReads before now;
+      still : now.faults ≡ before.faults;
       among : (h : SsTableHandle) → Contains l.left.items h → Contains l.tables h;
       so_far : SoFar (map (λ p. (goal.FilterPolicy-dyn g (p.vtable, p.value)).meaning p.value) l.policies) before now l.range l.tables l.table-index l.left.items;
       checked : TablesChecked before now l.tables;

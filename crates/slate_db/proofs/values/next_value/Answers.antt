@@ -9,6 +9,7 @@ use Rattle.slate_merge.specs.OperatorIterators.{IsOperable, Takes, refuses_foldi
 use Rattle.slate_db.specs.Values.{has_value}
 use Rattle.slate_db.proofs.Foldings.{whole_going}
 use Rattle.slate_db.proofs.Passing.{first, last, no_value, passed_fails, passed_none, passed_on, passed_undamaged, some_value, step_checked, step_keeps, step_later, step_none, step_some, step_still}
+use Rattle.slate_types.specs.Outside.{unblamed}
 use Rattle.slate_db.proofs.values.next_value.Goals as goal
 
 pub loop-row-init : goal.loop-row-init
@@ -20,6 +21,7 @@ loop-row-init g c = record {
   folding = refl;
   order = refl;
   reads = reads_none _;
+  counts = refl;
 }
 
 pub loop-row-preserved : goal.loop-row-preserved
@@ -37,6 +39,7 @@ loop-row-preserved g c =
       folding = t.2 ∙ i.folding;
       order = n.order ∙ i.order;
       reads = reads_then _ _ _ i.reads n.reads;
+      counts = n.counts ∙ i.counts;
     }
 
 pub returns-in_err-row : goal.returns-in_err-row
@@ -62,6 +65,7 @@ returns-in_err-row g c =
       cause = rw (p.1, p.2) (passed_fails _ _ (refuses_folding it.refuses (offers it.begins it.takes it.seeks)) _ _ _ _ _ _ c.next_row.new.self i.passed None e i.reads.later (n.cause.0, n.cause.1, n.cause.2.0));
       order = n.order ∙ i.order;
       reads = reads_then _ _ _ i.reads n.reads;
+      counts = rw (p.1, p.2) (n.counts ∙ ap (unblamed e) i.counts);
     }
 
 pub returns-in-Some-value_of : goal.returns-in-Some-value_of
@@ -88,6 +92,7 @@ returns-in-Some-value_of g c =
       cause = tt;
       order = n.order ∙ i.order;
       reads = reads_then _ _ _ i.reads n.reads;
+      counts = n.counts ∙ i.counts;
     }
 
 pub returns : goal.returns
@@ -110,4 +115,5 @@ returns g c =
       cause = tt;
       order = n.order ∙ i.order;
       reads = reads_then _ _ _ i.reads n.reads;
+      counts = n.counts ∙ i.counts;
     }

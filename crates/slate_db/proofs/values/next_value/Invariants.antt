@@ -18,6 +18,7 @@ invariant-loop-row g l =
       folding : l.rows.folding ≡ l.initial.rows.folding;
       order : i.order l.rows.iterator ≡ i.order l.initial.rows.iterator;
       reads : OnlyReads a b;
+      counts : b.faults ≡ a.faults;
     }
 
 abbrev pub decreases-loop-row : goal.decreases-loop-row

@@ -4,7 +4,7 @@ use Rattle.slate_types.specs.declared.config.IsolationLevel.TheVariants.{Seriali
 use Rattle.slate_types.specs.Outside.{IsFault}
 use Rattle.slate_store.specs.Reach.{reach_of}
 use Rattle.slate_shared.specs.Passes.{PassModel}
-use Rattle.slate_queue.proofs.PassCalls.{claim_answered_on, claim_none_on, claim_not_begun_on, claim_stopped_on, claim_uncommitted_on, committed_from, leaves_from, pass_committed, pass_left, pass_same, refused_from}
+use Rattle.slate_queue.proofs.PassCalls.{claim_answered_on, claim_none_on, claim_not_begun_on, claim_stopped_on, claim_uncommitted_on, committed_from, leaves_from, pass_committed, pass_left, pass_unbegun, refused_from}
 use Rattle.slate_queue.proofs.PassFinding.{claims_on_at}
 use Rattle.slate_queue.proofs.on_pass.claim_shared.Goals as goal
 
@@ -12,7 +12,7 @@ pub claim_job-requires-clause-begun : goal.claim_job-requires-clause-begun
 claim_job-requires-clause-begun g c κs lives = (c.args.pass.now.seen, c.in-Ok.ensures.begun.1)
 
 pub commit-requires-clause-table : goal.commit-requires-clause-table
-commit-requires-clause-table g c κs lives = (c.claim_job.ensures.table ∙ c.in-Ok.ensures.begun.0, ap (λ (p : PassModel). p.table) c.begin.ensures.same ∙ c.requires.table)
+commit-requires-clause-table g c κs lives = (c.claim_job.ensures.table ∙ c.in-Ok.ensures.begun.0, ap (λ (p : PassModel). p.table) c.in-Ok.ensures.same ∙ c.requires.table)
 
 pub commit-requires-clause-meaning : goal.commit-requires-clause-meaning
 commit-requires-clause-meaning g c κs lives = c.claim_job.ensures.reads.meaning ∙ c.requires.meaning
@@ -23,7 +23,7 @@ returns-in-Err g c =
     let o = g.P.Parts.options in
     let m = g.P.Parts.meaning in
     let old = c.args.pass.now in
-    record { called = claim_not_begun_on c.args.now c.args.ms o m g.P.Parts.policies old c.begin.new.pass before c.in-Err.error c.begin.ensures.same c.in-Err.ensures.cause; same = pass_same old c.begin.new.pass c.begin.ensures.same }
+    record { called = claim_not_begun_on c.args.now c.args.ms o m g.P.Parts.policies old c.begin.new.pass before c.in-Err.error c.in-Err.ensures.unbegun; same = pass_unbegun old c.begin.new.pass c.in-Err.error c.in-Err.ensures.unbegun }
 
 pub returns-in-Err-claim_job : goal.returns-in-Err-claim_job
 returns-in-Err-claim_job g c =
@@ -33,7 +33,7 @@ returns-in-Err-claim_job g c =
     let m = g.P.Parts.meaning in
     let old = c.args.pass.now in
     let h = claims_on_at o m g.P.Parts.policies old.seen before middle c.claim_job.new.txn c.args.ms _ c.args.now _ (to_z-of_z w64 c.args.now c.ranges.now) (c.in-Err-claim_job.ensures.attempt old.seen c.in-Ok.ensures.begun.1) in
-    let left = leaves_from o c.claim_job.new.txn h.refused.steps old c.begin.new.pass c.rollback-in-Err-claim_job.new.pass h.refused.attempt c.begin.ensures.same c.rollback-in-Err-claim_job.ensures.ended in
+    let left = leaves_from o c.claim_job.new.txn h.refused.steps old c.begin.new.pass c.rollback-in-Err-claim_job.new.pass h.refused.attempt c.in-Ok.ensures.same c.rollback-in-Err-claim_job.ensures.ended in
     record {
       called = claim_stopped_on c.args.now c.args.ms o m g.P.Parts.policies old c.rollback-in-Err-claim_job.new.pass before middle c.claim_job.new.txn c.in-Err-claim_job.error c.claim_job.ensures.reads h left c.rollback-in-Err-claim_job.ensures.known c.rollback-in-Err-claim_job.ensures.legal;
       same = pass_left o old c.rollback-in-Err-claim_job.new.pass left;
@@ -47,7 +47,7 @@ returns-in-Ok-None g c =
     let m = g.P.Parts.meaning in
     let old = c.args.pass.now in
     let h = claims_on_at o m g.P.Parts.policies old.seen before middle c.claim_job.new.txn c.args.ms _ c.args.now _ (to_z-of_z w64 c.args.now c.ranges.now) ((rw c.in-Ok-None.field-0-is at c.in-Ok-None.ensures.attempt) old.seen c.in-Ok.ensures.begun.1) in
-    let left = leaves_from o c.claim_job.new.txn h.done.steps old c.begin.new.pass c.rollback.new.pass h.done.attempt c.begin.ensures.same c.rollback.ensures.ended in
+    let left = leaves_from o c.claim_job.new.txn h.done.steps old c.begin.new.pass c.rollback.new.pass h.done.attempt c.in-Ok.ensures.same c.rollback.ensures.ended in
     record {
       called = claim_none_on c.args.now c.args.ms o m g.P.Parts.policies old c.rollback.new.pass before middle c.claim_job.new.txn c.claim_job.ensures.reads h left c.rollback.ensures.known c.rollback.ensures.legal;
       same = pass_left o old c.rollback.new.pass left;
@@ -62,10 +62,10 @@ returns-in-Err-commit g c =
     let m = g.P.Parts.meaning in
     let old = c.args.pass.now in
     let h = claims_on_at o m g.P.Parts.policies old.seen before middle c.claim_job.new.txn c.args.ms _ c.args.now _ (to_z-of_z w64 c.args.now c.ranges.now) ((rw c.in-Ok-Some.field-0-is at c.in-Ok-Some.ensures.attempt) old.seen c.in-Ok.ensures.begun.1) in
-    let left = leaves_from o c.claim_job.new.txn h.done.steps old c.begin.new.pass c.commit.new.pass h.done.attempt c.begin.ensures.same c.in-Err-commit.ensures.ended in
+    let left = leaves_from o c.claim_job.new.txn h.done.steps old c.begin.new.pass c.commit.new.pass h.done.attempt c.in-Ok.ensures.same c.in-Err-commit.ensures.ended in
     record {
       called = claim_uncommitted_on c.args.now c.args.ms o m g.P.Parts.policies old c.commit.new.pass before middle after c.claim_job.new.txn c.in-Ok-Some.claim c.in-Err-commit.error c.claim_job.ensures.reads c.commit.ensures.reads h left c.commit.ensures.known c.commit.ensures.legal c.commit.ensures.vouched
-          (refused_from o c.claim_job.new.txn (IsFault middle after c.in-Err-commit.error) c.in-Err-commit.error old c.begin.new.pass c.commit.new.pass c.begin.ensures.same (c.in-Err-commit.ensures.cause old.seen SerializableSnapshot h.done.steps h.done.attempt c.requires.plain));
+          (refused_from o c.claim_job.new.txn (IsFault middle after c.in-Err-commit.error) c.in-Err-commit.error old c.begin.new.pass c.commit.new.pass c.in-Ok.ensures.same (c.in-Err-commit.ensures.cause old.seen SerializableSnapshot h.done.steps h.done.attempt c.requires.plain));
       same = pass_left o old c.commit.new.pass left;
     }
 
@@ -78,7 +78,7 @@ returns-in-Ok-commit g c =
     let m = g.P.Parts.meaning in
     let old = c.args.pass.now in
     let h = claims_on_at o m g.P.Parts.policies old.seen before middle c.claim_job.new.txn c.args.ms _ c.args.now _ (to_z-of_z w64 c.args.now c.ranges.now) ((rw c.in-Ok-Some.field-0-is at c.in-Ok-Some.ensures.attempt) old.seen c.in-Ok.ensures.begun.1) in
-    let committed = committed_from o c.claim_job.new.txn c.in-Ok-commit.field-0 _ old c.begin.new.pass c.commit.new.pass c.begin.ensures.same (c.in-Ok-commit.ensures.committed old.seen SerializableSnapshot h.done.steps h.done.attempt) in
+    let committed = committed_from o c.claim_job.new.txn c.in-Ok-commit.field-0 _ old c.begin.new.pass c.commit.new.pass c.in-Ok.ensures.same (c.in-Ok-commit.ensures.committed old.seen SerializableSnapshot h.done.steps h.done.attempt) in
     record {
       called = claim_answered_on c.args.now c.args.ms o m g.P.Parts.policies old c.commit.new.pass before middle after c.claim_job.new.txn c.in-Ok-Some.claim c.in-Ok-commit.field-0 _ (to_z-of_z w64 c.args.now c.ranges.now) c.ranges.now c.ranges.ms.fits c.claim_job.ensures.reads c.commit.ensures.reads h
           committed c.commit.ensures.known c.commit.ensures.legal c.commit.ensures.vouched;

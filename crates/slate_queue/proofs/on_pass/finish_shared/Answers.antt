@@ -4,11 +4,11 @@ use Rattle.slate_types.specs.declared.config.IsolationLevel.TheVariants.{Seriali
 use Rattle.slate_types.specs.Outside.{IsFault}
 use Rattle.slate_store.specs.Reach.{reach_of}
 use Rattle.slate_shared.specs.Passes.{PassModel}
-use Rattle.slate_queue.proofs.PassCalls.{committed_from, finish_answered_on, finish_not_begun_on, finish_stopped_on, finish_uncommitted_on, leaves_from, pass_committed, pass_left, pass_same, refused_from}
+use Rattle.slate_queue.proofs.PassCalls.{committed_from, finish_answered_on, finish_not_begun_on, finish_stopped_on, finish_uncommitted_on, leaves_from, pass_committed, pass_left, pass_unbegun, refused_from}
 use Rattle.slate_queue.proofs.on_pass.finish_shared.Goals as goal
 
 pub commit-requires-clause-table : goal.commit-requires-clause-table
-commit-requires-clause-table g c κs lives = (c.finish_job.ensures.table ∙ c.in-Ok.ensures.begun.0, ap (λ (p : PassModel). p.table) c.begin.ensures.same ∙ c.requires.table)
+commit-requires-clause-table g c κs lives = (c.finish_job.ensures.table ∙ c.in-Ok.ensures.begun.0, ap (λ (p : PassModel). p.table) c.in-Ok.ensures.same ∙ c.requires.table)
 
 pub commit-requires-clause-meaning : goal.commit-requires-clause-meaning
 commit-requires-clause-meaning g c κs lives = c.finish_job.ensures.reads.meaning ∙ c.requires.meaning
@@ -19,7 +19,7 @@ returns-in-Err g c =
     let o = g.P.Parts.options in
     let m = g.P.Parts.meaning in
     let old = c.args.pass.now in
-    record { called = finish_not_begun_on c.args.id c.args.lease c.args.now o m g.P.Parts.policies old c.begin.new.pass before c.in-Err.error c.begin.ensures.same c.in-Err.ensures.cause; same = pass_same old c.begin.new.pass c.begin.ensures.same }
+    record { called = finish_not_begun_on c.args.id c.args.lease c.args.now o m g.P.Parts.policies old c.begin.new.pass before c.in-Err.error c.in-Err.ensures.unbegun; same = pass_unbegun old c.begin.new.pass c.in-Err.error c.in-Err.ensures.unbegun }
 
 pub returns-in-Err-finish_job : goal.returns-in-Err-finish_job
 returns-in-Err-finish_job g c =
@@ -29,7 +29,7 @@ returns-in-Err-finish_job g c =
     let m = g.P.Parts.meaning in
     let old = c.args.pass.now in
     let h = c.in-Err-finish_job.ensures.attempt old.seen c.in-Ok.ensures.begun.1 in
-    let left = leaves_from o c.finish_job.new.txn h.refused.steps old c.begin.new.pass c.rollback.new.pass h.refused.attempt c.begin.ensures.same c.rollback.ensures.ended in
+    let left = leaves_from o c.finish_job.new.txn h.refused.steps old c.begin.new.pass c.rollback.new.pass h.refused.attempt c.in-Ok.ensures.same c.rollback.ensures.ended in
     record {
       called = finish_stopped_on c.args.id c.args.lease c.args.now o m g.P.Parts.policies old c.rollback.new.pass before middle c.finish_job.new.txn c.in-Err-finish_job.error c.ranges.id.fits c.finish_job.ensures.reads h left c.rollback.ensures.known c.rollback.ensures.legal;
       same = pass_left o old c.rollback.new.pass left;
@@ -44,10 +44,10 @@ returns-in-Err-commit g c =
     let m = g.P.Parts.meaning in
     let old = c.args.pass.now in
     let h = c.in-Ok-finish_job.ensures.attempt old.seen c.in-Ok.ensures.begun.1 in
-    let left = leaves_from o c.finish_job.new.txn h.done.steps old c.begin.new.pass c.commit.new.pass h.done.attempt c.begin.ensures.same c.in-Err-commit.ensures.ended in
+    let left = leaves_from o c.finish_job.new.txn h.done.steps old c.begin.new.pass c.commit.new.pass h.done.attempt c.in-Ok.ensures.same c.in-Err-commit.ensures.ended in
     record {
       called = finish_uncommitted_on c.args.id c.args.lease c.args.now o m g.P.Parts.policies old c.commit.new.pass before middle after c.finish_job.new.txn tt c.in-Err-commit.error c.ranges.id.fits c.finish_job.ensures.reads c.commit.ensures.reads h left c.commit.ensures.known c.commit.ensures.legal c.commit.ensures.vouched
-          (refused_from o c.finish_job.new.txn (IsFault middle after c.in-Err-commit.error) c.in-Err-commit.error old c.begin.new.pass c.commit.new.pass c.begin.ensures.same (c.in-Err-commit.ensures.cause old.seen SerializableSnapshot h.done.steps h.done.attempt c.requires.plain));
+          (refused_from o c.finish_job.new.txn (IsFault middle after c.in-Err-commit.error) c.in-Err-commit.error old c.begin.new.pass c.commit.new.pass c.in-Ok.ensures.same (c.in-Err-commit.ensures.cause old.seen SerializableSnapshot h.done.steps h.done.attempt c.requires.plain));
       same = pass_left o old c.commit.new.pass left;
     }
 
@@ -60,7 +60,7 @@ returns-in-Ok-commit g c =
     let m = g.P.Parts.meaning in
     let old = c.args.pass.now in
     let h = c.in-Ok-finish_job.ensures.attempt old.seen c.in-Ok.ensures.begun.1 in
-    let committed = committed_from o c.finish_job.new.txn c.in-Ok-commit.field-0 _ old c.begin.new.pass c.commit.new.pass c.begin.ensures.same (c.in-Ok-commit.ensures.committed old.seen SerializableSnapshot h.done.steps h.done.attempt) in
+    let committed = committed_from o c.finish_job.new.txn c.in-Ok-commit.field-0 _ old c.begin.new.pass c.commit.new.pass c.in-Ok.ensures.same (c.in-Ok-commit.ensures.committed old.seen SerializableSnapshot h.done.steps h.done.attempt) in
     record {
       called = finish_answered_on c.args.id c.args.lease c.args.now o m g.P.Parts.policies old c.commit.new.pass before middle after c.finish_job.new.txn tt c.in-Ok-commit.field-0 _ (to_z-of_z w64 c.args.now c.ranges.now) c.ranges.id.fits c.finish_job.ensures.reads c.commit.ensures.reads h
           committed c.commit.ensures.known c.commit.ensures.legal c.commit.ensures.vouched;

@@ -1,4 +1,4 @@
-use Rattle.std.proofs.Common.{None, ◌≡◌}
+use Rattle.std.proofs.Common.{None, ◌≡◌, sym}
 use Rattle.slate_types.specs.declared.iter.IterationOrder.TheVariants.{Ascending}
 use Rattle.slate_types.specs.Keys.{prefix_range}
 use Rattle.slate_types.proofs.KeyLaws.{whole_subrange}
@@ -30,8 +30,8 @@ returns g c =
       sees = λ from level ts h v. scan_vouched_there o m ps q range Ascending t u before after quiet r opened v;
       reading = λ from level ts h s. scan_reading_on o m ps q range Ascending t u before after quiet r opened from level ts h s;
       undamaged = λ from level ts h s. scan_undamaged o m ps q range Ascending t u before after quiet r opened from level ts h s;
-      since = scan_since o m ps q range Ascending t u before after quiet r opened;
-      cause = scan_cause o m ps q range Ascending t u before after quiet r opened;
+      since = λ from level ts h. scan_since o m ps q range Ascending t u before after quiet r opened from level ts h (sym c.requires.meaning);
+      cause = λ from level ts h. scan_cause o m ps q range Ascending t u before after quiet r opened from level ts h (sym c.requires.meaning);
       more = scan_more o m ps q range Ascending t u before after quiet r opened;
       reads = opened.reads;
     }

@@ -23,7 +23,7 @@ pub returns-in-Ok-clause-sees : goal.returns-in-Ok-clause-sees
 returns-in-Ok-clause-sees g c = λ from ts h holds v. on_ok c.amount_found-amount.result (c.get.ensures.sees from SerializableSnapshot ts h holds v)
 
 pub returns-in-Ok-clause-cause : goal.returns-in-Ok-clause-cause
-returns-in-Ok-clause-cause g c = λ from ts h. if_err_map c.amount_found-amount.result _ _ (λ e x. found_cause_on _ _ _ _ c.args.key.now c.in-Ok.found e x) c.amount_found-amount.ensures.cause
+returns-in-Ok-clause-cause g c = λ from ts h. if_err_map c.amount_found-amount.result _ _ (λ e x. found_cause_on _ _ _ _ _ c.args.key.now c.in-Ok.found e x) c.amount_found-amount.ensures.cause
 
 pub returns-in-Ok-clause-truth : goal.returns-in-Ok-clause-truth
 returns-in-Ok-clause-truth g c = λ from es ts h none holds v later legal.

@@ -51,7 +51,7 @@ pub returns-in-Err-push-clause-left : goal.returns-in-Err-push-clause-left
 returns-in-Err-push-clause-left g c = λ from h. let old = c.loop-key.invariant.read from h in (_, (c.in-Ok.ensures.read from old.taken old.within).within)
 
 pub returns-in-Err-push-clause-cause : goal.returns-in-Err-push-clause-cause
-returns-in-Err-push-clause-cause g c = λ from h. wanting_cause_on _ _ _ _ c.args.keys.now c.from.result c.from.ensures
+returns-in-Err-push-clause-cause g c = λ from h. wanting_cause_on _ _ _ _ _ c.args.keys.now c.from.result c.from.ensures
 
 pub returns-in-Err-push-clause-truth : goal.returns-in-Err-push-clause-truth
 returns-in-Err-push-clause-truth g c = λ from es h holds v later legal.
@@ -72,7 +72,7 @@ pub returns-in-Err-clause-cause : goal.returns-in-Err-clause-cause
 returns-in-Err-clause-cause g c = λ from h.
     let i = c.loop-key.invariant in
     let old = i.read from h in
-    reads_cause_on _ _ _ _ _ c.args.keys.now c.loop-key.key-index _ _ c.in-Err.error i.reads (omega arith) c.key-item.is (c.in-Err.ensures.cause from old.taken old.within)
+    reads_cause_on _ _ _ _ _ _ c.args.keys.now c.loop-key.key-index _ _ c.in-Err.error i.reads (omega arith) c.key-item.is (c.in-Err.ensures.cause from old.taken old.within)
 
 pub returns-in-Err-clause-truth : goal.returns-in-Err-clause-truth
 returns-in-Err-clause-truth g c = λ from es h holds v later legal.

@@ -9,6 +9,9 @@ use Rattle.slate_stock.proofs.on_pass.run_order.Goals as goal
 pub returns-in-Some-clause-only : goal.returns-in-Some-clause-only
 returns-in-Some-clause-only g c = stays_only c.args.pass.now c.args.pass.now refl
 
+pub returns-in-Some-clause-left : goal.returns-in-Some-clause-left
+returns-in-Some-clause-left g c = inl refl
+
 pub returns-in-Some-clause-cause : goal.returns-in-Some-clause-cause
 returns-in-Some-clause-cause g c = inr (inr (λ k. 0, form_refused (λ (k : List ℕ). 0) c.args.order.now c.in-Some.error (sym c.in-Some.ensures)))
 
@@ -19,7 +22,7 @@ pub returns-in_err-keys-clause-only : goal.returns-in_err-keys-clause-only
 returns-in_err-keys-clause-only g c = on_err c.from_residual.result (stays_only c.args.pass.now c.args.pass.now refl)
 
 pub returns-in_err-keys-clause-left : goal.returns-in_err-keys-clause-left
-returns-in_err-keys-clause-left g c = on_err c.from_residual.result (inl refl)
+returns-in_err-keys-clause-left g c = err_exit c.from_residual.result _ c.from_residual.ensures.1 _ (inl refl)
 
 pub returns-in_err-keys-clause-cause : goal.returns-in_err-keys-clause-cause
 returns-in_err-keys-clause-cause g c = err_exit c.from_residual.result _ c.from_residual.ensures.1 _ (inl (IsDbCauseOn.fault tt))

@@ -38,7 +38,7 @@ returns-in-Ok-clause-cause g c = λ from h.
     let o = c.args.order.now in
     let ns = c.in-Ok.amounts.items in
     let are : ns ≡ map (known (order_keys o) ns) (order_keys o) = known_is o c.args.keys.now ns c.requires.names c.requires.form c.requires.keys (c.in-Ok.ensures.long ∙ ap length c.requires.keys) in
-    if_err_map c.put_order-done.result _ _ (λ e x. put_cause_on _ _ _ _ o c.read_amounts.new.txn c.put_order-done.new.txn (known (order_keys o) ns) e x) (c.put_order-done.ensures.refused (known (order_keys o) ns) (c.as_slice.ensures.value ∙ are))
+    if_err_map c.put_order-done.result _ _ (λ e x. put_cause_on _ _ _ _ _ o c.read_amounts.new.txn c.put_order-done.new.txn (known (order_keys o) ns) e x) (c.put_order-done.ensures.refused (known (order_keys o) ns) (c.as_slice.ensures.value ∙ are))
 
 pub returns-in-Ok-clause-truth : goal.returns-in-Ok-clause-truth
 returns-in-Ok-clause-truth g c = λ from es h holds v later legal.
@@ -63,7 +63,7 @@ pub returns-in-Err-clause-cause : goal.returns-in-Err-clause-cause
 returns-in-Err-clause-cause g c = λ from h.
     let before = reach_of g.S.Store g.M.MergeOperator g.T.BlockTransformer c.args.env.now in
     let after = reach_of g.S.Store g.M.MergeOperator g.T.BlockTransformer c.read_amounts.new.env in
-    inl (subst (λ (ks : List (List ℕ)). IsReadsCauseOn g.P.Parts.policies before after c.read_amounts.new.txn.seen ks c.in-Err.error) c.requires.keys (c.in-Err.ensures.cause from h))
+    inl (subst (λ (ks : List (List ℕ)). IsReadsCauseOn g.P.Parts.options g.P.Parts.policies before after c.read_amounts.new.txn.seen ks c.in-Err.error) c.requires.keys (c.in-Err.ensures.cause from h))
 
 pub returns-in-Err-clause-truth : goal.returns-in-Err-clause-truth
 returns-in-Err-clause-truth g c = λ from es h holds v later legal.

@@ -1,6 +1,8 @@
-use Rattle.std.proofs.Common.{◌∙◌}
+use Rattle.std.proofs.Common.{List, Option, Some, refl, sym, subst, ◌∙◌}
 use Rattle.std.proofs.lemmas.Result.{IfOk-weaker}
-use Rattle.slatedb.proofs.ReadBack.{found_put, still_objects}
+use Rattle.slate_types.specs.Outside.{Objects}
+use Rattle.slatedb.specs.ReadBack.{TakesFirstPut}
+use Rattle.slatedb.proofs.ReadBack.{found_put, on_ok_of, seen_on, still_objects, takes_put}
 use Rattle.slatedb.proofs.threads.store_and_read.Goals as goal
 
 pub returns-clause-found : goal.returns-clause-found

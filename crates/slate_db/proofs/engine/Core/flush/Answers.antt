@@ -32,7 +32,7 @@ use Rattle.slate_db.proofs.Vouches.{vouched_flushed}
 use Rattle.slate_db.proofs.Wholes.{whole_flushed}
 use Rattle.slate_txn.proofs.NamedLaws.{both_err}
 use Rattle.slate_db.proofs.Puttings.{frozen_tables}
-use Rattle.slate_db.proofs.Stills.{unasked_still}
+use Rattle.slate_types.proofs.StillLaws.{unasked_still}
 use Rattle.slate_db.proofs.engine.Core.flush.Goals as goal
 
 pub note_flush-requires : goal.note_flush-requires
@@ -305,4 +305,4 @@ returns g c =
     }
 
 pub returns-then-is_empty-clause-still : goal.returns-then-is_empty-clause-still
-returns-then-is_empty-clause-still g c = unasked_still _ _
+returns-then-is_empty-clause-still g c = refl

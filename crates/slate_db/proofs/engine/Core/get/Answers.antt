@@ -3,7 +3,7 @@ use Rattle.std.proofs.lemmas.Result.{IfOk-from_err, err_from_is_err_and}
 use Rattle.std.specs.Prelude.{option_and_then}
 use Rattle.slate_types.specs.declared.types.RowEntry.{RowEntry}
 use Rattle.slate_types.specs.Fold.{IsLawful, KeepsShort, fold_rows}
-use Rattle.slate_types.specs.Outside.{IsCounted}
+use Rattle.slate_types.specs.Outside.{IsCounted, unblamed}
 use Rattle.slate_types.specs.World.{Made}
 use Rattle.slate_types.specs.Rows.{key_value, hide_tombstone}
 use Rattle.slate_store.specs.Reach.{reach_of}
@@ -58,6 +58,7 @@ returns-in_err-key g c =
         cause = rw (p.1, p.2) (inl tt);
         checked = λ os is. checks_err c.from_residual.result os (reach_of g.S.Store g.M.MergeOperator g.T.BlockTransformer c.args.env.now) (reach_of g.S.Store g.M.MergeOperator g.T.BlockTransformer c.args.env.now) c.from_residual.ensures.0;
         reads = reads_none _;
+        still = refl;
       };
       asks = asks_none (record { policies = map (λ p. (goal.FilterPolicy-dyn g (p.vtable, p.value)).meaning p.value) c.args.laws.now.policies.items; query = point_query c.args.key.now c.args.options.now.filter_context }) _ _ _ (call_none _);
       finds = λ from found is needs. IfOk-from_err c.from_residual.result _ c.from_residual.ensures.0;
@@ -77,7 +78,7 @@ pub returns-in-Err : goal.returns-in-Err
 returns-in-Err g c =
     record {
       noted = tt;
-      read = record { answer = λ is. tt; undamaged = (c.in-Err.ensures.read (open_is _ c.requires).value (open_is _ c.requires).is).undamaged; cause = subst (λ (k : List ℕ). IsReadError (record { policies = map (λ p. (goal.FilterPolicy-dyn g (p.vtable, p.value)).meaning p.value) c.args.laws.now.policies.items; query = point_query k c.args.options.now.filter_context }) (reach_of g.S.Store g.M.MergeOperator g.T.BlockTransformer c.args.env.now) (reach_of g.S.Store g.M.MergeOperator g.T.BlockTransformer c.asked.new.env) c.args.self.now c.in-Err.error) c.in_ok-key.ensures (c.in-Err.ensures.read (open_is _ c.requires).value (open_is _ c.requires).is).cause; checked = λ os is. tt; reads = (c.asked.ensures.read (open_is _ c.requires).value (open_is _ c.requires).is).reads };
+      read = record { answer = λ is. tt; undamaged = (c.in-Err.ensures.read (open_is _ c.requires).value (open_is _ c.requires).is).undamaged; cause = subst (λ (k : List ℕ). IsReadError (record { policies = map (λ p. (goal.FilterPolicy-dyn g (p.vtable, p.value)).meaning p.value) c.args.laws.now.policies.items; query = point_query k c.args.options.now.filter_context }) (reach_of g.S.Store g.M.MergeOperator g.T.BlockTransformer c.args.env.now) (reach_of g.S.Store g.M.MergeOperator g.T.BlockTransformer c.asked.new.env) c.args.self.now c.in-Err.error) c.in_ok-key.ensures (c.in-Err.ensures.read (open_is _ c.requires).value (open_is _ c.requires).is).cause; checked = λ os is. tt; reads = (c.asked.ensures.read (open_is _ c.requires).value (open_is _ c.requires).is).reads; still = (c.in-Err.ensures.read (open_is _ c.requires).value (open_is _ c.requires).is).still };
       asks = subst (λ (k : List ℕ). Asks (record { policies = map (λ p. (goal.FilterPolicy-dyn g (p.vtable, p.value)).meaning p.value) c.args.laws.now.policies.items; query = point_query k c.args.options.now.filter_context }) (reach_of g.S.Store g.M.MergeOperator g.T.BlockTransformer c.args.env.now) (reach_of g.S.Store g.M.MergeOperator g.T.BlockTransformer c.asked.new.env) c.args.self.now) c.in_ok-key.ensures c.asked.ensures.asks;
       finds = λ from found is needs. tt;
       own = λ t op found one replaces.
@@ -104,6 +105,7 @@ returns-in-Err-note_get g c =
         cause = inl (subst (IsCounted _ _) (sym c.from.ensures) tt);
         checked = λ os is. tt;
         reads = (c.asked.ensures.read (open_is _ c.requires).value (open_is _ c.requires).is).reads;
+        still = ap (unblamed c.from.result) (c.in-Ok.ensures.read (open_is _ c.requires).value (open_is _ c.requires).is).still;
       };
       asks = subst (λ (k : List ℕ). Asks (record { policies = map (λ p. (goal.FilterPolicy-dyn g (p.vtable, p.value)).meaning p.value) c.args.laws.now.policies.items; query = point_query k c.args.options.now.filter_context }) (reach_of g.S.Store g.M.MergeOperator g.T.BlockTransformer c.args.env.now) (reach_of g.S.Store g.M.MergeOperator g.T.BlockTransformer c.asked.new.env) c.args.self.now) c.in_ok-key.ensures c.asked.ensures.asks;
       finds = λ from found is needs. tt;
@@ -183,6 +185,7 @@ returns g c =
         cause = tt;
         checked = (c.in-Ok.ensures.read (who g c) (from_is g c).is).checked;
         reads = (c.asked.ensures.read (open_is _ c.requires).value (open_is _ c.requires).is).reads;
+        still = (c.in-Ok.ensures.read (open_is _ c.requires).value (open_is _ c.requires).is).still;
       };
       asks = subst (λ (k : List ℕ). Asks (record { policies = map (λ p. (goal.FilterPolicy-dyn g (p.vtable, p.value)).meaning p.value) c.args.laws.now.policies.items; query = point_query k c.args.options.now.filter_context }) (reach_of g.S.Store g.M.MergeOperator g.T.BlockTransformer c.args.env.now) (reach_of g.S.Store g.M.MergeOperator g.T.BlockTransformer c.asked.new.env) c.args.self.now) c.in_ok-key.ensures c.asked.ensures.asks;
       finds = λ from found is needs.

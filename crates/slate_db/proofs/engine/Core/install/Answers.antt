@@ -30,7 +30,8 @@ use Rattle.slate_db.proofs.RunSoFar.{put_may}
 use Rattle.slate_db.proofs.Runs.{are_placed}
 use Rattle.slate_db.proofs.Calls.{installed_is, layers_installed_of, place_in, room_in_log}
 use Rattle.slate_db.proofs.Wholes.{whole_install}
-use Rattle.slate_db.proofs.Stills.{still_err, still_ok, still_same, still_then, unasked_still}
+use Rattle.slate_types.proofs.StillLaws.{unasked_still}
+use Rattle.slate_types.specs.Outside.{unblamed_by}
 use Rattle.slate_db.proofs.engine.Core.install.Goals as goal
 
 -- the barrier
@@ -103,7 +104,7 @@ returns g c =
       wanted = λ none among. absurd (c.in_ok-put.ensures.wanted none (sym (among_idle (view_of c.self.inside) (map (λ t. t.rows) c.frozen.result.now) (ap (λ (v : CoreModel). v.active) c.self.view_is ∙ c.requires.idle) c.frozen.ensures) ∙ ap (λ (v : CoreModel). is_merge_among (newest_first (memory v))) c.self.view_is ∙ among));
       cause = tt;
       puts = c.stored.ensures.puts;
-      still = still_ok _ _ c.in_ok-put.put _ c.in_ok-put.ensures.still;
+      still = c.in_ok-put.ensures.still;
     }
 
 -- room was made, and nothing else
@@ -161,7 +162,7 @@ returns-in_err-put g c =
           (wants_idle m (view_of c.self.inside) (map (λ t. t.rows) c.frozen.result.now) c.in_err-put.field-0.0 idle frozen wants))
           c.in_err-put.ensures.cause));
       puts = c.stored.ensures.puts;
-      still = rw (p.1, p.2) (still_err _ _ c.in_err-put.field-0.0 c.in_err-put.ensures.still);
+      still = rw (p.1, p.2) c.in_err-put.ensures.still;
     }
 
 pub returns-in_err-install : goal.returns-in_err-install
@@ -190,7 +191,7 @@ returns-in_err-install g c =
       wanted = λ none among. IfOk-from_err c.from_residual-in_err-install.result _ c.from_residual-in_err-install.ensures.0;
       cause = rw (p.1, p.2) (inl tt);
       puts = c.stored.ensures.puts;
-      still = still_then _ _ _ _ (still_same _ _ _ c.in_ok-put.ensures.still) (unasked_still _ c.from_residual-in_err-install.result);
+      still = ap (unblamed_by c.from_residual-in_err-install.result) c.in_ok-put.ensures.still;
     }
 
 pub returns-in_err-reserve : goal.returns-in_err-reserve

@@ -1,4 +1,4 @@
-use Rattle.std.proofs.Common.{inl, ◌≡◌, ℕ, List, Some, map, ap, sym, subst, ◌∙◌}
+use Rattle.std.proofs.Common.{inl, ◌≡◌, ℕ, List, Some, map, ap, sym, subst, ◌∙◌, refl}
 use Rattle.std.proofs.lemmas.Result.{IfOk-from_err, err_from_is_err_and}
 use Rattle.slate_types.specs.Outside.{IsFault}
 use Rattle.slate_types.proofs.Exits.{err_exit}
@@ -53,6 +53,7 @@ returns g c =
       range = c.opened_over.ensures.range;
       order = c.opened_over.ensures.order;
       reads = c.opened_over.ensures.reads;
+      still = c.opened_over.ensures.still;
     }
 
 pub returns-in_err-own : goal.returns-in_err-own
@@ -67,4 +68,5 @@ returns-in_err-own g c =
       range = IfOk-from_err c.from_residual.result _ c.from_residual.ensures.0;
       order = IfOk-from_err c.from_residual.result _ c.from_residual.ensures.0;
       reads = reads_none _;
+      still = refl;
     }

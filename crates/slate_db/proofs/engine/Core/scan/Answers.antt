@@ -5,7 +5,7 @@ use Rattle.slate_types.specs.declared.bytes_range.BytesRange.{BytesRange}
 use Rattle.slate_types.specs.declared.error.SlateDBError.{SlateDBError}
 use Rattle.slate_types.specs.declared.iter.IterationOrder.{IterationOrder}
 use Rattle.slate_types.specs.declared.types.RowEntry.{RowEntry}
-use Rattle.slate_types.specs.Outside.{IsCounted, IsFault}
+use Rattle.slate_types.specs.Outside.{IsCounted, IsFault, unblamed}
 use Rattle.slate_types.proofs.Exits.{err_exit}
 use Rattle.slate_types.proofs.Reaching.{reads_none}
 use Rattle.slate_store.specs.Reach.{reach_of}
@@ -63,6 +63,7 @@ returns-then-leaves_none g c = record {
   kept = λ m k. k;
   settings = refl;
   reads = reads_none _;
+  still = refl;
 }
 
 pub returns-in_err-how : goal.returns-in_err-how
@@ -86,6 +87,7 @@ returns-in_err-how g c =
       kept = λ m k. k;
       settings = refl;
       reads = reads_none _;
+      still = refl;
     }
 
 pub returns-in_err-rows : goal.returns-in_err-rows
@@ -115,6 +117,7 @@ returns-in_err-rows g c =
       kept = λ m k. k;
       settings = refl;
       reads = c.opened.ensures.reads;
+      still = rw (p.1, p.2) c.in_err-rows.ensures.still;
     }
 
 pub invariant_of-self : goal.invariant_of-self
@@ -141,6 +144,7 @@ returns-in-Err g c = record {
       (subst (λ (v : CoreModel). IsKept m v) (sym c.self.view_is) kept_m));
   settings = ap (λ (v : CoreModel). v.settings) c.self.view_is;
   reads = c.opened.ensures.reads;
+  still = ap (unblamed _) c.in_ok-rows.ensures.still;
 }
 
 -- of equal orders, and equal starts
@@ -213,4 +217,5 @@ returns g c =
           (subst (λ (v : CoreModel). IsKept k v) (sym c.self.view_is) kept_k)));
       settings = ap (λ (v : CoreModel). v.settings) c.self.view_is;
       reads = c.opened.ensures.reads;
+      still = c.in_ok-rows.ensures.still;
     }

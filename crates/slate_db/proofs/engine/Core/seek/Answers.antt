@@ -1,5 +1,5 @@
 use Rattle.std.proofs.Common.{inl, ◌≡◌, [], ◌∷◌, ◌++◌, refl, ap, sym, subst, ◌∙◌}
-use Rattle.slate_types.specs.Outside.{IsCounted}
+use Rattle.slate_types.specs.Outside.{IsCounted, unblamed}
 use Rattle.slate_types.specs.Iteration.{drop_before}
 use Rattle.slate_txn.specs.declared.event.TranscriptStep.{TranscriptStep}
 use Rattle.slate_txn.specs.declared.event.TranscriptStep.TheVariants as steps
@@ -54,6 +54,7 @@ returns-in-Err g c =
       kept = λ m k. k;
       settings = refl;
       reads = n.reads;
+      still = n.still;
     }
 
 pub returns-in-Err-note_seek : goal.returns-in-Err-note_seek
@@ -79,6 +80,7 @@ returns-in-Err-note_seek g c =
       kept = λ m k. subst (λ (s : Inside). IsKept m (view_of s)) (sym unmoved) (subst (λ (v : CoreModel). IsKept m v) (sym c.self.view_is) k);
       settings = ap (λ (v : CoreModel). v.settings) c.self.view_is;
       reads = n.reads;
+      still = ap (unblamed _) n.still;
     }
 
 -- the step that is noted
@@ -121,4 +123,5 @@ returns g c =
           (subst (λ (v : CoreModel). IsKept p v) (sym c.self.view_is) k));
       settings = ap (λ (v : CoreModel). v.settings) c.self.view_is;
       reads = n.reads;
+      still = n.still;
     }

@@ -53,6 +53,7 @@ returns-in_err-near g c =
         cause = rw (p.1, p.2) (inl (subst (IsCounted _ _) (sym c.in_err-near.ensures.cause) tt));
         checked = λ os is. checks_err c.from_residual.result os (reach_of g.S.Store g.M.MergeOperator g.T.BlockTransformer c.args.env.now) (reach_of g.S.Store g.M.MergeOperator g.T.BlockTransformer c.args.env.now) c.from_residual.ensures.0;
         reads = reads_none _;
+        still = refl;
       };
       asks = asks_none (record { policies = map (λ p. (goal.FilterPolicy-dyn g (p.vtable, p.value)).meaning p.value) c.args.policies.now; query = c.args.query.now }) _ _ _ (call_none _);
       finds = λ above is needs. IfOk-from_err c.from_residual.result _ c.from_residual.ensures.0;

@@ -4,6 +4,7 @@ use Rattle.std.specs.List.{AllByRecursion}
 use Rattle.std.proofs.lemmas.List.Elements.{All-contains, All-from_recursion}
 use Rattle.slate_types.specs.declared.error.SlateDBError.{SlateDBError}
 use Rattle.slate_types.specs.declared.error.SlateDBError.TheVariants.{OutOfMemory}
+use Rattle.slate_types.specs.declared.filter_policy.PrefixTarget.TheVariants.{Point}
 use Rattle.slate_types.specs.declared.types.RowEntry.{RowEntry}
 use Rattle.slate_types.specs.Fold.{fold_rows}
 use Rattle.slate_types.specs.Outside.{Reach}
@@ -37,6 +38,7 @@ use Rattle.slate_db.proofs.OwnRows.{oldest_first, one_decides, own_decide, own_d
 use Rattle.slate_db.proofs.Readers.{own_fine_of, own_of_reader, own_rows_of}
 use Rattle.slate_db.proofs.Runs.{all_handles}
 use Rattle.slate_db.proofs.Shown.{fold_refused, newer_found}
+use Rattle.slate_types.proofs.StillLaws.{asked_still}
 use Rattle.slate_db.proofs.engine.Core.seen_by.Goals as goal
 use Rattle.std.proofs.lemmas.Result.{IfOk-weaker, IfErr-weaker}
 
@@ -78,10 +80,11 @@ returns-then-is_decided g c =
                 (c.fold_found.ensures.row k (is.readable.lawful.operator k) (is.readable.lawful.short k) (own_pairs k own (own_keys k from.ops own rows) (own_short k from.ops own rows (own_fine_of (view_of c.self.inside).state c.args.id.now from there c.own_rows.ensures.fine))));
             undamaged = λ is. IfErr-weaker c.fold_found.result _ _ (λ e h. fold_fault before.faults before.faults after.faults (is_merge_among own) e (later_none before.faults) (λ lacks. no_merge_among own (own_bases_of c.args.self.now own (is.readable.kept.2 lacks) owns)) h) c.fold_found.ensures.cause;
             cause = IfErr-weaker c.fold_found.result _ _ (λ e h. fold_refused _ before before after c.args.self.now (handles_of c.self.inside.layers.runs) own own e handles
-                (λ r among. inl (All-contains (IsOwnRow c.args.self.now) own r (All-from_recursion _ own owns) among)) (later_none before.faults) refl
+                (λ r among. inl (All-contains (IsOwnRow c.args.self.now) own r (All-from_recursion _ own owns) among, c.requires.query ∙ ap Point (sym (All-contains (λ (x : RowEntry). x.key ≡ k) own r (All-from_recursion _ own (own_keys k from.ops own rows)) among)))) (later_none before.faults) refl
                 (λ i. record before.meaning { combine = c.fold_found.ensures.same i }) refl ([], call_none before, newer_found before.meaning.decode _ (handles_of c.self.inside.layers.runs) own []) h) c.fold_found.ensures.cause;
             checked = λ os is. checks_ok c.fold_found.result os before after (checks_quiet os before after refl);
             reads = reads_of before after refl c.fold_found.ensures.same refl refl (adds_none before.acts) (record { store = omega arith; operator = c.fold_found.ensures.later; transformer = omega arith }) refl;
+            still = asked_still before.faults after.faults c.fold_found.result refl c.fold_found.ensures.still refl;
           };
       asks = asks_none (record { policies = map (λ p. (goal.FilterPolicy-dyn g (p.vtable, p.value)).meaning p.value) c.args.policies.now; query = c.args.query.now }) before after c.args.self.now (call_quiet before after refl (λ i. record before.meaning { combine = c.fold_found.ensures.same i }) refl);
       finds = λ from found above is needs.
@@ -135,6 +138,7 @@ returns g c =
             cause = c.seen.ensures.read.cause;
             checked = c.seen.ensures.read.checked;
             reads = c.seen.ensures.read.reads;
+            still = c.seen.ensures.read.still;
           };
       asks = c.seen.ensures.asks;
       finds = λ from found above is needs.

@@ -23,4 +23,5 @@ returns g c = record {
   range = c.opened_over.ensures.range;
   order = c.opened_over.ensures.order;
   reads = c.opened_over.ensures.reads;
+  still = c.opened_over.ensures.still;
 }

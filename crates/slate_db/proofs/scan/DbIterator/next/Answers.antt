@@ -21,6 +21,7 @@ returns-in-Refused g c =
       range = refl;
       order = refl;
       reads = reads_none _;
+      still = refl;
     }
 
 pub next_in-requires : goal.next_in-requires
@@ -43,6 +44,7 @@ returns-in-Ok g c =
       range = refl;
       order = refl;
       reads = n.reads;
+      still = n.still;
     }
 
 pub returns-in-Err : goal.returns-in-Err
@@ -61,4 +63,5 @@ returns-in-Err g c =
       range = r.range;
       order = r.order;
       reads = n.reads;
+      still = rw r.same n.still;
     }

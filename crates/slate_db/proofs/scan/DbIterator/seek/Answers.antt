@@ -24,6 +24,7 @@ returns-in-Refused g c =
       range = refl;
       order = refl;
       reads = reads_none _;
+      still = refl;
     }
 
 pub returns-then-not-is_past_start : goal.returns-then-not-is_past_start
@@ -43,6 +44,7 @@ returns-then-not-is_past_start g c =
       range = start_range (λ d. d.range) it after (λ x. refl) s.none s.all;
       order = start_range (λ d. d.order) it after (λ x. refl) s.none s.all;
       reads = reads_none _;
+      still = refl;
     }
 
 pub seek_in-requires : goal.seek_in-requires
@@ -65,6 +67,7 @@ returns-in-Ok g c =
       range = refl;
       order = refl;
       reads = n.reads;
+      still = n.still;
     }
 
 pub returns-in-Err : goal.returns-in-Err
@@ -84,4 +87,5 @@ returns-in-Err g c =
       range = r.range;
       order = r.order;
       reads = n.reads;
+      still = rw r.same n.still;
     }

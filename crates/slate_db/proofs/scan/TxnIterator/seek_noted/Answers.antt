@@ -1,5 +1,5 @@
 use Rattle.std.proofs.Common.{inl, refl, ap, sym, subst, ◌∙◌}
-use Rattle.slate_types.specs.Outside.{IsCounted}
+use Rattle.slate_types.specs.Outside.{IsCounted, unblamed}
 use Rattle.slate_db.specs.declared.scan.DbIterator.{DbIterator}
 use Rattle.slate_db.proofs.ScanStates.{answered_once}
 use Rattle.slate_db.proofs.scan.TxnIterator.seek_noted.Goals as goal
@@ -19,6 +19,7 @@ returns-in-Err g c =
         refused = λ kept was. let r = n.refused kept was in (r.0, ap (λ (d : DbIterator). record c.args.self.now { rows = d }) r.1, r.2);
         names = record { named = refl; number = refl; ordered = n.order; ranged = n.range };
         reads = n.reads;
+        still = n.still;
       };
       same = refl;
     }
@@ -39,6 +40,7 @@ returns-in-Err-note_seek g c =
         refused = λ kept was. answered_once tt kept (n.refused kept was).0;
         names = record { named = refl; number = refl; ordered = r.order ∙ n.order; ranged = r.range ∙ n.range };
         reads = n.reads;
+        still = ap (unblamed _) n.still;
       };
       same = c.in-Err-note_seek.ensures.same;
     }
@@ -58,6 +60,7 @@ returns g c =
         refused = λ kept was. answered_once tt kept (n.refused kept was).0;
         names = record { named = refl; number = refl; ordered = n.order; ranged = n.range };
         reads = n.reads;
+        still = n.still;
       };
       same = tt;
     }

@@ -25,7 +25,7 @@ returns-in-Err g c =
     let after = reach_of g.S.Store g.M.MergeOperator g.T.BlockTransformer c.scan_prefix.new.env in
     record {
       attempt = λ from h. refused_on g.P.Parts.options g.P.Parts.meaning g.P.Parts.policies from before after (MayFind c.args.now) (FindStops c.args.now) c.scan_prefix.new.txn c.in-Err.error
-          (c.in-Err.ensures.refused from SerializableSnapshot [] h) (λ s. c.in-Err.ensures.undamaged from SerializableSnapshot [] h s) c.in-Err.ensures.cause;
+          (c.in-Err.ensures.refused from SerializableSnapshot [] h) (λ s. c.in-Err.ensures.undamaged from SerializableSnapshot [] h s) (c.in-Err.ensures.cause from SerializableSnapshot [] h);
       table = c.scan_prefix.ensures.more.0;
       reads = c.scan_prefix.ensures.reads;
     }
@@ -44,7 +44,7 @@ returns g c =
             rows = rows_of_range o m c.scan_prefix.new.txn.seen c.args.txn.now.tx Ascending (prefix_range jobs_prefix);
             reading = λ s. c.in-Ok.ensures.reading from SerializableSnapshot [] h s;
             vouched = c.scan_prefix.ensures.sees from SerializableSnapshot [] h (begun_vouched o m from SerializableSnapshot c.args.txn.now h);
-            since = c.in-Ok.ensures.since;
+            since = c.in-Ok.ensures.since from SerializableSnapshot [] h;
             meaning = c.requires.meaning;
             reads = c.scan_prefix.ensures.reads;
           })

@@ -1,11 +1,15 @@
-use Rattle.std.proofs.Common.{rules, ◌≡◌, ⊎_elim, inl, inr, List, [], ◌∷◌, ◌++◌, sym, ap, ◌∙◌, subst}
+use Rattle.std.proofs.Common.{rules, ◌≡◌, ◌<◌, ⊎_elim, inl, inr, List, [], ◌∷◌, ◌++◌, sym, ap, ◌∙◌, subst, arith}
 use Rattle.slate_txn.specs.declared.event.Event.{Event}
 use Rattle.slate_txn.specs.declared.event.Event.TheVariants.{Begin}
 use mathlib.Core.List.{IsPrefix}
 use Rattle.slate_txn.specs.Replay.{IsLegal}
 use Rattle.slate_txn.specs.State.{begun}
-use Rattle.slate_shared.proofs.Moves.{offshoots, may_event, view_after}
+use Rattle.slate_shared.specs.LockedModel.{IsFull}
+use Rattle.slate_shared.proofs.KeptSeats.{IsBack, taken_back}
+use Rattle.slate_shared.proofs.Lists.{prefix_self}
+use Rattle.slate_shared.proofs.Moves.{joins, offshoots, may_event, view_after}
 use Rattle.slate_shared.proofs.Seats.{begun_seat}
+use Rattle.slate_shared.proofs.pass.Pass.begin.Given as given
 use Rattle.slate_shared.proofs.pass.Pass.begin.Goals as goal
 
 pub split_seat-seat-requires : goal.split_seat-seat-requires
@@ -28,6 +32,11 @@ returns-clause-begun g c =
     let at : c.in-Ok.opened.1 ≡ c.new-own.result.begin = sym (ap (λ o. o.begin) c.new-own.ensures) in
     (search rules, c.new-own.ensures ∙ ap (λ n. begun c.args.level n) at, (y, subst (λ l. IsPrefix l y) before t.journal.0, ap (λ w. w.seen) now ∙ ap (λ n. y ++ Begin c.in-Ok.opened.0 c.args.level n ∷ []) at, sym at ∙ c.in-Ok.ensures.ok.1))
 
+pub returns-clause-seen : goal.returns-clause-seen
+returns-clause-seen g c =
+    let v = c.self.inside.seat.me.0 in
+    rw (← c.self.view_is) (subst (IsPrefix v.seen) (sym (ap (λ m. m.0.seen) c.split_seat-seat.ensures.2)) (prefix_self v.seen))
+
 pub returns-clause-legal : goal.returns-clause-legal
 returns-clause-legal g c =
     let t = c.take-locked.ensures in
@@ -42,9 +51,36 @@ invariant_of-result g c =
     begun_seat _ _ c.split_seat-seat.result.me.0 _ c.take-locked.result _ _ c.in-Ok.opened.0 c.args.level c.in-Ok.opened.1 c.new-own.result t.seat.1 (ap (λ h. h.events) c.in-Ok.ensures.ok.0) c.add.ensures.view (ap (λ h. h.flight) c.in-Ok.ensures.ok.0)
     (ap (λ m. m.0.parts) s) (ap (λ m. m.0.own) s) (ap (λ m. m.0.flight) s) c.new-own.ensures
 
-pub returns-in-Err-clause-cause : goal.returns-in-Err-clause-cause
-returns-in-Err-clause-cause g c =
+pub join_seat-requires : goal.join_seat-requires
+join_seat-requires g c = (search rules, search rules, search rules, search rules, joins _ _ _ _)
+
+back : (g : given.Over) (c : goal.After-join_seat g) → IsBack c.self.inside.seat.me.0 c.take-locked.result c.join_seat.new.seat.me
+back g c =
     let t = c.take-locked.ensures in
-    let y = c.take-locked.result.events in
-    let before : c.split_seat-seat.result.me.0.seen ≡ c.args.self.now.seen = ap (λ m. m.0.seen) c.split_seat-seat.ensures.4 ∙ ap (λ p. p.seen) c.self.view_is in
-    ⊎_elim (λ h. inl h) (λ h. inr (h.0, (y, subst (λ l. IsPrefix l y) before t.journal.0, h.1))) c.in-Err.ensures.cause
+    let s = c.split_seat-seat.ensures in
+    let v = c.self.inside.seat.me.0 in
+    taken_back v c.split_seat-seat.result.me c.split_seat-seat.new.seat.me c.take-locked.new.place.me c.keep.new.place.me c.join_seat.new.seat.me _ _ c.take-locked.result c.begin.new.self.flight s.4 s.2 t.seat.1 c.keep.ensures.seat.1 c.join_seat.ensures.2 c.self.invariant.0
+    (ap (λ h. h.flight) c.in-Err.ensures.err) c.self.invariant.2 c.self.invariant.3 (subst (λ l. IsPrefix l c.take-locked.result.events) (ap (λ m. m.0.seen) s.4) t.journal.0)
+
+pub returns-in-Err : goal.returns-in-Err
+returns-in-Err g c =
+    let b = back g c in
+    let t = c.take-locked.ensures in
+    let v = c.self.inside.seat.me.0 in
+    let before = subst (λ l. IsPrefix l c.take-locked.result.events) (ap (λ m. m.0.seen) c.split_seat-seat.ensures.4) t.journal.0 in
+    rw (← c.self.view_is) (record {
+      same = (c.join_seat.ensures.0 ∙ c.split_seat-seat.ensures.0, b.parts, b.own);
+      seen = subst (IsPrefix v.seen) (sym b.seen) before;
+      opened = tt;
+      begun = tt;
+      legal = tt;
+      cause = ⊎_elim (λ h. inl h) (λ h. inr (h.0, subst (IsFull 2) (sym b.seen) h.1)) c.in-Err.ensures.cause;
+    })
+
+pub invariant_of-self-in-Err : goal.invariant_of-self-in-Err
+invariant_of-self-in-Err g c =
+    let b = back g c in
+    let some_part : 0 < c.self.inside.seat.me.0.parts = c.self.invariant.1 in
+    let parts = b.parts in
+    let left : 0 < c.join_seat.new.seat.me.0.parts = omega (arith, some_part, parts) in
+    (b.home, left, b.txn, b.flight)

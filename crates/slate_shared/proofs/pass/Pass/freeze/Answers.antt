@@ -5,7 +5,15 @@ use Rattle.slate_txn.specs.Places.{IsQuiet}
 use Rattle.slate_shared.specs.LockedModel.{IsFull}
 use Rattle.slate_shared.proofs.KeptSeats.{kept_is}
 use Rattle.slate_shared.proofs.Moves.{view_after}
+use Rattle.slate_shared.proofs.Seats.{pass_seat}
 use Rattle.slate_shared.proofs.pass.Pass.freeze.Goals as goal
+
+pub invariant_of-self : goal.invariant_of-self
+invariant_of-self g c =
+    let y = c.take-locked.result in
+    let grown : c.freeze.new.self.events ≡ y.events ++ Freeze ∷ [] = search rules in
+    let flight : c.freeze.new.self.flight ≡ y.flight = search rules in
+    pass_seat _ _ c.self.inside.seat.me.0 _ y _ _ _ c.take-locked.ensures.seat.1 grown c.add.ensures.view flight c.self.invariant.1 c.self.invariant.2 c.self.invariant.3
 
 pub returns-in-Ok-default-true-clause-frozen : goal.returns-in-Ok-default-true-clause-frozen
 returns-in-Ok-default-true-clause-frozen g c =
