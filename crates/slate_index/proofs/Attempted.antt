@@ -1,5 +1,5 @@
 -- A change of a record on a database that threads share: what its attempt takes, reads, commits and leaves.
-use Rattle.std.proofs.Common.{◌≡◌, ℕ, ◌+◌, ◌<◌, ◌⊎◌, inl, inr, List, [], ◌∷◌, ◌++◌, Option, Some, None, option_map, Ok, Err, ℤ, refl, sym, ap, subst, ◌∙◌, append-nil, append_assoc, add-one, get_or, length, take}
+use Rattle.std.proofs.Common.{◌≡◌, ℕ, ◌+◌, ◌<◌, ◌⊎◌, inl, inr, List, [], ◌∷◌, ◌++◌, Option, Some, None, option_map, Result, Ok, Err, ℤ, refl, sym, ap, subst, ◌∙◌, append-nil, append_assoc, add-one, get_or, length, take}
 use Rattle.std.proofs.Math.Seq.{take-suc}
 use Rattle.std.specs.Prelude.{IfSome}
 use mathlib.Core.List.{IsPrefix}
@@ -29,8 +29,8 @@ use Rattle.slate_txn.specs.Settings.{settings_of}
 use Rattle.slate_txn.specs.State.{Commit, Rules, Tx, combine_at, last_of}
 use Rattle.slate_db.specs.Meaning.{Meaning, rules_of}
 use Rattle.slate_shared.specs.Passes.{Opened, PassModel}
-use Rattle.slate_steps.specs.Attempts.{HasCommittedBehind, HasEndedBehind, IsAttempt, IsReadErrorOn, IsRefusedBehind, IsStoreTrue, IsUnbegun, IsVouchedThere, SeesOnly}
-use Rattle.slate_steps.proofs.StoreTruth.{store_within}
+use Rattle.slate_steps.specs.Attempts.{HasCommittedBehind, HasEndedBehind, IsAttempt, IsFaultOn, IsReadErrorOn, IsRefusedBehind, IsStoreChecked, IsUnbegun, IsVouchedThere, SeesOnly}
+use Rattle.slate_steps.proofs.StoreTruth.{checked_earlier, store_within}
 use Rattle.slate_index.specs.declared.error.IndexError.{IndexError}
 use Rattle.slate_index.specs.declared.error.IndexError.TheVariants.{Db}
 use Rattle.slate_index.specs.Attempting.{HasTakenThere, IsChangeAttempt, IsChangeErrorThere, IsPlainlyRefused, IsRefusedAtBegin, IsStoppedThere, IsTurnedBack, absent, begins, faults, of_fault, of_value, reads, stops, turned_back, values_begun}
@@ -101,7 +101,7 @@ module _ (o : Options) (m : Meaning) (policies : List Policy) (fs : FieldsModel)
     steps = ts;
     attempt = attempt;
     cause = faults OutOfMemory is tt;
-    undamaged = λ h es longer legal. inr (OutOfMemory, is, tt);
+    checked = λ h es longer legal. inr (OutOfMemory, is, λ s. tt);
   }
 
   -- before the read
@@ -109,17 +109,17 @@ module _ (o : Options) (m : Meaning) (policies : List Policy) (fs : FieldsModel)
   key_there e attempt is = memory_there [] e attempt is
 
   -- the read is refused
-  pub read_there : (x : SlateDBError) → IsAttempt o from SerializableSnapshot [] t → IsReadErrorOn o policies before after t.seen x → (IsStoreTrue policies m t.seen before after → IsFault before after x) →
+  pub read_there : (x : SlateDBError) → IsAttempt o from SerializableSnapshot [] t → IsReadErrorOn o policies before after t.seen x → IsFaultOn policies m t.seen before after x →
       IsStoppedThere o m policies fs id new from before after t (Db x)
   read_there x attempt error undamaged = record {
     steps = [];
     attempt = attempt;
     cause = reads x refl error;
-    undamaged = λ h es longer legal. inr (x, refl, undamaged h);
+    checked = λ h es longer legal. inr (x, refl, undamaged);
   }
 
   -- what the change does is refused
-  pub change_there : (row : Option KeyValue) (e : IndexError) → (IsStoreTrue policies m t.seen before after → IsVouchedThere o m t) →
+  pub change_there : (row : Option KeyValue) (e : IndexError) → (IsStoreChecked policies m t.seen before after → IsVouchedThere o m t) →
       (us : List TranscriptStep) × IsAttempt o from SerializableSnapshot ((Get (record_key id) row ∷ []) ++ us) t →
       ((new ≡ None) × (delete_refusal id (value_of row) ≡ Some e)) ⊎ (e ≡ Db OutOfMemory) → IsStoppedThere o m policies fs id new from before after t e
   change_there row e sees still (inr memory) = memory_there ((Get (record_key id) row ∷ []) ++ still.0) e still.1 memory
@@ -127,7 +127,7 @@ module _ (o : Options) (m : Meaning) (policies : List Policy) (fs : FieldsModel)
     steps = (Get (record_key id) row ∷ []) ++ still.0;
     attempt = still.1;
     cause = absent row still.0 still.1 none is;
-    undamaged = λ h es longer legal. inl (record {
+    checked = λ h es longer legal. inl (record {
       start = still.1.start;
       known = still.1.known;
       later = prefix_on still.1.start t.seen es (prefix_part still.1.start (events.Begin t.id SerializableSnapshot t.tx.begin ∷ []) t.seen still.1.begun) longer;
@@ -142,7 +142,7 @@ module _ (o : Options) (m : Meaning) (policies : List Policy) (fs : FieldsModel)
       there es h = value_begun o m es t.tx (record_key id) row still.0 (ap (λ (x : Tx). x.transcript) still.1.is) h ∙ ap (λ (n : ℕ). values_begun o m es n (record_key id)) still.1.newest
 
   -- all of it is done
-  pub all_there : (row : Option KeyValue) → IfSome new (λ v. put_refusal fs v ≡ None) → (new ≡ None → delete_refusal id (value_of row) ≡ None) → (IsStoreTrue policies m t.seen before after → IsVouchedThere o m t) →
+  pub all_there : (row : Option KeyValue) → IfSome new (λ v. put_refusal fs v ≡ None) → (new ≡ None → delete_refusal id (value_of row) ≡ None) → (IsStoreChecked policies m t.seen before after → IsVouchedThere o m t) →
       IsAttempt o from SerializableSnapshot ((Get (record_key id) row ∷ []) ++ steps_of (change_ops (change_puts fs id (value_of row) new))) t → HasTakenThere o m policies fs id new from before after t
   all_there row accepted stands sees attempt = record {
     answer = row;
@@ -180,12 +180,12 @@ not_there o m policies fs id new now r old e why = record {
   only = sees_itself old;
   left = inl refl;
   more = (sees_itself old).more;
-  undamaged = λ h. plainly why;
+  checked = λ h. plainly why;
   cause = by why;
   reads = reads_none r;
 }
   where
-    plainly : (((v : List ℕ) × (new ≡ Some v) × (put_refusal fs v ≡ Some e)) ⊎ ((x : SlateDBError) × (e ≡ Db x) × IsUnbegun old old x)) → IsPlainlyRefused o m fs id new r r old old e
+    plainly : (((v : List ℕ) × (new ≡ Some v) × (put_refusal fs v ≡ Some e)) ⊎ ((x : SlateDBError) × (e ≡ Db x) × IsUnbegun old old x)) → IsPlainlyRefused o m policies fs id new r r old old e
     plainly (inl (v, is, refused)) = inl (record {
       start = old.seen;
       known = prefix_itself old.seen;
@@ -204,6 +204,11 @@ pub untried_there : (o : Options) (m : Meaning) (policies : List Policy) (fs : F
 untried_there o m policies fs id v now r old e (inl is) = not_there o m policies fs id (Some v) now r old e (inl (v, refl, is))
 untried_there o m policies fs id v now r old e (inr memory) = not_there o m policies fs id (Some v) now r old e (inr (OutOfMemory, memory, record { only = sees_itself old; cause = inl refl }))
 
+pub first_there : {A B : Type 0} (x e f : IndexError) → (◌≡◌ {A = Result A IndexError} (Err x) (Err e)) ⊎ (◌≡◌ {A = Result A IndexError} (Err x) (Err f)) →
+    (◌≡◌ {A = Result B IndexError} (Err x) (Err e)) ⊎ (◌≡◌ {A = Result B IndexError} (Err x) (Err f))
+first_there x e f (inl is) = inl (ap Err (let same : x ≡ e = cc in same))
+first_there x e f (inr is) = inr (ap Err (let same : x ≡ f = cc in same))
+
 -- no transaction begins
 pub none_there : (o : Options) (m : Meaning) (policies : List Policy) (fs : FieldsModel) (id : List ℕ) (new : Option (List ℕ)) (now : ℤ) (r : Reach) (old pass : PassModel) (x : SlateDBError) → IsUnbegun old pass x →
     IsChangeAttempt o m policies fs id new now r r old pass (Err (Db x))
@@ -212,7 +217,7 @@ none_there o m policies fs id new now r old pass x none = record {
   only = none.only;
   left = inr (inl (x, refl, none));
   more = none.only.more;
-  undamaged = λ h. inr (x, refl, inl none);
+  checked = λ h. inr (x, refl, inl none);
   cause = begins x refl none;
   reads = reads_none r;
 }
@@ -226,14 +231,14 @@ module _ (o : Options) (m : Meaning) (policies : List Policy) (fs : FieldsModel)
     only = ended.only;
     left = inr (inr (t, stopped.steps, stopped.attempt, ended));
     more = ended.only.more;
-    undamaged = λ h. plainly (stopped.undamaged (store_within policies m pass.seen t.seen before before after after h known (reads_none before) asked (reads_none after)) pass.seen known legal);
+    checked = λ h. plainly (stopped.checked (checked_earlier policies m t.seen pass.seen before after after known asked (reads_none after) h) pass.seen known legal);
     cause = stops t stopped.steps stopped.attempt known stopped.cause;
     reads = asked;
   }
     where
-      plainly : IsRefusedAtBegin o m fs id new old.seen pass.seen e ⊎ ((x : SlateDBError) × (e ≡ Db x) × IsFault before after x) → IsPlainlyRefused o m fs id new before after old pass e
+      plainly : IsRefusedAtBegin o m fs id new old.seen pass.seen e ⊎ ((x : SlateDBError) × (e ≡ Db x) × IsFaultOn policies m t.seen before after x) → IsPlainlyRefused o m policies fs id new before after old pass e
       plainly (inl h) = inl h
-      plainly (inr (x, is, fault)) = inr (x, is, inr (inr fault))
+      plainly (inr (x, is, fault)) = inr (x, is, inr (inr (λ s. fault (store_within policies m pass.seen t.seen before before after after s known (reads_none before) asked (reads_none after)))))
 
   module _ (mid : Reach) (taken : HasTakenThere o m policies fs id new old.seen before mid t) (still : after ≡ mid) (first : OnlyReads before mid) where
     asks : OnlyReads before after
@@ -246,7 +251,7 @@ module _ (o : Options) (m : Meaning) (policies : List Policy) (fs : FieldsModel)
       only = ended.only;
       left = inr (inr (t, change_steps fs id taken.answer new, taken.attempt, ended));
       more = ended.only.more;
-      undamaged = λ h. plainly why;
+      checked = λ h. plainly why;
       cause = by why;
       reads = asks;
     }
@@ -254,8 +259,8 @@ module _ (o : Options) (m : Meaning) (policies : List Policy) (fs : FieldsModel)
         turned : IsRefusedBehind o t old pass x → IsTurnedBack o fs id new old pass x
         turned refused = record { t = t; answer = taken.answer; attempt = taken.attempt; refused = refused }
 
-        plainly : IsFault mid after x ⊎ IsRefusedBehind o t old pass x → IsPlainlyRefused o m fs id new before after old pass (Db x)
-        plainly (inl fault) = inr (x, refl, inr (inr (fault_earlier before mid after x first.later fault)))
+        plainly : IsFault mid after x ⊎ IsRefusedBehind o t old pass x → IsPlainlyRefused o m policies fs id new before after old pass (Db x)
+        plainly (inl fault) = inr (x, refl, inr (inr (λ s. fault_earlier before mid after x first.later fault)))
         plainly (inr refused) = inr (x, refl, inr (inl (turned refused)))
 
         by : IsFault mid after x ⊎ IsRefusedBehind o t old pass x → IsChangeErrorThere o policies fs id new before after old pass (Db x)
@@ -280,7 +285,7 @@ module _ (o : Options) (m : Meaning) (policies : List Policy) (fs : FieldsModel)
       only = tt;
       left = tt;
       more = committed.more;
-      undamaged = λ h. tt;
+      checked = λ h. tt;
       cause = tt;
       reads = asks;
     }
@@ -291,8 +296,8 @@ module _ (o : Options) (m : Meaning) (policies : List Policy) (fs : FieldsModel)
         transcript : t.tx.transcript ≡ change_steps fs id taken.answer new
         transcript = ap (λ (x : Tx). x.transcript) taken.attempt.is
 
-        vouched_so : IsStoreTrue policies m pass.seen before after → IsVouchedThere o m (record t { seen = pass.seen })
-        vouched_so h = vouched (taken.sees (store_within policies m pass.seen t.seen before before mid mid (subst (IsStoreTrue policies m pass.seen before) still h) known (reads_none before) first (reads_none mid)))
+        vouched_so : IsStoreChecked policies m pass.seen before after → IsVouchedThere o m (record t { seen = pass.seen })
+        vouched_so h = vouched (taken.sees (checked_earlier policies m t.seen pass.seen before mid mid known first (reads_none mid) (subst (IsStoreChecked policies m pass.seen before) still h)))
 
         is_change : IsChange fs SerializableSnapshot (kept_ops t.tx.ops) (batch_keys t.tx.ops) t.tx.transcript
         is_change = record {

@@ -24,10 +24,11 @@ use Rattle.slate_db.specs.Load.{load, weight}
 use Rattle.slate_db.specs.Meaning.{rules_of}
 use Rattle.slate_db.specs.Model.{CoreModel}
 use Rattle.slate_db.specs.Segmented.{IsSegmented}
-use Rattle.slate_db.specs.Settled.{IsSettledIn}
 use Rattle.slate_db.specs.Sound.{IsKept}
+use Rattle.slate_steps.specs.Reads.{IsChecked, IsFaultSettled}
 use Rattle.slate_steps.specs.Steps.{HasCommitted, HasEnded, IsBeginError, IsWithin, Sees, newest}
 use Rattle.slate_steps.proofs.Settling.{committed_kind, committed_settled, committed_vouched, committed_weight, ended_kind, ended_load, ended_settled, ended_vouched, ended_weight}
+use Rattle.slate_steps.proofs.StoreTruth.{checked_before, checked_in}
 use Rattle.slate_index.specs.declared.error.IndexError.{IndexError}
 use Rattle.slate_index.specs.declared.error.IndexError.TheVariants.{Db}
 use Rattle.slate_index.specs.Calls.{IsChangeCall, IsChangeError, IsDbError, Steps, begins, change_steps, faults, full, greatest, of_db, refused, values_in}
@@ -154,9 +155,10 @@ not_begun policies seg fs id new now r c d e same cause settled = subst (λ v. I
   reads = reads_none r;
 })
   where
-    by : ((change_refusal fs id None new ≡ Some e) × ((o : Option (List ℕ)) → change_refusal fs id o new ≡ Some e)) ⊎ ((x : SlateDBError) × (e ≡ Db x) × (IsBeginError c x ⊎ IsFault r r x)) → Steps fs id new r r c c (Err e)
+    by : ((change_refusal fs id None new ≡ Some e) × ((o : Option (List ℕ)) → change_refusal fs id o new ≡ Some e)) ⊎ ((x : SlateDBError) × (e ≡ Db x) × (IsBeginError c x ⊎ IsFault r r x)) → Steps (IsFaultSettled policies r r c) fs id new r.meaning c c (Err e)
     by (inl told) = inl (told.1 (values_in r.meaning c (record_key id)))
-    by (inr db) = inr (inr db)
+    by (inr (x, is, inl unbegun)) = inr (inr (x, is, inl unbegun))
+    by (inr (x, is, inr fault)) = inr (inr (x, is, inr (λ g h. fault)))
 
 -- the value is refused
 pub not_tried : (policies : List Policy) (seg : Segments) (fs : FieldsModel) (id v : List ℕ) (now : ℤ) (r : Reach) (c : CoreModel) (e : IndexError) → (put_refusal fs v ≡ Some e) ⊎ (e ≡ Db OutOfMemory) → IsChangeCall policies seg fs id (Some v) now r r c c (Err e)
@@ -167,6 +169,10 @@ not_tried policies seg fs id v now r c e (inr memory) = not_begun policies seg f
 pub none_begun : (policies : List Policy) (seg : Segments) (fs : FieldsModel) (id : List ℕ) (new : Option (List ℕ)) (now : ℤ) (r : Reach) (c d : CoreModel) (x : SlateDBError) → d ≡ c → IsBeginError c x → IsChangeCall policies seg fs id new now r r c d (Err (Db x))
 none_begun policies seg fs id new now r c d x same error = not_begun policies seg fs id new now r c d (Db x) same (of_db x refl (begins error)) (inr (x, refl, inl error))
 
+pub taken_upto : (policies : List Policy) (before mid after : Reach) (fs : FieldsModel) (id : List ℕ) (new : Option (List ℕ)) (c d : CoreModel) (tx : List ℕ) → OnlyReads before mid → OnlyReads mid after → HasTaken policies before mid fs id new c tx d →
+    HasTaken policies before after fs id new c tx d
+taken_upto policies before mid after fs id new c d tx first later h = record { answer = h.answer; within = h.within; passes = h.passes; sees = λ g store. h.sees g (checked_before policies g before mid after c first later store) }
+
 module _ (policies : List Policy) (seg : Segments) (fs : FieldsModel) (id : List ℕ) (new : Option (List ℕ)) (now : ℤ) (before mid after : Reach) (c d e : CoreModel) (tx : List ℕ) where
   -- it stopped, and was rolled back
   pub rolled_back : (x : IndexError) → IsStopped policies before after fs id new c tx d x → HasEnded c tx SerializableSnapshot e → OnlyReads before after → IsChangeCall policies seg fs id new now before after c e (Err x)
@@ -175,7 +181,7 @@ module _ (policies : List Policy) (seg : Segments) (fs : FieldsModel) (id : List
     next = tt;
     left = inr (tx, ended);
     form = ended_kind (change_kind fs) c e tx SerializableSnapshot ended;
-    steps = λ g h. by (stopped.settled g h);
+    steps = λ g h. by (stopped.checked g h);
     settled = λ h. settled_on policies seg before after e reads (ended_settled policies before.meaning seg before.objects c e tx SerializableSnapshot ended h);
     vouched = λ g h v. ended_vouched before.meaning c e tx SerializableSnapshot ended v;
     kept = ended.kept before.meaning;
@@ -185,7 +191,7 @@ module _ (policies : List Policy) (seg : Segments) (fs : FieldsModel) (id : List
     reads = reads;
   }
     where
-      by : (change_refusal fs id (values_in before.meaning c (record_key id)) new ≡ Some x) ⊎ ((y : SlateDBError) × (x ≡ Db y) × IsFault before after y) → Steps fs id new before after c e (Err x)
+      by : (change_refusal fs id (values_in before.meaning c (record_key id)) new ≡ Some x) ⊎ ((y : SlateDBError) × (x ≡ Db y) × IsFaultSettled policies before after c y) → Steps (IsFaultSettled policies before after c) fs id new before.meaning c e (Err x)
       by (inl told) = inl told
       by (inr (y, is, fault)) = inr (inr (y, is, inr fault))
 
@@ -193,7 +199,7 @@ module _ (policies : List Policy) (seg : Segments) (fs : FieldsModel) (id : List
   passes m counts answer sees h = ap (λ o. change_refusal fs id o new) (sym (read_value m c counts fs id answer new sees)) ∙ h
 
   -- its commit is refused
-  pub not_committed : (x : SlateDBError) → Counts c.settings.start_seq c.state.commits → (taken : HasTaken policies before fs id new c tx d) → HasEnded c tx SerializableSnapshot e → OnlyReads before mid → OnlyReads mid after →
+  pub not_committed : (x : SlateDBError) → Counts c.settings.start_seq c.state.commits → (taken : HasTaken policies before after fs id new c tx d) → HasEnded c tx SerializableSnapshot e → OnlyReads before mid → OnlyReads mid after →
       IsFault mid after x ⊎ ((x ≡ SequenceExhausted) × (newest c ≡ 2 ^ 64 - 2)) → IsChangeCall policies seg fs id new now before after c e (Err (Db x))
   not_committed x counts taken ended first later cause = record {
     changes = tt;
@@ -214,12 +220,12 @@ module _ (policies : List Policy) (seg : Segments) (fs : FieldsModel) (id : List
       why (inl fault) = faults (fault_earlier before mid after x first.later fault)
       why (inr (is, last)) = full is last
 
-      by : (g : Segments) → IsSettledIn policies g before c → IsFault mid after x ⊎ ((x ≡ SequenceExhausted) × (newest c ≡ 2 ^ 64 - 2)) → Steps fs id new before after c e (Err (Db x))
-      by g h (inl fault) = inr (inr (x, refl, inr (fault_earlier before mid after x first.later fault)))
+      by : (g : Segments) → IsChecked policies g before after c → IsFault mid after x ⊎ ((x ≡ SequenceExhausted) × (newest c ≡ 2 ^ 64 - 2)) → Steps (IsFaultSettled policies before after c) fs id new before.meaning c e (Err (Db x))
+      by g h (inl fault) = inr (inr (x, refl, inr (λ s k. fault_earlier before mid after x first.later fault)))
       by g h (inr (is, last)) = inr (inl (ap Db is, last, passes before.meaning counts taken.answer (taken.sees g h) taken.passes))
 
   -- it is committed
-  pub has_changed : (n : ℕ) → fs.count ≤ 8 → IsPlainName id → (taken : HasTaken policies before fs id new c tx d) → HasCommitted c tx SerializableSnapshot (change_steps fs id taken.answer new) (Some n) now e → OnlyReads before mid → OnlyReads mid after →
+  pub has_changed : (n : ℕ) → fs.count ≤ 8 → IsPlainName id → (taken : HasTaken policies before after fs id new c tx d) → HasCommitted c tx SerializableSnapshot (change_steps fs id taken.answer new) (Some n) now e → OnlyReads before mid → OnlyReads mid after →
       (IsKept mid.meaning c → IsKept mid.meaning e) → (IsSegmented seg c → IsSegmented seg e) → newest c < greatest → IsChangeCall policies seg fs id new now before after c e (Ok n)
   has_changed n few name taken committed first later kept segmented room = record {
     changes = record { tx = tx; answer = taken.answer; committed = committed };
@@ -232,7 +238,7 @@ module _ (policies : List Policy) (seg : Segments) (fs : FieldsModel) (id : List
     );
     settled = λ h. settled_on policies seg before after e (reads_then before mid after first later)
         (committed_settled policies before.meaning seg before.objects c e tx SerializableSnapshot ts (Some n) now committed kept_so segmented h);
-    vouched = λ g h v. committed_vouched c e tx SerializableSnapshot ts (Some n) now committed before.meaning (taken.sees g h) v;
+    vouched = λ g h v. committed_vouched c e tx SerializableSnapshot ts (Some n) now committed before.meaning (taken.sees g (checked_in policies g before after c h)) v;
     kept = kept_so;
     cause = tt;
     events = let more : weight e ≡ weight c + 2 = committed_weight c e tx SerializableSnapshot ts (Some n) now committed in omega (arith, more);

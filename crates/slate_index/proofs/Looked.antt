@@ -12,8 +12,9 @@ use Rattle.slate_txn.specs.Alone.{first_left}
 use Rattle.slate_db.specs.declared.scan.TxnIterator.{TxnIterator}
 use Rattle.slate_db.specs.Model.{CoreModel}
 use Rattle.slate_db.specs.Scans.{IsOpenScan, IsScanOf, id_of, number_of, scan_of}
-use Rattle.slate_steps.specs.Reads.{IsReading, IsScanSince}
+use Rattle.slate_steps.specs.Reads.{IsMetBy, IsReading, IsScanSince}
 use Rattle.slate_steps.specs.Steps.{IsWithin, Sees}
+use Rattle.slate_steps.proofs.StoreTruth.{met_first, met_next}
 use Rattle.slate_index.specs.Looking.{HandsKeys, HasWalked, IsWalking}
 
 pub walking_none : (before : Reach) (c : CoreModel) (x : TxnIterator) → IsOpenScan c x → IsWalking before before c c x x []
@@ -22,7 +23,7 @@ walking_none before c x opened = record {
   names = record { named = refl; number = refl; ordered = refl; ranged = refl };
   opened = opened;
   within = λ b level ts h. subst (λ (us : List TranscriptStep). IsWithin b (id_of x) level us c) (sym (append-nil ts)) h;
-  hands = λ os b ts rows told h. record { first = []; rest = rows; whole = refl; handed = refl; left = subst (λ (us : List TranscriptStep). IsReading os before.meaning b us x rows) (sym (append-nil ts)) h };
+  hands = λ os b ts rows met h. record { first = []; rest = rows; whole = refl; handed = refl; left = subst (λ (us : List TranscriptStep). IsReading os before.meaning b us x rows) (sym (append-nil ts)) h };
   since = λ b from h. h;
   reads = reads_none before;
 }
@@ -32,7 +33,7 @@ pub record HasNext (before after : Reach) (c d : CoreModel) (x y : TxnIterator) 
   pub names : IsScanOf (id_of x) (number_of x) (scan_of x).order (scan_of x).range y
   pub opened : IsOpenScan d y
   pub within : (b : CoreModel) (level : IsolationLevel) (ts : List TranscriptStep) → IsWithin b (id_of x) level ts c → IsWithin b (id_of x) level (ts ++ (steps.Next (number_of x) a ∷ [])) d
-  pub reading : (b : CoreModel) (ts : List TranscriptStep) (os : Objects) (rows : List RowEntry) → before.objects ≡ Some os → IsReading os before.meaning b ts x rows →
+  pub reading : (b : CoreModel) (ts : List TranscriptStep) (os : Objects) (rows : List RowEntry) → IsMetBy before.meaning os before after → IsReading os before.meaning b ts x rows →
       (a ≡ first_left rows) × IsReading os before.meaning b (ts ++ (steps.Next (number_of x) a ∷ [])) y (drop 1 rows) × (Sees before.meaning b ts → Sees before.meaning b (ts ++ (steps.Next (number_of x) a ∷ [])))
   pub since : (b : CoreModel) (from : Reach) → IsScanSince from before b x → IsScanSince from after b y
   pub reads : OnlyReads before after
@@ -68,9 +69,6 @@ module _ (before now after : Reach) (c d e : CoreModel) (x y z : TxnIterator) (k
       IsWithin b (id_of x) level (ts ++ (w.steps ++ (steps.Next (number_of y) a ∷ []))) e
   still_within a n b level ts h = within_then b level ts w.steps (steps.Next (number_of y) a) (id_of x) (id_of y) d e w.names.named (w.within b level ts h) n.within
 
-  told_on : (os : Objects) → before.objects ≡ Some os → now.objects ≡ Some os
-  told_on os told = w.reads.objects ∙ told
-
   read_on : (os : Objects) (b : CoreModel) (ts : List TranscriptStep) (rest : List RowEntry) → IsReading os before.meaning b ts y rest → IsReading os now.meaning b ts y rest
   read_on os b ts rest h = subst (λ (m : Meaning). IsReading os m b ts y rest) (sym w.reads.meaning) h
 
@@ -83,9 +81,9 @@ module _ (before now after : Reach) (c d e : CoreModel) (x y z : TxnIterator) (k
     names = named_then x y z w.names n.names;
     opened = n.opened;
     within = still_within (Some row) n;
-    hands = λ os b ts rows told h.
-        let k = w.hands os b ts rows told h in
-        let q = n.reading b (ts ++ w.steps) os k.rest (told_on os told) (read_on os b (ts ++ w.steps) k.rest k.left) in
+    hands = λ os b ts rows met h.
+        let k = w.hands os b ts rows (met_first before.meaning os before now after w.reads n.reads met) h in
+        let q = n.reading b (ts ++ w.steps) os k.rest (met_next os before now after w.reads n.reads met) (read_on os b (ts ++ w.steps) k.rest k.left) in
         record {
           first = k.first ++ take 1 k.rest;
           rest = drop 1 k.rest;
@@ -99,11 +97,11 @@ module _ (before now after : Reach) (c d e : CoreModel) (x y z : TxnIterator) (k
   }
 
   -- at the end none is left
-  pub walked : HasNext now after d e y z None → HasWalked before x keys
-  walked n = record { all = λ os b ts rows told h. by os b ts rows told (w.hands os b ts rows told h) }
+  pub walked : HasNext now after d e y z None → HasWalked before after x keys
+  walked n = record { all = λ os b ts rows met h. by os b ts rows met (w.hands os b ts rows (met_first before.meaning os before now after w.reads n.reads met) h) }
     where
-      by : (os : Objects) (b : CoreModel) (ts : List TranscriptStep) (rows : List RowEntry) → before.objects ≡ Some os → HandsKeys os before.meaning b (ts ++ w.steps) y keys rows → keys ≡ map (λ r. r.key) rows
-      by os b ts rows told h = none h.rest h.whole (n.reading b (ts ++ w.steps) os h.rest (told_on os told) (read_on os b (ts ++ w.steps) h.rest h.left)).0
+      by : (os : Objects) (b : CoreModel) (ts : List TranscriptStep) (rows : List RowEntry) → IsMetBy before.meaning os before after → HandsKeys os before.meaning b (ts ++ w.steps) y keys rows → keys ≡ map (λ r. r.key) rows
+      by os b ts rows met h = none h.rest h.whole (n.reading b (ts ++ w.steps) os h.rest (met_next os before now after w.reads n.reads met) (read_on os b (ts ++ w.steps) h.rest h.left)).0
         where
           none : (rest : List RowEntry) → rows ≡ h.first ++ rest → None ≡ first_left rest → keys ≡ map (λ r. r.key) rows
           none [] whole q = h.handed ∙ ap (map (λ r. r.key)) (sym (whole ∙ append-nil h.first))
@@ -128,5 +126,8 @@ module _ (before mid : Reach) (only : OnlyReads before mid) (x : TxnIterator) (o
   pub reading_mid : (b : CoreModel) (ts : List TranscriptStep) (rows : List RowEntry) → IsReading os before.meaning b ts x rows → IsReading os mid.meaning b ts x rows
   reading_mid b ts rows h = subst (λ (m : Meaning). IsReading os m b ts x rows) (sym only.meaning) h
 
-  pub walked_rows : (b : CoreModel) (ts : List TranscriptStep) (rows : List RowEntry) (keys : List (List ℕ)) → IsReading os before.meaning b ts x rows → HasWalked mid x keys → keys ≡ map (λ r. r.key) rows
-  walked_rows b ts rows keys h w = w.all os b ts rows told_mid (reading_mid b ts rows h)
+-- the same by what was met from here on
+pub walked_rows : (before mid after : Reach) (x : TxnIterator) (os : Objects) (b : CoreModel) (ts : List TranscriptStep) (rows : List RowEntry) (keys : List (List ℕ)) → OnlyReads before mid → OnlyReads mid after →
+    IsMetBy before.meaning os before after → IsReading os before.meaning b ts x rows → HasWalked mid after x keys → keys ≡ map (λ r. r.key) rows
+walked_rows before mid after x os b ts rows keys only later met h w =
+    w.all os b ts rows (met_next os before mid after only later met) (subst (λ (m : Meaning). IsReading os m b ts x rows) (sym only.meaning) h)

@@ -1,6 +1,6 @@
 -- A run goes on as the plain map of records does.
 use Rattle.std.proofs.Common.{◌≡◌, ℕ, zero, suc, ◌+◌, ◌-◌, ◌^◌, ◌<◌, ◌≤◌, ◌⊎◌, inl, inr, Bool, true, false, cond, List, length, bytes_eq, Option, Some, None, option_map, Ok, Err, ℤ, refl, sym, ap, subst, ◌∙◌, arith}
-use Rattle.std.specs.Prelude.{nat_le, nat_lt}
+use Rattle.std.specs.Prelude.{Result, nat_le, nat_lt}
 use Rattle.std.specs.Global.{Vec}
 use Rattle.std.specs.Option.{option_or}
 use Rattle.std.proofs.lemmas.Bool.Decides.{nat_tests}
@@ -11,6 +11,7 @@ use Rattle.slate_types.proofs.Reaching.{reads_none}
 use Rattle.slate_filter.specs.Policy.{Policy}
 use Rattle.slate_mem.specs.Refusals.{when}
 use Rattle.slate_store.specs.Run.{IsProgramError}
+use Rattle.slate_mem.specs.KeyTests.{Segments}
 use Rattle.slate_txn.specs.Replay.{IsLegal}
 use Rattle.slate_txn.specs.State.{last_of}
 use Rattle.slate_db.specs.Flushed.{NoPlace}
@@ -19,7 +20,9 @@ use Rattle.slate_db.specs.Log.{LIMIT}
 use Rattle.slate_db.specs.Model.{CoreModel}
 use Rattle.slate_db.specs.SerialLaws.{IsVouchedCore}
 use Rattle.slate_db.specs.Settled.{IsSettledIn}
+use Rattle.slate_steps.specs.Reads.{IsFaultSettled}
 use Rattle.slate_steps.specs.Steps.{IsBeginError}
+use Rattle.slate_steps.proofs.StoreTruth.{checked_in}
 use Rattle.slate_steps.proofs.Settling.{ended_weight}
 use Rattle.slate_index.specs.declared.error.IndexError.{IndexError}
 use Rattle.slate_index.specs.declared.error.IndexError.TheVariants.{Db, FieldTooLong}
@@ -136,17 +139,25 @@ run_ends policies before after c d x db unsaid heavier settled = by db
 
 -- ---- a change
 
+settled_steps : (policies : List Policy) (g : Segments) (fs : FieldsModel) (id : List ℕ) (new : Option (List ℕ)) (before after : Reach) (c d : CoreModel) (r : Result ℕ IndexError) → IsSettledIn policies g before c →
+    Steps (IsFaultSettled policies before after c) fs id new before.meaning c d r → Steps (IsFault before after) fs id new before.meaning c d r
+settled_steps policies g fs id new before after c d (Ok n) settled h = h
+settled_steps policies g fs id new before after c d (Err e) settled (inl told) = inl told
+settled_steps policies g fs id new before after c d (Err e) settled (inr (inl last)) = inr (inl last)
+settled_steps policies g fs id new before after c d (Err e) settled (inr (inr (x, is, inl begun))) = inr (inr (x, is, inl begun))
+settled_steps policies g fs id new before after c d (Err e) settled (inr (inr (x, is, inr fault))) = inr (inr (x, is, inr (fault g settled)))
+
 module _ (policies : List Policy) (fs : FieldsModel) (id : List ℕ) (new : Option (List ℕ)) (now : ℤ) (before after : Reach) (c d : CoreModel) where
   pub change_ends : (x : SlateDBError) → IsChangeCall policies None fs id new now before after c d (Err (Db x)) → has_reply x ≡ false → IsRunError policies before after c d x
   change_ends x call unsaid = by call.cause
     where
       settled : IsSettledIn policies None before c → IsBeginError c x ⊎ IsFault before after x
-      settled h = at (call.steps None h)
+      settled h = at (settled_steps policies None fs id new before after c d (Err (Db x)) h (call.steps None (checked_in policies None before after c h)))
         where
           one : (y : SlateDBError) → Db x ≡ Db y → y ≡ x
           one y e = cc
 
-          at : Steps fs id new before after c d (Err (Db x)) → IsBeginError c x ⊎ IsFault before after x
+          at : Steps (IsFault before after) fs id new before.meaning c d (Err (Db x)) → IsBeginError c x ⊎ IsFault before after x
           at (inl told) = said_or x (refusal_said fs id (values_in before.meaning c (record_key id)) new x told) unsaid
           at (inr (inl (is, last, none))) = said_or x (ap has_reply (sym (one errors.SequenceExhausted is))) unsaid
           at (inr (inr (y, is, why))) = subst (λ z. IsBeginError c z ⊎ IsFault before after z) (one y is) why
@@ -185,14 +196,14 @@ module _ (policies : List Policy) (fs : FieldsModel) (id : List ℕ) (new : Opti
       },
     )
       where
-        steps : Steps fs id new before after c d (Ok n)
-        steps = call.steps None h.settled
+        steps : Steps (IsFault before after) fs id new before.meaning c d (Ok n)
+        steps = settled_steps policies None fs id new before after c d (Ok n) h.settled (call.steps None (checked_in policies None before after c h.settled))
 
     -- it was refused
     pub change_refused : (e : IndexError) → IsChangeCall policies None fs id new now before after c d (Err e) → ((x : SlateDBError) → e ≡ Db x → has_reply x ≡ true) →
         (committed r (change_refusal fs id (record_at r.records id) new) (with_change id new r.records) ≡ (r, Reply.Refused e)) × IsRunning policies fs after d r
     change_refused e call said = (
-      by (call.steps None h.settled),
+      by (settled_steps policies None fs id new before after c d (Err e) h.settled (call.steps None (checked_in policies None before after c h.settled))),
       record {
         settled = call.settled h.settled;
         form = call.form h.form;
@@ -201,7 +212,7 @@ module _ (policies : List Policy) (fs : FieldsModel) (id : List ℕ) (new : Opti
       },
     )
       where
-        by : Steps fs id new before after c d (Err e) → committed r (change_refusal fs id (record_at r.records id) new) (with_change id new r.records) ≡ (r, Reply.Refused e)
+        by : Steps (IsFault before after) fs id new before.meaning c d (Err e) → committed r (change_refusal fs id (record_at r.records id) new) (with_change id new r.records) ≡ (r, Reply.Refused e)
         by (inl told) = refusal_is (Some e) told (with_change id new r.records)
         by (inr (inl (is, last, none))) =
             refusal_is None none (with_change id new r.records)
@@ -236,7 +247,7 @@ module _ (policies : List Policy) (fs : FieldsModel) (n : ℕ) (f : List ℕ) (b
       (ids.items ≡ found fs n f r.records) × IsRunning policies fs after d r
   search_found ids r legal below call h = (
     found_alike fs n f (values_in before.meaning c) r.records ids.items h.stands.once h.stands.records
-        (call.found fs None below h.settled (record { audited = record { legal = legal; changes = h.form }; vouched = h.vouched.journal })),
+        (call.found fs None below (checked_in policies None before after c h.settled) (record { audited = record { legal = legal; changes = h.form }; vouched = h.vouched.journal })),
     record {
       settled = call.settled h.settled;
       form = call.form fs h.form;

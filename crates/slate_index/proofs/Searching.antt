@@ -21,7 +21,7 @@ use Rattle.slate_db.specs.Load.{weight}
 use Rattle.slate_db.specs.Meaning.{rules_of}
 use Rattle.slate_db.specs.Model.{CoreModel}
 use Rattle.slate_db.specs.Settled.{IsSettledIn}
-use Rattle.slate_steps.specs.Reads.{IsReadError, of_scan}
+use Rattle.slate_steps.specs.Reads.{IsChecked, IsReadError, of_scan}
 use Rattle.slate_steps.specs.Steps.{HasEnded, IsBeginError, IsWithin, newest}
 use Rattle.slate_steps.proofs.Settling.{ended_kind, ended_load, ended_settled, ended_vouched, ended_weight}
 use Rattle.slate_index.specs.declared.error.IndexError.TheVariants.{Db}
@@ -41,7 +41,7 @@ pub not_looked : (policies : List Policy) (seg : Segments) (n : ℕ) (f : List �
 not_looked policies seg n f r c d x same error = subst (λ v. IsLookup policies seg n f r r c v (Err (Db x))) (sym same) (record {
   looked = inl refl;
   form = λ fs h. h;
-  found = λ fs g below settled audited. tt;
+  found = λ fs g below store audited. tt;
   undamaged = λ g h. (x, refl, inl error);
   settled = λ h. h;
   vouched = λ m h. h;
@@ -68,13 +68,13 @@ module _ (m : Meaning) (c : CoreModel) (legal : IsLegal c.settings.start_seq c.e
 
 module _ (policies : List Policy) (seg : Segments) (n : ℕ) (f : List ℕ) (before after : Reach) (c d e : CoreModel) (tx : List ℕ) (within : IsWithin c tx Snapshot [] d) (ended : HasEnded c tx Snapshot e) (only : OnlyReads before after) where
   pub search_done : (ids : Vec (List ℕ)) → n < 256 → length f ≤ longest_field → AreBytes f →
-      ((g : Segments) → IsSettledIn policies g before c → ids.items ≡ names_behind (entry_prefix n f) (map (λ x. x.key) (rows_seen (rules_of c.settings before.meaning) c.state.commits (newest c) [] Ascending (prefix_range (entry_prefix n f))))) →
+      ((g : Segments) → IsChecked policies g before after c → ids.items ≡ names_behind (entry_prefix n f) (map (λ x. x.key) (rows_seen (rules_of c.settings before.meaning) c.state.commits (newest c) [] Ascending (prefix_range (entry_prefix n f))))) →
       IsLookup policies seg n f before after c e (Ok ids)
   search_done ids small short bytes are = record {
     looked = inr (tx, ended);
     form = λ fs. ended_kind (change_kind fs) c e tx Snapshot ended;
-    found = λ fs g below settled audited.
-        subst (Finds fs n f (values_in before.meaning c)) (sym (are g settled))
+    found = λ fs g below store audited.
+        subst (Finds fs n f (values_in before.meaning c)) (sym (are g store))
         (finds fs n f (values_in before.meaning c) (rules_of c.settings before.meaning) c.state.commits (newest c)
         (core_seen before.meaning c within.legal within.replays fs audited) (core_entries before.meaning c within.legal within.replays fs audited) (core_names before.meaning c within.legal within.replays fs audited)
         below small short bytes);
@@ -92,7 +92,7 @@ module _ (policies : List Policy) (seg : Segments) (n : ℕ) (f : List ℕ) (bef
   search_refused x error undamaged = record {
     looked = inr (tx, ended);
     form = λ fs. ended_kind (change_kind fs) c e tx Snapshot ended;
-    found = λ fs g below settled audited. tt;
+    found = λ fs g below store audited. tt;
     undamaged = λ g h. (x, refl, inr (undamaged g h));
     settled = λ h. settled_on policies seg before after e only (ended_settled policies before.meaning seg before.objects c e tx Snapshot ended h);
     vouched = λ m. ended_vouched m c e tx Snapshot ended;

@@ -5,15 +5,14 @@ use Rattle.slate_types.specs.declared.config.IsolationLevel.TheVariants.{Seriali
 use Rattle.slate_types.specs.declared.error.SlateDBError.{SlateDBError}
 use Rattle.slate_types.specs.declared.error.SlateDBError.TheVariants.{OutOfMemory}
 use Rattle.slate_types.specs.declared.types.KeyValue.{KeyValue}
-use Rattle.slate_types.specs.Outside.{IsFault, Reach}
+use Rattle.slate_types.specs.Outside.{Reach}
 use Rattle.slate_types.proofs.Reaching.{reads_none}
 use Rattle.slate_filter.specs.Policy.{Policy}
 use Rattle.slate_mem.specs.KeyTests.{Segments}
 use Rattle.slate_txn.specs.declared.event.TranscriptStep.{TranscriptStep}
 use Rattle.slate_txn.specs.declared.event.TranscriptStep.TheVariants.{Get}
 use Rattle.slate_db.specs.Model.{CoreModel}
-use Rattle.slate_db.specs.Settled.{IsSettledIn}
-use Rattle.slate_steps.specs.Reads.{IsReadError}
+use Rattle.slate_steps.specs.Reads.{IsChecked, IsFaultSettled, IsReadError}
 use Rattle.slate_steps.specs.Steps.{IsWithin, Sees}
 use Rattle.slate_index.specs.declared.error.IndexError.{IndexError}
 use Rattle.slate_index.specs.declared.error.IndexError.TheVariants.{Db}
@@ -33,7 +32,7 @@ module _ (policies : List Policy) (before after : Reach) (fs : FieldsModel) (id 
     steps = ts;
     within = within;
     cause = of_db OutOfMemory is (faults tt);
-    settled = λ g h. inr (OutOfMemory, is, tt);
+    checked = λ g h. inr (OutOfMemory, is, λ s k. tt);
   }
 
   -- before the read
@@ -42,7 +41,7 @@ module _ (policies : List Policy) (before after : Reach) (fs : FieldsModel) (id 
 
   -- the read is refused; begun: the core that it is of
   pub read_stopped : (begun : CoreModel) (x : SlateDBError) → IsWithin c tx SerializableSnapshot [] begun → d ≡ begun → IsReadError policies before after begun x →
-      ((g : Segments) → IsSettledIn policies g before c → IsFault before after x) → IsStopped policies before after fs id new c tx d (Db x)
+      IsFaultSettled policies before after c x → IsStopped policies before after fs id new c tx d (Db x)
   read_stopped begun x within same error undamaged = record {
     steps = [];
     within = subst (IsWithin c tx SerializableSnapshot []) (sym same) within;
@@ -56,12 +55,12 @@ module _ (policies : List Policy) (before after : Reach) (fs : FieldsModel) (id 
       later = reads_none after;
       refused = error;
     }));
-    settled = λ g h. inr (x, refl, undamaged g h);
+    checked = λ g h. inr (x, refl, undamaged);
   }
 
   -- what the change does is refused
   pub change_stopped : (begun : CoreModel) (row : Option KeyValue) (e : IndexError) → IsWithin c tx SerializableSnapshot (Get (record_key id) row ∷ []) begun →
-      ((g : Segments) → IsSettledIn policies g before c → Sees before.meaning c (Get (record_key id) row ∷ [])) →
+      ((g : Segments) → IsChecked policies g before after c → Sees before.meaning c (Get (record_key id) row ∷ [])) →
       (us : List TranscriptStep) × IsWithin c tx SerializableSnapshot ((Get (record_key id) row ∷ []) ++ us) d →
       ((new ≡ None) × (delete_refusal id (value_of row) ≡ Some e)) ⊎ (e ≡ Db OutOfMemory) → IsStopped policies before after fs id new c tx d e
   change_stopped begun row e within sees still (inr memory) = memory_stopped ((Get (record_key id) row ∷ []) ++ still.0) e still.1 memory
@@ -69,7 +68,7 @@ module _ (policies : List Policy) (before after : Reach) (fs : FieldsModel) (id 
     steps = (Get (record_key id) row ∷ []) ++ still.0;
     within = still.1;
     cause = refused row here;
-    settled = λ g h. inl (ap (λ v. change_refusal fs id v new) (sym (read_value before.meaning c (within_counts c begun tx SerializableSnapshot (Get (record_key id) row ∷ []) within) fs id row new (sees_own before.meaning c fs id row new (sees g h)))) ∙ here);
+    checked = λ g h. inl (ap (λ v. change_refusal fs id v new) (sym (read_value before.meaning c (within_counts c begun tx SerializableSnapshot (Get (record_key id) row ∷ []) within) fs id row new (sees_own before.meaning c fs id row new (sees g h)))) ∙ here);
   }
     where
       here : change_refusal fs id (value_of row) new ≡ Some e
@@ -77,8 +76,8 @@ module _ (policies : List Policy) (before after : Reach) (fs : FieldsModel) (id 
 
   -- all of it is done
   pub all_taken : (row : Option KeyValue) → IfSome new (λ v. put_refusal fs v ≡ None) → (new ≡ None → delete_refusal id (value_of row) ≡ None) →
-      ((g : Segments) → IsSettledIn policies g before c → Sees before.meaning c (Get (record_key id) row ∷ [])) →
-      IsWithin c tx SerializableSnapshot ((Get (record_key id) row ∷ []) ++ steps_of (change_ops (change_puts fs id (value_of row) new))) d → HasTaken policies before fs id new c tx d
+      ((g : Segments) → IsChecked policies g before after c → Sees before.meaning c (Get (record_key id) row ∷ [])) →
+      IsWithin c tx SerializableSnapshot ((Get (record_key id) row ∷ []) ++ steps_of (change_ops (change_puts fs id (value_of row) new))) d → HasTaken policies before after fs id new c tx d
   all_taken row accepted there sees within = record {
     answer = row;
     within = subst (λ us. IsWithin c tx SerializableSnapshot (Get (record_key id) row ∷ us) d) (steps_again (change_puts fs id (value_of row) new)) within;

@@ -9,7 +9,7 @@
 --     IsStoppedThere o m policies fs id new from before after t e      some were, and then the change was refused
 --     ChangesBehind o m policies fs id new now before after old pass n      the newest place of the pass has a commit of this number, which changes the record from the value that it read
 --     IsChangeErrorThere o policies fs id new before after old pass e      what refuses the change
---     IsPlainlyRefused o m fs id new before after old pass e      the same over a store that is true: what it reads refuses no read
+--     IsPlainlyRefused o m policies fs id new before after old pass e      the same where what was read is checked; over a store that is true, what it reads refuses no read
 --     IsChangeAttempt o m policies fs id new now before after old pass result      all that an attempt keeps and answers
 use Rattle.std.specs.Prelude.{◌≡◌, ◌⊎◌, ℕ, List, ◌∷◌, Option, Some, None, Result, IfErr, IfOk, OnErr, ℤ}
 use mathlib.Core.List.{IsPrefix}
@@ -28,7 +28,7 @@ use Rattle.slate_txn.specs.Settings.{settings_of}
 use Rattle.slate_txn.specs.State.{last_of}
 use Rattle.slate_db.specs.Meaning.{Meaning, rules_of}
 use Rattle.slate_shared.specs.Passes.{Opened, PassModel}
-use Rattle.slate_steps.specs.Attempts.{HasCommittedBehind, HasEndedBehind, IsAttempt, IsReadErrorOn, IsRefusedBehind, IsStoreTrue, IsUnbegun, IsVouchedThere, SeesMore, SeesOnly}
+use Rattle.slate_steps.specs.Attempts.{HasCommittedBehind, HasEndedBehind, IsAttempt, IsFaultOn, IsReadErrorOn, IsRefusedBehind, IsStoreChecked, IsUnbegun, IsVouchedThere, SeesMore, SeesOnly}
 use Rattle.slate_index.specs.declared.error.IndexError.{IndexError}
 use Rattle.slate_index.specs.declared.error.IndexError.TheVariants.{Db}
 use Rattle.slate_index.specs.Calls.{change_steps}
@@ -69,19 +69,19 @@ pub record HasTakenThere (o : Options) (m : Meaning) (policies : List Policy) (f
   pub answer : Option KeyValue
   pub attempt : IsAttempt o from SerializableSnapshot (change_steps fs id answer new) t
   pub passes : change_refusal fs id (value_of answer) new ≡ None
-  pub sees : IsStoreTrue policies m t.seen before after → IsVouchedThere o m t
+  pub sees : IsStoreChecked policies m t.seen before after → IsVouchedThere o m t
 
 -- es: the journal as the pass may see it behind the end
 pub record IsStoppedThere (o : Options) (m : Meaning) (policies : List Policy) (fs : FieldsModel) (id : List ℕ) (new : Option (List ℕ)) (from : List Event) (before after : Reach) (t : Opened) (e : IndexError) : Type 0 where
   pub steps : List TranscriptStep
   pub attempt : IsAttempt o from SerializableSnapshot steps t
   pub cause : IsStepError o policies fs id new from before after t e
-  pub undamaged : IsStoreTrue policies m t.seen before after → (es : List Event) → IsPrefix t.seen es → IsLegal o.start_seq es →
-      IsRefusedAtBegin o m fs id new from es e ⊎ ((x : SlateDBError) × (e ≡ Db x) × IsFault before after x)
+  pub checked : IsStoreChecked policies m t.seen before after → (es : List Event) → IsPrefix t.seen es → IsLegal o.start_seq es →
+      IsRefusedAtBegin o m fs id new from es e ⊎ ((x : SlateDBError) × (e ≡ Db x) × IsFaultOn policies m t.seen before after x)
 
 -- ---- the call
 
--- vouched, read: where the store is true
+-- vouched, read: where what was read is checked
 pub record ChangesBehind (o : Options) (m : Meaning) (policies : List Policy) (fs : FieldsModel) (id : List ℕ) (new : Option (List ℕ)) (now : ℤ) (before after : Reach) (old pass : PassModel) (n : ℕ) : Type 0 where
   pub t : Opened
   pub answer : Option KeyValue
@@ -90,8 +90,8 @@ pub record ChangesBehind (o : Options) (m : Meaning) (policies : List Policy) (f
   pub change : IsChange fs SerializableSnapshot (kept_ops t.tx.ops) (batch_keys t.tx.ops) t.tx.transcript
   pub passes : change_refusal fs id (value_of answer) new ≡ None
   pub legal : IsLegal o.start_seq pass.seen
-  pub vouched : IsStoreTrue policies m pass.seen before after → IsVouchedThere o m (record t { seen = pass.seen })
-  pub read : IsStoreTrue policies m pass.seen before after → value_of answer ≡ values_begun o m pass.seen t.tx.begin (record_key id)
+  pub vouched : IsStoreChecked policies m pass.seen before after → IsVouchedThere o m (record t { seen = pass.seen })
+  pub read : IsStoreChecked policies m pass.seen before after → value_of answer ≡ values_begun o m pass.seen t.tx.begin (record_key id)
 
 pub data IsChangeErrorThere (o : Options) (policies : List Policy) (fs : FieldsModel) (id : List ℕ) (new : Option (List ℕ)) (before after : Reach) (old pass : PassModel) (e : IndexError) : Type 0 where
   of_value : (v : List ℕ) → new ≡ Some v → put_refusal fs v ≡ Some e → IsChangeErrorThere o policies fs id new before after old pass e
@@ -101,16 +101,16 @@ pub data IsChangeErrorThere (o : Options) (policies : List Policy) (fs : FieldsM
   turned_back : (x : SlateDBError) → e ≡ Db x → IsTurnedBack o fs id new old pass x → IsChangeErrorThere o policies fs id new before after old pass e
   of_fault : (x : SlateDBError) → e ≡ Db x → IsFault before after x → IsChangeErrorThere o policies fs id new before after old pass e
 
-abbrev pub IsPlainlyRefused : Options → Meaning → FieldsModel → List ℕ → Option (List ℕ) → Reach → Reach → PassModel → PassModel → IndexError → Type 0
-IsPlainlyRefused o m fs id new before after old pass e =
+abbrev pub IsPlainlyRefused : Options → Meaning → List Policy → FieldsModel → List ℕ → Option (List ℕ) → Reach → Reach → PassModel → PassModel → IndexError → Type 0
+IsPlainlyRefused o m policies fs id new before after old pass e =
     IsRefusedAtBegin o m fs id new old.seen pass.seen e
-    ⊎ ((x : SlateDBError) × (e ≡ Db x) × (IsUnbegun old pass x ⊎ IsTurnedBack o fs id new old pass x ⊎ IsFault before after x))
+    ⊎ ((x : SlateDBError) × (e ≡ Db x) × (IsUnbegun old pass x ⊎ IsTurnedBack o fs id new old pass x ⊎ IsFaultOn policies m pass.seen before after x))
 
 pub record IsChangeAttempt (o : Options) (m : Meaning) (policies : List Policy) (fs : FieldsModel) (id : List ℕ) (new : Option (List ℕ)) (now : ℤ) (before after : Reach) (old pass : PassModel) (result : Result ℕ IndexError) : Type 0 where
   pub changes : IfOk result (ChangesBehind o m policies fs id new now before after old pass)
   pub only : OnErr result (SeesOnly old pass)
   pub left : IfErr result (IsLeftThere o old pass)
   pub more : SeesMore old pass
-  pub undamaged : IsStoreTrue policies m pass.seen before after → IfErr result (IsPlainlyRefused o m fs id new before after old pass)
+  pub checked : IsStoreChecked policies m pass.seen before after → IfErr result (IsPlainlyRefused o m policies fs id new before after old pass)
   pub cause : IfErr result (IsChangeErrorThere o policies fs id new before after old pass)
   pub reads : OnlyReads before after

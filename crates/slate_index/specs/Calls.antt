@@ -6,7 +6,7 @@
 --     HasLooked c d      the same of one that searched
 --     IsDbError policies before after c e      the database refuses to begin, or to read, or has no sequence left; or a fault came in the call
 --     IsChangeError policies fs id new before after c e      so it is, or the value is refused, or there is none to delete
---     Steps fs id new before after c d result      over a settled core a change is that of the map of values, or is refused as there
+--     Steps P fs id new m c d result      where what was read is checked, a change is that of the map of values, or is refused as there, or by the database; P holds of its refusal within the transaction
 --     IsChangeCall policies seg fs id new now before after c d result      all that a change of a record keeps and answers
 --     IsAuditedCore fs m c      the journal is audited, and its transcripts are vouched
 use Rattle.std.specs.Prelude.{◌≡◌, ◌⊎◌, ℕ, ◌+◌, ◌-◌, ◌^◌, ◌<◌, ◌≤◌, List, ◌∷◌, Option, Some, None, Result, Ok, Err, IfErr, IfOk, OnErr, ℤ}
@@ -26,7 +26,7 @@ use Rattle.slate_db.specs.Model.{CoreModel}
 use Rattle.slate_db.specs.SerialLaws.{IsVouchedCore, JournalIsVouched}
 use Rattle.slate_db.specs.Settled.{IsSettledIn}
 use Rattle.slate_db.specs.Sound.{IsKept}
-use Rattle.slate_steps.specs.Reads.{IsReadFault}
+use Rattle.slate_steps.specs.Reads.{IsChecked, IsFaultSettled, IsReadFault}
 use Rattle.slate_steps.specs.Steps.{HasCommitted, HasEnded, IsBeginError, newest}
 use Rattle.slate_index.specs.declared.error.IndexError.{IndexError}
 use Rattle.slate_index.specs.declared.error.IndexError.TheVariants.{Db}
@@ -70,24 +70,24 @@ pub data IsChangeError (policies : List Policy) (fs : FieldsModel) (id : List �
   refused : (answer : Option KeyValue) → change_refusal fs id (value_of answer) new ≡ Some e → IsChangeError policies fs id new before after c e
   of_db : (d : SlateDBError) → e ≡ Db d → IsDbError policies before after c d → IsChangeError policies fs id new before after c e
 
--- ---- over a settled core
+-- ---- where what was read is checked
 
 -- m: what the parts mean
-abbrev pub Steps : FieldsModel → List ℕ → Option (List ℕ) → Reach → Reach → CoreModel → CoreModel → Result ℕ IndexError → Type 0
-Steps fs id new before after c d (Ok n) =
-    (change_refusal fs id (values_in before.meaning c (record_key id)) new ≡ None)
-    × ((k : List ℕ) → values_in before.meaning d k ≡ changed (values_in before.meaning c) (change_puts fs id (values_in before.meaning c (record_key id)) new) k)
-Steps fs id new before after c d (Err e) =
-    (change_refusal fs id (values_in before.meaning c (record_key id)) new ≡ Some e)
-    ⊎ ((e ≡ Db SequenceExhausted) × (newest c ≡ greatest) × (change_refusal fs id (values_in before.meaning c (record_key id)) new ≡ None))
-    ⊎ ((x : SlateDBError) × (e ≡ Db x) × (IsBeginError c x ⊎ IsFault before after x))
+abbrev pub Steps : (SlateDBError → Type 0) → FieldsModel → List ℕ → Option (List ℕ) → Meaning → CoreModel → CoreModel → Result ℕ IndexError → Type 0
+Steps P fs id new m c d (Ok n) =
+    (change_refusal fs id (values_in m c (record_key id)) new ≡ None)
+    × ((k : List ℕ) → values_in m d k ≡ changed (values_in m c) (change_puts fs id (values_in m c (record_key id)) new) k)
+Steps P fs id new m c d (Err e) =
+    (change_refusal fs id (values_in m c (record_key id)) new ≡ Some e)
+    ⊎ ((e ≡ Db SequenceExhausted) × (newest c ≡ greatest) × (change_refusal fs id (values_in m c (record_key id)) new ≡ None))
+    ⊎ ((x : SlateDBError) × (e ≡ Db x) × (IsBeginError c x ⊎ P x))
 
 pub record IsChangeCall (policies : List Policy) (seg : Segments) (fs : FieldsModel) (id : List ℕ) (new : Option (List ℕ)) (now : ℤ) (before after : Reach) (c d : CoreModel) (result : Result ℕ IndexError) : Type 0 where
   pub changes : IfOk result (Changes fs id new now c d)
   pub next : IfOk result (λ n. (newest c < greatest) × (newest d ≡ newest c + 1))
   pub left : OnErr result (IsLeft c d)
   pub form : AreChanges fs c.events → AreChanges fs d.events
-  pub steps : (g : Segments) → IsSettledIn policies g before c → Steps fs id new before after c d result
+  pub steps : (g : Segments) → IsChecked policies g before after c → Steps (IsFaultSettled policies before after c) fs id new before.meaning c d result
   pub settled : IsSettledIn policies seg before c → IsSettledIn policies seg after d
   pub vouched : (g : Segments) → IsSettledIn policies g before c → IsVouchedCore before.meaning c → IsVouchedCore before.meaning d
   pub kept : IsKept before.meaning c → IsKept before.meaning d

@@ -15,3 +15,4 @@ pub mod Running
 pub mod Words
 pub mod Laws
 pub mod Attempting
+pub mod Onward

@@ -156,7 +156,7 @@ fn take_steps<F: Fields, S: Store, M: MergeOperator, X: PrefixExtractor, T: Bloc
     ensures taken { let reach = ⟦<EnvOf<S, M, T> as Outside>⟧.reach in
         let policies = map (λ p. meaning (p.vtable, p.value)) laws.now.policies.items in
         (c : CoreModel) → IsWithin c tx.now IsolationLevel.SerializableSnapshot [] core.old →
-        OnOk result (HasTaken policies (reach env.old) (F.model fields.now) id.now (option_copied new.entry) c tx.now core.new) }
+        OnOk result (HasTaken policies (reach env.old) (reach env.new) (F.model fields.now) id.now (option_copied new.entry) c tx.now core.new) }
     ensures stopped { let reach = ⟦<EnvOf<S, M, T> as Outside>⟧.reach in
         let policies = map (λ p. meaning (p.vtable, p.value)) laws.now.policies.items in
         (c : CoreModel) → IsWithin c tx.now IsolationLevel.SerializableSnapshot [] core.old →

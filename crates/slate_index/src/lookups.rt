@@ -17,7 +17,7 @@ ghost use Rattle.slate_db.specs.Model.{CoreModel};
 ghost use Rattle.slate_db.specs.Opened.{HasTransaction};
 ghost use Rattle.slate_db.specs.Scans.{IsOpenScan, id_of};
 ghost use Rattle.slate_db.specs.Settled.{IsSettledIn};
-ghost use Rattle.slate_steps.specs.Reads.{IsReadError, IsReading, IsScanSince};
+ghost use Rattle.slate_steps.specs.Reads.{IsChecked, IsReadError, IsReading, IsScanSince};
 ghost use Rattle.slate_steps.specs.Steps.{IsWithin, newest};
 ghost use Rattle.slate_index.specs.Entries.{entry_prefix};
 ghost use Rattle.slate_index.specs.Finds.{names_behind};
@@ -94,7 +94,8 @@ fn ids_in<S: Store, M: MergeOperator, X: PrefixExtractor, T: BlockTransformer>(
     ensures found { let reach = ⟦<EnvOf<S, M, T> as Outside>⟧.reach in
         let policies = map (λ p. meaning (p.vtable, p.value)) laws.now.policies.items in
         let m = (reach env.old).meaning in
-        (c : CoreModel) (level : IsolationLevel) (ts : List TranscriptStep) (g : Segments) → IsWithin c tx.now level ts core.old → IsSettledIn policies g (reach env.old) c →
+        (c : CoreModel) (level : IsolationLevel) (ts : List TranscriptStep) (g : Segments) → IsWithin c tx.now level ts core.old →
+        IsChecked policies g (reach env.old) (reach env.new) c →
         IfOk result (λ ids. ids.items ≡ names_behind (entry_prefix number field.now) (map (λ r. r.key)
         (rows_seen (rules_of c.settings m) c.state.commits (newest c) (own_of ts) IterationOrder.Ascending (prefix_range (entry_prefix number field.now))))) }
     ensures undamaged { let reach = ⟦<EnvOf<S, M, T> as Outside>⟧.reach in
@@ -131,7 +132,8 @@ fn ids_behind<S: Store, M: MergeOperator, X: PrefixExtractor, T: BlockTransforme
     ensures found { let reach = ⟦<EnvOf<S, M, T> as Outside>⟧.reach in
         let policies = map (λ p. meaning (p.vtable, p.value)) laws.now.policies.items in
         let m = (reach env.old).meaning in
-        (c : CoreModel) (level : IsolationLevel) (ts : List TranscriptStep) (g : Segments) → IsWithin c tx.now level ts core.old → IsSettledIn policies g (reach env.old) c →
+        (c : CoreModel) (level : IsolationLevel) (ts : List TranscriptStep) (g : Segments) → IsWithin c tx.now level ts core.old →
+        IsChecked policies g (reach env.old) (reach env.new) c →
         IfOk result (λ ids. ids.items ≡ names_behind prefix.now (map (λ r. r.key)
         (rows_seen (rules_of c.settings m) c.state.commits (newest c) (own_of ts) IterationOrder.Ascending (prefix_range prefix.now)))) }
     ensures undamaged { let reach = ⟦<EnvOf<S, M, T> as Outside>⟧.reach in
@@ -164,7 +166,8 @@ fn keys_behind<S: Store, M: MergeOperator, X: PrefixExtractor, T: BlockTransform
     ensures found { let reach = ⟦<EnvOf<S, M, T> as Outside>⟧.reach in
         let policies = map (λ p. meaning (p.vtable, p.value)) laws.now.policies.items in
         let m = (reach env.old).meaning in
-        (c : CoreModel) (level : IsolationLevel) (ts : List TranscriptStep) (g : Segments) → IsWithin c tx.now level ts core.old → IsSettledIn policies g (reach env.old) c →
+        (c : CoreModel) (level : IsolationLevel) (ts : List TranscriptStep) (g : Segments) → IsWithin c tx.now level ts core.old →
+        IsChecked policies g (reach env.old) (reach env.new) c →
         IfOk result (λ keys. keys.items ≡ map (λ r. r.key) (rows_seen (rules_of c.settings m) c.state.commits (newest c) (own_of ts) IterationOrder.Ascending (prefix_range prefix.now))) }
     ensures undamaged { let reach = ⟦<EnvOf<S, M, T> as Outside>⟧.reach in
         let policies = map (λ p. meaning (p.vtable, p.value)) laws.now.policies.items in
@@ -193,7 +196,7 @@ fn keys_left<S: Store, M: MergeOperator, T: BlockTransformer>(
 ) -> Result<Vec<Bytes>, SlateDBError>
     requires { IsOpenScan core.old scan.old }
     ensures still { (c : CoreModel) (level : IsolationLevel) (ts : List TranscriptStep) → IsWithin c (id_of scan.old) level ts core.old → (us : List TranscriptStep) × IsWithin c (id_of scan.old) level (ts ++ us) core.new }
-    ensures found { let reach = ⟦<EnvOf<S, M, T> as Outside>⟧.reach in IfOk result (λ keys. HasWalked (reach env.old) scan.old keys.items) }
+    ensures found { let reach = ⟦<EnvOf<S, M, T> as Outside>⟧.reach in IfOk result (λ keys. HasWalked (reach env.old) (reach env.new) scan.old keys.items) }
     ensures undamaged { let reach = ⟦<EnvOf<S, M, T> as Outside>⟧.reach in
         let m = (reach env.old).meaning in
         (c : CoreModel) (ts : List TranscriptStep) (os : Objects) (rows : List RowEntry) →

@@ -72,7 +72,9 @@ pub fn put_record_shared<
     requires whole { laws.now.segments ≡ None }
     ensures change { let reach = ⟦<EnvOf<S, M, T> as Outside>⟧.reach in
         IsChangeAttempt P.options P.meaning P.policies (F.model fields.now) id.now (Some value.now) now (reach env.old) (reach env.new) pass.old pass.new result }
-    ensures first { (e : IndexError) → put_refusal (F.model fields.now) value.now ≡ Some e → (result ≡ Err e) ⊎ (result ≡ Err (IndexError.Db SlateDBError.OutOfMemory)) }
+    ensures first { let reach = ⟦<EnvOf<S, M, T> as Outside>⟧.reach in
+        (e : IndexError) → put_refusal (F.model fields.now) value.now ≡ Some e →
+        ((result ≡ Err e) ⊎ (result ≡ Err (IndexError.Db SlateDBError.OutOfMemory))) × (pass.new ≡ pass.old) × (reach env.new ≡ reach env.old) }
 {
     match test_value(fields, value) {
         Ok(()) => change(rt, db, pass, fields, id, Some(value), now, env, laws),

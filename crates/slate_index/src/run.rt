@@ -1,15 +1,18 @@
 //! A run over lines of records.
-ghost use Rattle.std.specs.Prelude.{◌≡◌, ◌⊎◌, ◌≤◌, ℕ, List, Some, None, Ok, Err, IfErr, IfOk, OnOk, false, map, true};
+ghost use Rattle.std.specs.Prelude.{◌≡◌, ◌⊎◌, ℕ, List, [], Some, None, Ok, Err, IfErr, IfOk, false, map, true};
 ghost use Rattle.std.specs.Global.{Vec};
 ghost use Rattle.slate_types.specs.Config.{IsValid};
 ghost use Rattle.slate_types.specs.declared.error.SlateDBError.{SlateDBError};
 ghost use Rattle.slate_types.specs.Faults.{Rose};
 ghost use Rattle.slate_types.specs.Outside.{OnlyReads};
-ghost use Rattle.slate_store.specs.Run.{HasTaken, IsRunCause, Says, WritesLine, WroteAsSaid};
+ghost use Rattle.slate_store.specs.Reach.{reach_of};
+ghost use Rattle.slate_store.specs.Run.{HasTaken, IsRunCause, WroteAsSaid};
 ghost use Rattle.slate_index.specs.declared.error.IndexError.{IndexError};
-ghost use Rattle.slate_index.specs.Running.{Answers, Goes, IsRunError, Premises, RunEnds, RunsAs};
+ghost use Rattle.slate_index.specs.Running.{Answers, Premises, RunEnds, RunsAs};
 ghost use Rattle.slate_index.specs.Script.{IsOwn, Reply, begun, is_taken, reply_line, says};
 ghost use Rattle.slate_index.specs.Words.{has_reply, is_said};
+ghost use Rattle.slate_index.specs.Onward.{RepliesTo, GoesBetween, EndsBetween, between_none, between_both, ends_later};
+ghost use Rattle.std.proofs.Common.{refl, ◌∙◌};
 
 use crate::change::{delete_record, put_record};
 use crate::error::IndexError;
@@ -21,8 +24,12 @@ use crate::reply::{done, found, refusal};
 use bytes::Bytes;
 use slate_db::engine::Core;
 use slate_db::laws::Laws;
-use slate_store::{Env, EnvOf, Lines, Sink, Source, Store, write_all};
-use slate_types::{BlockTransformer, MergeOperator, Outside, PrefixExtractor, SlateDBError};
+use slate_filter::FilterPolicy;
+use slate_store::run::{Program, run_lines};
+use slate_store::{Env, EnvOf, Sink, Source, Store};
+use slate_types::{
+    BlockTransformer, MergeOperator, Options, Outside, PrefixExtractor, SlateDBError,
+};
 use std::alloc::Global;
 
 /// Answers each line of the source into the sink over a new core, and reads on to the end: `put` with an id and a value, `del` with an
@@ -64,87 +71,152 @@ pub fn run_index<
     ensures sink_still { (result ≡ Err SlateDBError.WriteFault) ⊎ (W.faults sink.new ≡ W.faults sink.old) }
     ensures reads { let reach = ⟦<EnvOf<S, M, T> as Outside>⟧.reach in OnlyReads (reach env.old) (reach env.new) }
 {
-    let mut lines = Lines::new(alloc);
-    let mut core = Core::new(alloc, &laws.options);
-    let mut number = 0;
-    loop {
-        let line = match lines.next(source) {
-            Ok(Some(line)) => line,
-            Ok(None) => break,
-            Err(error) => {
-                core.close();
-                return Err(error);
-            }
-        };
-        number += 1;
-        match write_line(
-            alloc,
-            sink,
-            &mut core,
-            fields,
-            line.as_slice(),
-            number,
-            env,
-            laws,
-        ) {
-            Ok(()) => {}
-            Err(error) => {
-                core.close();
-                return Err(error);
-            }
-        }
-    }
-    core.close();
-    Ok(())
+    run_over(
+        alloc,
+        source,
+        sink,
+        env,
+        &laws.options,
+        &laws.policies,
+        fields,
+        |env: &mut Env<'_, S, M, T>, core: &mut Core, line: &[u8], number: u64| -> Result<
+            Option<Vec<u8>>,
+            SlateDBError,
+        >
+            requires { IsValid laws.now.options × (laws.now.segments ≡ None) }
+            ensures { let policies = map (λ p. meaning (p.vtable, p.value)) laws.entry.now.policies.items in
+                RepliesTo policies (F.model fields.entry.now) line.now number (reach_of S.Store M.MergeOperator T.BlockTransformer env.old) (reach_of S.Store M.MergeOperator T.BlockTransformer env.new) core.old core.new result }
+        { reply(alloc, core, fields, line, number, env, laws) },
+    )
 }
 
-/// Answers the line with this number into the sink. At `WriteFault` a front of the reply was written, and not all of it, and at
-/// another error nothing.
-fn write_line<
-    W: Sink,
-    S: Store,
-    M: MergeOperator,
-    X: PrefixExtractor,
-    T: BlockTransformer,
-    F: Fields,
->(
+/// The reply to the line with this number, and None for a silent line.
+fn reply<F: Fields, S: Store, M: MergeOperator, X: PrefixExtractor, T: BlockTransformer>(
     alloc: Global,
-    sink: &mut W,
     core: &mut Core,
     fields: &F,
     line: &[u8],
     number: u64,
     env: &mut Env<'_, S, M, T>,
     laws: &Laws<X>,
-) -> Result<(), SlateDBError>
+) -> Result<Option<Vec<u8>>, SlateDBError>
     requires valid { IsValid laws.now.options }
     requires whole { laws.now.segments ≡ None }
-    ensures own { OnOk result (is_taken (F.model fields.now) line.now ≡ true) }
-    ensures said { let reach = ⟦<EnvOf<S, M, T> as Outside>⟧.reach in
+    ensures { let reach = ⟦<EnvOf<S, M, T> as Outside>⟧.reach in
         let policies = map (λ p. meaning (p.vtable, p.value)) laws.now.policies.items in
-        (f : Says) → RunsAs policies (F.model fields.now) (reach env.old) core.old f →
-        WritesLine f (RunsAs policies (F.model fields.now) (reach env.new) core.new) line.now (W.content sink.old) (W.content sink.new) result }
-    ensures unwritten { IfErr result (λ e. (e ≡ SlateDBError.WriteFault) ⊎ (W.content sink.new ≡ W.content sink.old)) }
-    ensures goes { let reach = ⟦<EnvOf<S, M, T> as Outside>⟧.reach in
-        let policies = map (λ p. meaning (p.vtable, p.value)) laws.now.policies.items in
-        Goes policies (reach env.old) (reach env.new) core.old core.new 1 }
-    ensures cause { let reach = ⟦<EnvOf<S, M, T> as Outside>⟧.reach in
-        let policies = map (λ p. meaning (p.vtable, p.value)) laws.now.policies.items in
-        IfErr result (λ e. ((e ≡ SlateDBError.WriteFault) × (is_taken (F.model fields.now) line.now ≡ true) × Rose (W.faults sink.old) (W.faults sink.new))
-        ⊎ ((e ≡ SlateDBError.ScriptSyntax number) × (is_taken (F.model fields.now) line.now ≡ false)) ⊎ IsRunError policies (reach env.old) (reach env.new) core.old core.new e) }
-    ensures still { (result ≡ Err SlateDBError.WriteFault) ⊎ (W.faults sink.new ≡ W.faults sink.old) }
-    ensures later { W.faults sink.old ≤ W.faults sink.new }
+        RepliesTo policies (F.model fields.now) line.now number (reach env.old) (reach env.new) core.old core.new result }
 {
-    let meant = match read_line(alloc, fields, line, number) {
-        Ok(Some(meant)) => meant,
-        Ok(None) => return Ok(()),
-        Err(error) => return Err(error),
-    };
-    match answer_line(alloc, core, fields, meant, env, laws) {
-        Ok(text) => write_all(sink, text.as_slice()),
+    match read_line(alloc, fields, line, number) {
+        Ok(Some(meant)) => match answer_line(alloc, core, fields, meant, env, laws) {
+            Ok(text) => Ok(Some(text)),
+            Err(error) => Err(error),
+        },
+        Ok(None) => Ok(None),
         Err(error) => Err(error),
     }
 }
+
+/// The program over a core. A struct that holds a `&mut Env` gives its last value back to no proof, so the environment is a parameter.
+/// No method of a trait may hand on an extractor, which is `Send`, so the reply is a closure of the run.
+#[derive(Drop)]
+struct Index<'c, 'a, 'p, 'f, E, F, A> {
+    core: &'c mut Core,
+    env: &'a mut E,
+    policies: &'p Vec<Box<dyn FilterPolicy>>,
+    fields: &'f F,
+    reply: A,
+}
+
+impl<
+    E: Outside + Drop,
+    F: Fields,
+    A: Fn(&mut E, &mut Core, &[u8], u64) -> Result<Option<Vec<u8>>, SlateDBError> + Drop,
+> Program for Index<'_, '_, '_, '_, E, F, A> {
+    ghost takes = { λ p. is_taken (F.model p.fields.now) };
+
+    ghost answers = { λ p f. RunsAs (map (λ q. (FilterPolicy-box q).meaning q.value) p.policies.now.items) (F.model p.fields.now) (E.reach p.env.now) p.core.now f };
+
+    ghost ready = { λ p. ((e : _) (c : _) (l : _) (n : ℕ) → A.pre p.reply e c l n)
+        × ((e : _) (c : _) (l : _) (n : ℕ) (r : _) (f : _) (d : _) → A.post p.reply e c l n r f d →
+        RepliesTo (map (λ q. (FilterPolicy-box q).meaning q.value) p.policies.now.items) (F.model p.fields.now) l.now n (E.reach e.now) (E.reach f.now) c.now d.now r) };
+
+    ghost goes = { λ p q n. (q.env.ghost_name ≡ p.env.ghost_name)
+        × GoesBetween (λ x. map (λ r. (FilterPolicy-box r).meaning r.value) x.policies.now.items) (λ x. E.reach x.env.now) (λ x. x.core.now) p q n };
+
+    ghost refuses = { λ p q e. EndsBetween (λ x. map (λ r. (FilterPolicy-box r).meaning r.value) x.policies.now.items) (λ x. E.reach x.env.now) (λ x. x.core.now) p q e };
+
+    fn answer(
+        &mut self,
+        alloc: Global,
+        line: &[u8],
+        number: u64,
+    ) -> Result<Option<Vec<u8>>, SlateDBError> {
+        (self.reply)(self.env, self.core, line, number)
+    }
+
+    ghost ends = { λ p f h. h.2 [] };
+
+    ghost stays = { λ p. (refl, between_none _ _ _ p) };
+
+    ghost goes_on = { λ a b c n m p q. (q.0 ∙ p.0, between_both p.1 q.1) };
+
+    ghost later = { λ a b c n e p q. ends_later p.1 q };
+
+    ghost apart = { λ a b e p. p.error.apart };
+}
+
+/// Runs in an environment of whatever type.
+fn run_over<
+    R: Source,
+    W: Sink,
+    E: Outside + Drop,
+    F: Fields,
+    A: Fn(&mut E, &mut Core, &[u8], u64) -> Result<Option<Vec<u8>>, SlateDBError> + Drop,
+>(
+    alloc: Global,
+    source: &mut R,
+    sink: &mut W,
+    env: &mut E,
+    options: &Options,
+    policies: &Vec<Box<dyn FilterPolicy>>,
+    fields: &F,
+    reply: A,
+) -> Result<(), SlateDBError>
+    requires valid { IsValid options.now }
+    requires callable { (e : _) (c : _) (l : _) (n : ℕ) → A.pre reply e c l n }
+    requires replies { let ps = map (λ p. meaning p) policies.now.items in
+        (e : _) (c : _) (l : _) (n : ℕ) (r : _) (f : _) (d : _) → A.post reply e c l n r f d →
+        RepliesTo ps (F.model fields.now) l.now n (E.reach e.now) (E.reach f.now) c.now d.now r }
+    ensures said { let ps = map (λ p. meaning p) policies.now.items in
+        (script before : List ℕ) → R.left source.old ≡ Some script → W.content sink.old ≡ Some before → Premises ps (E.reach env.old) →
+        WroteAsSaid (is_taken (F.model fields.now)) (says (F.model fields.now) (begun options.now.start_seq)) script (R.left source.new) before (W.content sink.new) result }
+    ensures read { (script : List ℕ) → R.left source.old ≡ Some script → HasTaken (is_taken (F.model fields.now)) script (R.left source.new) result }
+    ensures cause { let ps = map (λ p. meaning p) policies.now.items in
+        IfErr result (IsRunCause (Rose (R.faults source.old) (R.faults source.new)) (Rose (W.faults sink.old) (W.faults sink.new)) (RunEnds ps (E.reach env.old) (E.reach env.new))) }
+    ensures source_still { (result ≡ Err SlateDBError.ReadFault) ⊎ (R.faults source.new ≡ R.faults source.old) }
+    ensures sink_still { (result ≡ Err SlateDBError.WriteFault) ⊎ (W.faults sink.new ≡ W.faults sink.old) }
+    ensures reads { OnlyReads (E.reach env.old) (E.reach env.new) }
+{
+    let mut core = Core::new(alloc, options);
+    let mut index = Index {
+        core: &mut core,
+        env,
+        policies,
+        fields,
+        reply,
+    };
+    let ran = run_lines(alloc, source, sink, &mut index);
+    let Index { env, reply, .. } = index;
+    give_back(env);
+    drop(reply);
+    core.close();
+    ran
+}
+
+/// Does nothing. By this use a proof knows what the environment ends as that a program was lent.
+fn give_back<E>(env: &mut E)
+    ensures { env.new ≡ env.old }
+{}
 
 /// What a line is answered.
 fn answer_line<F: Fields, S: Store, M: MergeOperator, X: PrefixExtractor, T: BlockTransformer>(

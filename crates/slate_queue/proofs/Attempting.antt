@@ -16,7 +16,7 @@ use Rattle.slate_txn.specs.declared.event.TranscriptStep.{TranscriptStep}
 use Rattle.slate_txn.specs.declared.event.TranscriptStep.TheVariants as steps
 use Rattle.slate_db.specs.Model.{CoreModel}
 use Rattle.slate_db.specs.Settled.{IsSettledIn}
-use Rattle.slate_steps.specs.Reads.{IsReadError}
+use Rattle.slate_steps.specs.Reads.{IsChecked, IsReadError}
 use Rattle.slate_steps.specs.Steps.{IsWithin, Sees}
 use Rattle.slate_queue.specs.declared.error.QueueError.{QueueError}
 use Rattle.slate_queue.specs.declared.error.QueueError.TheVariants as errors
@@ -80,7 +80,7 @@ module _ (policies : List Policy) (before after : Reach) (c : CoreModel) (id : L
   -- ---- an add
 
   pub counted : (d : CoreModel) (answer : Option KeyValue) (result : Result ℕ QueueError) → IsWithin c id SerializableSnapshot (steps.Get counter_key answer ∷ []) d →
-      ((g : Segments) → IsSettledIn policies g before c → Sees before.meaning c (steps.Get counter_key answer ∷ [])) →
+      ((g : Segments) → IsChecked policies g before after c → Sees before.meaning c (steps.Get counter_key answer ∷ [])) →
       IfOk result (λ new. (counter : ℕ) × (counter_in (value_of answer) ≡ Some counter) × (counter < last_number) × (new ≡ counter + 1)) →
       IfErr result (λ e. (e ≡ errors.Db OutOfMemory) ⊎ (counter_refusal (counter_in (value_of answer)) ≡ Some e)) → Attempts Counts AddStops policies before after c id d result
   counted d answer (Ok new) within sees h g = record {
@@ -128,7 +128,7 @@ module _ (policies : List Policy) (before after : Reach) (c : CoreModel) (id : L
   -- ---- a finish
 
   pub finish_refused : (job lease : ℕ) (k : List ℕ) (d : CoreModel) (answer : Option KeyValue) (e : QueueError) → k ≡ job_key job → IsWithin c id SerializableSnapshot (steps.Get k answer ∷ []) d →
-      ((g : Segments) → IsSettledIn policies g before c → Sees before.meaning c (steps.Get k answer ∷ [])) →
+      ((g : Segments) → IsChecked policies g before after c → Sees before.meaning c (steps.Get k answer ∷ [])) →
       (e ≡ errors.Db OutOfMemory) ⊎ (job_refusal job lease (job_in (value_of answer)) ≡ Some e) → Attempts {T = Unit} (λ done. Finishes job lease) (FinishStops job lease) policies before after c id d (Err e)
   finish_refused job lease k d answer e is within sees h = record {
     done = tt;
@@ -140,7 +140,7 @@ module _ (policies : List Policy) (before after : Reach) (c : CoreModel) (id : L
       by (inr refusal) = inl (record { answer = answer; refusal = refusal; steps = ap (λ (j : List ℕ). steps.Get j answer ∷ []) is })
 
   pub finish_deleted : (job lease : ℕ) (k : List ℕ) (d f : CoreModel) (answer : Option KeyValue) (result : Result Unit QueueError) → k ≡ job_key job → IsWithin c id SerializableSnapshot (steps.Get k answer ∷ []) d →
-      ((g : Segments) → IsSettledIn policies g before c → Sees before.meaning c (steps.Get k answer ∷ [])) → job_refusal job lease (job_in (value_of answer)) ≡ None →
+      ((g : Segments) → IsChecked policies g before after c → Sees before.meaning c (steps.Get k answer ∷ [])) → job_refusal job lease (job_in (value_of answer)) ≡ None →
       OnOk result (IsWithin c id SerializableSnapshot (steps.Get k answer ∷ steps.Own k Delete ∷ []) f) → OnErr result (f ≡ d) → IfErr result (λ e. e ≡ errors.Db OutOfMemory) →
       Attempts (λ done. Finishes job lease) (FinishStops job lease) policies before after c id f result
   finish_deleted job lease k d f answer (Ok done) is within sees named deleted same memory =

@@ -5,7 +5,7 @@ use Rattle.slate_types.specs.declared.config.IsolationLevel.TheVariants.{Seriali
 use Rattle.slate_types.specs.declared.error.SlateDBError.{SlateDBError}
 use Rattle.slate_types.specs.declared.error.SlateDBError.TheVariants.{SequenceExhausted}
 use Rattle.slate_types.specs.Outside.{IsFault, Objects, OnlyReads, Reach}
-use Rattle.slate_types.proofs.Reaching.{fault_earlier}
+use Rattle.slate_types.proofs.Reaching.{fault_earlier, reads_then}
 use Rattle.slate_filter.specs.Policy.{Policy}
 use Rattle.slate_mem.specs.KeyTests.{Segments}
 use Rattle.slate_mem.specs.Batch.{Ops, batch_keys, kept_ops}
@@ -21,6 +21,7 @@ use Rattle.slate_db.specs.Segmented.{IsSegmented}
 use Rattle.slate_db.specs.Settled.{IsSettled, IsSettledIn}
 use Rattle.slate_db.specs.Sound.{IsKept}
 use Rattle.slate_steps.specs.Steps.{HasCommitted, HasEnded, IsBeginError, Sees, newest}
+use Rattle.slate_steps.proofs.StoreTruth.{checked_before, checked_in}
 use Rattle.slate_steps.proofs.Settling.{committed_kind, committed_settled, committed_vouched, committed_weight, ended_kind, ended_load, ended_settled, ended_vouched, ended_weight}
 use Rattle.slate_queue.specs.declared.error.QueueError.{QueueError}
 use Rattle.slate_queue.specs.declared.error.QueueError.TheVariants as errors
@@ -28,7 +29,7 @@ use Rattle.slate_queue.specs.Jobs as model
 use Rattle.slate_queue.specs.Jobs.{Queue, Call, queue_step}
 use Rattle.slate_queue.specs.Commits.{IsQueueCommit}
 use Rattle.slate_queue.specs.CallSteps.{own_steps}
-use Rattle.slate_queue.specs.Calls.{CallsAs, IsDbRefusal, Keeps, IsRefusal, StandsIn, StepRefuses, Took}
+use Rattle.slate_queue.specs.Calls.{CallsAs, IsDbRefusal, Keeps, IsRefusal, StandsIn, StepRefuses, Stops, Took}
 use Rattle.slate_queue.specs.Script.{keys_of}
 use Rattle.slate_queue.specs.Standing.{Stands}
 use Rattle.slate_queue.proofs.CallSteps.{own_more_alone}
@@ -88,6 +89,7 @@ module _ {T : Type 0} (ends : T → Type 0) (answer : T → model.Answer) (call 
     done = tt;
     refused = inl refl;
     steps = λ g q settled stands. record { done = tt; refused = (stands, StepRefuses.by_step (step q)) };
+    checked = λ g q store stands. tt;
     cause = IsRefusal.by_call is;
     keeps = keeps_same policies seg before after c reads;
     reads = reads;
@@ -98,6 +100,7 @@ module _ {T : Type 0} (ends : T → Type 0) (answer : T → model.Answer) (call 
     done = tt;
     refused = inl refl;
     steps = λ g q settled stands. record { done = tt; refused = (stands, by q h) };
+    checked = λ g q store stands. tt;
     cause = IsRefusal.at_begin error refl h;
     keeps = keeps_same policies seg before after c reads;
     reads = reads;
@@ -109,34 +112,36 @@ module _ {T : Type 0} (ends : T → Type 0) (answer : T → model.Answer) (call 
 
   -- rolled back
   pub stopped : (stops : QueueError → List TranscriptStep → Type 0) (before after : Reach) (c d f : CoreModel) (id : List ℕ) (e : QueueError) → OnlyReads before after →
-      Took policies before c id (λ ts. stops e ts ⊎ IsDbRefusal policies before after c id e) d → HasEnded c id SerializableSnapshot f → ((ts : List TranscriptStep) → stops e ts → own e) →
+      Took policies before after c id (λ ts. stops e ts ⊎ IsDbRefusal policies before after c id e) d → HasEnded c id SerializableSnapshot f → (Stops (stops e) policies before after c f → own e) →
       ((q : Queue) (ts : List TranscriptStep) → StandsIn before.meaning c q → Sees before.meaning c ts → stops e ts → queue_step q call ≡ Err e) → CallsAs ends answer call own policies seg before after c f (Err e)
   stopped stops before after c d f id e reads took ended owns steps = record {
     done = tt;
     refused = inr (id, ended);
     steps = λ g q settled stands. record { done = tt; refused = (ended_stands before.meaning c f id q ended stands, by g q settled stands took.is) };
+    checked = λ g q store stands. tt;
     cause = cause_by took.is;
     keeps = keeps_ended policies seg before after c f id reads ended;
     reads = reads;
   }
     where
       by : (g : Segments) (q : Queue) → IsSettledIn policies g before c → StandsIn before.meaning c q → stops e took.steps ⊎ IsDbRefusal policies before after c id e → StepRefuses q call before after c e
-      by g q settled stands (inl h) = StepRefuses.by_step (steps q took.steps stands (took.sees g settled) h)
+      by g q settled stands (inl h) = StepRefuses.by_step (steps q took.steps stands (took.sees g (checked_in policies g before after c settled)) h)
       by g q settled stands (inr h) = StepRefuses.by_fault h.error h.is (h.undamaged g settled)
 
       cause_by : stops e took.steps ⊎ IsDbRefusal policies before after c id e → IsRefusal own policies before after c e
-      cause_by (inl h) = IsRefusal.by_call (owns took.steps h)
+      cause_by (inl h) = IsRefusal.by_call (owns (record { id = id; steps = took.steps; all = h; ended = ended; sees = took.sees }))
       cause_by (inr h) = IsRefusal.at_read id h
 
   -- its commit was refused
   pub uncommitted : (means : List TranscriptStep → Type 0) (before middle after : Reach) (c d f : CoreModel) (id : List ℕ) (error : SlateDBError) → OnlyReads before middle → OnlyReads before after →
-      Took policies before c id means d → HasEnded c id SerializableSnapshot f → IsFault middle after error ⊎ ((error ≡ SequenceExhausted) × (newest c ≡ 2 ^ 64 - 2)) →
+      Took policies before middle c id means d → HasEnded c id SerializableSnapshot f → IsFault middle after error ⊎ ((error ≡ SequenceExhausted) × (newest c ≡ 2 ^ 64 - 2)) →
       ((q : Queue) (ts : List TranscriptStep) → StandsIn before.meaning c q → Sees before.meaning c ts → means ts → (p : Queue) × (a : model.Answer) × (queue_step q call ≡ Ok (p, a)) × IsSome (keys_of a)) →
       CallsAs ends answer call own policies seg before after c f (Err (errors.Db error))
   uncommitted means before middle after c d f id error first reads took ended why steps = record {
     done = tt;
     refused = inr (id, ended);
-    steps = λ g q settled stands. record { done = tt; refused = (ended_stands before.meaning c f id q ended stands, by q (steps q took.steps stands (took.sees g settled) took.is) why) };
+    steps = λ g q settled stands. record { done = tt; refused = (ended_stands before.meaning c f id q ended stands, by q (steps q took.steps stands (took.sees g (checked_in policies g before middle c settled)) took.is) why) };
+    checked = λ g q store stands. tt;
     cause = cause_by why;
     keeps = keeps_ended policies seg before after c f id reads ended;
     reads = reads;
@@ -151,15 +156,16 @@ module _ {T : Type 0} (ends : T → Type 0) (answer : T → model.Answer) (call 
       cause_by (inr full) = IsRefusal.at_commit (ap errors.Db full.0) full.1
 
   -- done
-  pub answered : (means : List TranscriptStep → Type 0) (before after : Reach) (c d f : CoreModel) (id : List ℕ) (a : T) → OnlyReads before after → (took : Took policies before c id means d) → ends a → Keeps policies seg before after c f →
+  pub answered : (means : List TranscriptStep → Type 0) (before middle after : Reach) (c d f : CoreModel) (id : List ℕ) (a : T) → OnlyReads before middle → OnlyReads middle after → (took : Took policies before middle c id means d) → ends a → Keeps policies seg before after c f →
       ((q : Queue) → StandsIn before.meaning c q → Sees before.meaning c took.steps → (p : Queue) × (queue_step q call ≡ Ok (p, answer a)) × StandsIn before.meaning f p) → CallsAs ends answer call own policies seg before after c f (Ok a)
-  answered means before after c d f id a reads took end keeps steps = record {
+  answered means before middle after c d f id a first later took end keeps steps = record {
     done = end;
     refused = tt;
-    steps = λ g q settled stands. record { done = steps q stands (took.sees g settled); refused = tt };
+    steps = λ g q settled stands. record { done = steps q stands (took.sees g (checked_in policies g before middle c settled)); refused = tt };
+    checked = λ g q store stands. steps q stands (took.sees g (checked_before policies g before middle after c first later store));
     cause = tt;
     keeps = keeps;
-    reads = reads;
+    reads = reads_then before middle after first later;
   }
 
 -- ---- a commit of operations has a sequence

@@ -21,6 +21,7 @@ use Rattle.slate_db.specs.Model.{CoreModel}
 use Rattle.slate_db.specs.Segmented.{IsSegmented}
 use Rattle.slate_db.specs.Sound.{IsKept}
 use Rattle.slate_steps.specs.Steps.{HasCommitted, HasEnded, IsBeginError, newest}
+use Rattle.slate_steps.proofs.StoreTruth.{checked_in}
 use Rattle.slate_queue.specs.declared.error.QueueError.{QueueError}
 use Rattle.slate_queue.specs.declared.error.QueueError.TheVariants as errors
 use Rattle.slate_queue.specs.declared.claims.Claim.{Claim}
@@ -113,39 +114,39 @@ module _ (now : ℤ) (ms : ℕ) (claim : Claim) (ts : List TranscriptStep) (h : 
 -- ---- the exits of the call
 
 module _ (now : ℤ) (ms : ℕ) (policies : List Policy) (seg : Segments) where
-  pub claim_not_begun : (a : Reach) (c d : CoreModel) (error : SlateDBError) → d ≡ c → IsBeginError c error → CallsAs (ClaimEnds now ms c d) claim_answer (Call.Claim now ms) (ClaimRefuses now) policies seg a a c d (Err (errors.Db error))
+  pub claim_not_begun : (a : Reach) (c d : CoreModel) (error : SlateDBError) → d ≡ c → IsBeginError c error → CallsAs (ClaimEnds now ms policies a a c d) claim_answer (Call.Claim now ms) (ClaimRefuses now policies a a c d) policies seg a a c d (Err (errors.Db error))
   claim_not_begun a c d error same h =
-      subst (λ (v : CoreModel). CallsAs (ClaimEnds now ms c v) claim_answer (Call.Claim now ms) (ClaimRefuses now) policies seg a a c v (Err (errors.Db error))) (sym same)
-      (not_begun (ClaimEnds now ms c c) claim_answer (Call.Claim now ms) (ClaimRefuses now) policies seg a a c error (reads_none a) h)
+      subst (λ (v : CoreModel). CallsAs (ClaimEnds now ms policies a a c v) claim_answer (Call.Claim now ms) (ClaimRefuses now policies a a c v) policies seg a a c v (Err (errors.Db error))) (sym same)
+      (not_begun (ClaimEnds now ms policies a a c c) claim_answer (Call.Claim now ms) (ClaimRefuses now policies a a c c) policies seg a a c error (reads_none a) h)
 
   pub claim_stopped_call : (before after : Reach) (c d f : CoreModel) (tx : List ℕ) (e : QueueError) → OnlyReads before after → Attempts (MayClaim now ms) (ClaimStops now) policies before after c tx d (Err e) →
-      HasEnded c tx SerializableSnapshot f → CallsAs (ClaimEnds now ms c f) claim_answer (Call.Claim now ms) (ClaimRefuses now) policies seg before after c f (Err e)
+      HasEnded c tx SerializableSnapshot f → CallsAs (ClaimEnds now ms policies before after c f) claim_answer (Call.Claim now ms) (ClaimRefuses now policies before after c f) policies seg before after c f (Err e)
   claim_stopped_call before after c d f tx e reads h ended =
-      stopped (ClaimEnds now ms c f) claim_answer (Call.Claim now ms) (ClaimRefuses now) policies seg (ClaimStops now) before after c d f tx e reads h.refused ended
-      (λ ts s. (ts, s)) (λ q ts stands sees s. claim_stopped (rules_of c.settings before.meaning) c.state.commits (newest c) q now ms e ts stands sees s)
+      stopped (ClaimEnds now ms policies before after c f) claim_answer (Call.Claim now ms) (ClaimRefuses now policies before after c f) policies seg (ClaimStops now) before after c d f tx e reads h.refused ended
+      (λ s. s) (λ q ts stands sees s. claim_stopped (rules_of c.settings before.meaning) c.state.commits (newest c) q now ms e ts stands sees s)
 
   pub claim_uncommitted : (before middle after : Reach) (c d f : CoreModel) (tx : List ℕ) (claim : Claim) (error : SlateDBError) → OnlyReads before middle → OnlyReads middle after →
       (h : Attempts (MayClaim now ms) (ClaimStops now) policies before middle c tx d (Ok (Some claim))) → HasEnded c tx SerializableSnapshot f → IsFault middle after error ⊎ ((error ≡ SequenceExhausted) × (newest c ≡ 2 ^ 64 - 2)) →
-      CallsAs (ClaimEnds now ms c f) claim_answer (Call.Claim now ms) (ClaimRefuses now) policies seg before after c f (Err (errors.Db error))
+      CallsAs (ClaimEnds now ms policies before after c f) claim_answer (Call.Claim now ms) (ClaimRefuses now policies before after c f) policies seg before after c f (Err (errors.Db error))
   claim_uncommitted before middle after c d f tx claim error first later h ended why =
-      uncommitted (ClaimEnds now ms c f) claim_answer (Call.Claim now ms) (ClaimRefuses now) policies seg (Claims now ms claim) before middle after c d f tx error first (reads_then before middle after first later)
+      uncommitted (ClaimEnds now ms policies before after c f) claim_answer (Call.Claim now ms) (ClaimRefuses now policies before after c f) policies seg (Claims now ms claim) before middle after c d f tx error first (reads_then before middle after first later)
       h.done ended why (λ q ts stands sees claims. may_perform before.meaning (Call.Claim now ms) (claim_answer (Some claim)) c ts refl (claim_tells now ms claim ts claims) q stands sees)
 
   pub claim_answered : (before middle after : Reach) (c d f : CoreModel) (tx : List ℕ) (claim : Claim) (n : Option ℕ) → SFits w64 now → ms < 2 ^ 64 → OnlyReads before middle → OnlyReads middle after →
       (h : Attempts (MayClaim now ms) (ClaimStops now) policies before middle c tx d (Ok (Some claim))) → HasCommitted c tx SerializableSnapshot h.done.steps n now f → newest c ≢ 2 ^ 64 - 2 → (IsKept before.meaning c → IsKept before.meaning f) → (IsSegmented seg c → IsSegmented seg f) →
-      CallsAs (ClaimEnds now ms c f) claim_answer (Call.Claim now ms) (ClaimRefuses now) policies seg before after c f (Ok (Some claim))
+      CallsAs (ClaimEnds now ms policies before after c f) claim_answer (Call.Claim now ms) (ClaimRefuses now policies before after c f) policies seg before after c f (Ok (Some claim))
   claim_answered before middle after c d f tx claim n moment fits first later h committed left kept segmented =
       let made = has_seq c f tx h.done.steps n now (claim_some now ms claim h.done.steps h.done.is) committed in
-      answered (ClaimEnds now ms c f) claim_answer (Call.Claim now ms) (ClaimRefuses now) policies seg (Claims now ms claim) before after c d f tx (Some claim) (reads_then before middle after first later) h.done
+      answered (ClaimEnds now ms policies before after c f) claim_answer (Call.Claim now ms) (ClaimRefuses now policies before after c f) policies seg (Claims now ms claim) before middle after c d f tx (Some claim) first later h.done
       (claim_commits now ms claim h.done.steps h.done.is tx c f made.0 fits made.1 left)
-      (keeps_committed policies seg before after c f tx h.done.steps (Some made.0) now (reads_then before middle after first later) made.1 kept segmented (λ s. h.done.sees seg s)
+      (keeps_committed policies seg before after c f tx h.done.steps (Some made.0) now (reads_then before middle after first later) made.1 kept segmented (λ s. h.done.sees seg (checked_in policies seg before middle c s))
       (record { serializable = refl; does = inr (inl (claim_form now ms claim h.done.steps h.done.is fits).0) })
       (let one : length (own_of h.done.steps) ≡ 1 = ap length (claim_own now ms claim h.done.steps h.done.is) in omega arith))
       (λ q stands sees. performed before.meaning (Call.Claim now ms) (claim_answer (Some claim)) c f tx h.done.steps made.0 now (claim_performs now ms claim h.done.steps h.done.is moment) made.1 q stands sees)
 
   pub claim_none : (before after : Reach) (c d f : CoreModel) (tx : List ℕ) → OnlyReads before after → (h : Attempts (MayClaim now ms) (ClaimStops now) policies before after c tx d (Ok None)) → HasEnded c tx SerializableSnapshot f →
-      CallsAs (ClaimEnds now ms c f) claim_answer (Call.Claim now ms) (ClaimRefuses now) policies seg before after c f (Ok None)
+      CallsAs (ClaimEnds now ms policies before after c f) claim_answer (Call.Claim now ms) (ClaimRefuses now policies before after c f) policies seg before after c f (Ok None)
   claim_none before after c d f tx reads h ended =
-      answered (ClaimEnds now ms c f) claim_answer (Call.Claim now ms) (ClaimRefuses now) policies seg (FindsNone now) before after c d f tx None reads h.done
-      (inr (tx, ended)) (keeps_ended policies seg before after c f tx reads ended)
+      answered (ClaimEnds now ms policies before after c f) claim_answer (Call.Claim now ms) (ClaimRefuses now policies before after c f) policies seg (FindsNone now) before after after c d f tx None reads (reads_none after) h.done
+      (record { id = tx; steps = h.done.steps; all = h.done.is; ended = ended; sees = h.done.sees }) (keeps_ended policies seg before after c f tx reads ended)
       (λ q stands sees. (q, none_step_is (rules_of c.settings before.meaning) c.state.commits (newest c) q now ms h.done.steps stands sees h.done.is, ended_stands before.meaning c f tx q ended stands))

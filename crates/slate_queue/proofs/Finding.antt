@@ -3,19 +3,18 @@ use Rattle.std.proofs.Common.{◌≡◌, ◌⊎◌, inl, inr, ℕ, ◌+◌, ◌<
 use Rattle.std.specs.Prelude.{IfOk, IfErr}
 use Rattle.slate_types.specs.declared.config.IsolationLevel.TheVariants.{SerializableSnapshot}
 use Rattle.slate_types.specs.declared.types.RowEntry.{RowEntry}
-use Rattle.slate_types.specs.Outside.{Meaning, Objects, OnlyReads, Reach}
+use Rattle.slate_types.specs.Outside.{Meaning, OnlyReads, Reach}
 use Rattle.slate_types.proofs.Reaching.{fault_earlier, reads_none}
 use Rattle.slate_filter.specs.Policy.{Policy}
 use Rattle.slate_mem.specs.KeyTests.{Segments}
 use Rattle.slate_txn.specs.declared.event.TranscriptStep.{TranscriptStep}
 use Rattle.slate_txn.specs.declared.event.TranscriptStep.TheVariants as steps
 use Rattle.slate_db.specs.declared.scan.TxnIterator.{TxnIterator}
-use Rattle.slate_db.specs.Installs.{HoldsTables}
 use Rattle.slate_db.specs.Model.{CoreModel}
 use Rattle.slate_db.specs.Scans.{id_of}
-use Rattle.slate_db.specs.Settled.{IsSettledIn}
-use Rattle.slate_steps.specs.Reads.{IsReading, IsScanSince}
+use Rattle.slate_steps.specs.Reads.{IsChecked, IsReading, IsScanSince}
 use Rattle.slate_steps.specs.Steps.{IsWithin}
+use Rattle.slate_steps.proofs.StoreTruth.{IsToldIn, checked_before, checked_told}
 use Rattle.slate_queue.specs.declared.claiming.FreeJob.{FreeJob}
 use Rattle.slate_queue.specs.declared.claims.Claim.{Claim}
 use Rattle.slate_queue.specs.declared.error.QueueError.{QueueError}
@@ -30,33 +29,26 @@ use Rattle.slate_queue.proofs.CallLaws.{sees_more}
 use Rattle.slate_queue.proofs.FormLaws.{is_read}
 use Rattle.slate_queue.proofs.WalkLaws.{walks_from}
 
-told_in : (policies : List Policy) (g : Segments) (before : Reach) (c : CoreModel) → IsSettledIn policies g before c → (os : Objects) × (before.objects ≡ Some os)
-told_in policies g before c settled = by before.objects refl settled.tables.holds
-  where
-    by : (o : Option Objects) → before.objects ≡ o → HoldsTables o c.events → (os : Objects) × (before.objects ≡ Some os)
-    by None is held = absurd held
-    by (Some os) is held = (os, is)
-
 -- d: the core before the scan, e: behind its opening; middle: what was reached then
 pub record HasOpened (policies : List Policy) (before middle : Reach) (c d e : CoreModel) (id : List ℕ) (it : TxnIterator) : Type 0 where
   pub within_before : IsWithin c id SerializableSnapshot [] d
   pub within : IsWithin c id SerializableSnapshot (scan_of_jobs ∷ []) e
   pub named : id_of it ≡ id
   pub rows : List RowEntry
-  pub reading : (g : Segments) (os : Objects) → before.objects ≡ Some os → IsSettledIn policies g before c → IsReading os before.meaning c (scan_of_jobs ∷ []) it rows
+  pub reading : (g : Segments) (s : IsChecked policies g before middle c) → IsReading s.os before.meaning c (scan_of_jobs ∷ []) it rows
   pub since : IsScanSince before middle d it
   pub reads : OnlyReads before middle
 
-module _ (now : ℤ) (policies : List Policy) (before middle after : Reach) (c d e f : CoreModel) (id : List ℕ) (it : TxnIterator) (opened : HasOpened policies before middle c d e id it) where
-  walked : (means : List TranscriptStep → Type 0) (us : List TranscriptStep) → Walks middle e f it us → means (scan_of_jobs ∷ us) → Took policies before c id means f
+module _ (now : ℤ) (policies : List Policy) (before middle after : Reach) (c d e f : CoreModel) (id : List ℕ) (it : TxnIterator) (opened : HasOpened policies before middle c d e id it) (later : OnlyReads middle after) where
+  walked : (means : List TranscriptStep → Type 0) (us : List TranscriptStep) → Walks middle after e f it us → means (scan_of_jobs ∷ us) → Took policies before after c id means f
   walked means us walks is = record {
     steps = scan_of_jobs ∷ us;
     within = subst (λ (i : List ℕ). IsWithin c i SerializableSnapshot (scan_of_jobs ∷ us) f) opened.named
         (walks.within c SerializableSnapshot (scan_of_jobs ∷ []) (subst (λ (i : List ℕ). IsWithin c i SerializableSnapshot (scan_of_jobs ∷ []) e) (sym opened.named) opened.within));
     is = is;
     sees = λ g s.
-        let told : (os : Objects) × (before.objects ≡ Some os) = told_in policies g before c s in
-        (walks_from before middle e f it us opened.reads walks).sees c (scan_of_jobs ∷ []) told.0 opened.rows told.1 (opened.reading g told.0 told.1 s) tt;
+        (walks_from before middle after e f it us opened.reads later walks).sees c (scan_of_jobs ∷ []) s.os opened.rows s.met
+        (opened.reading g (checked_before policies g before middle after c opened.reads later s)) tt;
   }
 
   failed : (us : List TranscriptStep) (q : QueueError) → ScanFails middle after e f it us q → IsDbRefusal policies before after c id q
@@ -64,10 +56,10 @@ module _ (now : ℤ) (policies : List Policy) (before middle after : Reach) (c d
     error = h.error;
     is = h.is;
     undamaged = λ g s.
-        let told : (os : Objects) × (before.objects ≡ Some os) = told_in policies g before c s in
+        let there : IsToldIn policies g before middle c = checked_told policies g before middle c s in
         fault_earlier before middle after h.error opened.reads.later
-        (h.undamaged c (scan_of_jobs ∷ []) told.0 opened.rows (opened.reads.objects ∙ told.1)
-        (subst (λ (m : Meaning). IsReading told.0 m c (scan_of_jobs ∷ []) it opened.rows) (sym opened.reads.meaning) (opened.reading g told.0 told.1 s)));
+        (h.undamaged c (scan_of_jobs ∷ []) there.checked.os opened.rows (opened.reads.objects ∙ there.told)
+        (subst (λ (m : Meaning). IsReading there.checked.os m c (scan_of_jobs ∷ []) it opened.rows) (sym opened.reads.meaning) (opened.reading g there.checked)));
     cause = inr (record {
       taken = [];
       core = d;

@@ -20,6 +20,7 @@ use Rattle.slate_db.specs.Model.{CoreModel}
 use Rattle.slate_db.specs.Segmented.{IsSegmented}
 use Rattle.slate_db.specs.Sound.{IsKept}
 use Rattle.slate_steps.specs.Steps.{HasCommitted, HasEnded, IsBeginError, newest}
+use Rattle.slate_steps.proofs.StoreTruth.{checked_in}
 use Rattle.slate_queue.specs.declared.error.QueueError.{QueueError}
 use Rattle.slate_queue.specs.declared.error.QueueError.TheVariants as errors
 use Rattle.slate_queue.specs.Stored.{job_key}
@@ -74,32 +75,32 @@ finish_performs id lease ts fits h = record {
 -- ---- the exits of the call
 
 module _ (id lease : ℕ) (now : ℤ) (policies : List Policy) (seg : Segments) where
-  pub finish_not_begun : (a : Reach) (c d : CoreModel) (error : SlateDBError) → d ≡ c → IsBeginError c error → CallsAs {T = Unit} (λ done. Commits (IsFinishOf id lease) now c d) (λ done. model.Answer.Finished) (Call.Finish id lease) (FinishRefuses id lease) policies seg a a c d (Err (errors.Db error))
+  pub finish_not_begun : (a : Reach) (c d : CoreModel) (error : SlateDBError) → d ≡ c → IsBeginError c error → CallsAs {T = Unit} (λ done. Commits (IsFinishOf id lease) now c d) (λ done. model.Answer.Finished) (Call.Finish id lease) (FinishRefuses id lease policies a a c d) policies seg a a c d (Err (errors.Db error))
   finish_not_begun a c d error same h =
-      subst (λ (v : CoreModel). CallsAs {T = Unit} (λ done. Commits (IsFinishOf id lease) now c v) (λ done. model.Answer.Finished) (Call.Finish id lease) (FinishRefuses id lease) policies seg a a c v (Err (errors.Db error))) (sym same)
-      (not_begun {T = Unit} (λ done. Commits (IsFinishOf id lease) now c c) (λ done. model.Answer.Finished) (Call.Finish id lease) (FinishRefuses id lease) policies seg a a c error (reads_none a) h)
+      subst (λ (v : CoreModel). CallsAs {T = Unit} (λ done. Commits (IsFinishOf id lease) now c v) (λ done. model.Answer.Finished) (Call.Finish id lease) (FinishRefuses id lease policies a a c v) policies seg a a c v (Err (errors.Db error))) (sym same)
+      (not_begun {T = Unit} (λ done. Commits (IsFinishOf id lease) now c c) (λ done. model.Answer.Finished) (Call.Finish id lease) (FinishRefuses id lease policies a a c c) policies seg a a c error (reads_none a) h)
 
   pub finish_stopped_call : (before after : Reach) (c d f : CoreModel) (tx : List ℕ) (e : QueueError) → id < 2 ^ 64 → OnlyReads before after → Attempts {T = Unit} (λ done. Finishes id lease) (FinishStops id lease) policies before after c tx d (Err e) →
-      HasEnded c tx SerializableSnapshot f → CallsAs {T = Unit} (λ done. Commits (IsFinishOf id lease) now c f) (λ done. model.Answer.Finished) (Call.Finish id lease) (FinishRefuses id lease) policies seg before after c f (Err e)
+      HasEnded c tx SerializableSnapshot f → CallsAs {T = Unit} (λ done. Commits (IsFinishOf id lease) now c f) (λ done. model.Answer.Finished) (Call.Finish id lease) (FinishRefuses id lease policies before after c f) policies seg before after c f (Err e)
   finish_stopped_call before after c d f tx e fits reads h ended =
-      stopped {T = Unit} (λ done. Commits (IsFinishOf id lease) now c f) (λ done. model.Answer.Finished) (Call.Finish id lease) (FinishRefuses id lease) policies seg (FinishStops id lease) before after c d f tx e reads h.refused ended
-      (λ ts s. (ts, s)) (λ q ts stands sees s. finish_stopped (rules_of c.settings before.meaning) c.state.commits (newest c) q id lease e ts fits stands sees s)
+      stopped {T = Unit} (λ done. Commits (IsFinishOf id lease) now c f) (λ done. model.Answer.Finished) (Call.Finish id lease) (FinishRefuses id lease policies before after c f) policies seg (FinishStops id lease) before after c d f tx e reads h.refused ended
+      (λ s. s) (λ q ts stands sees s. finish_stopped (rules_of c.settings before.meaning) c.state.commits (newest c) q id lease e ts fits stands sees s)
 
   pub finish_uncommitted : (before middle after : Reach) (c d f : CoreModel) (tx : List ℕ) (done : Unit) (error : SlateDBError) → id < 2 ^ 64 → OnlyReads before middle → OnlyReads middle after →
       (h : Attempts {T = Unit} (λ done. Finishes id lease) (FinishStops id lease) policies before middle c tx d (Ok done)) → HasEnded c tx SerializableSnapshot f → IsFault middle after error ⊎ ((error ≡ SequenceExhausted) × (newest c ≡ 2 ^ 64 - 2)) →
-      CallsAs {T = Unit} (λ done. Commits (IsFinishOf id lease) now c f) (λ done. model.Answer.Finished) (Call.Finish id lease) (FinishRefuses id lease) policies seg before after c f (Err (errors.Db error))
+      CallsAs {T = Unit} (λ done. Commits (IsFinishOf id lease) now c f) (λ done. model.Answer.Finished) (Call.Finish id lease) (FinishRefuses id lease policies before after c f) policies seg before after c f (Err (errors.Db error))
   finish_uncommitted before middle after c d f tx done error fits first later h ended why =
-      uncommitted {T = Unit} (λ done. Commits (IsFinishOf id lease) now c f) (λ done. model.Answer.Finished) (Call.Finish id lease) (FinishRefuses id lease) policies seg (Finishes id lease) before middle after c d f tx error first (reads_then before middle after first later)
+      uncommitted {T = Unit} (λ done. Commits (IsFinishOf id lease) now c f) (λ done. model.Answer.Finished) (Call.Finish id lease) (FinishRefuses id lease policies before after c f) policies seg (Finishes id lease) before middle after c d f tx error first (reads_then before middle after first later)
       h.done ended why (λ q ts stands sees finishes. may_perform before.meaning (Call.Finish id lease) model.Answer.Finished c ts refl (finish_performs id lease ts fits finishes).tells q stands sees)
 
   pub finish_answered : (before middle after : Reach) (c d f : CoreModel) (tx : List ℕ) (done : Unit) (n : Option ℕ) → id < 2 ^ 64 → OnlyReads before middle → OnlyReads middle after →
       (h : Attempts {T = Unit} (λ done. Finishes id lease) (FinishStops id lease) policies before middle c tx d (Ok done)) → HasCommitted c tx SerializableSnapshot h.done.steps n now f → newest c ≢ 2 ^ 64 - 2 → (IsKept before.meaning c → IsKept before.meaning f) → (IsSegmented seg c → IsSegmented seg f) →
-      CallsAs {T = Unit} (λ done. Commits (IsFinishOf id lease) now c f) (λ done. model.Answer.Finished) (Call.Finish id lease) (FinishRefuses id lease) policies seg before after c f (Ok done)
+      CallsAs {T = Unit} (λ done. Commits (IsFinishOf id lease) now c f) (λ done. model.Answer.Finished) (Call.Finish id lease) (FinishRefuses id lease policies before after c f) policies seg before after c f (Ok done)
   finish_answered before middle after c d f tx done n fits first later h committed left kept segmented =
       let made = has_seq c f tx h.done.steps n now (finish_some id lease h.done.steps h.done.is) committed in
-      answered {T = Unit} (λ done. Commits (IsFinishOf id lease) now c f) (λ done. model.Answer.Finished) (Call.Finish id lease) (FinishRefuses id lease) policies seg (Finishes id lease) before after c d f tx done (reads_then before middle after first later) h.done
+      answered {T = Unit} (λ done. Commits (IsFinishOf id lease) now c f) (λ done. model.Answer.Finished) (Call.Finish id lease) (FinishRefuses id lease policies before after c f) policies seg (Finishes id lease) before middle after c d f tx done first later h.done
       (finish_commits id lease tx h.done.steps c f made.0 now fits h.done.is made.1 left)
-      (keeps_committed policies seg before after c f tx h.done.steps (Some made.0) now (reads_then before middle after first later) made.1 kept segmented (λ s. h.done.sees seg s)
+      (keeps_committed policies seg before after c f tx h.done.steps (Some made.0) now (reads_then before middle after first later) made.1 kept segmented (λ s. h.done.sees seg (checked_in policies seg before middle c s))
       (record { serializable = refl; does = inr (inr (finish_form id lease h.done.steps fits h.done.is).0) })
       (let one : length (own_of h.done.steps) ≡ 1 = ap length (finish_own id lease h.done.steps h.done.is) in omega arith))
       (λ q stands sees. performed before.meaning (Call.Finish id lease) model.Answer.Finished c f tx h.done.steps made.0 now (finish_performs id lease h.done.steps fits h.done.is) made.1 q stands sees)

@@ -1,10 +1,10 @@
 -- A line of the program, by what its call says and by the text that was made.
-use Rattle.std.proofs.Common.{Vec, Global, ◌≡◌, ◌≢◌, ◌⊎◌, inl, inr, ℕ, ◌+◌, ℤ, Bool, true, false, cond, nat_eq, nat_le, ◌||◌, is_some, List, [], ◌∷◌, ◌++◌, map, length, Option, Some, None, Result, Ok, Err, refl, sym, ap, subst, ◌∙◌, append-nil}
+use Rattle.std.proofs.Common.{Vec, Global, ◌≡◌, ◌≢◌, ◌⊎◌, inl, inr, ℕ, ◌+◌, ℤ, Bool, true, false, cond, nat_eq, nat_le, ◌||◌, is_some, List, [], ◌∷◌, ◌++◌, map, length, Option, Some, None, Result, Ok, Err, refl, sym, ap, subst, ◌∙◌}
 use Rattle.std.specs.Prelude.{IfOk, IfErr}
 use Rattle.slate_types.specs.declared.error.SlateDBError.{SlateDBError}
-use Rattle.slate_types.specs.declared.error.SlateDBError.TheVariants.{OutOfMemory, ScriptSyntax, SequenceExhausted, WriteFault}
+use Rattle.slate_types.specs.declared.error.SlateDBError.TheVariants.{OutOfMemory, ScriptSyntax, SequenceExhausted}
 use Rattle.slate_types.specs.Outside.{Reach}
-use Rattle.slate_store.specs.Run.{IsProgramError, LineSays, Says, WritesLine}
+use Rattle.slate_store.specs.Run.{LineSays, Says}
 use Rattle.slate_filter.specs.Policy.{Policy}
 use Rattle.slate_mem.specs.declared.WriteOp.TheVariants.{Delete}
 use Rattle.slate_mem.specs.Batch.{Ops, batch_keys, kept_ops}
@@ -32,7 +32,6 @@ use Rattle.slate_queue.specs.Runs.{AnswersBy, Ends, IsReply, IsRunAt}
 use Rattle.slate_queue.specs.Script.{Reply, Run, after_by, called, keys_of, meaning, reply_line, said_by, says, stepped, takes}
 use Rattle.slate_queue.specs.Words.{fed_pair}
 use Rattle.slate_queue.proofs.CallLaws.{ended_stands}
-use Rattle.slate_queue.proofs.ProgramLaws.{program_error}
 use Rattle.slate_queue.proofs.RunLaws.{called_done, called_none, called_refused, ends_by, ends_memory, more_run, run_left, run_more}
 
 -- the run behind a line, and its reply
@@ -96,12 +95,12 @@ keys_are some changes n is long = ap (λ ops. length (batch_keys ops)) is ∙ ap
 
 -- ---- of an add
 
-pub add_apart : (payload : List ℕ) (x : SlateDBError) → AddRefuses payload (errors.Db x) → ⊥
-add_apart payload x (inl long) = no long.1
+pub add_apart : (payload : List ℕ) (policies : List Policy) (before after : Reach) (c d : CoreModel) (x : SlateDBError) → AddRefuses payload policies before after c d (errors.Db x) → ⊥
+add_apart payload policies before after c d x (inl long) = no long.1
   where
     no : errors.Db x ≡ errors.PayloadTooLong (length payload) → ⊥
     no e = cc
-add_apart payload x (inr stops) = by (counter_in (value_of stops.1.answer)) stops.1.refusal
+add_apart payload policies before after c d x (inr stops) = by (counter_in (value_of stops.all.answer)) stops.all.refusal
   where
     on : (b : Bool) → cond b (Some errors.IdsSpent) None ≡ Some (errors.Db x) → ⊥
     on true e = cc
@@ -112,17 +111,17 @@ add_apart payload x (inr stops) = by (counter_in (value_of stops.1.answer)) stop
     by (Some counter) e = on (nat_le last_number counter) e
 
 pub added_at : (policies : List Policy) (seg : Segments) (before after : Reach) (c d : CoreModel) (payload : List ℕ) (now : ℤ) (id : ℕ) (r : Run) → IsRunAt policies seg before c r →
-    CallsAs (λ id. Commits (IsAddOf payload id) now c d) model.Answer.Added (Call.Add payload) (AddRefuses payload) policies seg before after c d (Ok id) →
+    CallsAs (λ id. Commits (IsAddOf payload id) now c d) model.Answer.Added (Call.Add payload) (AddRefuses payload policies before after c d) policies seg before after c d (Ok id) →
     IsSaidAt policies seg after d (called r (queue_step r.queue (Call.Add payload))) (Reply.Answered (model.Answer.Added id))
 added_at policies seg before after c d payload now id r at done =
     let h : Commits (IsAddOf payload id) now c d = done.done in
-    done_at (λ id. Commits (IsAddOf payload id) now c d) model.Answer.Added (Call.Add payload) (AddRefuses payload) policies seg before after c d r at id 2 (IsAddOf payload id) now done h
+    done_at (λ id. Commits (IsAddOf payload id) now c d) model.Answer.Added (Call.Add payload) (AddRefuses payload policies before after c d) policies seg before after c d r at id 2 (IsAddOf payload id) now done h
     (keys_are (own_of h.steps) (added (h.is.0.counter + 1) h.is.0.payload) 2 h.is.0.by.kept refl) refl
 
 -- ---- of a finish
 
-pub finish_apart : (id lease : ℕ) (x : SlateDBError) → FinishRefuses id lease (errors.Db x) → ⊥
-finish_apart id lease x stops = by (job_in (value_of stops.1.answer)) stops.1.refusal
+pub finish_apart : (id lease : ℕ) (policies : List Policy) (before after : Reach) (c d : CoreModel) (x : SlateDBError) → FinishRefuses id lease policies before after c d (errors.Db x) → ⊥
+finish_apart id lease policies before after c d x stops = by (job_in (value_of stops.all.answer)) stops.all.refusal
   where
     on : (a b : Bool) (n : ℕ) → cond a (cond b (Some (errors.StaleLease n)) None) (Some (errors.StaleLease n)) ≡ Some (errors.Db x) → ⊥
     on true true n e = cc
@@ -135,19 +134,19 @@ finish_apart id lease x stops = by (job_in (value_of stops.1.answer)) stops.1.re
     by (Some (Some j)) e = on (nat_eq j.lease lease) (nat_eq lease 0) j.lease e
 
 pub finished_at : (policies : List Policy) (seg : Segments) (before after : Reach) (c d : CoreModel) (id lease : ℕ) (now : ℤ) (done : Unit) (r : Run) → IsRunAt policies seg before c r →
-    CallsAs {T = Unit} (λ done. Commits (IsFinishOf id lease) now c d) (λ done. model.Answer.Finished) (Call.Finish id lease) (FinishRefuses id lease) policies seg before after c d (Ok done) →
+    CallsAs {T = Unit} (λ done. Commits (IsFinishOf id lease) now c d) (λ done. model.Answer.Finished) (Call.Finish id lease) (FinishRefuses id lease policies before after c d) policies seg before after c d (Ok done) →
     IsSaidAt policies seg after d (called r (queue_step r.queue (Call.Finish id lease))) (Reply.Answered model.Answer.Finished)
 finished_at policies seg before after c d id lease now done r at call =
     let h : Commits (IsFinishOf id lease) now c d = call.done in
-    done_at {T = Unit} (λ done. Commits (IsFinishOf id lease) now c d) (λ done. model.Answer.Finished) (Call.Finish id lease) (FinishRefuses id lease) policies seg before after c d r at done 1 (IsFinishOf id lease) now call h
+    done_at {T = Unit} (λ done. Commits (IsFinishOf id lease) now c d) (λ done. model.Answer.Finished) (Call.Finish id lease) (FinishRefuses id lease policies before after c d) policies seg before after c d r at done 1 (IsFinishOf id lease) now call h
     (keys_are (own_of h.steps) ((job_key h.is.0.id, Delete) ∷ []) 1 h.is.0.by.kept refl) refl
 
 -- ---- of a claim
 
-pub claim_apart : (now : ℤ) (x : SlateDBError) → ClaimRefuses now (errors.Db x) → ⊥
-claim_apart now x stops = by stops.1
+pub claim_apart : (now : ℤ) (policies : List Policy) (before after : Reach) (c d : CoreModel) (x : SlateDBError) → ClaimRefuses now policies before after c d (errors.Db x) → ⊥
+claim_apart now policies before after c d x stops = by stops.all
   where
-    by : ClaimStops now (errors.Db x) stops.0 → ⊥
+    by : ClaimStops now (errors.Db x) stops.steps → ⊥
     by (ClaimStops.bad passed kv passes bad steps) = no bad.4
       where
         no : errors.Db x ≡ errors.BadJob kv.key → ⊥
@@ -158,17 +157,17 @@ claim_apart now x stops = by stops.1
         no e = cc
 
 pub claimed_at : (policies : List Policy) (seg : Segments) (before after : Reach) (c d : CoreModel) (now : ℤ) (ms : ℕ) (claim : Claim) (r : Run) → IsRunAt policies seg before c r →
-    CallsAs (ClaimEnds now ms c d) claim_answer (Call.Claim now ms) (ClaimRefuses now) policies seg before after c d (Ok (Some claim)) →
+    CallsAs (ClaimEnds now ms policies before after c d) claim_answer (Call.Claim now ms) (ClaimRefuses now policies before after c d) policies seg before after c d (Ok (Some claim)) →
     IsSaidAt policies seg after d (called r (queue_step r.queue (Call.Claim now ms))) (Reply.Answered (model.Answer.Claimed claim.id claim.lease claim.payload))
 claimed_at policies seg before after c d now ms claim r at done =
     let h : Commits (IsClaimOf now ms claim) now c d = done.done in
-    done_at (ClaimEnds now ms c d) claim_answer (Call.Claim now ms) (ClaimRefuses now) policies seg before after c d r at (Some claim) 1 (IsClaimOf now ms claim) now done h
+    done_at (ClaimEnds now ms policies before after c d) claim_answer (Call.Claim now ms) (ClaimRefuses now policies before after c d) policies seg before after c d r at (Some claim) 1 (IsClaimOf now ms claim) now done h
     (keys_are (own_of h.steps) ((h.is.0.row.key, put_of (job_bytes (leased now h.is.0.ms h.is.0.job))) ∷ []) 1 h.is.0.by.kept refl) refl
 
 pub none_claimed_at : (policies : List Policy) (seg : Segments) (before after : Reach) (c d : CoreModel) (now : ℤ) (ms : ℕ) (r : Run) → IsRunAt policies seg before c r →
-    CallsAs (ClaimEnds now ms c d) claim_answer (Call.Claim now ms) (ClaimRefuses now) policies seg before after c d (Ok None) →
+    CallsAs (ClaimEnds now ms policies before after c d) claim_answer (Call.Claim now ms) (ClaimRefuses now policies before after c d) policies seg before after c d (Ok None) →
     IsSaidAt policies seg after d (called r (queue_step r.queue (Call.Claim now ms))) (Reply.Answered model.Answer.NoneFree)
-none_claimed_at policies seg before after c d now ms r at done = none_at (ClaimEnds now ms c d) claim_answer (Call.Claim now ms) (ClaimRefuses now) policies seg before after c d r at None done done.done refl
+none_claimed_at policies seg before after c d now ms r at done = none_at (ClaimEnds now ms policies before after c d) claim_answer (Call.Claim now ms) (ClaimRefuses now policies before after c d) policies seg before after c d r at None done (inr (done.done.id, done.done.ended)) refl
 
 -- ---- what a line is answered
 
@@ -222,24 +221,8 @@ unread policies seg reach c line number e (inr why) = inl (why.0, not_taken line
 
 -- the same call, whose moment is written otherwise
 pub call_at : (policies : List Policy) (seg : Segments) (before after : Reach) (c d : CoreModel) (y z : ℤ) (ms : ℕ) (result : Result (Option Claim) QueueError) → y ≡ z →
-    CallsAs (ClaimEnds y ms c d) claim_answer (Call.Claim y ms) (ClaimRefuses y) policies seg before after c d result → CallsAs (ClaimEnds z ms c d) claim_answer (Call.Claim z ms) (ClaimRefuses z) policies seg before after c d result
-call_at policies seg before after c d y z ms result same h = subst (λ (now : ℤ). CallsAs (ClaimEnds now ms c d) claim_answer (Call.Claim now ms) (ClaimRefuses now) policies seg before after c d result) same h
-
--- ---- what is written for a line
-
-pub nothing_writes : {V : Type 0} (v : V) (f : Says) (Now : Says → Type 0) (line : List ℕ) (sink : Option (List ℕ)) → LineSays f Now line [] → WritesLine {T = V} f Now line sink sink (Ok v)
-nothing_writes v f Now line sink said = record { whole = ([], said, λ told is. is ∙ ap Some (sym (append-nil told))); begun = λ e. cc }
-
-pub refused_writes : {V : Type 0} (policies : List Policy) (seg : Segments) (before after : Reach) (c d : CoreModel) (f : Says) (Now : Says → Type 0) (line : List ℕ) (sink : Option (List ℕ)) (number : ℕ) (e : SlateDBError) →
-    ((e ≡ ScriptSyntax number) × (takes line ≡ false)) ⊎ Ends policies seg before after c d e → WritesLine {T = V} f Now line sink sink (Err e)
-refused_writes policies seg before after c d f Now line sink number e cause = record { whole = tt; begun = λ is. absurd (by cause (let same : e ≡ WriteFault = cc in same)) }
-  where
-    by : ((e ≡ ScriptSyntax number) × (takes line ≡ false)) ⊎ Ends policies seg before after c d e → e ≡ WriteFault → ⊥
-    by (inl h) same = no (sym h.0 ∙ same)
-      where
-        no : ScriptSyntax number ≡ WriteFault → ⊥
-        no g = cc
-    by (inr h) same = subst IsProgramError same (program_error policies seg before after c d e h)
+    CallsAs (ClaimEnds y ms policies before after c d) claim_answer (Call.Claim y ms) (ClaimRefuses y policies before after c d) policies seg before after c d result → CallsAs (ClaimEnds z ms policies before after c d) claim_answer (Call.Claim z ms) (ClaimRefuses z policies before after c d) policies seg before after c d result
+call_at policies seg before after c d y z ms result same h = subst (λ (now : ℤ). CallsAs (ClaimEnds now ms policies before after c d) claim_answer (Call.Claim now ms) (ClaimRefuses now policies before after c d) policies seg before after c d result) same h
 
 -- ---- a refusal that is a reply
 

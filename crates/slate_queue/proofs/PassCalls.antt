@@ -9,7 +9,6 @@ use Rattle.slate_types.specs.Outside.{IsFault, OnlyReads, Reach}
 use Rattle.slate_types.proofs.Reaching.{fault_earlier, reads_none, reads_then}
 use Rattle.slate_filter.specs.Policy.{Policy}
 use Rattle.slate_mem.specs.Batch.{batch_keys, kept_ops}
-use Rattle.slate_txn.specs.declared.event.Event.{Event}
 use Rattle.slate_txn.specs.declared.event.TranscriptStep.{TranscriptStep}
 use Rattle.slate_txn.specs.Alone.{IsAlone, own_of}
 use Rattle.slate_txn.specs.Replay.{IsLegal, replay}
@@ -18,7 +17,8 @@ use Rattle.slate_txn.specs.State.{Commit, Rules, Tx}
 use Rattle.slate_db.specs.Meaning.{Meaning, rules_of}
 use Rattle.slate_shared.specs.Passes.{Opened, PassModel}
 use Rattle.slate_shared.proofs.Lists.{prefix_self}
-use Rattle.slate_steps.specs.Attempts.{HasCommittedBehind, HasEndedBehind, IsAttempt, IsRefusedBehind, IsStoreTrue, IsUnbegun, IsVouchedThere, SeesOnly}
+use Rattle.slate_steps.specs.Attempts.{HasCommittedBehind, HasEndedBehind, IsAttempt, IsRefusedBehind, IsStoreChecked, IsStoreTrue, IsUnbegun, IsVouchedThere, SeesOnly}
+use Rattle.slate_steps.proofs.StoreTruth.{checked_earlier, checked_of}
 use Rattle.slate_queue.specs.declared.claims.Claim.{Claim}
 use Rattle.slate_queue.specs.declared.error.QueueError.{QueueError}
 use Rattle.slate_queue.specs.declared.error.QueueError.TheVariants as errors
@@ -27,8 +27,8 @@ use Rattle.slate_queue.specs.Jobs as model
 use Rattle.slate_queue.specs.Jobs.{Call, Queue, last_number, longest, queue_step}
 use Rattle.slate_queue.specs.Commits.{IsQueueCommit}
 use Rattle.slate_queue.specs.CallSteps.{AddStops, Adds, ClaimStops, Claims, FinishStops, Finishes, MayClaim, counter_refusal, job_refusal, value_of}
-use Rattle.slate_queue.specs.Calls.{AddRefuses, ClaimRefuses, FinishRefuses, Form, IsAddOf, IsClaimOf, IsFinishOf, claim_answer}
-use Rattle.slate_queue.specs.OnPass.{AddsOn, AttemptsOn, CallsOn, ClaimsOn, CommitsOn, EndsClaim, FinishesOn, IsBadValue, IsReadRefusal, IsRefusalOn, IsRefusedWith, IsStepRefusal, IsUncommitted, LeavesOn, TookOn}
+use Rattle.slate_queue.specs.Calls.{Form, IsAddOf, IsClaimOf, IsFinishOf, claim_answer}
+use Rattle.slate_queue.specs.OnPass.{AddsOn, AttemptsOn, CallsOn, ClaimsOn, CommitsOn, EndsClaim, FinishesOn, IsBadValue, IsReadRefusal, IsRefusalOn, IsRefusedWith, IsStepRefusal, IsTooLong, IsUncommitted, LeavesOn, NoneFirst, TookOn}
 use Rattle.slate_queue.specs.Script.{keys_of}
 use Rattle.slate_queue.specs.Standing.{job_in, value_from}
 use Rattle.slate_queue.proofs.AddCall.{add_form, add_performs, add_some}
@@ -52,20 +52,26 @@ leaves_from o t ts a b c attempt same h =
     let ended : HasEndedBehind t a c = subst (λ (p : PassModel). HasEndedBehind t p c) same h in
     record { only = ended.only; ended = inr (t, ts, attempt, ended) }
 
+pub ended_from : (t : Opened) (a b c : PassModel) → b ≡ a → HasEndedBehind t b c → HasEndedBehind t a c
+ended_from t a b c same h = subst (λ (p : PassModel). HasEndedBehind t p c) same h
+
+pub pass_ended : (t : Opened) (a b : PassModel) → HasEndedBehind t a b → (b.table ≡ a.table) × (b.parts ≡ a.parts)
+pass_ended t a b h = (h.only.more.table, h.only.more.parts)
+
 -- ---- a whole call, whichever it is
 
-module _ {T : Type 0} (ends : T → Type 0) (call : Call) (own : QueueError → Type 0) (takes : List TranscriptStep → Type 0) (o : Options) (m : Meaning) (policies : List Policy) (old new : PassModel) where
+module _ {T : Type 0} (ends : T → Type 0) (call : Call) (first : QueueError → Type 0) (stops : QueueError → List TranscriptStep → Type 0) (takes : List TranscriptStep → Type 0) (o : Options) (m : Meaning) (policies : List Policy) (old new : PassModel) where
   -- refused before anything is done
-  pub untouched_on : (a : Reach) (e : QueueError) → new ≡ old → own e → ((q : Queue) → queue_step q call ≡ Err e) → CallsOn ends call own takes o m policies a a old new (Err e)
+  pub untouched_on : (a : Reach) (e : QueueError) → new ≡ old → first e → ((q : Queue) → queue_step q call ≡ Err e) → CallsOn ends call first stops takes o m policies a a old new (Err e)
   untouched_on a e same is step = record {
     done = tt;
     refused = inl (leaves_same o old new same);
     step = λ s. IsStepRefusal.by_call step;
-    cause = IsRefusalOn.by_call is;
+    cause = IsRefusalOn.at_once is same refl;
     reads = reads_none a;
   }
 
-  pub not_begun_on : (a : Reach) (error : SlateDBError) → IsUnbegun old new error → CallsOn ends call own takes o m policies a a old new (Err (errors.Db error))
+  pub not_begun_on : (a : Reach) (error : SlateDBError) → IsUnbegun old new error → CallsOn ends call first stops takes o m policies a a old new (Err (errors.Db error))
   not_begun_on a error none = record {
     done = tt;
     refused = inr (error, refl, none);
@@ -75,57 +81,67 @@ module _ {T : Type 0} (ends : T → Type 0) (call : Call) (own : QueueError → 
   }
 
   -- rolled back
-  pub stopped_on : (stops : QueueError → List TranscriptStep → Type 0) (before after : Reach) (t : Opened) (e : QueueError) → OnlyReads before after →
-      TookOn o m policies old.seen before after (λ ts. stops e ts ⊎ IsReadRefusal o m policies before after t.seen e) t → LeavesOn o old new → IsPrefix t.seen new.seen → IsLegal o.start_seq new.seen → ((ts : List TranscriptStep) → stops e ts → own e) →
-      ((r : Rules) (cs : List Commit) (n : ℕ) (ts : List TranscriptStep) → IsAlone r cs n ts → stops e ts → IsRefusedWith call e (value_from r cs n)) → CallsOn ends call own takes o m policies before after old new (Err e)
-  stopped_on stops before after t e reads took left known legal owns refuses = record {
+  pub stopped_on : (before after : Reach) (t : Opened) (e : QueueError) → OnlyReads before after →
+      TookOn o m policies old.seen before after (λ ts. stops e ts ⊎ IsReadRefusal o m policies before after t.seen e) t → HasEndedBehind t old new → IsPrefix t.seen new.seen → IsLegal o.start_seq new.seen →
+      (IsVouchedThere o m t → IsVouchedThere o m (record t { seen = new.seen })) →
+      ((r : Rules) (cs : List Commit) (n : ℕ) (ts : List TranscriptStep) → IsAlone r cs n ts → stops e ts → IsRefusedWith call e (value_from r cs n)) → CallsOn ends call first stops takes o m policies before after old new (Err e)
+  stopped_on before after t e reads took ended known legal vouched refuses = record {
     done = tt;
-    refused = inl left;
+    refused = inl (record { only = ended.only; ended = inr (t, took.steps, took.attempt, ended) });
     step = λ s. by (true_earlier policies m t.seen new.seen before after after known reads (reads_none after) s) took.is;
     cause = cause_by took.is;
     reads = reads;
   }
     where
+      there : IsStoreChecked policies m new.seen before after → IsVouchedThere o m t
+      there s = took.sees (checked_earlier policies m t.seen new.seen before after after known reads (reads_none after) s)
+
       by : IsStoreTrue policies m t.seen before after → stops e took.steps ⊎ IsReadRefusal o m policies before after t.seen e → IsStepRefusal call takes o m before after old new e
       by s (inl h) = IsStepRefusal.by_step (record {
         txn = t;
         steps = took.steps;
         attempt = took.attempt;
         known = known;
-        is = refuses (rules_of (settings_of o) m) (replay new.seen).commits t.tx.begin took.steps (alone_there o m old.seen SerializableSnapshot took.steps t new.seen took.attempt (took.sees s) known legal) h;
+        is = refuses (rules_of (settings_of o) m) (replay new.seen).commits t.tx.begin took.steps
+            (alone_there o m old.seen SerializableSnapshot took.steps t new.seen took.attempt (took.sees (checked_of policies m t.seen before after s)) known legal) h;
       })
       by s (inr h) = IsStepRefusal.by_fault h.error h.is (h.undamaged s)
 
-      cause_by : stops e took.steps ⊎ IsReadRefusal o m policies before after t.seen e → IsRefusalOn own takes o policies before after old new e
-      cause_by (inl h) = IsRefusalOn.by_call (owns took.steps h)
+      cause_by : stops e took.steps ⊎ IsReadRefusal o m policies before after t.seen e → IsRefusalOn call first stops takes o m policies before after old new e
+      cause_by (inl h) = IsRefusalOn.by_steps (record {
+        ends = record { txn = t; steps = took.steps; attempt = took.attempt; all = h; ended = ended; legal = legal; vouched = λ s. vouched (there s) };
+        refused = λ s.
+            refuses (rules_of (settings_of o) m) (replay new.seen).commits t.tx.begin took.steps
+            (alone_there o m old.seen SerializableSnapshot took.steps t new.seen took.attempt (there s) known legal) h;
+      })
       cause_by (inr h) = IsRefusalOn.at_read h.error h.is t.seen known h.cause
 
   -- its commit was refused
   pub uncommitted_on : (means : List TranscriptStep → Type 0) (a : model.Answer) (before middle after : Reach) (t : Opened) (error : SlateDBError) → OnlyReads before middle → OnlyReads middle after → (took : TookOn o m policies old.seen before middle means t) →
       takes took.steps → IsSome (keys_of a) → Tells call a took.steps → LeavesOn o old new → IsPrefix t.seen new.seen → IsLegal o.start_seq new.seen → (IsVouchedThere o m t → IsVouchedThere o m (record t { seen = new.seen })) →
-      IsFault middle after error ⊎ IsRefusedBehind o t old new error → CallsOn ends call own takes o m policies before after old new (Err (errors.Db error))
-  uncommitted_on means a before middle after t error first later took all some tells left known legal vouched (inl fault) = record {
+      IsFault middle after error ⊎ IsRefusedBehind o t old new error → CallsOn ends call first stops takes o m policies before after old new (Err (errors.Db error))
+  uncommitted_on means a before middle after t error begun later took all some tells left known legal vouched (inl fault) = record {
     done = tt;
     refused = inl left;
-    step = λ s. IsStepRefusal.by_fault error refl (fault_earlier before middle after error first.later fault);
-    cause = IsRefusalOn.by_fault error refl (fault_earlier before middle after error first.later fault);
-    reads = reads_then before middle after first later;
+    step = λ s. IsStepRefusal.by_fault error refl (fault_earlier before middle after error begun.later fault);
+    cause = IsRefusalOn.by_fault error refl (fault_earlier before middle after error begun.later fault);
+    reads = reads_then before middle after begun later;
   }
-  uncommitted_on means a before middle after t error first later took all some tells left known legal vouched (inr refused) =
+  uncommitted_on means a before middle after t error begun later took all some tells left known legal vouched (inr refused) =
       let turned_back : IsUncommitted takes o old new error = record { txn = t; steps = took.steps; attempt = took.attempt; all = all; refused = refused; legal = legal } in
       record {
         done = tt;
         refused = inl left;
         step = λ s.
-            let v : IsVouchedThere o m t = took.sees (true_earlier policies m t.seen new.seen before middle after known first later s) in
+            let v : IsVouchedThere o m t = took.sees (checked_earlier policies m t.seen new.seen before middle after known begun later (checked_of policies m new.seen before after s)) in
             IsStepRefusal.by_commit error refl turned_back (vouched v)
             (a, some, tells (rules_of (settings_of o) m) (replay new.seen).commits t.tx.begin (alone_there o m old.seen SerializableSnapshot took.steps t new.seen took.attempt v known legal));
         cause = IsRefusalOn.at_commit error refl turned_back;
-        reads = reads_then before middle after first later;
+        reads = reads_then before middle after begun later;
       }
 
   -- done
-  pub answered_on : (before after : Reach) (a : T) → OnlyReads before after → ends a → CallsOn ends call own takes o m policies before after old new (Ok a)
+  pub answered_on : (before after : Reach) (a : T) → OnlyReads before after → ends a → CallsOn ends call first stops takes o m policies before after old new (Ok a)
   answered_on before after a reads end = record { done = end; refused = tt; step = λ s. tt; cause = tt; reads = reads }
 
 -- ---- the pass before its transaction was begun
@@ -135,9 +151,6 @@ committed_from o t n now a b c same h = subst (λ (p : PassModel). HasCommittedB
 
 pub refused_from : (o : Options) (t : Opened) (fault : Type 0) (e : SlateDBError) (a b c : PassModel) → b ≡ a → fault ⊎ IsRefusedBehind o t b c e → fault ⊎ IsRefusedBehind o t a c e
 refused_from o t fault e a b c same h = subst (λ (p : PassModel). fault ⊎ IsRefusedBehind o t p c e) same h
-
-pub pass_same : (a b : PassModel) → b ≡ a → (b.table ≡ a.table) × (b.parts ≡ a.parts)
-pass_same a b same = (ap (λ (p : PassModel). p.table) same, ap (λ (p : PassModel). p.parts) same)
 
 pub pass_unbegun : (a b : PassModel) (e : SlateDBError) → IsUnbegun a b e → (b.table ≡ a.table) × (b.parts ≡ a.parts)
 pass_unbegun a b e h = (h.only.more.table, h.only.more.parts)
@@ -170,7 +183,7 @@ commits_on form call a o m policies before middle after old new means t n y now 
       legal = legal;
       queue = queue_more o m old.seen took.steps t took.attempt made.0 now old new made.1 legal (subst (λ (x : Tx). IsQueueCommit SerializableSnapshot now (kept_ops x.ops) (batch_keys x.ops) x.transcript) (sym took.attempt.is) kind);
       answers = λ s.
-          let v : IsVouchedThere o m t = took.sees (true_earlier policies m t.seen new.seen before middle after known first later s) in
+          let v : IsVouchedThere o m t = took.sees (checked_earlier policies m t.seen new.seen before middle after known first later s) in
           answers_on o m old.seen took.steps t took.attempt made.0 now old new made.1 legal call a performs v (vouched v) (alone_there o m old.seen SerializableSnapshot took.steps t new.seen took.attempt v known legal);
     }
 
@@ -263,29 +276,29 @@ module _ (payload : List ℕ) (now : ℤ) (o : Options) (m : Meaning) (policies 
   add_too_long_on a n same is above =
       let long : longest < length payload = subst (λ (k : ℕ). longest < k) is above in
       subst (λ (k : ℕ). AddsOn payload now o m policies a a old new (Err (errors.PayloadTooLong k))) (sym is)
-      (untouched_on (ends_add a a) (Call.Add payload) (AddRefuses payload) adds o m policies old new a (errors.PayloadTooLong (length payload)) same (inl (long, refl)) (λ q. too_long q payload long))
+      (untouched_on (ends_add a a) (Call.Add payload) (IsTooLong payload) AddStops adds o m policies old new a (errors.PayloadTooLong (length payload)) same (long, refl) (λ q. too_long q payload long))
 
   pub add_not_begun_on : (a : Reach) (error : SlateDBError) → IsUnbegun old new error →
       AddsOn payload now o m policies a a old new (Err (errors.Db error))
-  add_not_begun_on a error none = not_begun_on (ends_add a a) (Call.Add payload) (AddRefuses payload) adds o m policies old new a error none
+  add_not_begun_on a error none = not_begun_on (ends_add a a) (Call.Add payload) (IsTooLong payload) AddStops adds o m policies old new a error none
 
-  pub add_stopped_on : (before after : Reach) (t : Opened) (e : QueueError) → length payload ≤ longest → OnlyReads before after → AttemptsOn (Adds payload) AddStops o m policies old.seen before after t (Err e) → LeavesOn o old new →
-      IsPrefix t.seen new.seen → IsLegal o.start_seq new.seen → AddsOn payload now o m policies before after old new (Err e)
-  add_stopped_on before after t e short reads h left known legal =
-      stopped_on (ends_add before after) (Call.Add payload) (AddRefuses payload) adds o m policies old new AddStops before after t e reads h.refused left known legal
-      (λ ts s. inr (ts, s)) (λ r cs n ts alone s. add_refusal payload short e r cs n ts alone s)
+  pub add_stopped_on : (before after : Reach) (t : Opened) (e : QueueError) → length payload ≤ longest → OnlyReads before after → AttemptsOn (Adds payload) AddStops o m policies old.seen before after t (Err e) → HasEndedBehind t old new →
+      IsPrefix t.seen new.seen → IsLegal o.start_seq new.seen → (IsVouchedThere o m t → IsVouchedThere o m (record t { seen = new.seen })) → AddsOn payload now o m policies before after old new (Err e)
+  add_stopped_on before after t e short reads h ended known legal vouched =
+      stopped_on (ends_add before after) (Call.Add payload) (IsTooLong payload) AddStops adds o m policies old new before after t e reads h.refused ended known legal vouched
+      (λ r cs n ts alone s. add_refusal payload short e r cs n ts alone s)
 
   pub add_uncommitted_on : (before middle after : Reach) (t : Opened) (id : ℕ) (error : SlateDBError) → length payload ≤ longest → OnlyReads before middle → OnlyReads middle after → (h : AttemptsOn (Adds payload) AddStops o m policies old.seen before middle t (Ok id)) →
       LeavesOn o old new → IsPrefix t.seen new.seen → IsLegal o.start_seq new.seen → (IsVouchedThere o m t → IsVouchedThere o m (record t { seen = new.seen })) → IsFault middle after error ⊎ IsRefusedBehind o t old new error → AddsOn payload now o m policies before after old new (Err (errors.Db error))
   add_uncommitted_on before middle after t id error short first later h left known legal vouched why =
-      uncommitted_on (ends_add before after) (Call.Add payload) (AddRefuses payload) adds o m policies old new (Adds payload id) (model.Answer.Added id) before middle after t error first later h.done
+      uncommitted_on (ends_add before after) (Call.Add payload) (IsTooLong payload) AddStops adds o m policies old new (Adds payload id) (model.Answer.Added id) before middle after t error first later h.done
       (id, h.done.is) refl (add_performs payload id h.done.steps short h.done.is).tells left known legal vouched why
 
   pub add_answered_on : (before middle after : Reach) (t : Opened) (id : ℕ) (n : Option ℕ) (y : ℤ) → y ≡ now → length payload ≤ longest → OnlyReads before middle → OnlyReads middle after → AttemptsOn (Adds payload) AddStops o m policies old.seen before middle t (Ok id) →
       HasCommittedBehind o t n y old new → IsPrefix t.seen new.seen → IsLegal o.start_seq new.seen → (IsVouchedThere o m t → IsVouchedThere o m (record t { seen = new.seen })) → AddsOn payload now o m policies before after old new (Ok id)
   add_answered_on before middle after t id n y moment short first later h committed known legal vouched =
       let form = add_form payload id h.done.steps short h.done.is in
-      answered_on (ends_add before after) (Call.Add payload) (AddRefuses payload) adds o m policies old new before after id (reads_then before middle after first later)
+      answered_on (ends_add before after) (Call.Add payload) (IsTooLong payload) AddStops adds o m policies old new before after id (reads_then before middle after first later)
       (commits_on (IsAddOf payload id) (Call.Add payload) (model.Answer.Added id) o m policies before middle after old new (Adds payload id) t n y now moment first later h.done (add_some payload id h.done.steps h.done.is) form
       (record { serializable = refl; does = inl form.0 }) (add_performs payload id h.done.steps short h.done.is) committed known legal vouched)
 
@@ -297,25 +310,25 @@ module _ (id lease : ℕ) (now : ℤ) (o : Options) (m : Meaning) (policies : Li
 
   pub finish_not_begun_on : (a : Reach) (error : SlateDBError) → IsUnbegun old new error →
       FinishesOn id lease now o m policies a a old new (Err (errors.Db error))
-  finish_not_begun_on a error none = not_begun_on {T = Unit} (ends_finish a a) (Call.Finish id lease) (FinishRefuses id lease) (Finishes id lease) o m policies old new a error none
+  finish_not_begun_on a error none = not_begun_on {T = Unit} (ends_finish a a) (Call.Finish id lease) NoneFirst (FinishStops id lease) (Finishes id lease) o m policies old new a error none
 
-  pub finish_stopped_on : (before after : Reach) (t : Opened) (e : QueueError) → id < 2 ^ 64 → OnlyReads before after → AttemptsOn {T = Unit} (λ done. Finishes id lease) (FinishStops id lease) o m policies old.seen before after t (Err e) → LeavesOn o old new →
-      IsPrefix t.seen new.seen → IsLegal o.start_seq new.seen → FinishesOn id lease now o m policies before after old new (Err e)
-  finish_stopped_on before after t e fits reads h left known legal =
-      stopped_on {T = Unit} (ends_finish before after) (Call.Finish id lease) (FinishRefuses id lease) (Finishes id lease) o m policies old new (FinishStops id lease) before after t e reads h.refused left known legal
-      (λ ts s. (ts, s)) (λ r cs n ts alone s. finish_refusal id lease fits e r cs n ts alone s)
+  pub finish_stopped_on : (before after : Reach) (t : Opened) (e : QueueError) → id < 2 ^ 64 → OnlyReads before after → AttemptsOn {T = Unit} (λ done. Finishes id lease) (FinishStops id lease) o m policies old.seen before after t (Err e) → HasEndedBehind t old new →
+      IsPrefix t.seen new.seen → IsLegal o.start_seq new.seen → (IsVouchedThere o m t → IsVouchedThere o m (record t { seen = new.seen })) → FinishesOn id lease now o m policies before after old new (Err e)
+  finish_stopped_on before after t e fits reads h ended known legal vouched =
+      stopped_on {T = Unit} (ends_finish before after) (Call.Finish id lease) NoneFirst (FinishStops id lease) (Finishes id lease) o m policies old new before after t e reads h.refused ended known legal vouched
+      (λ r cs n ts alone s. finish_refusal id lease fits e r cs n ts alone s)
 
   pub finish_uncommitted_on : (before middle after : Reach) (t : Opened) (done : Unit) (error : SlateDBError) → id < 2 ^ 64 → OnlyReads before middle → OnlyReads middle after → (h : AttemptsOn {T = Unit} (λ done. Finishes id lease) (FinishStops id lease) o m policies old.seen before middle t (Ok done)) →
       LeavesOn o old new → IsPrefix t.seen new.seen → IsLegal o.start_seq new.seen → (IsVouchedThere o m t → IsVouchedThere o m (record t { seen = new.seen })) → IsFault middle after error ⊎ IsRefusedBehind o t old new error → FinishesOn id lease now o m policies before after old new (Err (errors.Db error))
   finish_uncommitted_on before middle after t done error fits first later h left known legal vouched why =
-      uncommitted_on {T = Unit} (ends_finish before after) (Call.Finish id lease) (FinishRefuses id lease) (Finishes id lease) o m policies old new (Finishes id lease) model.Answer.Finished before middle after t error first later h.done
+      uncommitted_on {T = Unit} (ends_finish before after) (Call.Finish id lease) NoneFirst (FinishStops id lease) (Finishes id lease) o m policies old new (Finishes id lease) model.Answer.Finished before middle after t error first later h.done
       h.done.is refl (finish_performs id lease h.done.steps fits h.done.is).tells left known legal vouched why
 
   pub finish_answered_on : (before middle after : Reach) (t : Opened) (done : Unit) (n : Option ℕ) (y : ℤ) → y ≡ now → id < 2 ^ 64 → OnlyReads before middle → OnlyReads middle after → AttemptsOn {T = Unit} (λ done. Finishes id lease) (FinishStops id lease) o m policies old.seen before middle t (Ok done) →
       HasCommittedBehind o t n y old new → IsPrefix t.seen new.seen → IsLegal o.start_seq new.seen → (IsVouchedThere o m t → IsVouchedThere o m (record t { seen = new.seen })) → FinishesOn id lease now o m policies before after old new (Ok done)
   finish_answered_on before middle after t done n y moment fits first later h committed known legal vouched =
       let form = finish_form id lease h.done.steps fits h.done.is in
-      answered_on {T = Unit} (ends_finish before after) (Call.Finish id lease) (FinishRefuses id lease) (Finishes id lease) o m policies old new before after done (reads_then before middle after first later)
+      answered_on {T = Unit} (ends_finish before after) (Call.Finish id lease) NoneFirst (FinishStops id lease) (Finishes id lease) o m policies old new before after done (reads_then before middle after first later)
       (commits_on (IsFinishOf id lease) (Call.Finish id lease) model.Answer.Finished o m policies before middle after old new (Finishes id lease) t n y now moment first later h.done (finish_some id lease h.done.steps h.done.is) form
       (record { serializable = refl; does = inr (inr form.0) }) (finish_performs id lease h.done.steps fits h.done.is) committed known legal vouched)
 
@@ -327,41 +340,37 @@ module _ (now : ℤ) (ms : ℕ) (o : Options) (m : Meaning) (policies : List Pol
 
   pub claim_not_begun_on : (a : Reach) (error : SlateDBError) → IsUnbegun old new error →
       ClaimsOn now ms o m policies a a old new (Err (errors.Db error))
-  claim_not_begun_on a error none = not_begun_on (EndsClaim now ms o m policies a a old new) (Call.Claim now ms) (ClaimRefuses now) claims o m policies old new a error none
+  claim_not_begun_on a error none = not_begun_on (EndsClaim now ms o m policies a a old new) (Call.Claim now ms) NoneFirst (ClaimStops now) claims o m policies old new a error none
 
-  pub claim_stopped_on : (before after : Reach) (t : Opened) (e : QueueError) → OnlyReads before after → AttemptsOn (MayClaim now ms) (ClaimStops now) o m policies old.seen before after t (Err e) → LeavesOn o old new →
-      IsPrefix t.seen new.seen → IsLegal o.start_seq new.seen → ClaimsOn now ms o m policies before after old new (Err e)
-  claim_stopped_on before after t e reads h left known legal =
-      stopped_on (EndsClaim now ms o m policies before after old new) (Call.Claim now ms) (ClaimRefuses now) claims o m policies old new (ClaimStops now) before after t e reads h.refused left known legal
-      (λ ts s. (ts, s)) (λ r cs n ts alone s. claim_refusal now ms e r cs n ts alone s)
+  pub claim_stopped_on : (before after : Reach) (t : Opened) (e : QueueError) → OnlyReads before after → AttemptsOn (MayClaim now ms) (ClaimStops now) o m policies old.seen before after t (Err e) → HasEndedBehind t old new →
+      IsPrefix t.seen new.seen → IsLegal o.start_seq new.seen → (IsVouchedThere o m t → IsVouchedThere o m (record t { seen = new.seen })) → ClaimsOn now ms o m policies before after old new (Err e)
+  claim_stopped_on before after t e reads h ended known legal vouched =
+      stopped_on (EndsClaim now ms o m policies before after old new) (Call.Claim now ms) NoneFirst (ClaimStops now) claims o m policies old new before after t e reads h.refused ended known legal vouched
+      (λ r cs n ts alone s. claim_refusal now ms e r cs n ts alone s)
 
   pub claim_uncommitted_on : (before middle after : Reach) (t : Opened) (claim : Claim) (error : SlateDBError) → OnlyReads before middle → OnlyReads middle after → (h : AttemptsOn (MayClaim now ms) (ClaimStops now) o m policies old.seen before middle t (Ok (Some claim))) →
       LeavesOn o old new → IsPrefix t.seen new.seen → IsLegal o.start_seq new.seen → (IsVouchedThere o m t → IsVouchedThere o m (record t { seen = new.seen })) → IsFault middle after error ⊎ IsRefusedBehind o t old new error → ClaimsOn now ms o m policies before after old new (Err (errors.Db error))
   claim_uncommitted_on before middle after t claim error first later h left known legal vouched why =
-      uncommitted_on (EndsClaim now ms o m policies before after old new) (Call.Claim now ms) (ClaimRefuses now) claims o m policies old new (Claims now ms claim) (claim_answer (Some claim)) before middle after t error first later h.done
+      uncommitted_on (EndsClaim now ms o m policies before after old new) (Call.Claim now ms) NoneFirst (ClaimStops now) claims o m policies old new (Claims now ms claim) (claim_answer (Some claim)) before middle after t error first later h.done
       (claim, h.done.is) refl (claim_tells now ms claim h.done.steps h.done.is) left known legal vouched why
 
   pub claim_answered_on : (before middle after : Reach) (t : Opened) (claim : Claim) (n : Option ℕ) (y : ℤ) → y ≡ now → SFits w64 now → ms < 2 ^ 64 → OnlyReads before middle → OnlyReads middle after → AttemptsOn (MayClaim now ms) (ClaimStops now) o m policies old.seen before middle t (Ok (Some claim)) →
       HasCommittedBehind o t n y old new → IsPrefix t.seen new.seen → IsLegal o.start_seq new.seen → (IsVouchedThere o m t → IsVouchedThere o m (record t { seen = new.seen })) → ClaimsOn now ms o m policies before after old new (Ok (Some claim))
   claim_answered_on before middle after t claim n y moment within fits first later h committed known legal vouched =
       let form = claim_form now ms claim h.done.steps h.done.is fits in
-      answered_on (EndsClaim now ms o m policies before after old new) (Call.Claim now ms) (ClaimRefuses now) claims o m policies old new before after (Some claim) (reads_then before middle after first later)
+      answered_on (EndsClaim now ms o m policies before after old new) (Call.Claim now ms) NoneFirst (ClaimStops now) claims o m policies old new before after (Some claim) (reads_then before middle after first later)
       (commits_on (IsClaimOf now ms claim) (Call.Claim now ms) (claim_answer (Some claim)) o m policies before middle after old new (Claims now ms claim) t n y now moment first later h.done (claim_some now ms claim h.done.steps h.done.is) form
       (record { serializable = refl; does = inr (inl form.0) }) (claim_performs now ms claim h.done.steps h.done.is within) committed known legal vouched)
 
-  pub claim_none_on : (before after : Reach) (t : Opened) → OnlyReads before after → AttemptsOn (MayClaim now ms) (ClaimStops now) o m policies old.seen before after t (Ok None) → LeavesOn o old new → IsPrefix t.seen new.seen → IsLegal o.start_seq new.seen →
-      ClaimsOn now ms o m policies before after old new (Ok None)
-  claim_none_on before after t reads h left known legal =
-      answered_on (EndsClaim now ms o m policies before after old new) (Call.Claim now ms) (ClaimRefuses now) claims o m policies old new before after None reads (
-        left,
-        λ s.
-            let there : IsStoreTrue policies m t.seen before after = true_earlier policies m t.seen new.seen before after after known reads (reads_none after) s in
-            let alone : IsAlone (rules_of (settings_of o) m) (replay new.seen).commits t.tx.begin h.done.steps = alone_there o m old.seen SerializableSnapshot h.done.steps t new.seen h.done.attempt (h.done.sees there) known legal in
-            record {
-              txn = t;
-              steps = h.done.steps;
-              attempt = h.done.attempt;
-              known = known;
-              is = λ q stands. none_step_is (rules_of (settings_of o) m) (replay new.seen).commits t.tx.begin q now ms h.done.steps stands alone h.done.is;
-            },
-      )
+  pub claim_none_on : (before after : Reach) (t : Opened) → OnlyReads before after → AttemptsOn (MayClaim now ms) (ClaimStops now) o m policies old.seen before after t (Ok None) → HasEndedBehind t old new → IsPrefix t.seen new.seen → IsLegal o.start_seq new.seen →
+      (IsVouchedThere o m t → IsVouchedThere o m (record t { seen = new.seen })) → ClaimsOn now ms o m policies before after old new (Ok None)
+  claim_none_on before after t reads h ended known legal vouched =
+      answered_on (EndsClaim now ms o m policies before after old new) (Call.Claim now ms) NoneFirst (ClaimStops now) claims o m policies old new before after None reads (record {
+        ends = record { txn = t; steps = h.done.steps; attempt = h.done.attempt; all = h.done.is; ended = ended; legal = legal; vouched = λ s. vouched (there s) };
+        none = λ s q stands.
+            none_step_is (rules_of (settings_of o) m) (replay new.seen).commits t.tx.begin q now ms h.done.steps stands
+            (alone_there o m old.seen SerializableSnapshot h.done.steps t new.seen h.done.attempt (there s) known legal) h.done.is;
+      })
+    where
+      there : IsStoreChecked policies m new.seen before after → IsVouchedThere o m t
+      there s = h.done.sees (checked_earlier policies m t.seen new.seen before after after known reads (reads_none after) s)

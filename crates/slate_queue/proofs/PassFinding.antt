@@ -20,9 +20,10 @@ use Rattle.slate_db.specs.declared.scan.TxnIterator.{TxnIterator}
 use Rattle.slate_db.specs.Meaning.{Meaning}
 use Rattle.slate_db.specs.Scans.{IsScanOf}
 use Rattle.slate_steps.proofs.Between.{from_last}
+use Rattle.slate_steps.proofs.StoreTruth.{checked_earlier, checked_of, earlier_checked_os, met_last}
 use Rattle.slate_shared.specs.Passes.{Opened}
 use Rattle.slate_shared.proofs.Lists.{prefix_self}
-use Rattle.slate_steps.specs.Attempts.{IsAttempt, IsReadErrorOn, IsReadingOn, IsScanSinceOn, IsStoreTrue, IsVouchedThere}
+use Rattle.slate_steps.specs.Attempts.{IsAttempt, IsReadErrorOn, IsReadingOn, IsScanSinceOn, IsStoreChecked, IsStoreTrue, IsVouchedThere}
 use Rattle.slate_queue.specs.declared.claiming.FreeJob.{FreeJob}
 use Rattle.slate_queue.specs.declared.claims.Claim.{Claim}
 use Rattle.slate_queue.specs.declared.error.QueueError.{QueueError}
@@ -36,27 +37,29 @@ use Rattle.slate_queue.specs.Walks.{FindStops, IsFound, MayFind, RaiseStops, rai
 use Rattle.slate_queue.proofs.Finding.{same_job, takes_of}
 use Rattle.slate_queue.proofs.FormLaws.{is_read}
 use Rattle.slate_queue.proofs.PassSteps.{memory_on}
-use Rattle.slate_queue.proofs.PassTruths.{earlier_os, true_earlier}
 
 -- t: the transaction behind the opening of its scan; middle: what was reached then
 pub record HasOpenedOn (o : Options) (m : Meaning) (policies : List Policy) (from : List Event) (before middle : Reach) (t : Opened) (x : TxnIterator) : Type 0 where
   pub attempt : IsAttempt o from SerializableSnapshot (scan_of_jobs ∷ []) t
   pub rows : List RowEntry
-  pub reading : (s : IsStoreTrue policies m t.seen before middle) → IsReadingOn s.os o m t x rows
+  pub reading : (s : IsStoreChecked policies m t.seen before middle) → IsReadingOn s.os o m t x rows
   pub vouched : IsVouchedThere o m t
   pub since : IsScanSinceOn o before middle t.seen x
   pub meaning : before.meaning ≡ m
   pub reads : OnlyReads before middle
 
 module _ (now : ℤ) (o : Options) (m : Meaning) (policies : List Policy) (from : List Event) (before middle after : Reach) (t u : Opened) (x : TxnIterator) (opened : HasOpenedOn o m policies from before middle t x) (later : OnlyReads middle after) where
-  open_to : (s : IsStoreTrue policies m t.seen before after) → IsOpenTo o m t x middle after s.os opened.rows
+  open_to : (s : IsStoreChecked policies m t.seen before after) → IsOpenTo o m t x middle after s.os opened.rows
   open_to s = record {
     meaning = opened.reads.meaning ∙ opened.meaning;
-    answers = from_last s.os before middle after opened.reads later s.answers;
+    met = met_last m s.os before middle after opened.reads later s.met;
     reading =
-        subst (λ (os : Objects). IsReadingOn os o m t x opened.rows) (earlier_os policies m t.seen t.seen before middle after (prefix_self t.seen) opened.reads later s)
-        (opened.reading (true_earlier policies m t.seen t.seen before middle after (prefix_self t.seen) opened.reads later s));
+        subst (λ (os : Objects). IsReadingOn os o m t x opened.rows) (earlier_checked_os policies m t.seen t.seen before middle after (prefix_self t.seen) opened.reads later s)
+        (opened.reading (checked_earlier policies m t.seen t.seen before middle after (prefix_self t.seen) opened.reads later s));
   }
+
+  checked_there : u.seen ≡ t.seen → IsStoreChecked policies m u.seen before after → IsStoreChecked policies m t.seen before after
+  checked_there seen s = subst (λ (es : List Event). IsStoreChecked policies m es before after) seen s
 
   true_there : u.seen ≡ t.seen → IsStoreTrue policies m u.seen before after → IsStoreTrue policies m t.seen before after
   true_there seen s = subst (λ (es : List Event). IsStoreTrue policies m es before after) seen s
@@ -66,7 +69,7 @@ module _ (now : ℤ) (o : Options) (m : Meaning) (policies : List Policy) (from 
     steps = scan_of_jobs ∷ us;
     attempt = walks.attempt from SerializableSnapshot (scan_of_jobs ∷ []) opened.attempt;
     is = is;
-    sees = λ s. let there : IsStoreTrue policies m t.seen before after = true_there walks.seen s in walks.sees there.os opened.rows (open_to there) opened.vouched;
+    sees = λ s. let there : IsStoreChecked policies m t.seen before after = checked_there walks.seen s in walks.sees there.os opened.rows (open_to there) opened.vouched;
   }
 
   failed_on : (us : List TranscriptStep) (q : QueueError) → ScanFailsOn o m middle after t u x us q → IsReadRefusal o m policies before after u.seen q
@@ -75,7 +78,8 @@ module _ (now : ℤ) (o : Options) (m : Meaning) (policies : List Policy) (from 
     is = h.is;
     undamaged = λ s.
         let there : IsStoreTrue policies m t.seen before after = true_there h.walks.seen s in
-        fault_earlier before middle after h.error opened.reads.later (h.undamaged there.os opened.rows (open_to there));
+        fault_earlier before middle after h.error opened.reads.later
+        (h.undamaged there.os opened.rows (open_to (checked_of policies m t.seen before after there)) (from_last there.os before middle after opened.reads later there.answers));
     cause = subst (λ (es : List Event). IsReadErrorOn o policies before after es h.error) (sym h.walks.seen) (h.cause before policies opened.reads opened.since);
   }
 
@@ -132,7 +136,7 @@ module _ (now : ℤ) (ms : ℕ) (o : Options) (m : Meaning) (policies : List Pol
         carries = r.payload ∙ ap (λ (k : Job). k.payload) (is_read j.row.value found.job found.row.stands).is;
         steps = ap (λ (k : Job). h.done.steps ++ own_steps ((j.row.key, put_of (job_bytes k)) ∷ [])) (same_job now ms j found);
       };
-      sees = λ s. r.sees (h.done.sees (subst (λ (es : List Event). IsStoreTrue policies m es before after) r.seen s));
+      sees = λ s. r.sees (h.done.sees (subst (λ (es : List Event). IsStoreChecked policies m es before after) r.seen s));
     };
     refused = tt;
   }

@@ -15,7 +15,7 @@ use Rattle.slate_txn.specs.declared.event.TranscriptStep.{TranscriptStep}
 use Rattle.slate_txn.specs.declared.event.TranscriptStep.TheVariants as steps
 use Rattle.slate_db.specs.Meaning.{Meaning}
 use Rattle.slate_shared.specs.Passes.{Opened}
-use Rattle.slate_steps.specs.Attempts.{IsAttempt, IsReadErrorOn, IsStoreTrue, IsVouchedThere}
+use Rattle.slate_steps.specs.Attempts.{IsAttempt, IsReadErrorOn, IsStoreChecked, IsStoreTrue, IsVouchedThere}
 use Rattle.slate_queue.specs.declared.error.QueueError.{QueueError}
 use Rattle.slate_queue.specs.declared.error.QueueError.TheVariants as errors
 use Rattle.slate_queue.specs.Stored.{counter_in, counter_key, job_key}
@@ -46,7 +46,7 @@ module _ (o : Options) (m : Meaning) (policies : List Policy) (from : List Event
 
   -- ---- an add
 
-  pub counted_on : (t : Opened) (answer : Option KeyValue) (result : Result ℕ QueueError) → IsAttempt o from SerializableSnapshot (steps.Get counter_key answer ∷ []) t → (IsStoreTrue policies m t.seen before after → IsVouchedThere o m t) →
+  pub counted_on : (t : Opened) (answer : Option KeyValue) (result : Result ℕ QueueError) → IsAttempt o from SerializableSnapshot (steps.Get counter_key answer ∷ []) t → (IsStoreChecked policies m t.seen before after → IsVouchedThere o m t) →
       IfOk result (λ new. (counter : ℕ) × (counter_in (value_of answer) ≡ Some counter) × (counter < last_number) × (new ≡ counter + 1)) →
       IfErr result (λ e. (e ≡ errors.Db OutOfMemory) ⊎ (counter_refusal (counter_in (value_of answer)) ≡ Some e)) → AttemptsOn Counts AddStops o m policies from before after t result
   counted_on t answer (Ok new) attempt sees h g = record {
@@ -73,7 +73,7 @@ module _ (o : Options) (m : Meaning) (policies : List Policy) (from : List Event
       steps = h.done.steps ++ own_steps (added new payload);
       attempt = more h.done.steps h.done.attempt;
       is = record { first = h.done.steps; counts = h.done.is; steps = refl };
-      sees = λ s. vouched (h.done.sees (subst (λ (es : List Event). IsStoreTrue policies m es before after) seen s));
+      sees = λ s. vouched (h.done.sees (subst (λ (es : List Event). IsStoreChecked policies m es before after) seen s));
     };
     refused = tt;
   }
@@ -89,13 +89,13 @@ module _ (o : Options) (m : Meaning) (policies : List Policy) (from : List Event
           steps = h.done.steps ++ own_steps some.0;
           attempt = some.1;
           is = inr (memory_on u.seen e memory);
-          sees = λ s. vouched (h.done.sees (subst (λ (es : List Event). IsStoreTrue policies m es before after) seen s));
+          sees = λ s. vouched (h.done.sees (subst (λ (es : List Event). IsStoreChecked policies m es before after) seen s));
         };
       }
 
   -- ---- a finish
 
-  pub finish_refused_on : (job lease : ℕ) (k : List ℕ) (t : Opened) (answer : Option KeyValue) (e : QueueError) → k ≡ job_key job → IsAttempt o from SerializableSnapshot (steps.Get k answer ∷ []) t → (IsStoreTrue policies m t.seen before after → IsVouchedThere o m t) →
+  pub finish_refused_on : (job lease : ℕ) (k : List ℕ) (t : Opened) (answer : Option KeyValue) (e : QueueError) → k ≡ job_key job → IsAttempt o from SerializableSnapshot (steps.Get k answer ∷ []) t → (IsStoreChecked policies m t.seen before after → IsVouchedThere o m t) →
       (e ≡ errors.Db OutOfMemory) ⊎ (job_refusal job lease (job_in (value_of answer)) ≡ Some e) → AttemptsOn {T = Unit} (λ done. Finishes job lease) (FinishStops job lease) o m policies from before after t (Err e)
   finish_refused_on job lease k t answer e is attempt sees h = record {
     done = tt;
@@ -106,7 +106,7 @@ module _ (o : Options) (m : Meaning) (policies : List Policy) (from : List Event
       by (inl memory) = inr (memory_on t.seen e memory)
       by (inr refusal) = inl (record { answer = answer; refusal = refusal; steps = ap (λ (j : List ℕ). steps.Get j answer ∷ []) is })
 
-  pub finish_deleted_on : (job lease : ℕ) (k : List ℕ) (t u : Opened) (answer : Option KeyValue) (result : Result Unit QueueError) → k ≡ job_key job → IsAttempt o from SerializableSnapshot (steps.Get k answer ∷ []) t → (IsStoreTrue policies m t.seen before after → IsVouchedThere o m t) →
+  pub finish_deleted_on : (job lease : ℕ) (k : List ℕ) (t u : Opened) (answer : Option KeyValue) (result : Result Unit QueueError) → k ≡ job_key job → IsAttempt o from SerializableSnapshot (steps.Get k answer ∷ []) t → (IsStoreChecked policies m t.seen before after → IsVouchedThere o m t) →
       job_refusal job lease (job_in (value_of answer)) ≡ None → OnOk result (IsAttempt o from SerializableSnapshot (steps.Get k answer ∷ steps.Own k Delete ∷ []) u) → (IsVouchedThere o m t → IsVouchedThere o m u) → u.seen ≡ t.seen →
       OnErr result (u ≡ t) → IfErr result (λ e. e ≡ errors.Db OutOfMemory) → AttemptsOn (λ done. Finishes job lease) (FinishStops job lease) o m policies from before after u result
   finish_deleted_on job lease k t u answer (Ok done) is attempt sees named deleted vouched seen same memory =
@@ -123,7 +123,7 @@ module _ (o : Options) (m : Meaning) (policies : List Policy) (from : List Event
             claimed = found.claimed;
             steps = λ i. steps.Get (is i) (found.is i) ∷ steps.Own (is i) Delete ∷ [];
           };
-          sees = λ s. vouched (sees (subst (λ (es : List Event). IsStoreTrue policies m es before after) seen s));
+          sees = λ s. vouched (sees (subst (λ (es : List Event). IsStoreChecked policies m es before after) seen s));
         };
         refused = tt;
       }
@@ -133,6 +133,6 @@ module _ (o : Options) (m : Meaning) (policies : List Policy) (from : List Event
       steps = steps.Get k answer ∷ [];
       attempt = subst (IsAttempt o from SerializableSnapshot (steps.Get k answer ∷ [])) (sym same) attempt;
       is = inr (memory_on u.seen e memory);
-      sees = λ s. vouched (sees (subst (λ (es : List Event). IsStoreTrue policies m es before after) seen s));
+      sees = λ s. vouched (sees (subst (λ (es : List Event). IsStoreChecked policies m es before after) seen s));
     };
   }

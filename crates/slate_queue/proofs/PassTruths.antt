@@ -16,15 +16,10 @@ use Rattle.slate_db.specs.Meaning.{Meaning, rules_of}
 use Rattle.slate_shared.specs.Passes.{Opened}
 use Rattle.slate_shared.proofs.Lists.{prefix_self}
 use Rattle.slate_steps.specs.Attempts.{IsAttempt, IsStoreTrue, IsVouchedThere}
-use Rattle.slate_steps.proofs.StoreTruth.{store_within, within_os}
+use Rattle.slate_steps.proofs.StoreTruth.{store_within}
 
 pub true_earlier : (policies : List Policy) (m : Meaning) (seen all : List Event) (a b c : Reach) → IsPrefix seen all → OnlyReads a b → OnlyReads b c → IsStoreTrue policies m all a c → IsStoreTrue policies m seen a b
 true_earlier policies m seen all a b c p first later s = store_within policies m all seen a a b c s p (reads_none a) first later
-
--- by the same objects
-pub earlier_os : (policies : List Policy) (m : Meaning) (seen all : List Event) (a b c : Reach) (p : IsPrefix seen all) (first : OnlyReads a b) (later : OnlyReads b c) (s : IsStoreTrue policies m all a c) → (true_earlier policies m seen all a b c p first later s).os ≡ s.os
-unfolding true_earlier
-earlier_os policies m seen all a b c p first later s = within_os policies m all seen a a b c s p (reads_none a) first later
 
 pub prefix_same : (xs ys : List Event) → ys ≡ xs → IsPrefix xs ys
 prefix_same xs ys same = subst (IsPrefix xs) (sym same) (prefix_self xs)

@@ -23,9 +23,11 @@ use Rattle.slate_db.specs.declared.scan.TxnIterator.{TxnIterator}
 use Rattle.slate_db.specs.Answered.{AnswersFrom}
 use Rattle.slate_db.specs.Meaning.{Meaning}
 use Rattle.slate_db.specs.Scans.{IsScanOf, id_of, number_of, scan_of}
-use Rattle.slate_steps.proofs.Between.{from_first, from_last}
+use Rattle.slate_steps.proofs.Between.{from_last}
+use Rattle.slate_steps.proofs.StoreTruth.{met_first, met_last}
 use Rattle.slate_shared.specs.Passes.{Opened}
 use Rattle.slate_steps.specs.Attempts.{IsAttempt, IsReadErrorOn, IsReadingOn, IsScanSinceOn, IsVouchedThere}
+use Rattle.slate_steps.specs.Reads.{IsMetBy, IsUnslipped}
 use Rattle.slate_queue.specs.declared.claiming.FreeJob.{FreeJob}
 use Rattle.slate_queue.specs.declared.claiming.Step.{Step}
 use Rattle.slate_queue.specs.declared.claiming.Step.TheVariants as step
@@ -66,13 +68,13 @@ module _ (o : Options) (m : Meaning) where
   walks_as a b t u x us vs is h = subst (WalksOn o m a b t u x) is h
 
   opened_first : (a b c : Reach) (t : Opened) (x : TxnIterator) (os : Objects) (rows : List RowEntry) → OnlyReads a b → OnlyReads b c → IsOpenTo o m t x a c os rows → IsOpenTo o m t x a b os rows
-  opened_first a b c t x os rows first later h = record { meaning = h.meaning; answers = from_first os a b c first later h.answers; reading = h.reading }
+  opened_first a b c t x os rows first later h = record { meaning = h.meaning; met = met_first m os a b c first later h.met; reading = h.reading }
 
   opened_last : (a b c : Reach) (t u : Opened) (x y : TxnIterator) (us : List TranscriptStep) (os : Objects) (rows : List RowEntry) → (first : WalkedOn o m a b t u x y us) → OnlyReads b c → IsOpenTo o m t x a c os rows →
       (left : List RowEntry) × IsOpenTo o m u y b c os left
   opened_last a b c t u x y us os rows first later h =
       let left : (left : List RowEntry) × IsReadingOn os o m u y left = first.reading os rows (opened_first a b c t x os rows first.reads later h) in
-      (left.0, record { meaning = first.reads.meaning ∙ h.meaning; answers = from_last os a b c first.reads later h.answers; reading = left.1 })
+      (left.0, record { meaning = first.reads.meaning ∙ h.meaning; met = met_last m os a b c first.reads later h.met; reading = left.1 })
 
   pub walks_then_on : (a b c : Reach) (t u v : Opened) (x y : TxnIterator) (us vs : List TranscriptStep) → WalkedOn o m a b t u x y us → OnlyReads b c → WalksOn o m b c u v y vs → WalksOn o m a c t v x (us ++ vs)
   walks_then_on a b c t u v x y us vs first later second = record {
@@ -104,9 +106,9 @@ module _ (o : Options) (m : Meaning) where
     walks = walks_then_on a b c t u v x y us vs first second.reads second.walks;
     error = second.error;
     is = second.is;
-    undamaged = λ os rows opened.
+    undamaged = λ os rows opened answers.
         let left = opened_last a b c t u x y us os rows first second.reads opened in
-        fault_earlier a b c second.error first.reads.later (second.undamaged os left.0 left.1);
+        fault_earlier a b c second.error first.reads.later (second.undamaged os left.0 left.1 (from_last os a b c first.reads second.reads answers));
     cause = λ from policies reads since.
         subst (λ (es : List Event). IsReadErrorOn o policies from c es second.error) first.walks.seen
         (second.cause from policies (reads_then from a b reads first.reads) (subst (λ (es : List Event). IsScanSinceOn o from b es y) (sym first.walks.seen) (first.since from since)));
@@ -137,26 +139,30 @@ module _ (o : Options) (m : Meaning) where
     walks = h.walks;
     error = OutOfMemory;
     is = refl;
-    undamaged = λ os rows opened. tt;
+    undamaged = λ os rows opened answers. tt;
     cause = λ from policies reads since. inl tt;
     reads = h.reads;
   })
 
   -- ---- what the scan answered
 
+  pub met_by : {A : Type 0} (os : Objects) (before after : Reach) → (AnswersFrom os before after → A) → (IsUnslipped m os before after → A) → IsMetBy m os before after → A
+  met_by os before after f g (inl answers) = f answers
+  met_by os before after f g (inr unslipped) = g unslipped
+
   pub next_walked_on : (before after : Reach) (t u : Opened) (x y : TxnIterator) (a b : Option KeyValue) → a ≡ b → number_of x ≡ 0 →
       ((from : List Event) (level : IsolationLevel) (ts : List TranscriptStep) → IsAttempt o from level ts t → IsAttempt o from level (ts ++ (steps.Next (number_of x) a ∷ [])) u) →
       IsScanOf (id_of x) (number_of x) (scan_of x).order (scan_of x).range y →
-      ((os : Objects) (rows : List RowEntry) → before.meaning ≡ m → AnswersFrom os before after → IsReadingOn os o m t x rows → (a ≡ first_left rows) × IsReadingOn os o m u y (drop 1 rows) × (IsVouchedThere o m t → IsVouchedThere o m u)) →
+      ((os : Objects) (rows : List RowEntry) → before.meaning ≡ m → IsMetBy m os before after → IsReadingOn os o m t x rows → (a ≡ first_left rows) × IsReadingOn os o m u y (drop 1 rows) × (IsVouchedThere o m t → IsVouchedThere o m u)) →
       ((from : Reach) → IsScanSinceOn o from before t.seen x → IsScanSinceOn o from after t.seen y) → u.seen ≡ t.seen → OnlyReads before after → WalkedOn o m before after t u x y (steps.Next 0 b ∷ [])
   next_walked_on before after t u x y a b same first within named reading since seen reads =
       subst (λ (e : Option KeyValue). WalkedOn o m before after t u x y (steps.Next 0 e ∷ [])) same (record {
         walks = record {
           attempt = λ from level ts h. subst (λ (n : ℕ). IsAttempt o from level (ts ++ (steps.Next n a ∷ [])) u) first (within from level ts h);
-          sees = λ os rows opened vouched. (reading os rows opened.meaning opened.answers opened.reading).2 vouched;
+          sees = λ os rows opened vouched. (reading os rows opened.meaning opened.met opened.reading).2 vouched;
           seen = seen;
         };
-        reading = λ os rows opened. (drop 1 rows, (reading os rows opened.meaning opened.answers opened.reading).1);
+        reading = λ os rows opened. (drop 1 rows, (reading os rows opened.meaning opened.met opened.reading).1);
         since = since;
         named = named;
         reads = reads;
@@ -174,7 +180,7 @@ module _ (o : Options) (m : Meaning) where
     });
     error = error;
     is = refl;
-    undamaged = λ os rows opened. undamaged os rows opened.meaning opened.answers opened.reading;
+    undamaged = λ os rows opened answers. undamaged os rows opened.meaning answers opened.reading;
     cause = cause;
     reads = reads;
   })
@@ -195,7 +201,7 @@ module _ (o : Options) (m : Meaning) where
     walks = walked.walks;
     error = OutOfMemory;
     is = memory;
-    undamaged = λ os rows opened. tt;
+    undamaged = λ os rows opened answers. tt;
     cause = λ from policies reads since. inl tt;
     reads = walked.reads;
   })

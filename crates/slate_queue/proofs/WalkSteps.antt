@@ -15,7 +15,7 @@ use Rattle.slate_txn.specs.Alone.{first_left}
 use Rattle.slate_db.specs.declared.scan.TxnIterator.{TxnIterator}
 use Rattle.slate_db.specs.Model.{CoreModel}
 use Rattle.slate_db.specs.Scans.{IsScanOf, id_of, number_of, scan_of}
-use Rattle.slate_steps.specs.Reads.{IsReadError, IsReading, IsScanSince}
+use Rattle.slate_steps.specs.Reads.{IsMetBy, IsReadError, IsReading, IsScanSince}
 use Rattle.slate_steps.specs.Steps.{IsWithin, Sees}
 use Rattle.slate_queue.specs.declared.claiming.FreeJob.{FreeJob}
 use Rattle.slate_queue.specs.declared.claiming.Step.{Step}
@@ -31,23 +31,23 @@ use Rattle.slate_queue.specs.Standing.{job_in}
 use Rattle.slate_queue.specs.Walks.{GoesTo, IsFound, IsStepAt, StopsAt, WalkStops, Walked, Walks, WalksTo}
 use Rattle.slate_queue.proofs.FirstFree.{key_is_job}
 use Rattle.slate_queue.proofs.JobValues.{value_is}
-use Rattle.slate_queue.proofs.WalkLaws.{stays}
+use Rattle.slate_queue.proofs.WalkLaws.{walks_none}
 
 -- ---- what the scan answered
 
 pub next_walked : (before after : Reach) (d e : CoreModel) (x y : TxnIterator) (a b : Option KeyValue) → a ≡ b → number_of x ≡ 0 →
     ((c : CoreModel) (level : IsolationLevel) (ts : List TranscriptStep) → IsWithin c (id_of x) level ts d → IsWithin c (id_of x) level (ts ++ (steps.Next (number_of x) a ∷ [])) e) →
     IsScanOf (id_of x) (number_of x) (scan_of x).order (scan_of x).range y →
-    ((c : CoreModel) (ts : List TranscriptStep) (os : Objects) (rows : List RowEntry) → before.objects ≡ Some os → IsReading os before.meaning c ts x rows →
+    ((c : CoreModel) (ts : List TranscriptStep) (os : Objects) (rows : List RowEntry) → IsMetBy before.meaning os before after → IsReading os before.meaning c ts x rows →
     (a ≡ first_left rows) × IsReading os before.meaning c (ts ++ (steps.Next (number_of x) a ∷ [])) y (drop 1 rows) × (Sees before.meaning c ts → Sees before.meaning c (ts ++ (steps.Next (number_of x) a ∷ [])))) →
     ((c : CoreModel) (from : Reach) → IsScanSince from before c x → IsScanSince from after c y) → OnlyReads before after → Walked before after d e x y (steps.Next 0 b ∷ [])
 next_walked before after d e x y a b same first within named reading since reads =
     subst (λ (o : Option KeyValue). Walked before after d e x y (steps.Next 0 o ∷ [])) same (record {
       walks = record {
         within = λ c level ts h. subst (λ (n : ℕ). IsWithin c (id_of x) level (ts ++ (steps.Next n a ∷ [])) e) first (within c level ts h);
-        sees = λ c ts os rows told read sees. subst (λ (n : ℕ). Sees before.meaning c (ts ++ (steps.Next n a ∷ []))) first ((reading c ts os rows told read).2 sees);
+        sees = λ c ts os rows met read sees. subst (λ (n : ℕ). Sees before.meaning c (ts ++ (steps.Next n a ∷ []))) first ((reading c ts os rows met read).2 sees);
       };
-      reading = λ c ts os rows told read. (drop 1 rows, subst (λ (n : ℕ). IsReading os before.meaning c (ts ++ (steps.Next n a ∷ [])) y (drop 1 rows)) first (reading c ts os rows told read).1);
+      reading = λ c ts os rows met read. (drop 1 rows, subst (λ (n : ℕ). IsReading os before.meaning c (ts ++ (steps.Next n a ∷ [])) y (drop 1 rows)) first (reading c ts os rows met read).1);
       since = since;
       named = named;
       reads = reads;
@@ -58,7 +58,7 @@ pub next_fails : (before after : Reach) (d e : CoreModel) (x y : TxnIterator) (e
     ((c : CoreModel) (from : Reach) (policies : List Policy) → OnlyReads from before → IsScanSince from before c x → IsReadError policies from after c error) → OnlyReads before after →
     StopsAt before after d e x y (errors.Db error)
 next_fails before after d e x y error same undamaged cause reads = StopsAt.fails [] (record {
-  walks = subst (λ (v : CoreModel). Walks before d v x []) (sym same) (stays before d x).walks;
+  walks = subst (λ (v : CoreModel). Walks before after d v x []) (sym same) (walks_none before after d x);
   error = error;
   is = refl;
   undamaged = undamaged;

@@ -3,13 +3,15 @@
 --     Commits form now c d      one commit of this form was made at the moment, and nothing else was
 --     Leaves c d      nothing was changed, or a transaction was begun and ended without a commit
 --     IsAddOf payload id, IsClaimOf ms claim, IsFinishOf id lease      a commit adds this job under this id; claims so; finishes it under this lease
---     Took policies before c id means d      d is c in which a transaction was begun and took steps of which this is true; over a settled core its answers are those of a reader at the newest sequence
+--     Took policies before after c id means d      d is c in which a transaction was begun and took steps of which this is true; where what was read is checked, its answers are those of a reader at the newest sequence
+--     Stops takes policies before after c d      d is c in which a transaction was begun, took all these steps and ended without a commit; its answers are such
 --     IsDbRefusal policies before after c id e      a fault or want of memory, where the core is settled; of several reads the last is refused so
 --     Attempts means stops policies before after c id d result      an attempt within a transaction: its steps, by its result
 --     StepRefuses, StepsAs      by the model's step: what an answer is, and why a call is refused
 --     IsRefusal      by its steps: why a call is refused
 --     Keeps      what a call keeps: what is kept of the rows, that the core is settled and vouched for, and that its commits are a queue's; and how much it grows
 --     CallsAs ends answer call own      a whole call
+--     AddRefuses payload, ClaimRefuses now, FinishRefuses id lease      what refuses one before it begins, or by what its attempt read
 use Rattle.std.specs.Prelude.{◌≡◌, ◌≢◌, ◌⊎◌, ℕ, ◌+◌, ◌-◌, ◌≤◌, ◌<◌, ◌^◌, ℤ, List, length, Option, Some, None, IsSome, Result, Ok, Err, IfOk, IfErr, OnErr}
 use Rattle.slate_types.specs.declared.config.IsolationLevel.TheVariants.{SerializableSnapshot}
 use Rattle.slate_types.specs.declared.error.SlateDBError.{SlateDBError}
@@ -29,7 +31,7 @@ use Rattle.slate_db.specs.Model.{CoreModel}
 use Rattle.slate_db.specs.SerialLaws.{IsVouchedCore}
 use Rattle.slate_db.specs.Settled.{IsSettledIn}
 use Rattle.slate_db.specs.Sound.{IsKept}
-use Rattle.slate_steps.specs.Reads.{IsReadFault}
+use Rattle.slate_steps.specs.Reads.{IsChecked, IsReadFault}
 use Rattle.slate_steps.specs.Steps.{HasCommitted, HasEnded, IsBeginError, IsWithin, Sees, newest}
 use Rattle.slate_queue.specs.declared.claims.Claim.{Claim}
 use Rattle.slate_queue.specs.declared.error.QueueError.{QueueError}
@@ -37,7 +39,7 @@ use Rattle.slate_queue.specs.declared.error.QueueError.TheVariants as errors
 use Rattle.slate_queue.specs.Jobs as model
 use Rattle.slate_queue.specs.Jobs.{Queue, Call, longest, queue_step}
 use Rattle.slate_queue.specs.Commits.{IsAdd, IsClaim, IsFinish, IsQueueCommit}
-use Rattle.slate_queue.specs.CallSteps.{AddStops, ClaimStops, FinishStops}
+use Rattle.slate_queue.specs.CallSteps.{AddStops, ClaimStops, FindsNone, FinishStops}
 use Rattle.slate_queue.specs.Script.{keys_of}
 use Rattle.slate_queue.specs.Standing.{Stands}
 
@@ -70,18 +72,25 @@ IsClaimOf now ms claim ops tracked ts =
 abbrev pub IsFinishOf : ℕ → ℕ → Form
 IsFinishOf id lease ops tracked ts = (end : IsFinish ops tracked ts) × (end.id ≡ id) × (end.job.lease ≡ lease)
 
--- what a claim leaves, by its answer
-abbrev pub ClaimEnds : ℤ → ℕ → CoreModel → CoreModel → Option Claim → Type 0
-ClaimEnds now ms c d None = Leaves c d
-ClaimEnds now ms c d (Some claim) = Commits (IsClaimOf now ms claim) now c d
-
 -- ---- attempts within a transaction
 
-pub record Took (policies : List Policy) (before : Reach) (c : CoreModel) (id : List ℕ) (means : List TranscriptStep → Type 0) (d : CoreModel) : Type 0 where
+pub record Took (policies : List Policy) (before after : Reach) (c : CoreModel) (id : List ℕ) (means : List TranscriptStep → Type 0) (d : CoreModel) : Type 0 where
   pub steps : List TranscriptStep
   pub within : IsWithin c id SerializableSnapshot steps d
   pub is : means steps
-  pub sees : (g : Segments) → IsSettledIn policies g before c → Sees before.meaning c steps
+  pub sees : (g : Segments) → IsChecked policies g before after c → Sees before.meaning c steps
+
+pub record Stops (takes : List TranscriptStep → Type 0) (policies : List Policy) (before after : Reach) (c d : CoreModel) : Type 0 where
+  pub id : List ℕ
+  pub steps : List TranscriptStep
+  pub all : takes steps
+  pub ended : HasEnded c id SerializableSnapshot d
+  pub sees : (g : Segments) → IsChecked policies g before after c → Sees before.meaning c steps
+
+-- what a claim leaves, by its answer
+abbrev pub ClaimEnds : ℤ → ℕ → List Policy → Reach → Reach → CoreModel → CoreModel → Option Claim → Type 0
+ClaimEnds now ms policies before after c d None = Stops (FindsNone now) policies before after c d
+ClaimEnds now ms policies before after c d (Some claim) = Commits (IsClaimOf now ms claim) now c d
 
 pub record IsDbRefusal (policies : List Policy) (before after : Reach) (c : CoreModel) (id : List ℕ) (e : QueueError) : Type 0 where
   pub error : SlateDBError
@@ -90,8 +99,8 @@ pub record IsDbRefusal (policies : List Policy) (before after : Reach) (c : Core
   pub cause : (error ≡ OutOfMemory) ⊎ IsReadFault policies before after c id SerializableSnapshot error
 
 pub record Attempts {T : Type 0} (means : T → List TranscriptStep → Type 0) (stops : QueueError → List TranscriptStep → Type 0) (policies : List Policy) (before after : Reach) (c : CoreModel) (id : List ℕ) (d : CoreModel) (result : Result T QueueError) : Type 0 where
-  pub done : IfOk result (λ a. Took policies before c id (means a) d)
-  pub refused : IfErr result (λ e. Took policies before c id (λ ts. stops e ts ⊎ IsDbRefusal policies before after c id e) d)
+  pub done : IfOk result (λ a. Took policies before after c id (means a) d)
+  pub refused : IfErr result (λ e. Took policies before after c id (λ ts. stops e ts ⊎ IsDbRefusal policies before after c id e) d)
 
 -- ---- whole calls
 
@@ -125,18 +134,19 @@ pub record CallsAs {T : Type 0} (ends : T → Type 0) (answer : T → model.Answ
   pub done : IfOk result ends
   pub refused : OnErr result (Leaves c d)
   pub steps : (g : Segments) (q : Queue) → IsSettledIn policies g before c → StandsIn before.meaning c q → StepsAs answer q call before after c d result
+  pub checked : (g : Segments) (q : Queue) → IsChecked policies g before after c → StandsIn before.meaning c q → IfOk result (λ a. (p : Queue) × (queue_step q call ≡ Ok (p, answer a)) × StandsIn before.meaning d p)
   pub cause : IfErr result (IsRefusal own policies before after c)
   pub keeps : Keeps policies seg before after c d
   pub reads : OnlyReads before after
 
-abbrev pub AddRefuses : List ℕ → QueueError → Type 0
-AddRefuses payload e = ((longest < length payload) × (e ≡ errors.PayloadTooLong (length payload))) ⊎ ((ts : List TranscriptStep) × AddStops e ts)
+abbrev pub AddRefuses : List ℕ → List Policy → Reach → Reach → CoreModel → CoreModel → QueueError → Type 0
+AddRefuses payload policies before after c d e = ((longest < length payload) × (e ≡ errors.PayloadTooLong (length payload)) × (d ≡ c)) ⊎ Stops (AddStops e) policies before after c d
 
-abbrev pub ClaimRefuses : ℤ → QueueError → Type 0
-ClaimRefuses now e = (ts : List TranscriptStep) × ClaimStops now e ts
+abbrev pub ClaimRefuses : ℤ → List Policy → Reach → Reach → CoreModel → CoreModel → QueueError → Type 0
+ClaimRefuses now policies before after c d e = Stops (ClaimStops now e) policies before after c d
 
-abbrev pub FinishRefuses : ℕ → ℕ → QueueError → Type 0
-FinishRefuses id lease e = (ts : List TranscriptStep) × FinishStops id lease e ts
+abbrev pub FinishRefuses : ℕ → ℕ → List Policy → Reach → Reach → CoreModel → CoreModel → QueueError → Type 0
+FinishRefuses id lease policies before after c d e = Stops (FinishStops id lease e) policies before after c d
 
 abbrev pub claim_answer : Option Claim → model.Answer
 claim_answer None = model.Answer.NoneFree

@@ -15,3 +15,4 @@ pub mod Runs
 pub mod Words
 pub mod OnPass
 pub mod PassWalks
+pub mod Onward

@@ -4,19 +4,23 @@
 --     StepsTo call a value, StepsToCommit call value      by the model's step, on each queue that has these values: this answer; an answer that has a commit
 --     IsRefusedWith call e value, FindsNoneIn now ms value      the same: a refusal, and a bad job names a value of a wrong length; a claim that finds none
 --     IsBadValue value k      what stands at the key of a job or of the counter has a wrong length
+--     EndsOn takes o m policies before after old new      an attempt took all these steps and ended without a commit; where what was read is checked, its answers are a reader's at its begin
+--     FindsNoneOn now ms      so did a claim whose scan of all jobs found no free one, and none was free then
+--     StopsOn call stops e      so did one whose reads refuse the call so, and the call is refused so there
 --     AtStart o m means old new      of the values where the call's attempt began, behind what the pass had seen, this is true, by the journal that it has seen then
 --     LeavesOn o old new      the pass has no place more of its own, and nothing was done, or a transaction was begun and ended without a commit
 --     RefusesOn o old new e      so does a refusal; or nothing was begun, as it says
 --     IsUncommitted takes o old new error      the commit of an attempt that took all steps was refused: it conflicts, or no sequence is left
 --     TookOn means t, IsReadRefusal e, AttemptsOn means stops t result      an attempt within its transaction: its steps, and why it is refused
---     AnswersOn call a t before seen      a commit behind a journal, where the store was true: what it read is what a reader at its begin reads, and a vouched journal stays one; the answer
+--     AnswersOn call a t before seen      a commit behind a journal, where what was read is checked: what it read is what a reader at its begin reads, and a vouched journal stays one; the answer
 --                is the step's at the start of the attempt, and, where the journal is a queue's, that on the queue just before the commit, and behind it stands what the step makes of that
 --     CommitsOn form call a now      the pass's newest place has this attempt's commit, of this form, and a queue's journal stays one
 --     EndsClaim now ms answer      what a claim leaves
---     IsStepRefusal, IsRefusalOn own      why a call is refused: where the store was true; whatever the store answered
---     CallsOn ends call own takes result      a whole call
+--     IsStepRefusal, IsRefusalOn first stops      why a call is refused: where the store was true; whatever the store answered
+--     CallsOn ends call first stops takes result      a whole call
+--     IsTooLong payload e, NoneFirst e      what refuses an add before it begins, and what a claim or a finish: nothing
 --     AddsOn payload now, FinishesOn id lease now, ClaimsOn now ms      each of them
-use Rattle.std.specs.Prelude.{◌≡◌, ◌⊎◌, ℕ, ℤ, List, Option, Some, None, IsSome, Result, Ok, Err, IfOk, IfErr}
+use Rattle.std.specs.Prelude.{Err, IfErr, IfOk, IsSome, List, None, Ok, Option, Result, Some, length, ℕ, ℤ, ◌<◌, ◌≡◌, ◌⊎◌}
 use mathlib.Core.List.{IsPrefix}
 use Rattle.slate_types.specs.declared.config.IsolationLevel.TheVariants.{SerializableSnapshot}
 use Rattle.slate_types.specs.declared.config.Options.{Options}
@@ -32,15 +36,15 @@ use Rattle.slate_txn.specs.Settings.{settings_of}
 use Rattle.slate_txn.specs.Vouched.{AreVouched}
 use Rattle.slate_db.specs.Meaning.{Meaning, rules_of}
 use Rattle.slate_shared.specs.Passes.{Opened, PassModel}
-use Rattle.slate_steps.specs.Attempts.{HasCommittedBehind, HasEndedBehind, IsAttempt, IsReadErrorOn, IsRefusedBehind, IsStoreTrue, IsUnbegun, IsVouchedThere, SeesOnly}
+use Rattle.slate_steps.specs.Attempts.{HasCommittedBehind, HasEndedBehind, IsAttempt, IsReadErrorOn, IsRefusedBehind, IsStoreChecked, IsStoreTrue, IsUnbegun, IsVouchedThere, SeesOnly}
 use Rattle.slate_queue.specs.declared.claims.Claim.{Claim}
 use Rattle.slate_queue.specs.declared.error.QueueError.{QueueError}
 use Rattle.slate_queue.specs.declared.error.QueueError.TheVariants as errors
 use Rattle.slate_queue.specs.Stored.{counter_key, counter_in, job_key}
-use Rattle.slate_queue.specs.Jobs.{Answer, Call, Queue, queue_step}
+use Rattle.slate_queue.specs.Jobs.{Answer, Call, Queue, longest, queue_step}
 use Rattle.slate_queue.specs.Commits.{IsQueueCommit}
-use Rattle.slate_queue.specs.CallSteps.{Adds, Claims, Finishes}
-use Rattle.slate_queue.specs.Calls.{AddRefuses, ClaimRefuses, FinishRefuses, Form, IsAddOf, IsClaimOf, IsFinishOf, claim_answer}
+use Rattle.slate_queue.specs.CallSteps.{AddStops, Adds, ClaimStops, Claims, FindsNone, FinishStops, Finishes}
+use Rattle.slate_queue.specs.Calls.{Form, IsAddOf, IsClaimOf, IsFinishOf, claim_answer}
 use Rattle.slate_queue.specs.Script.{keys_of}
 use Rattle.slate_queue.specs.Standing.{IsQueueIn, Stands, job_in, value_from}
 
@@ -75,6 +79,23 @@ pub record AtStart (o : Options) (m : Meaning) (means : (List ℕ → Option (Li
   pub known : IsPrefix txn.seen new.seen
   pub is : means (value_from (rules_of (settings_of o) m) (replay new.seen).commits txn.tx.begin)
 
+pub record EndsOn (takes : List TranscriptStep → Type 0) (o : Options) (m : Meaning) (policies : List Policy) (before after : Reach) (old new : PassModel) : Type 0 where
+  pub txn : Opened
+  pub steps : List TranscriptStep
+  pub attempt : IsAttempt o old.seen SerializableSnapshot steps txn
+  pub all : takes steps
+  pub ended : HasEndedBehind txn old new
+  pub legal : IsLegal o.start_seq new.seen
+  pub vouched : IsStoreChecked policies m new.seen before after → IsVouchedThere o m (record txn { seen = new.seen })
+
+pub record FindsNoneOn (now : ℤ) (ms : ℕ) (o : Options) (m : Meaning) (policies : List Policy) (before after : Reach) (old new : PassModel) : Type 0 where
+  pub ends : EndsOn (FindsNone now) o m policies before after old new
+  pub none : IsStoreChecked policies m new.seen before after → FindsNoneIn now ms (value_from (rules_of (settings_of o) m) (replay new.seen).commits ends.txn.tx.begin)
+
+pub record StopsOn (call : Call) (stops : QueueError → List TranscriptStep → Type 0) (o : Options) (m : Meaning) (policies : List Policy) (before after : Reach) (old new : PassModel) (e : QueueError) : Type 0 where
+  pub ends : EndsOn (stops e) o m policies before after old new
+  pub refused : IsStoreChecked policies m new.seen before after → IsRefusedWith call e (value_from (rules_of (settings_of o) m) (replay new.seen).commits ends.txn.tx.begin)
+
 pub record LeavesOn (o : Options) (old new : PassModel) : Type 0 where
   pub only : SeesOnly old new
   pub ended : (new ≡ old) ⊎ ((t : Opened) × (ts : List TranscriptStep) × IsAttempt o old.seen SerializableSnapshot ts t × HasEndedBehind t old new)
@@ -96,7 +117,7 @@ pub record TookOn (o : Options) (m : Meaning) (policies : List Policy) (from : L
   pub steps : List TranscriptStep
   pub attempt : IsAttempt o from SerializableSnapshot steps t
   pub is : means steps
-  pub sees : IsStoreTrue policies m t.seen before after → IsVouchedThere o m t
+  pub sees : IsStoreChecked policies m t.seen before after → IsVouchedThere o m t
 
 pub record IsReadRefusal (o : Options) (m : Meaning) (policies : List Policy) (before after : Reach) (seen : List Event) (e : QueueError) : Type 0 where
   pub error : SlateDBError
@@ -125,12 +146,12 @@ pub record CommitsOn (form : Form) (call : Call) (a : Answer) (now : ℤ) (o : O
   pub is : form (kept_ops txn.tx.ops) (batch_keys txn.tx.ops) txn.tx.transcript
   pub legal : IsLegal o.start_seq new.seen
   pub queue : AreOfKind IsQueueCommit committed.before → AreOfKind IsQueueCommit new.seen
-  pub answers : IsStoreTrue policies m new.seen before after → AnswersOn call a o m txn committed.before new.seen
+  pub answers : IsStoreChecked policies m new.seen before after → AnswersOn call a o m txn committed.before new.seen
 
 -- ---- whole calls
 
 abbrev pub EndsClaim : ℤ → ℕ → Options → Meaning → List Policy → Reach → Reach → PassModel → PassModel → Option Claim → Type 0
-EndsClaim now ms o m policies before after old new None = LeavesOn o old new × (IsStoreTrue policies m new.seen before after → AtStart o m (FindsNoneIn now ms) old new)
+EndsClaim now ms o m policies before after old new None = FindsNoneOn now ms o m policies before after old new
 EndsClaim now ms o m policies before after old new (Some claim) = CommitsOn (IsClaimOf now ms claim) (Call.Claim now ms) (claim_answer (Some claim)) now o m policies before after old new
 
 pub data IsStepRefusal (call : Call) (takes : List TranscriptStep → Type 0) (o : Options) (m : Meaning) (before after : Reach) (old new : PassModel) (e : QueueError) : Type 0 where
@@ -141,32 +162,39 @@ pub data IsStepRefusal (call : Call) (takes : List TranscriptStep → Type 0) (o
       StepsToCommit call (value_from (rules_of (settings_of o) m) (replay new.seen).commits u.txn.tx.begin) → IsStepRefusal call takes o m before after old new e
   at_begin : (error : SlateDBError) → e ≡ errors.Db error → IsUnbegun old new error → IsStepRefusal call takes o m before after old new e
 
--- own: the call's own refusals, by the steps that it took; takes: all its steps
-pub data IsRefusalOn (own : QueueError → Type 0) (takes : List TranscriptStep → Type 0) (o : Options) (policies : List Policy) (before after : Reach) (old new : PassModel) (e : QueueError) : Type 0 where
-  by_call : own e → IsRefusalOn own takes o policies before after old new e
-  at_begin : (error : SlateDBError) → e ≡ errors.Db error → IsUnbegun old new error → IsRefusalOn own takes o policies before after old new e
-  at_read : (error : SlateDBError) → e ≡ errors.Db error → (seen : List Event) → IsPrefix seen new.seen → IsReadErrorOn o policies before after seen error → IsRefusalOn own takes o policies before after old new e
-  at_commit : (error : SlateDBError) → e ≡ errors.Db error → IsUncommitted takes o old new error → IsRefusalOn own takes o policies before after old new e
-  by_fault : (error : SlateDBError) → e ≡ errors.Db error → IsFault before after error → IsRefusalOn own takes o policies before after old new e
+-- first: the call's own refusals before it begins; stops: those by the steps that it took; takes: all its steps
+pub data IsRefusalOn (call : Call) (first : QueueError → Type 0) (stops : QueueError → List TranscriptStep → Type 0) (takes : List TranscriptStep → Type 0) (o : Options) (m : Meaning) (policies : List Policy) (before after : Reach) (old new : PassModel) (e : QueueError) : Type 0 where
+  at_once : first e → new ≡ old → after ≡ before → IsRefusalOn call first stops takes o m policies before after old new e
+  by_steps : StopsOn call stops o m policies before after old new e → IsRefusalOn call first stops takes o m policies before after old new e
+  at_begin : (error : SlateDBError) → e ≡ errors.Db error → IsUnbegun old new error → IsRefusalOn call first stops takes o m policies before after old new e
+  at_read : (error : SlateDBError) → e ≡ errors.Db error → (seen : List Event) → IsPrefix seen new.seen → IsReadErrorOn o policies before after seen error → IsRefusalOn call first stops takes o m policies before after old new e
+  at_commit : (error : SlateDBError) → e ≡ errors.Db error → IsUncommitted takes o old new error → IsRefusalOn call first stops takes o m policies before after old new e
+  by_fault : (error : SlateDBError) → e ≡ errors.Db error → IsFault before after error → IsRefusalOn call first stops takes o m policies before after old new e
 
-pub record CallsOn {T : Type 0} (ends : T → Type 0) (call : Call) (own : QueueError → Type 0) (takes : List TranscriptStep → Type 0) (o : Options) (m : Meaning) (policies : List Policy) (before after : Reach) (old new : PassModel) (result : Result T QueueError) : Type 0 where
+pub record CallsOn {T : Type 0} (ends : T → Type 0) (call : Call) (first : QueueError → Type 0) (stops : QueueError → List TranscriptStep → Type 0) (takes : List TranscriptStep → Type 0) (o : Options) (m : Meaning) (policies : List Policy) (before after : Reach) (old new : PassModel) (result : Result T QueueError) : Type 0 where
   pub done : IfOk result ends
   pub refused : IfErr result (RefusesOn o old new)
   pub step : IsStoreTrue policies m new.seen before after → IfErr result (IsStepRefusal call takes o m before after old new)
-  pub cause : IfErr result (IsRefusalOn own takes o policies before after old new)
+  pub cause : IfErr result (IsRefusalOn call first stops takes o m policies before after old new)
   pub reads : OnlyReads before after
+
+abbrev pub IsTooLong : List ℕ → QueueError → Type 0
+IsTooLong payload e = (longest < length payload) × (e ≡ errors.PayloadTooLong (length payload))
+
+abbrev pub NoneFirst : QueueError → Type 0
+NoneFirst e = ⊥
 
 abbrev pub AddsOn : List ℕ → ℤ → Options → Meaning → List Policy → Reach → Reach → PassModel → PassModel → Result ℕ QueueError → Type 0
 AddsOn payload now o m policies before after old new result =
-    CallsOn (λ id. CommitsOn (IsAddOf payload id) (Call.Add payload) (Answer.Added id) now o m policies before after old new) (Call.Add payload) (AddRefuses payload) (λ ts. (id : ℕ) × Adds payload id ts)
+    CallsOn (λ id. CommitsOn (IsAddOf payload id) (Call.Add payload) (Answer.Added id) now o m policies before after old new) (Call.Add payload) (IsTooLong payload) AddStops (λ ts. (id : ℕ) × Adds payload id ts)
     o m policies before after old new result
 
 abbrev pub FinishesOn : ℕ → ℕ → ℤ → Options → Meaning → List Policy → Reach → Reach → PassModel → PassModel → Result (Unit {0}) QueueError → Type 0
 FinishesOn id lease now o m policies before after old new result =
-    CallsOn {T = Unit} (λ done. CommitsOn (IsFinishOf id lease) (Call.Finish id lease) Answer.Finished now o m policies before after old new) (Call.Finish id lease) (FinishRefuses id lease) (Finishes id lease)
+    CallsOn {T = Unit} (λ done. CommitsOn (IsFinishOf id lease) (Call.Finish id lease) Answer.Finished now o m policies before after old new) (Call.Finish id lease) NoneFirst (FinishStops id lease) (Finishes id lease)
     o m policies before after old new result
 
 abbrev pub ClaimsOn : ℤ → ℕ → Options → Meaning → List Policy → Reach → Reach → PassModel → PassModel → Result (Option Claim) QueueError → Type 0
 ClaimsOn now ms o m policies before after old new result =
-    CallsOn (EndsClaim now ms o m policies before after old new) (Call.Claim now ms) (ClaimRefuses now) (λ ts. (claim : Claim) × Claims now ms claim ts)
+    CallsOn (EndsClaim now ms o m policies before after old new) (Call.Claim now ms) NoneFirst (ClaimStops now) (λ ts. (claim : Claim) × Claims now ms claim ts)
     o m policies before after old new result

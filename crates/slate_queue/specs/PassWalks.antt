@@ -1,6 +1,6 @@
 -- A walk over the rows of the first scan of an attempt. before, after: what it reaches; t, u: the transaction before and after; x, y: the scan
 --     IsUnderWay o t x      the transaction has taken serializable steps, and the first was the opening of the scan
---     IsOpenTo o m t x before after os rows      by these objects, which answer each read from here on, the scan has these rows left
+--     IsOpenTo o m t x before after os rows      by these objects the scan has these rows left, and from here on they answer each read, or no section slips through
 --     WalksOn o m before after t u x us      the transaction took these steps, answered as a reader sees rows where the scan is
 --     WalkedOn o m before after t u x y us      so it did, and the scan goes on
 --     ScanFailsOn o m before after t u x us q      it took these steps, and then was refused so
@@ -26,6 +26,7 @@ use Rattle.slate_db.specs.Meaning.{Meaning}
 use Rattle.slate_db.specs.Scans.{IsScanOf, id_of, number_of, scan_of}
 use Rattle.slate_shared.specs.Passes.{Opened}
 use Rattle.slate_steps.specs.Attempts.{IsAttempt, IsReadErrorOn, IsReadingOn, IsScanSinceOn, IsVouchedThere}
+use Rattle.slate_steps.specs.Reads.{IsMetBy}
 use Rattle.slate_queue.specs.declared.claiming.FreeJob.{FreeJob}
 use Rattle.slate_queue.specs.declared.claiming.Step.{Step}
 use Rattle.slate_queue.specs.declared.claiming.Step.TheVariants as step
@@ -47,7 +48,7 @@ pub record IsUnderWay (o : Options) (t : Opened) (x : TxnIterator) : Type 0 wher
 
 pub record IsOpenTo (o : Options) (m : Meaning) (t : Opened) (x : TxnIterator) (before after : Reach) (os : Objects) (rows : List RowEntry) : Type 0 where
   pub meaning : before.meaning ≡ m
-  pub answers : AnswersFrom os before after
+  pub met : IsMetBy m os before after
   pub reading : IsReadingOn os o m t x rows
 
 pub record WalksOn (o : Options) (m : Meaning) (before after : Reach) (t u : Opened) (x : TxnIterator) (us : List TranscriptStep) : Type 0 where
@@ -66,7 +67,7 @@ pub record ScanFailsOn (o : Options) (m : Meaning) (before after : Reach) (t u :
   pub walks : WalksOn o m before after t u x us
   pub error : SlateDBError
   pub is : q ≡ errors.Db error
-  pub undamaged : (os : Objects) (rows : List RowEntry) → IsOpenTo o m t x before after os rows → IsFault before after error
+  pub undamaged : (os : Objects) (rows : List RowEntry) → IsOpenTo o m t x before after os rows → AnswersFrom os before after → IsFault before after error
   pub cause : (from : Reach) (policies : List Policy) → OnlyReads from before → IsScanSinceOn o from before t.seen x → IsReadErrorOn o policies from after t.seen error
   pub reads : OnlyReads before after
 

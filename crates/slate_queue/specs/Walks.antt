@@ -1,5 +1,5 @@
 -- A walk over the rows of the first scan of a transaction. before, after: what it reaches; d, e: the core before and after; x, y: the scan
---     Walks before d e x us      the transaction took these steps, answered as a reader sees rows where the scan is
+--     Walks before after d e x us      the transaction took these steps, answered as a reader sees rows where the scan is
 --     Walked before after d e x y us      so it did, and the scan goes on
 --     ScanFails before after d e x us q      it took these steps, and then was refused so
 --     IsFound now f      a row is the free job's
@@ -21,7 +21,7 @@ use Rattle.slate_txn.specs.declared.event.TranscriptStep.TheVariants as steps
 use Rattle.slate_db.specs.declared.scan.TxnIterator.{TxnIterator}
 use Rattle.slate_db.specs.Model.{CoreModel}
 use Rattle.slate_db.specs.Scans.{IsScanOf, id_of, number_of, scan_of}
-use Rattle.slate_steps.specs.Reads.{IsReadError, IsReading, IsScanSince}
+use Rattle.slate_steps.specs.Reads.{IsMetBy, IsReadError, IsReading, IsScanSince}
 use Rattle.slate_steps.specs.Steps.{IsWithin, Sees}
 use Rattle.slate_queue.specs.declared.claiming.FreeJob.{FreeJob}
 use Rattle.slate_queue.specs.declared.claiming.Step.{Step}
@@ -36,21 +36,21 @@ use Rattle.slate_queue.specs.CallSteps.{FindsNone, IsBadRow, nexts, own_steps, s
 use Rattle.slate_queue.specs.FirstFree.{IsFreeRow}
 use Rattle.slate_queue.specs.Standing.{longest_value}
 
-pub record Walks (before : Reach) (d e : CoreModel) (x : TxnIterator) (us : List TranscriptStep) : Type 0 where
+pub record Walks (before after : Reach) (d e : CoreModel) (x : TxnIterator) (us : List TranscriptStep) : Type 0 where
   pub within : (c : CoreModel) (level : IsolationLevel) (ts : List TranscriptStep) → IsWithin c (id_of x) level ts d → IsWithin c (id_of x) level (ts ++ us) e
-  pub sees : (c : CoreModel) (ts : List TranscriptStep) (os : Objects) (rows : List RowEntry) → before.objects ≡ Some os → IsReading os before.meaning c ts x rows →
+  pub sees : (c : CoreModel) (ts : List TranscriptStep) (os : Objects) (rows : List RowEntry) → IsMetBy before.meaning os before after → IsReading os before.meaning c ts x rows →
       Sees before.meaning c ts → Sees before.meaning c (ts ++ us)
 
 pub record Walked (before after : Reach) (d e : CoreModel) (x y : TxnIterator) (us : List TranscriptStep) : Type 0 where
-  pub walks : Walks before d e x us
-  pub reading : (c : CoreModel) (ts : List TranscriptStep) (os : Objects) (rows : List RowEntry) → before.objects ≡ Some os → IsReading os before.meaning c ts x rows →
+  pub walks : Walks before after d e x us
+  pub reading : (c : CoreModel) (ts : List TranscriptStep) (os : Objects) (rows : List RowEntry) → IsMetBy before.meaning os before after → IsReading os before.meaning c ts x rows →
       (left : List RowEntry) × IsReading os before.meaning c (ts ++ us) y left
   pub since : (c : CoreModel) (from : Reach) → IsScanSince from before c x → IsScanSince from after c y
   pub named : IsScanOf (id_of x) (number_of x) (scan_of x).order (scan_of x).range y
   pub reads : OnlyReads before after
 
 pub record ScanFails (before after : Reach) (d e : CoreModel) (x : TxnIterator) (us : List TranscriptStep) (q : QueueError) : Type 0 where
-  pub walks : Walks before d e x us
+  pub walks : Walks before after d e x us
   pub error : SlateDBError
   pub is : q ≡ errors.Db error
   pub undamaged : (c : CoreModel) (ts : List TranscriptStep) (os : Objects) (rows : List RowEntry) → before.objects ≡ Some os → IsReading os before.meaning c ts x rows → IsFault before after error
@@ -82,11 +82,11 @@ pub data StopsAt (before after : Reach) (d e : CoreModel) (x y : TxnIterator) (q
 -- ---- the whole walk
 
 abbrev pub WalksTo : ℤ → Reach → Reach → CoreModel → CoreModel → TxnIterator → Option FreeJob → Type 0
-WalksTo now before after d e x None = (passed : List KeyValue) × AllByRecursion (IsPassed now) passed × Walks before d e x (nexts passed ++ (steps.Next 0 None ∷ []))
-WalksTo now before after d e x (Some f) = (passed : List KeyValue) × AllByRecursion (IsPassed now) passed × IsFound now f × Walks before d e x (nexts (passed ++ (f.row ∷ [])))
+WalksTo now before after d e x None = (passed : List KeyValue) × AllByRecursion (IsPassed now) passed × Walks before after d e x (nexts passed ++ (steps.Next 0 None ∷ []))
+WalksTo now before after d e x (Some f) = (passed : List KeyValue) × AllByRecursion (IsPassed now) passed × IsFound now f × Walks before after d e x (nexts (passed ++ (f.row ∷ [])))
 
 pub data WalkStops (now : ℤ) (before after : Reach) (d e : CoreModel) (x : TxnIterator) (q : QueueError) : Type 0 where
-  bad : (passed : List KeyValue) (kv : KeyValue) → AllByRecursion (IsPassed now) passed → IsBadRow kv q → Walks before d e x (nexts (passed ++ (kv ∷ []))) → WalkStops now before after d e x q
+  bad : (passed : List KeyValue) (kv : KeyValue) → AllByRecursion (IsPassed now) passed → IsBadRow kv q → Walks before after d e x (nexts (passed ++ (kv ∷ []))) → WalkStops now before after d e x q
   fails : (kvs : List KeyValue) → ScanFails before after d e x (nexts kvs) q → WalkStops now before after d e x q
 
 abbrev pub MayFind : ℤ → Option FreeJob → List TranscriptStep → Type 0

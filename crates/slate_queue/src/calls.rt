@@ -37,7 +37,8 @@ pub fn add<S: Store, M: MergeOperator, T: BlockTransformer, X: PrefixExtractor>(
     requires plain { laws.now.segments ≡ None }
     ensures called { let reach = ⟦<EnvOf<S, M, T> as Outside>⟧.reach in
         let policies = map (λ p. meaning (p.vtable, p.value)) laws.now.policies.items in
-        CallsAs (λ id. Commits (IsAddOf payload.now id) now core.old core.new) Answer.Added (Call.Add payload.now) (AddRefuses payload.now)
+        CallsAs (λ id. Commits (IsAddOf payload.now id) now core.old core.new) Answer.Added (Call.Add payload.now)
+        (AddRefuses payload.now policies (reach env.old) (reach env.new) core.old core.new)
         policies (segments_by X.lengths laws.now.segments) (reach env.old) (reach env.new) core.old core.new result }
 {
     if payload.len() > LONGEST {
@@ -77,7 +78,8 @@ pub fn finish<S: Store, M: MergeOperator, T: BlockTransformer, X: PrefixExtracto
     requires plain { laws.now.segments ≡ None }
     ensures called { let reach = ⟦<EnvOf<S, M, T> as Outside>⟧.reach in
         let policies = map (λ p. meaning (p.vtable, p.value)) laws.now.policies.items in
-        CallsAs (λ done. Commits (IsFinishOf id lease) now core.old core.new) (λ done. Answer.Finished) (Call.Finish id lease) (FinishRefuses id lease)
+        CallsAs (λ done. Commits (IsFinishOf id lease) now core.old core.new) (λ done. Answer.Finished) (Call.Finish id lease)
+        (FinishRefuses id lease policies (reach env.old) (reach env.new) core.old core.new)
         policies (segments_by X.lengths laws.now.segments) (reach env.old) (reach env.new) core.old core.new result }
 {
     let txn = match begin(core, IsolationLevel::SerializableSnapshot) {
@@ -112,7 +114,8 @@ pub fn claim<S: Store, M: MergeOperator, T: BlockTransformer, X: PrefixExtractor
     requires plain { laws.now.segments ≡ None }
     ensures called { let reach = ⟦<EnvOf<S, M, T> as Outside>⟧.reach in
         let policies = map (λ p. meaning (p.vtable, p.value)) laws.now.policies.items in
-        CallsAs (ClaimEnds now ms core.old core.new) claim_answer (Call.Claim now ms) (ClaimRefuses now)
+        CallsAs (ClaimEnds now ms policies (reach env.old) (reach env.new) core.old core.new) claim_answer (Call.Claim now ms)
+        (ClaimRefuses now policies (reach env.old) (reach env.new) core.old core.new)
         policies (segments_by X.lengths laws.now.segments) (reach env.old) (reach env.new) core.old core.new result }
 {
     let id = match begin(core, IsolationLevel::SerializableSnapshot) {

@@ -1,18 +1,20 @@
 //! The queue's program.
-ghost use Rattle.std.specs.Prelude.{◌≡◌, ◌≢◌, ◌⊎◌, ◌≤◌, ◌∷◌, [], ℕ, List, Err, IfErr, IfOk, None, OnOk, Ok, Some, false, map, option_map, true};
+ghost use Rattle.std.specs.Prelude.{◌≡◌, ◌≢◌, ◌⊎◌, [], ℕ, List, Err, IfErr, IfOk, None, Ok, Some, map};
 ghost use Rattle.slate_types.specs.Config.{IsValid};
 ghost use Rattle.slate_types.specs.declared.error.SlateDBError.{SlateDBError};
 ghost use Rattle.slate_types.specs.Faults.{Rose};
 ghost use Rattle.slate_types.specs.Outside.{IsFault, Objects, OnlyReads};
 ghost use Rattle.slate_table.specs.Filtered.{AreLawful};
-ghost use Rattle.slate_store.specs.Lines.{script_limit};
-ghost use Rattle.slate_store.specs.Run.{HasTaken, IsRunCause, LineSays, Says, WritesLine, WroteAsSaid, said_by};
+ghost use Rattle.slate_store.specs.Reach.{reach_of};
+ghost use Rattle.slate_store.specs.Run.{HasTaken, IsRunCause, WroteAsSaid};
 ghost use Rattle.slate_db.specs.Meaning.{IsLawfulMeaning, segments_by};
 ghost use Rattle.slate_queue.specs.declared.error.QueueError.{QueueError};
 ghost use Rattle.slate_queue.specs.Runs.{AnswersBy, Ends, EndsBy, GoesOn, IsReply, IsRunAt};
 ghost use Rattle.slate_queue.specs.Feed.{feed_of};
 ghost use Rattle.slate_queue.specs.Words.{fed_pair};
 ghost use Rattle.slate_queue.specs.Script.{Reply, Run, begun, reply_line, says, stepped, takes};
+ghost use Rattle.slate_queue.specs.Onward.{RepliesTo, GoesBetween, EndsBetween, between_none, between_both, between_later, between_apart};
+ghost use Rattle.std.proofs.Common.{refl, ◌∙◌};
 
 use crate::calls::{add, claim, finish};
 use crate::entries::feed;
@@ -22,8 +24,12 @@ use crate::reply;
 use bytes::Bytes;
 use slate_db::engine::Core;
 use slate_db::laws::Laws;
-use slate_store::{Env, EnvOf, Lines, Sink, Source, Store, write_all};
-use slate_types::{BlockTransformer, MergeOperator, Outside, PrefixExtractor, SlateDBError};
+use slate_filter::FilterPolicy;
+use slate_store::run::{Program, run_lines};
+use slate_store::{Env, EnvOf, Sink, Source, Store};
+use slate_types::{
+    BlockTransformer, MergeOperator, Options, Outside, PrefixExtractor, SlateDBError,
+};
 use std::alloc::{AllocError, Global};
 
 /// Answers a line that means this.
@@ -197,7 +203,8 @@ fn refuse_by(alloc: Global, error: SlateDBError) -> Result<Vec<u8>, SlateDBError
     }
 }
 
-/// Answers the line with this number. `ScriptSyntax` comes exactly where it is neither silent nor one of the program's.
+/// The reply to the line with this number, and None for a silent line. `ScriptSyntax` comes exactly where it is neither silent nor
+/// one of the program's.
 fn answer_line<S: Store, M: MergeOperator, T: BlockTransformer, X: PrefixExtractor>(
     alloc: Global,
     core: &mut Core,
@@ -208,18 +215,9 @@ fn answer_line<S: Store, M: MergeOperator, T: BlockTransformer, X: PrefixExtract
 ) -> Result<Option<Vec<u8>>, SlateDBError>
     requires valid { IsValid laws.now.options }
     requires plain { laws.now.segments ≡ None }
-    ensures own { OnOk result (takes line.now ≡ true) }
-    ensures said { let reach = ⟦<EnvOf<S, M, T> as Outside>⟧.reach in
+    ensures { let reach = ⟦<EnvOf<S, M, T> as Outside>⟧.reach in
         let policies = map (λ p. meaning (p.vtable, p.value)) laws.now.policies.items in
-        let seg = segments_by X.lengths laws.now.segments in
-        (f : Says) → AnswersBy policies seg (reach env.old) core.old f →
-        IfOk result (λ o. LineSays f (AnswersBy policies seg (reach env.new) core.new) line.now (said_by (option_map (λ t. t.items) o))) }
-    ensures goes { let reach = ⟦<EnvOf<S, M, T> as Outside>⟧.reach in
-        let policies = map (λ p. meaning (p.vtable, p.value)) laws.now.policies.items in
-        GoesOn policies (segments_by X.lengths laws.now.segments) (reach env.old) (reach env.new) core.old core.new 1 }
-    ensures cause { let reach = ⟦<EnvOf<S, M, T> as Outside>⟧.reach in
-        let policies = map (λ p. meaning (p.vtable, p.value)) laws.now.policies.items in
-        IfErr result (λ e. ((e ≡ SlateDBError.ScriptSyntax number) × (takes line.now ≡ false)) ⊎ Ends policies (segments_by X.lengths laws.now.segments) (reach env.old) (reach env.new) core.old core.new e) }
+        RepliesTo policies (segments_by X.lengths laws.now.segments) line.now number (reach env.old) (reach env.new) core.old core.new result }
 {
     match read_line(alloc, line, number) {
         Ok(Some(meaning)) => match reply_to(alloc, core, meaning, env, laws) {
@@ -231,93 +229,106 @@ fn answer_line<S: Store, M: MergeOperator, T: BlockTransformer, X: PrefixExtract
     }
 }
 
-/// Answers the line with this number into the sink. At `WriteFault` a front of the reply was written, and not all of it, and at
-/// another error nothing.
-fn write_line<W: Sink, S: Store, M: MergeOperator, T: BlockTransformer, X: PrefixExtractor>(
-    alloc: Global,
-    sink: &mut W,
-    core: &mut Core,
-    line: &[u8],
-    number: u64,
-    env: &mut Env<'_, S, M, T>,
-    laws: &Laws<X>,
-) -> Result<(), SlateDBError>
-    requires valid { IsValid laws.now.options }
-    requires plain { laws.now.segments ≡ None }
-    ensures own { OnOk result (takes line.now ≡ true) }
-    ensures said { let reach = ⟦<EnvOf<S, M, T> as Outside>⟧.reach in
-        let policies = map (λ p. meaning (p.vtable, p.value)) laws.now.policies.items in
-        let seg = segments_by X.lengths laws.now.segments in
-        (f : Says) → AnswersBy policies seg (reach env.old) core.old f →
-        WritesLine f (AnswersBy policies seg (reach env.new) core.new) line.now (W.content sink.old) (W.content sink.new) result }
-    ensures unwritten { IfErr result (λ e. (e ≡ SlateDBError.WriteFault) ⊎ (W.content sink.new ≡ W.content sink.old)) }
-    ensures goes { let reach = ⟦<EnvOf<S, M, T> as Outside>⟧.reach in
-        let policies = map (λ p. meaning (p.vtable, p.value)) laws.now.policies.items in
-        GoesOn policies (segments_by X.lengths laws.now.segments) (reach env.old) (reach env.new) core.old core.new 1 }
-    ensures cause { let reach = ⟦<EnvOf<S, M, T> as Outside>⟧.reach in
-        let policies = map (λ p. meaning (p.vtable, p.value)) laws.now.policies.items in
-        IfErr result (λ e. ((e ≡ SlateDBError.WriteFault) × (takes line.now ≡ true) × Rose (W.faults sink.old) (W.faults sink.new)) ⊎ ((e ≡ SlateDBError.ScriptSyntax number) × (takes line.now ≡ false))
-        ⊎ Ends policies (segments_by X.lengths laws.now.segments) (reach env.old) (reach env.new) core.old core.new e) }
-    ensures still { (result ≡ Err SlateDBError.WriteFault) ⊎ (W.faults sink.new ≡ W.faults sink.old) }
-    ensures later { W.faults sink.old ≤ W.faults sink.new }
-{
-    match answer_line(alloc, core, line, number, env, laws) {
-        Ok(Some(text)) => write_all(sink, text.as_slice()),
-        Ok(None) => Ok(()),
-        Err(error) => Err(error),
-    }
+/// The program over a core. A struct that holds a `&mut Env` gives its last value back to no proof, so the environment is a parameter.
+/// No method of a trait may hand on an extractor, which is `Send`, so the reply is a closure of the run.
+#[derive(Drop)]
+struct Queue<'c, 'a, 'p, E, F> {
+    core: &'c mut Core,
+    env: &'a mut E,
+    policies: &'p Vec<Box<dyn FilterPolicy>>,
+    reply: F,
 }
 
-/// Answers each line of the source into the sink, and reads on to the end.
-fn write_lines<
+impl<
+    E: Outside + Drop,
+    F: Fn(&mut E, &mut Core, &[u8], u64) -> Result<Option<Vec<u8>>, SlateDBError> + Drop,
+> Program for Queue<'_, '_, '_, E, F> {
+    ghost takes = { λ p. takes };
+
+    ghost answers = { λ p f. AnswersBy (map (λ q. (FilterPolicy-box q).meaning q.value) p.policies.now.items) None (E.reach p.env.now) p.core.now f };
+
+    ghost ready = { λ p. ((e : _) (c : _) (l : _) (n : ℕ) → F.pre p.reply e c l n)
+        × ((e : _) (c : _) (l : _) (n : ℕ) (r : _) (f : _) (d : _) → F.post p.reply e c l n r f d →
+        RepliesTo (map (λ q. (FilterPolicy-box q).meaning q.value) p.policies.now.items) None l.now n (E.reach e.now) (E.reach f.now) c.now d.now r) };
+
+    ghost goes = { λ p q n. (q.env.ghost_name ≡ p.env.ghost_name)
+        × GoesBetween (λ x. map (λ r. (FilterPolicy-box r).meaning r.value) x.policies.now.items) (λ x. E.reach x.env.now) (λ x. x.core.now) p q n };
+
+    ghost refuses = { λ p q e. EndsBetween (λ x. map (λ r. (FilterPolicy-box r).meaning r.value) x.policies.now.items) (λ x. E.reach x.env.now) (λ x. x.core.now) p q e };
+
+    fn answer(
+        &mut self,
+        alloc: Global,
+        line: &[u8],
+        number: u64,
+    ) -> Result<Option<Vec<u8>>, SlateDBError> {
+        (self.reply)(self.env, self.core, line, number)
+    }
+
+    ghost ends = { λ p f h. h.2 [] };
+
+    ghost stays = { λ p. (refl, between_none _ _ _ p) };
+
+    ghost goes_on = { λ a b c n m p q. (q.0 ∙ p.0, between_both p.1 q.1) };
+
+    ghost later = { λ a b c n e p q. between_later p.1 q };
+
+    ghost apart = { λ a b e p. between_apart p };
+}
+
+/// Runs in an environment of whatever type.
+fn run_over<
     R: Source,
     W: Sink,
-    S: Store,
-    M: MergeOperator,
-    T: BlockTransformer,
-    X: PrefixExtractor,
+    E: Outside + Drop,
+    F: Fn(&mut E, &mut Core, &[u8], u64) -> Result<Option<Vec<u8>>, SlateDBError> + Drop,
 >(
     alloc: Global,
     source: &mut R,
     sink: &mut W,
-    core: &mut Core,
-    env: &mut Env<'_, S, M, T>,
-    laws: &Laws<X>,
+    env: &mut E,
+    options: &Options,
+    policies: &Vec<Box<dyn FilterPolicy>>,
+    reply: F,
 ) -> Result<(), SlateDBError>
-    requires valid { IsValid laws.now.options }
-    requires plain { laws.now.segments ≡ None }
-    ensures said { let reach = ⟦<EnvOf<S, M, T> as Outside>⟧.reach in
-        let policies = map (λ p. meaning (p.vtable, p.value)) laws.now.policies.items in
-        let seg = segments_by X.lengths laws.now.segments in
-        (script before : List ℕ) (f : Says) → R.left source.old ≡ Some script → W.content sink.old ≡ Some before → AnswersBy policies seg (reach env.old) core.old f →
-        WroteAsSaid takes f script (R.left source.new) before (W.content sink.new) result }
+    requires valid { IsValid options.now }
+    requires callable { (e : _) (c : _) (l : _) (n : ℕ) → F.pre reply e c l n }
+    requires replies { let ps = map (λ p. meaning p) policies.now.items in
+        (e : _) (c : _) (l : _) (n : ℕ) (r : _) (f : _) (d : _) → F.post reply e c l n r f d →
+        RepliesTo ps None l.now n (E.reach e.now) (E.reach f.now) c.now d.now r }
+    ensures said { let ps = map (λ p. meaning p) policies.now.items in
+        (script before : List ℕ) (os : Objects) → R.left source.old ≡ Some script → W.content sink.old ≡ Some before →
+        AreLawful ps → IsLawfulMeaning (E.reach env.old).meaning → (E.reach env.old).objects ≡ Some os →
+        WroteAsSaid takes (says (begun options.now.start_seq)) script (R.left source.new) before (W.content sink.new) result }
     ensures read { (script : List ℕ) → R.left source.old ≡ Some script → HasTaken takes script (R.left source.new) result }
-    ensures goes { let reach = ⟦<EnvOf<S, M, T> as Outside>⟧.reach in
-        let policies = map (λ p. meaning (p.vtable, p.value)) laws.now.policies.items in
-        (n : ℕ) × (n ≤ script_limit) × GoesOn policies (segments_by X.lengths laws.now.segments) (reach env.old) (reach env.new) core.old core.new n }
-    ensures cause { let reach = ⟦<EnvOf<S, M, T> as Outside>⟧.reach in
-        let policies = map (λ p. meaning (p.vtable, p.value)) laws.now.policies.items in
-        IfErr result (IsRunCause (Rose (R.faults source.old) (R.faults source.new)) (Rose (W.faults sink.old) (W.faults sink.new))
-        (Ends policies (segments_by X.lengths laws.now.segments) (reach env.old) (reach env.new) core.old core.new)) }
+    ensures cause { let ps = map (λ p. meaning p) policies.now.items in
+        IfErr result (IsRunCause (Rose (R.faults source.old) (R.faults source.new)) (Rose (W.faults sink.old) (W.faults sink.new)) (EndsBy ps (E.reach env.old) (E.reach env.new))) }
+    ensures undamaged { let ps = map (λ p. meaning p) policies.now.items in
+        (os : Objects) → AreLawful ps → IsLawfulMeaning (E.reach env.old).meaning → (E.reach env.old).objects ≡ Some os →
+        IfErr result (IsRunCause (Rose (R.faults source.old) (R.faults source.new)) (Rose (W.faults sink.old) (W.faults sink.new)) (IsFault (E.reach env.old) (E.reach env.new))) }
     ensures source_still { (result ≡ Err SlateDBError.ReadFault) ⊎ (R.faults source.new ≡ R.faults source.old) }
     ensures sink_still { (result ≡ Err SlateDBError.WriteFault) ⊎ (W.faults sink.new ≡ W.faults sink.old) }
+    ensures outside { OnlyReads (E.reach env.old) (E.reach env.new) }
 {
-    let mut lines = Lines::new(alloc);
-    let mut number = 0;
-    loop {
-        let line = match lines.next(source) {
-            Ok(Some(line)) => line,
-            Ok(None) => break,
-            Err(error) => return Err(error),
-        };
-        number += 1;
-        match write_line(alloc, sink, core, line.as_slice(), number, env, laws) {
-            Ok(()) => {}
-            Err(error) => return Err(error),
-        }
-    }
-    Ok(())
+    let mut core = Core::new(alloc, options);
+    let mut queue = Queue {
+        core: &mut core,
+        env,
+        policies,
+        reply,
+    };
+    let ran = run_lines(alloc, source, sink, &mut queue);
+    let Queue { env, reply, .. } = queue;
+    give_back(env);
+    drop(reply);
+    core.close();
+    ran
 }
+
+/// Does nothing. By this use a proof knows what the environment ends as that a program was lent.
+fn give_back<E>(env: &mut E)
+    ensures { env.new ≡ env.old }
+{}
 
 /// Answers each line of the source into the sink, over an empty queue, and reads on to the end. Jobs are added with `add`, claimed with
 /// `claim` and finished with `finish`; `feed` shows the commits so far. Nothing is ever flushed.
@@ -359,8 +370,20 @@ pub fn run_queue<
     ensures sink_still { (result ≡ Err SlateDBError.WriteFault) ⊎ (W.faults sink.new ≡ W.faults sink.old) }
     ensures outside { let reach = ⟦<EnvOf<S, M, T> as Outside>⟧.reach in OnlyReads (reach env.old) (reach env.new) }
 {
-    let mut core = Core::new(alloc, &laws.options);
-    let ran = write_lines(alloc, source, sink, &mut core, env, laws);
-    core.close();
-    ran
+    run_over(
+        alloc,
+        source,
+        sink,
+        env,
+        &laws.options,
+        &laws.policies,
+        |env: &mut Env<'_, S, M, T>, core: &mut Core, line: &[u8], number: u64| -> Result<
+            Option<Vec<u8>>,
+            SlateDBError,
+        >
+            requires { IsValid laws.now.options × (laws.now.segments ≡ None) }
+            ensures { let policies = map (λ p. meaning (p.vtable, p.value)) laws.entry.now.policies.items in
+                RepliesTo policies None line.now number (reach_of S.Store M.MergeOperator T.BlockTransformer env.old) (reach_of S.Store M.MergeOperator T.BlockTransformer env.new) core.old core.new result }
+        { answer_line(alloc, core, line, number, env, laws) },
+    )
 }

@@ -15,7 +15,7 @@ use Rattle.slate_types.specs.declared.types.KeyValue.{KeyValue}
 use Rattle.slate_types.specs.declared.types.RowEntry.{RowEntry}
 use Rattle.slate_types.specs.Outside.{IsCounted, IsFault, Objects, OnlyReads, Reach}
 use Rattle.slate_types.specs.Refusing.{NoMore}
-use Rattle.slate_types.specs.World.{Made, Sees, World}
+use Rattle.slate_types.specs.World.{Checks, Made, Sees, Slips, World}
 use Rattle.slate_filter.specs.Policy.{Policy}
 use Rattle.slate_mem.specs.Batch.{batch_keys, kept_ops}
 use Rattle.slate_mem.specs.declared.WriteOp.{WriteOp}
@@ -31,24 +31,26 @@ use Rattle.slate_txn.specs.Alone.{IsVouched, Left, first_left, own_of, scans_lef
 use Rattle.slate_txn.specs.Conflict.{conflict, tracked_writes}
 use Rattle.slate_txn.specs.HandedOver.{IsConflict}
 use Rattle.slate_txn.specs.Replay.{IsLegal, replay}
-use Rattle.slate_txn.specs.Settings.{settings_of}
-use Rattle.slate_txn.specs.State.{Tx, begun, last_of}
+use Rattle.slate_txn.specs.Reads.{rows_seen}
+use Rattle.slate_txn.specs.Settings.{Settings, settings_of}
+use Rattle.slate_txn.specs.State.{Commit, Tx, begun, last_of}
 use Rattle.slate_txn.specs.Step.{with_op}
 use Rattle.slate_txn.proofs.ScanLaws.{next_alone, next_moves, scan_alone}
 use Rattle.slate_db.specs.declared.scan.TxnIterator.{TxnIterator}
 use Rattle.slate_db.specs.Answered.{AnswersFrom}
 use Rattle.slate_db.specs.BatchTests.{IsTestRefusal}
+use Rattle.slate_db.specs.Checked.{ChecksFrom, SlipsFrom}
 use Rattle.slate_db.specs.Committed.{IsFull, IsNextOf}
 use Rattle.slate_db.specs.KeyShares.{IsKeyRead, IsOwnAnswer, IsShown}
 use Rattle.slate_db.specs.Log.{LIMIT}
 use Rattle.slate_db.specs.Meaning.{Meaning, rules_of}
 use Rattle.slate_db.specs.Model.{CoreModel}
-use Rattle.slate_db.specs.RangeShares.{IsOpened}
+use Rattle.slate_db.specs.RangeShares.{IsOpened, LeavesSeen}
 use Rattle.slate_db.specs.Readable.{decides_own, keeps_merge}
 use Rattle.slate_db.specs.Scans.{IsScanOf, IsWorldOf, Leaves, LeavesIn, ScanRefuses, number_of, scan_of}
 use Rattle.slate_db.specs.Segmented.{recorded_by}
 use Rattle.slate_db.specs.Shown.{Asking}
-use Rattle.slate_db.proofs.ScanWorlds.{sees_world, world_holds}
+use Rattle.slate_db.proofs.ScanWorlds.{sees_world, slips_of_world, world_holds}
 use Rattle.slate_db.proofs.UnderKeys.{plain_keeps}
 use Rattle.slate_shared.specs.Ended.{HasEnded}
 use Rattle.slate_shared.specs.KeyReads.{IsCoreOf, IsGet, got}
@@ -56,13 +58,13 @@ use Rattle.slate_shared.specs.LockedModel.{IsFull as IsNoPlace}
 use Rattle.slate_shared.specs.Passes.{Opened, PassModel}
 use Rattle.slate_shared.specs.Scans.{IsLeftOf, IsScanOpened, noted_next, noted_scan, rows_in, rows_of_range}
 use Rattle.slate_shared.proofs.Lists.{prefix_more, prefix_self, prefix_trans}
-use Rattle.slate_steps.specs.Attempts.{HasCommittedBehind, HasEndedBehind, IsAttempt, IsReadCore, IsReadErrorOn, IsReadingOn, IsRefusedBehind, IsScanSinceOn, IsStoreTrue, IsUnbegun, IsVouchedThere, SeesMore, SeesOnly}
-use Rattle.slate_steps.specs.Reads.{IsReadError, IsScanSince, of_get}
+use Rattle.slate_steps.specs.Attempts.{HasCommittedBehind, HasEndedBehind, IsAttempt, IsReadCore, IsReadErrorOn, IsReadingOn, IsRefusedBehind, IsScanSinceOn, IsStoreChecked, IsStoreTrue, IsUnbegun, IsVouchedThere, SeesMore, SeesOnly}
+use Rattle.slate_steps.specs.Reads.{IsMetBy, IsReadError, IsScanSince, IsUnslipped, of_get}
 use Rattle.slate_steps.specs.Steps.{IsNext}
 use Rattle.slate_steps.proofs.Attempts.{attempt_alone, attempt_alone_before, attempt_left, attempt_noted, attempt_own_more, attempt_plain, attempt_stays, vouched_begun, vouched_on, vouched_own}
 use Rattle.slate_steps.proofs.Ending.{all_tracked}
 use Rattle.slate_steps.proofs.Reading.{if_err_map, if_ok_map, next_error, on_ok_map, scan_error, since_next}
-use Rattle.slate_steps.proofs.StoreTruth.{store_answered}
+use Rattle.slate_steps.proofs.StoreTruth.{readable_core, store_answered, true_of}
 
 read_core : (o : Options) (m n : Meaning) (t : Opened) (seen : List Event) (c : CoreModel) → m ≡ n → holds_merge t.tx.ops ≡ false → IsCoreOf o m t seen c → IsReadCore o n seen c
 read_core o m n t seen c meant plain core = record { reader = t; plain = plain; core = subst (λ (x : Meaning). IsCoreOf o x t seen c) meant core }
@@ -95,6 +97,31 @@ module _ (o : Options) (m : Meaning) (policies : List Policy) (query : FilterQue
       vouched_by from level ts (ts ++ (steps.Get k a ∷ [])) h (attempt_noted o from level ts old new (steps.Get k a) refl g.noted g.seen h) g.seen
       (g.vouched (store_answered policies m new.seen old.tx.ops before after (attempt_plain o from level ts old h) s)) v
   get_vouched_there (Err e) g from level ts h s v = vouched_on o m old new (ap (λ (x : Opened). x.tx) g.unnoted) g.seen v
+
+  pub get_checked : before.meaning ≡ m → (r : Result (Option KeyValue) SlateDBError) → Got r → (from : List Event) (level : IsolationLevel) (ts : List TranscriptStep) → IsAttempt o from level ts old →
+      IsStoreChecked policies m new.seen before after → IsVouchedThere o m old → OnOk r (IsVouchedThere o m new)
+  get_checked same (Err e) g from level ts h s v = tt
+  get_checked same (Ok a) g from level ts h s v = by s.met
+    where
+      by_answers : AnswersFrom s.os before after → IsVouchedThere o m new
+      by_answers answers = get_vouched_there (Ok a) g from level ts h (true_of policies m new.seen before after s answers) v
+
+      read : (◌≡◌ {A = Result (Option KeyValue) SlateDBError} (Ok a) (Err OutOfMemory) × (after ≡ before)) ⊎ ((c : CoreModel) × IsCoreOf o m old new.seen c × IsKeyRead (record { policies = policies; query = query }) before after c k old.tx IsShown (Ok a)) →
+          ChecksFrom s.os before after
+      read (inl nothing) = cc nothing.0
+      read (inr (c, core, r)) = r.read.checked s.os (readable_core o m policies old new.seen before after same c core (attempt_plain o from level ts old h) s)
+
+      checks : (d : Bool) → decides_own k old.tx.ops ≡ d → ChecksFrom s.os before after
+      checks true some = λ known began. inl (inr (record { known = known; more = []; began = began; ended = (g.decided some).1.quiet.adds known began; each = tt }))
+      checks false none = read (g.read none)
+
+      by : IsMetBy m s.os before after → IsVouchedThere o m new
+      by (inl answers) = by_answers answers
+      by (inr u) = on (checks (decides_own k old.tx.ops) refl u.known u.tells)
+        where
+          on : AnswersFrom s.os before after ⊎ SlipsFrom before.meaning.encode s.os before.acts after.acts → IsVouchedThere o m new
+          on (inl answers) = by_answers answers
+          on (inr slips) = absurd (u.none (subst (λ (x : Meaning). SlipsFrom x.encode s.os before.acts after.acts) same slips))
 
   pub get_undamaged : (r : Result (Option KeyValue) SlateDBError) → Got r → (from : List Event) (level : IsolationLevel) (ts : List TranscriptStep) → IsAttempt o from level ts old →
       IsStoreTrue policies m new.seen before after → IfErr r (IsFault before after)
@@ -139,18 +166,48 @@ module _ (o : Options) (m : Meaning) (policies : List Policy) (query : Option Fi
   }
   scan_vouched_there (Err e) h v = vouched_on o m old new (ap (λ (x : Opened). x.tx) h.unnoted) h.seen v
 
+  scan_left_on : (it : TxnIterator) → Opens (Ok it) → (from : List Event) (level : IsolationLevel) (ts : List TranscriptStep) → IsAttempt o from level ts old → (es : List Event) → IsPrefix new.seen es → IsLegal o.start_seq es →
+      IsLeftOf o m (record new { seen = es }) it (rows_of_range o m new.seen old.tx order range)
+  scan_left_on it h from level ts a es known legal =
+      ap (λ (ls : List Left). slice_get ls (number_of it))
+      (attempt_left o from level (ts ++ (steps.Scan order range ∷ [])) new (attempt_noted o from level ts old new (steps.Scan order range) refl h.noted h.seen a) new.seen es (prefix_self new.seen) known legal
+      (rules_of (settings_of o) m) new.tx.transcript)
+      ∙ h.left
+
   pub scan_reading_on : (r : Result TxnIterator SlateDBError) → Opens r → (from : List Event) (level : IsolationLevel) (ts : List TranscriptStep) → IsAttempt o from level ts old → (s : IsStoreTrue policies m new.seen before after) →
       IfOk r (λ it. IsReadingOn s.os o m new it (rows_of_range o m new.seen old.tx order range))
   unfolding store_answered
   scan_reading_on (Ok it) h from level ts a s = record {
-    left = λ es known legal.
-        ap (λ (ls : List Left). slice_get ls (number_of it))
-        (attempt_left o from level (ts ++ (steps.Scan order range ∷ [])) new (attempt_noted o from level ts old new (steps.Scan order range) refl h.noted h.seen a) new.seen es (prefix_self new.seen) known legal
-        (rules_of (settings_of o) m) new.tx.transcript)
-        ∙ h.left;
+    left = λ es known legal. scan_left_on it h from level ts a es known legal;
     leaves = h.leaves (store_answered policies m new.seen old.tx.ops before after (attempt_plain o from level ts old a) s);
   }
   scan_reading_on (Err e) h from level ts a s = tt
+
+  pub scan_checked : before.meaning ≡ m → (r : Result TxnIterator SlateDBError) → Opens r → (from : List Event) (level : IsolationLevel) (ts : List TranscriptStep) → IsAttempt o from level ts old →
+      (s : IsStoreChecked policies m new.seen before after) → IfOk r (λ it. IsReadingOn s.os o m new it (rows_of_range o m new.seen old.tx order range))
+  scan_checked same (Err e) h from level ts a s = tt
+  scan_checked same (Ok it) h from level ts a s = by s.met
+    where
+      pick : (c : CoreModel) → IsCoreOf o m old new.seen c → LeavesSeen s.os before.meaning c old.tx.begin old.tx.ops range order (scan_of it) → LeavesIn s.os m it (rows_of_range o m new.seen old.tx order range)
+      pick c core left =
+          let commits : c.state.commits ≡ (replay new.seen).commits = sym core.replays.commits ∙ ap (λ (es : List Event). (replay es).commits) core.events in
+          subst (λ (y : Meaning × (Settings × List Commit)). (w : World) × IsWorldOf s.os y.0 w × Leaves (scan_of it) w (rows_seen (rules_of y.1.0 y.0) y.1.1 old.tx.begin old.tx.ops order range))
+          (λ i. (same i, (core.settings i, commits i))) left
+
+      leaves : IsUnslipped m s.os before after → (◌≡◌ {A = Result TxnIterator SlateDBError} (Ok it) (Err OutOfMemory) × quiet) ⊎
+          ((c : CoreModel) × IsCoreOf o m old new.seen c × (◌≡◌ {A = Result TxnIterator SlateDBError} (Ok it) (Err OutOfMemory) ⊎ IsOpened policies query before after c old.tx.begin old.tx.ops range order (rows_in (Ok it)))) →
+          LeavesIn s.os m it (rows_of_range o m new.seen old.tx order range)
+      leaves u (inl nothing) = cc nothing.0
+      leaves u (inr (c, core, inl is)) = cc is
+      leaves u (inr (c, core, inr is)) = on (is.checked core.above_floor s.os (readable_core o m policies old new.seen before after same c core (attempt_plain o from level ts old a) s) u.known u.tells)
+        where
+          on : LeavesSeen s.os before.meaning c old.tx.begin old.tx.ops range order (scan_of it) ⊎ SlipsFrom before.meaning.encode s.os before.acts after.acts → LeavesIn s.os m it (rows_of_range o m new.seen old.tx order range)
+          on (inl left) = pick c core left
+          on (inr slips) = absurd (u.none (subst (λ (x : Meaning). SlipsFrom x.encode s.os before.acts after.acts) same slips))
+
+      by : IsMetBy m s.os before after → IsReadingOn s.os o m new it (rows_of_range o m new.seen old.tx order range)
+      by (inl answers) = scan_reading_on (Ok it) h from level ts a (true_of policies m new.seen before after s answers)
+      by (inr u) = record { left = λ es known legal. scan_left_on it h from level ts a es known legal; leaves = leaves u h.opened }
 
   pub scan_undamaged : (r : Result TxnIterator SlateDBError) → Opens r → (from : List Event) (level : IsolationLevel) (ts : List TranscriptStep) → IsAttempt o from level ts old →
       IsStoreTrue policies m new.seen before after → IfErr r (IsFault before after)
@@ -191,19 +248,19 @@ module _ (o : Options) (m : Meaning) (t u : Opened) (x y : TxnIterator) (before 
       attempt_noted o from level ts t u (steps.Next (number_of x) a) refl (noted ∙ (λ i. record t { seen = (sym noted i).seen; tx = noted_next (number_of x) a t.tx }))
       (subst (λ (es : List Event). IsPrefix t.seen es) (sym (ap (λ (v : Opened). v.seen) noted)) (prefix_self t.seen)) h
 
-  pub next_reading_on : (r : Result (Option KeyValue) SlateDBError) → IfOk r (λ a. u ≡ record t { tx = noted_next (number_of x) a t.tx }) → IsScanOf x.id (number_of x) (scan_of x).order (scan_of x).range y →
+  next_reading_by : (r : Result (Option KeyValue) SlateDBError) → IfOk r (λ a. u ≡ record t { tx = noted_next (number_of x) a t.tx }) → IsScanOf x.id (number_of x) (scan_of x).order (scan_of x).range y →
       ((w : World) (left : List RowEntry) → Leaves (scan_of x) w left → Sees w before after → IfOk r (λ a. (a ≡ first_left left) × Leaves (scan_of y) w (drop 1 left))) →
-      (os : Objects) (rows : List RowEntry) → before.meaning ≡ m → AnswersFrom os before after → IsReadingOn os o m t x rows →
+      (os : Objects) (rows : List RowEntry) → ((w : World) → IsWorldOf os m w → Leaves (scan_of x) w rows → Sees w before after) → IsReadingOn os o m t x rows →
       IfOk r (λ a. (a ≡ first_left rows) × IsReadingOn os o m u y (drop 1 rows) × (IsVouchedThere o m t → IsVouchedThere o m u))
-  next_reading_on (Err e) noted names answers os rows meant answered h = tt
-  next_reading_on (Ok a) noted names answers os rows meant answered h = by h.leaves
+  next_reading_by (Err e) noted names answers os rows met h = tt
+  next_reading_by (Ok a) noted names answers os rows met h = by h.leaves
     where
       from : (es : List Event) → IsPrefix u.seen es → IsPrefix t.seen es
       from es known = subst (λ (fs : List Event). IsPrefix fs es) (ap (λ (v : Opened). v.seen) noted) known
 
       by : LeavesIn os m x rows → (a ≡ first_left rows) × IsReadingOn os o m u y (drop 1 rows) × (IsVouchedThere o m t → IsVouchedThere o m u)
       by (w, is, leaves) =
-          let q = answers w rows leaves (sees_world os w before after (is.meaning ∙ sym meant) (world_holds os m w is) answered) in (
+          let q = answers w rows leaves (met w is leaves) in (
             q.0,
             record {
               left = λ es known legal.
@@ -218,6 +275,28 @@ module _ (o : Options) (m : Meaning) (t u : Opened) (x y : TxnIterator) (before 
                   (next_alone (rules_of (settings_of o) m) (replay es).commits t.tx.begin t.tx.transcript (number_of x) a ((scan_of x).order, rows) (h.left es (from es known) legal) q.0 (v.by_each es (from es known) legal));
             },
           )
+
+  pub next_reading_on : (r : Result (Option KeyValue) SlateDBError) → IfOk r (λ a. u ≡ record t { tx = noted_next (number_of x) a t.tx }) → IsScanOf x.id (number_of x) (scan_of x).order (scan_of x).range y →
+      ((w : World) (left : List RowEntry) → Leaves (scan_of x) w left → Sees w before after → IfOk r (λ a. (a ≡ first_left left) × Leaves (scan_of y) w (drop 1 left))) →
+      (os : Objects) (rows : List RowEntry) → before.meaning ≡ m → AnswersFrom os before after → IsReadingOn os o m t x rows →
+      IfOk r (λ a. (a ≡ first_left rows) × IsReadingOn os o m u y (drop 1 rows) × (IsVouchedThere o m t → IsVouchedThere o m u))
+  next_reading_on r noted names answers os rows meant answered h = next_reading_by r noted names answers os rows (λ w is leaves. sees_world os w before after (is.meaning ∙ sym meant) (world_holds os m w is) answered) h
+
+  pub next_checked_on : (r : Result (Option KeyValue) SlateDBError) → IfOk r (λ a. u ≡ record t { tx = noted_next (number_of x) a t.tx }) → IsScanOf x.id (number_of x) (scan_of x).order (scan_of x).range y →
+      ((w : World) (left : List RowEntry) → Leaves (scan_of x) w left → Sees w before after → IfOk r (λ a. (a ≡ first_left left) × Leaves (scan_of y) w (drop 1 left))) →
+      ((w : World) (left : List RowEntry) → Leaves (scan_of x) w left → OnOk r (Checks w before after)) →
+      OnOk r (Made before after (λ reads. NoMore (ScanRefuses (scan_of x) before.meaning) reads (ScanRefuses (scan_of y) before.meaning))) →
+      (os : Objects) (rows : List RowEntry) → before.meaning ≡ m → IsUnslipped m os before after → IsReadingOn os o m t x rows →
+      IfOk r (λ a. (a ≡ first_left rows) × IsReadingOn os o m u y (drop 1 rows) × (IsVouchedThere o m t → IsVouchedThere o m u))
+  next_checked_on (Err e) noted names answers checks made os rows meant unslipped h = tt
+  next_checked_on (Ok a) noted names answers checks made os rows meant unslipped h = next_reading_by (Ok a) noted names answers os rows met h
+    where
+      met : (w : World) → IsWorldOf os m w → Leaves (scan_of x) w rows → Sees w before after
+      met w is leaves = by (checks w rows leaves unslipped.known unslipped.tells (is.meaning ∙ sym meant))
+        where
+          by : Sees w before after ⊎ Slips w before after → Sees w before after
+          by (inl sees) = sees
+          by (inr slips) = absurd (unslipped.none (slips_of_world os m w before after made.0 is made.1 slips))
 
   pub next_undamaged_on : (r : Result (Option KeyValue) SlateDBError) → ((w : World) (left : List RowEntry) → Leaves (scan_of x) w left → Sees w before after → IfErr r (IsFault before after)) →
       (os : Objects) (rows : List RowEntry) → before.meaning ≡ m → AnswersFrom os before after → IsReadingOn os o m t x rows → IfErr r (IsFault before after)

@@ -11,7 +11,7 @@ use Rattle.slate_types.specs.declared.types.RowEntry.{RowEntry}
 use Rattle.slate_types.specs.Keys.{is_refused, prefix_end, prefix_range, prefix_start, prefix_subrange}
 use Rattle.slate_types.specs.Outside.{Act, IsFault, Meaning, Objects, OnlyReads, Reach}
 use Rattle.slate_types.specs.Refusing.{NoMore}
-use Rattle.slate_types.specs.World.{Kept, Made, Sees, World}
+use Rattle.slate_types.specs.World.{Checks, IsCall, Kept, Made, Sees, Slips, World}
 use Rattle.slate_types.proofs.Calls.{call_both}
 use Rattle.slate_types.proofs.KeyLaws.{whole_subrange}
 use Rattle.slate_types.proofs.Reaching.{fault_earlier}
@@ -27,16 +27,19 @@ use Rattle.slate_txn.specs.State.{Tx}
 use Rattle.slate_txn.specs.Step.{Reader, is_scan, reader, reader_or_snapshot, tx_reader}
 use Rattle.slate_txn.proofs.ScanLaws.{next_alone, next_moves, opened_left}
 use Rattle.slate_db.specs.declared.scan.TxnIterator.{TxnIterator}
+use Rattle.slate_db.specs.Answered.{AnswersFrom}
+use Rattle.slate_db.specs.Checked.{ChecksFrom, OrSlips, SlipsFrom}
 use Rattle.slate_db.specs.Meaning.{rules_of}
 use Rattle.slate_db.specs.Model.{CoreModel}
-use Rattle.slate_db.specs.Readable.{IsAnswered}
+use Rattle.slate_db.specs.Readable.{IsAnswered, IsReadable}
 use Rattle.slate_db.specs.Readable as gets
 use Rattle.slate_db.specs.Scans.{IsOpeningError, IsRefusedByScan, IsScanError, IsScanOf, IsWorldOf, Leaves, LeavesIn, ScanRefuses, number_of, scan_of}
 use Rattle.slate_db.specs.Settled.{IsSettled, IsSettledIn}
 use Rattle.slate_db.specs.Shown.{Asking}
 use Rattle.slate_db.specs.Vouched.{IsVouchedFor}
-use Rattle.slate_db.proofs.Settled.{settled_answered, settled_readable}
-use Rattle.slate_steps.specs.Reads.{IsReadError, IsReading, IsScanSince, of_get, of_scan}
+use Rattle.slate_db.proofs.ScanWorlds.{sees_world, slips_of_world, world_holds}
+use Rattle.slate_db.proofs.Settled.{settled_answered, settled_readable, true_answered}
+use Rattle.slate_steps.specs.Reads.{IsChecked, IsMetBy, IsReadError, IsReading, IsScanSince, of_get, of_scan}
 use Rattle.slate_steps.specs.Steps as steps_of
 use Rattle.slate_steps.specs.Steps.{IsWithin, newest, taking}
 use Rattle.slate_steps.proofs.Settling.{within_settled}
@@ -76,6 +79,29 @@ pub get_sees : (r : Result (Option KeyValue) SlateDBError) (policies : List Poli
 get_sees r policies g before after c d e id k level ts within vouched h settled sees =
     if_ok_map r _ _ (λ a w. vouched_sees c e id level (ts ++ (steps.Get k a ∷ [])) w before.meaning
     (vouched (answered_within policies g before after c d id level ts h settled) id (sees_vouched c d id level ts h before.meaning sees))) within
+
+-- what answered the reads of a call, where they are checked
+answers_of : (os : Objects) (before after : Reach) → IsMetBy before.meaning os before after → ChecksFrom os before after → AnswersFrom os before after
+answers_of os before after (inl answers) checks = answers
+answers_of os before after (inr unslipped) checks = by (checks unslipped.known unslipped.tells)
+  where
+    by : AnswersFrom os before after ⊎ SlipsFrom before.meaning.encode os before.acts after.acts → AnswersFrom os before after
+    by (inl answers) = answers
+    by (inr slips) = absurd (unslipped.none slips)
+
+settled_there : (policies : List Policy) (g : Segments) (before after : Reach) (c d : CoreModel) (id : List ℕ) (level : IsolationLevel) (ts : List TranscriptStep) → IsWithin c id level ts d →
+    (s : IsChecked policies g before after c) → IsSettled policies before.meaning g (Some s.os) d
+settled_there policies g before after c d id level ts h s = within_settled policies before.meaning g (Some s.os) c d id level ts h s.settled
+
+pub get_checked : (r : Result (Option KeyValue) SlateDBError) (policies : List Policy) (g : Segments) (before after : Reach) (c d e : CoreModel) (id k : List ℕ) (level : IsolationLevel) (ts : List TranscriptStep) →
+    IfOk r (λ a. IsWithin c id level (ts ++ (steps.Get k a ∷ [])) e) → (IsAnswered policies before after d → (other : List ℕ) → IsVouchedFor before.meaning d other → IsVouchedFor before.meaning e other) →
+    ((os : Objects) → IsReadable policies before.meaning os d → OnOk r (ChecksFrom os before after)) →
+    IsWithin c id level ts d → IsChecked policies g before after c → steps_of.Sees before.meaning c ts → IfOk r (λ a. steps_of.Sees before.meaning c (ts ++ (steps.Get k a ∷ [])))
+get_checked (Err x) policies g before after c d e id k level ts within vouched checks h s sees = tt
+get_checked (Ok a) policies g before after c d e id k level ts within vouched checks h s sees =
+    let settled : IsSettled policies before.meaning g (Some s.os) d = settled_there policies g before after c d id level ts h s in
+    let answers : AnswersFrom s.os before after = answers_of s.os before after s.met (checks s.os (settled_readable policies before.meaning s.os d settled)) in
+    vouched_sees c e id level (ts ++ (steps.Get k a ∷ [])) within before.meaning (vouched (true_answered policies before after s.os d settled answers) id (sees_vouched c d id level ts h before.meaning sees))
 
 pub get_error : {A : Type 0} (r : Result A SlateDBError) (policies : List Policy) (query : FilterQuery) (before after : Reach) (d : CoreModel) →
     IfErr r (gets.IsReadError (record { policies = policies; query = query }) before after d) → IfErr r (IsReadError policies before after d)
@@ -126,6 +152,34 @@ scan_reading r policies g before after os c d id level ts order range h names op
     (opened (tx_reader (taking (newest c) level ts)) (within_reader c d id level ts h)
     (record { os = os; readable = settled_readable policies before.meaning os d (subst (λ (o : Option Objects). IsSettled policies before.meaning g o d) told (within_settled policies before.meaning g before.objects c d id level ts h settled)); answers = inl told }))
 
+pub scan_checked : (r : Result TxnIterator SlateDBError) (policies : List Policy) (g : Segments) (before after : Reach) (c d : CoreModel) (id : List ℕ) (level : IsolationLevel) (ts : List TranscriptStep) (order : IterationOrder) (range : BytesRange) →
+    IsWithin c id level ts d → ((from : Reader) → reader d.state id ≡ Some from → IfOk r (IsScanOf id from.scans order range)) →
+    ((from : Reader) → reader d.state id ≡ Some from → (a : IsAnswered policies before after d) →
+    IfOk r (λ it. LeavesIn a.os before.meaning it (rows_seen (rules_of d.settings before.meaning) d.state.commits from.at from.ops order range))) →
+    ((from : Reader) → reader d.state id ≡ Some from → (os : Objects) → IsReadable policies before.meaning os d →
+    IfOk r (λ it. OrSlips os before after (LeavesIn os before.meaning it (rows_seen (rules_of d.settings before.meaning) d.state.commits from.at from.ops order range)))) →
+    (s : IsChecked policies g before after c) →
+    IfOk r (λ it. IsReading s.os before.meaning c (ts ++ (steps.Scan order range ∷ [])) it (rows_seen (rules_of c.settings before.meaning) c.state.commits (newest c) (own_of ts) order range))
+scan_checked (Err x) policies g before after c d id level ts order range h names opened checks s = tt
+scan_checked (Ok it) policies g before after c d id level ts order range h names opened checks s =
+    opened_reading s.os before.meaning c id ts order range it (scan_named {E = SlateDBError} (Ok it) c d id level ts order range h names)
+    (subst (λ (v : CoreModel). LeavesIn s.os before.meaning it (rows_seen (rules_of v.settings before.meaning) v.state.commits (newest c) (own_of ts) order range)) h.is (leaves s.met))
+  where
+    settled : IsSettled policies before.meaning g (Some s.os) d
+    settled = settled_there policies g before after c d id level ts h s
+
+    from : Reader
+    from = tx_reader (taking (newest c) level ts)
+
+    by : LeavesIn s.os before.meaning it (rows_seen (rules_of d.settings before.meaning) d.state.commits (newest c) (own_of ts) order range) ⊎ SlipsFrom before.meaning.encode s.os before.acts after.acts → (SlipsFrom before.meaning.encode s.os before.acts after.acts → ⊥) →
+        LeavesIn s.os before.meaning it (rows_seen (rules_of d.settings before.meaning) d.state.commits (newest c) (own_of ts) order range)
+    by (inl left) none = left
+    by (inr slips) none = absurd (none slips)
+
+    leaves : IsMetBy before.meaning s.os before after → LeavesIn s.os before.meaning it (rows_seen (rules_of d.settings before.meaning) d.state.commits (newest c) (own_of ts) order range)
+    leaves (inl answers) = opened from (within_reader c d id level ts h) (record { os = s.os; readable = settled_readable policies before.meaning s.os d settled; answers = answers })
+    leaves (inr u) = by (checks from (within_reader c d id level ts h) s.os (settled_readable policies before.meaning s.os d settled) u.known u.tells) u.none
+
 -- the same opening, by what its options and its range are
 pub as_ordered : {E : Type 0} (r : Result TxnIterator E) (id : List ℕ) (n : ℕ) (order order' : IterationOrder) (range range' : BytesRange) → order ≡ order' → range ≡ range' → IfOk r (IsScanOf id n order range) → IfOk r (IsScanOf id n order' range')
 as_ordered {E} r id n order order' range range' o g h = subst (λ (x : IterationOrder). IfOk r (IsScanOf id n x range')) o (subst (λ (x : BytesRange). IfOk r (IsScanOf id n order x)) g h)
@@ -160,12 +214,12 @@ moved os m c ts x y a rows w names is leaves h = record {
   leaves = (w, is, leaves);
 }
 
-pub next_reading : {E : Type 0} (r : Result (Option KeyValue) E) (os : Objects) (before after : Reach) (c : CoreModel) (ts : List TranscriptStep) (x y : TxnIterator) (rows : List RowEntry) → IsScanOf x.id (number_of x) (scan_of x).order (scan_of x).range y →
+next_by : {E : Type 0} (r : Result (Option KeyValue) E) (os : Objects) (before after : Reach) (c : CoreModel) (ts : List TranscriptStep) (x y : TxnIterator) (rows : List RowEntry) → IsScanOf x.id (number_of x) (scan_of x).order (scan_of x).range y →
     ((w : World) (left : List RowEntry) → Leaves (scan_of x) w left → Sees w before after → IfOk r (λ a. (a ≡ first_left left) × Leaves (scan_of y) w (drop 1 left))) →
-    before.objects ≡ Some os → IsReading os before.meaning c ts x rows →
+    ((w : World) → IsWorldOf os before.meaning w → Leaves (scan_of x) w rows → Sees w before after) → IsReading os before.meaning c ts x rows →
     IfOk r (λ a. (a ≡ first_left rows) × IsReading os before.meaning c (ts ++ (steps.Next (number_of x) a ∷ [])) y (drop 1 rows)
     × (steps_of.Sees before.meaning c ts → steps_of.Sees before.meaning c (ts ++ (steps.Next (number_of x) a ∷ []))))
-next_reading r os before after c ts x y rows names answers told h = by h.leaves
+next_by r os before after c ts x y rows names answers met h = by h.leaves
   where
     by : LeavesIn os before.meaning x rows → IfOk r (λ a. (a ≡ first_left rows) × IsReading os before.meaning c (ts ++ (steps.Next (number_of x) a ∷ [])) y (drop 1 rows)
         × (steps_of.Sees before.meaning c ts → steps_of.Sees before.meaning c (ts ++ (steps.Next (number_of x) a ∷ []))))
@@ -174,7 +228,34 @@ next_reading r os before after c ts x y rows names answers told h = by h.leaves
       moved os before.meaning c ts x y a rows w names is q.1 h,
       next_alone (rules_of c.settings before.meaning) c.state.commits (newest c) ts (number_of x) a ((scan_of x).order, rows) h.left q.0,
     ))
-        (answers w rows leaves (world_seen os w before after is told))
+        (answers w rows leaves (met w is leaves))
+
+pub next_reading : {E : Type 0} (r : Result (Option KeyValue) E) (os : Objects) (before after : Reach) (c : CoreModel) (ts : List TranscriptStep) (x y : TxnIterator) (rows : List RowEntry) → IsScanOf x.id (number_of x) (scan_of x).order (scan_of x).range y →
+    ((w : World) (left : List RowEntry) → Leaves (scan_of x) w left → Sees w before after → IfOk r (λ a. (a ≡ first_left left) × Leaves (scan_of y) w (drop 1 left))) →
+    before.objects ≡ Some os → IsReading os before.meaning c ts x rows →
+    IfOk r (λ a. (a ≡ first_left rows) × IsReading os before.meaning c (ts ++ (steps.Next (number_of x) a ∷ [])) y (drop 1 rows)
+    × (steps_of.Sees before.meaning c ts → steps_of.Sees before.meaning c (ts ++ (steps.Next (number_of x) a ∷ []))))
+next_reading r os before after c ts x y rows names answers told h = next_by r os before after c ts x y rows names answers (λ w is leaves. world_seen os w before after is told) h
+
+-- of a call that met the world, or in which no section slipped
+world_met : (os : Objects) (w : World) (before after : Reach) → IsWorldOf os before.meaning w → IsMetBy before.meaning os before after → Checks w before after → ((reads : List Act) × IsCall before after reads) → Sees w before after
+world_met os w before after is (inl answers) checks call = sees_world os w before after is.meaning (world_holds os before.meaning w is) answers
+world_met os w before after is (inr unslipped) checks call = by (checks unslipped.known unslipped.tells is.meaning)
+  where
+    by : Sees w before after ⊎ Slips w before after → Sees w before after
+    by (inl sees) = sees
+    by (inr slips) = absurd (unslipped.none (slips_of_world os before.meaning w before after call.0 is call.1 slips))
+
+pub next_checked : (r : Result (Option KeyValue) SlateDBError) (os : Objects) (before after : Reach) (c : CoreModel) (ts : List TranscriptStep) (x y : TxnIterator) (rows : List RowEntry) → IsScanOf x.id (number_of x) (scan_of x).order (scan_of x).range y →
+    ((w : World) (left : List RowEntry) → Leaves (scan_of x) w left → Sees w before after → IfOk r (λ a. (a ≡ first_left left) × Leaves (scan_of y) w (drop 1 left))) →
+    ((w : World) (left : List RowEntry) → Leaves (scan_of x) w left → OnOk r (Checks w before after)) →
+    OnOk r (Made before after (λ reads. NoMore (ScanRefuses (scan_of x) before.meaning) reads (ScanRefuses (scan_of y) before.meaning))) →
+    IsMetBy before.meaning os before after → IsReading os before.meaning c ts x rows →
+    IfOk r (λ a. (a ≡ first_left rows) × IsReading os before.meaning c (ts ++ (steps.Next (number_of x) a ∷ [])) y (drop 1 rows)
+    × (steps_of.Sees before.meaning c ts → steps_of.Sees before.meaning c (ts ++ (steps.Next (number_of x) a ∷ []))))
+next_checked (Err e) os before after c ts x y rows names answers checks made met h = tt
+next_checked (Ok a) os before after c ts x y rows names answers checks made met h =
+    next_by {E = SlateDBError} (Ok a) os before after c ts x y rows names answers (λ w is leaves. world_met os w before after is met (checks w rows leaves) (made.0, made.1)) h
 
 pub next_undamaged : {A : Type 0} (r : Result A SlateDBError) (os : Objects) (before after : Reach) (c : CoreModel) (ts : List TranscriptStep) (x : TxnIterator) (rows : List RowEntry) →
     ((w : World) (left : List RowEntry) → Leaves (scan_of x) w left → Sees w before after → IfErr r (IsFault before after)) →

@@ -3,6 +3,8 @@
 --     IsAttempt o from level ts t      t began at the newest sequence of a journal that begins so, and took these steps; it merged and marked nothing
 --     IsVouchedThere o m t      the answers among its steps are those of a reader at its begin, by each legal journal that begins with what it has seen
 --     IsStoreTrue policies m events before after      each read of the calls between was answered by objects that hold the tables of the journal, with their filters, and parts and policies are lawful
+--     IsStoreChecked policies m events before after      each read of the calls between was answered so by objects which hold the tables of the journal, with their filters, or none slipped, and parts and policies are lawful
+--     IsFaultOn policies m events before after x      where the store is true to the journal, it is a fault
 --     SeesMore old new      a pass that has seen the journal further; SeesOnly: and has no place more of its own
 --     HasCommittedBehind o t n now old new      a pass whose newest place has the commit of t, behind a journal with which nothing conflicts
 --     HasEndedBehind t old new      a pass that has seen the end of t, without a commit, at the end of a journal
@@ -23,6 +25,7 @@ use Rattle.slate_types.specs.Outside.{IsFault, Objects, Reach}
 use Rattle.slate_filter.specs.Policy.{Policy}
 use Rattle.slate_mem.specs.Batch.{batch_keys, kept_ops}
 use Rattle.slate_mem.specs.BatchModel.{holds_merge}
+use Rattle.slate_table.specs.Filtered.{AreLawful}
 use Rattle.slate_txn.specs.declared.event.Event.{Event}
 use Rattle.slate_txn.specs.declared.event.Event.TheVariants as events
 use Rattle.slate_txn.specs.declared.event.TranscriptStep.{TranscriptStep}
@@ -33,15 +36,17 @@ use Rattle.slate_txn.specs.Replay.{IsLegal, replay}
 use Rattle.slate_txn.specs.Settings.{settings_of}
 use Rattle.slate_txn.specs.State.{last_of}
 use Rattle.slate_db.specs.declared.scan.TxnIterator.{TxnIterator}
+use Rattle.slate_db.specs.Installs.{Holds, tables_of}
 use Rattle.slate_db.specs.Log.{LIMIT}
-use Rattle.slate_db.specs.Meaning.{Meaning, rules_of}
+use Rattle.slate_db.specs.Meaning.{IsLawfulMeaning, Meaning, rules_of}
 use Rattle.slate_db.specs.Model.{CoreModel}
+use Rattle.slate_db.specs.Readable.{AreFiltered}
 use Rattle.slate_db.specs.Scans.{LeavesIn}
 use Rattle.slate_shared.specs.KeyReads.{IsAnsweredBy, IsCoreOf}
 use Rattle.slate_shared.specs.LockedModel.{IsFull}
 use Rattle.slate_shared.specs.Passes.{Opened, PassModel}
 use Rattle.slate_shared.specs.Scans.{IsLeftOf}
-use Rattle.slate_steps.specs.Reads.{IsReadError, IsScanSince}
+use Rattle.slate_steps.specs.Reads.{IsMetBy, IsReadError, IsScanSince}
 use Rattle.slate_steps.specs.Steps.{IsNext, taking}
 
 pub record IsAttempt (o : Options) (from : List Event) (level : IsolationLevel) (ts : List TranscriptStep) (t : Opened) : Type 0 where
@@ -59,6 +64,18 @@ pub record IsVouchedThere (o : Options) (m : Meaning) (t : Opened) : Type 0 wher
 -- a premise of what a call promises of stored values; events: the journal that is seen after the call
 abbrev pub IsStoreTrue : List Policy → Meaning → List Event → Reach → Reach → Type 0
 IsStoreTrue policies m events before after = IsAnsweredBy policies m events [] before after
+
+-- a premise of what is answered, also by a store that lies: damage is no answer, where its checksum doesn't fit; events: as above
+pub record IsStoreChecked (policies : List Policy) (m : Meaning) (events : List Event) (before after : Reach) : Type 0 where
+  pub os : Objects
+  pub lawful : IsLawfulMeaning m
+  pub lawful_policies : AreLawful policies
+  pub filtered : AreFiltered m.encode policies (tables_of events)
+  pub holds : Holds os (tables_of events)
+  pub met : IsMetBy m os before after
+
+abbrev pub IsFaultOn : List Policy → Meaning → List Event → Reach → Reach → SlateDBError → Type 0
+IsFaultOn policies m events before after x = IsStoreTrue policies m events before after → IsFault before after x
 
 pub record SeesMore (old new : PassModel) : Type 0 where
   pub table : new.table ≡ old.table

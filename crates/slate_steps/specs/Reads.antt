@@ -2,23 +2,31 @@
 --     IsReadError policies before after c e      a get or a scan of the core is refused so: by a fault that came in it, for want of memory or of an operator, or by what its
 --                                         reads show of the tables that the journal names
 --     IsReadFault policies before after c id level e      of several reads in one transaction on c the last is
+--     IsUnslipped m os before after      the store tells its acts, and none of the reads between returned a section that isn't what stands there, and whose checksum fits
+--     IsMetBy m os before after      the objects answered each read of the calls between, or so it is
+--     IsChecked policies g before after c      so it is of objects which hold the tables that the core's journal names; policies and parts are lawful, and what is kept of the core holds
+--     IsFaultSettled policies before after c x      where the core is settled, it is a fault
 --     IsReading os m c ts it rows      by these objects a scan that the transaction opened has these rows left
 --     IsScanSince from now c it      by the reads since its opening, which reached `from`, the scan may be refused as a scan of c is
-use Rattle.std.specs.Prelude.{◌≡◌, ◌++◌, ℕ, List, Option, Some, slice_get, None}
+use Rattle.std.specs.Prelude.{◌≡◌, ◌⊎◌, ◌++◌, ℕ, List, Option, Some, slice_get, None}
 use Rattle.slate_types.specs.declared.config.IsolationLevel.{IsolationLevel}
 use Rattle.slate_types.specs.declared.error.SlateDBError.{SlateDBError}
 use Rattle.slate_types.specs.declared.filter_policy.FilterQuery.{FilterQuery}
 use Rattle.slate_types.specs.declared.types.RowEntry.{RowEntry}
-use Rattle.slate_types.specs.Outside.{Act, Objects, OnlyReads, Reach}
+use Rattle.slate_types.specs.Outside.{Act, IsFault, Objects, OnlyReads, Reach}
 use Rattle.slate_types.specs.World.{Made}
 use Rattle.slate_filter.specs.Policy.{Policy}
+use Rattle.slate_mem.specs.KeyTests.{Segments}
 use Rattle.slate_txn.specs.declared.event.TranscriptStep.{TranscriptStep}
 use Rattle.slate_txn.specs.Alone.{scans_left}
 use Rattle.slate_db.specs.declared.scan.TxnIterator.{TxnIterator}
+use Rattle.slate_db.specs.Answered.{AnswersFrom}
+use Rattle.slate_db.specs.Checked.{SlipsFrom}
 use Rattle.slate_db.specs.Meaning.{Meaning, rules_of}
 use Rattle.slate_db.specs.Model.{CoreModel}
 use Rattle.slate_db.specs.Readable as gets
 use Rattle.slate_db.specs.Scans.{IsRefusedByScan, IsScanError, LeavesIn, ScanRefuses, number_of, scan_of}
+use Rattle.slate_db.specs.Settled.{IsSettled, IsSettledIn}
 use Rattle.slate_steps.specs.Steps.{IsWithin, newest}
 
 pub data IsReadError (policies : List Policy) (before after : Reach) (c : CoreModel) (e : SlateDBError) : Type 0 where
@@ -35,6 +43,22 @@ pub record IsReadFault (policies : List Policy) (before after : Reach) (c : Core
   pub first : OnlyReads before from
   pub later : OnlyReads upto after
   pub refused : IsReadError policies from upto core e
+
+pub record IsUnslipped (m : Meaning) (os : Objects) (before after : Reach) : Type 0 where
+  pub known : List Act
+  pub tells : before.acts ≡ Some known
+  pub none : SlipsFrom m.encode os before.acts after.acts → ⊥
+
+abbrev pub IsMetBy : Meaning → Objects → Reach → Reach → Type 0
+IsMetBy m os before after = AnswersFrom os before after ⊎ IsUnslipped m os before after
+
+pub record IsChecked (policies : List Policy) (g : Segments) (before after : Reach) (c : CoreModel) : Type 0 where
+  pub os : Objects
+  pub settled : IsSettled policies before.meaning g (Some os) c
+  pub met : IsMetBy before.meaning os before after
+
+abbrev pub IsFaultSettled : List Policy → Reach → Reach → CoreModel → SlateDBError → Type 0
+IsFaultSettled policies before after c x = (g : Segments) → IsSettledIn policies g before c → IsFault before after x
 
 pub record IsReading (os : Objects) (m : Meaning) (c : CoreModel) (ts : List TranscriptStep) (it : TxnIterator) (rows : List RowEntry) : Type 0 where
   pub left : slice_get (scans_left (rules_of c.settings m) c.state.commits (newest c) ts) (number_of it) ≡ Some ((scan_of it).order, rows)

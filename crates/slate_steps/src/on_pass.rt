@@ -23,7 +23,8 @@ ghost use Rattle.slate_db.specs.Meaning.{segments_by};
 ghost use Rattle.slate_db.specs.Scans.{IsScanOf, id_of, number_of, scan_of};
 ghost use Rattle.slate_shared.specs.Given.{AreGiven};
 ghost use Rattle.slate_shared.specs.Scans.{rows_of_range};
-ghost use Rattle.slate_steps.specs.Attempts.{HasCommittedBehind, HasEndedBehind, IsAttempt, IsReadErrorOn, IsReadingOn, IsRefusedBehind, IsScanSinceOn, IsStoreTrue, IsUnbegun, IsVouchedThere, SeesMore, SeesOnly};
+ghost use Rattle.slate_steps.specs.Attempts.{HasCommittedBehind, HasEndedBehind, IsAttempt, IsReadErrorOn, IsReadingOn, IsRefusedBehind, IsScanSinceOn, IsStoreChecked, IsStoreTrue, IsUnbegun, IsVouchedThere, SeesMore, SeesOnly};
+ghost use Rattle.slate_steps.specs.Reads.{IsUnslipped};
 
 use slate_db::laws::Laws;
 use slate_db::scan::TxnIterator;
@@ -76,6 +77,10 @@ pub fn get<P: Parts, R: Wait, S: Store, M: MergeOperator, T: BlockTransformer, X
         (from : List Event) (level : IsolationLevel) (ts : List TranscriptStep) → IsAttempt P.options from level ts txn.old →
         IsStoreTrue P.policies P.meaning txn.new.seen (reach env.old) (reach env.new) →
         IsVouchedThere P.options P.meaning txn.old → IsVouchedThere P.options P.meaning txn.new }
+    ensures checked { let reach = ⟦<EnvOf<S, M, T> as Outside>⟧.reach in
+        (from : List Event) (level : IsolationLevel) (ts : List TranscriptStep) → IsAttempt P.options from level ts txn.old →
+        IsStoreChecked P.policies P.meaning txn.new.seen (reach env.old) (reach env.new) →
+        IsVouchedThere P.options P.meaning txn.old → OnOk result (IsVouchedThere P.options P.meaning txn.new) }
     ensures undamaged { let reach = ⟦<EnvOf<S, M, T> as Outside>⟧.reach in
         (from : List Event) (level : IsolationLevel) (ts : List TranscriptStep) → IsAttempt P.options from level ts txn.old →
         IsStoreTrue P.policies P.meaning txn.new.seen (reach env.old) (reach env.new) → IfErr result (IsFault (reach env.old) (reach env.new)) }
@@ -154,6 +159,11 @@ pub fn scan_prefix<
         (from : List Event) (level : IsolationLevel) (ts : List TranscriptStep) → IsAttempt P.options from level ts txn.old →
         (true_store : IsStoreTrue P.policies P.meaning txn.new.seen (reach env.old) (reach env.new)) →
         IfOk result (λ it. IsReadingOn true_store.os P.options P.meaning txn.new it (rows_of_range P.options P.meaning txn.new.seen txn.old.tx IterationOrder.Ascending (prefix_range prefix.now))) }
+    ensures checked { let reach = ⟦<EnvOf<S, M, T> as Outside>⟧.reach in
+        (from : List Event) (level : IsolationLevel) (ts : List TranscriptStep) → IsAttempt P.options from level ts txn.old →
+        (store : IsStoreChecked P.policies P.meaning txn.new.seen (reach env.old) (reach env.new)) →
+        IfOk result (λ it. IsReadingOn store.os P.options P.meaning txn.new it
+        (rows_of_range P.options P.meaning txn.new.seen txn.old.tx IterationOrder.Ascending (prefix_range prefix.now))) }
     ensures undamaged { let reach = ⟦<EnvOf<S, M, T> as Outside>⟧.reach in
         (from : List Event) (level : IsolationLevel) (ts : List TranscriptStep) → IsAttempt P.options from level ts txn.old →
         IsStoreTrue P.policies P.meaning txn.new.seen (reach env.old) (reach env.new) → IfErr result (IsFault (reach env.old) (reach env.new)) }
@@ -182,6 +192,11 @@ pub fn next<P: Parts, S: Store, M: MergeOperator, T: BlockTransformer>(
     ensures named { IsScanOf (id_of it.old) (number_of it.old) (scan_of it.old).order (scan_of it.old).range it.new }
     ensures reading { let reach = ⟦<EnvOf<S, M, T> as Outside>⟧.reach in
         (os : Objects) (rows : List RowEntry) → (reach env.old).meaning ≡ P.meaning → AnswersFrom os (reach env.old) (reach env.new) → IsReadingOn os P.options P.meaning txn.old it.old rows →
+        IfOk result (λ a. (a ≡ first_left rows) × IsReadingOn os P.options P.meaning txn.new it.new (drop 1 rows)
+        × (IsVouchedThere P.options P.meaning txn.old → IsVouchedThere P.options P.meaning txn.new)) }
+    ensures checked { let reach = ⟦<EnvOf<S, M, T> as Outside>⟧.reach in
+        (os : Objects) (rows : List RowEntry) → (reach env.old).meaning ≡ P.meaning →
+        IsUnslipped P.meaning os (reach env.old) (reach env.new) → IsReadingOn os P.options P.meaning txn.old it.old rows →
         IfOk result (λ a. (a ≡ first_left rows) × IsReadingOn os P.options P.meaning txn.new it.new (drop 1 rows)
         × (IsVouchedThere P.options P.meaning txn.old → IsVouchedThere P.options P.meaning txn.new)) }
     ensures undamaged { let reach = ⟦<EnvOf<S, M, T> as Outside>⟧.reach in

@@ -19,7 +19,7 @@ ghost use Rattle.slate_db.specs.Model.{CoreModel};
 ghost use Rattle.slate_db.specs.Opened.{HasTransaction};
 ghost use Rattle.slate_db.specs.Scans.{IsOpenScan, IsScanOf, id_of, number_of, scan_of};
 ghost use Rattle.slate_db.specs.Settled.{IsSettledIn};
-ghost use Rattle.slate_steps.specs.Reads.{IsReadError, IsReading, IsScanSince};
+ghost use Rattle.slate_steps.specs.Reads.{IsChecked, IsMetBy, IsReadError, IsReading, IsScanSince};
 ghost use Rattle.slate_steps.specs.Steps.{IsWithin, Sees, newest};
 
 use slate_db::engine::Core;
@@ -57,6 +57,13 @@ pub fn scan_prefix<'a, S: Store, M: MergeOperator, T: BlockTransformer, X: Prefi
         (reach env.old).objects ≡ Some os → IsSettledIn policies g (reach env.old) c →
         IfOk result (λ it. IsReading os m c (ts ++ (steps.Scan IterationOrder.Ascending (prefix_range prefix.now) ∷ [])) it
         (rows_seen (rules_of c.settings m) c.state.commits (newest c) (own_of ts) IterationOrder.Ascending (prefix_range prefix.now))) }
+    ensures checked { let reach = ⟦<EnvOf<S, M, T> as Outside>⟧.reach in
+        let policies = map (λ p. meaning (p.vtable, p.value)) laws.now.policies.items in
+        let m = (reach env.old).meaning in
+        (c : CoreModel) (level : IsolationLevel) (ts : List TranscriptStep) (g : Segments) → IsWithin c id.now level ts core.old →
+        (store : IsChecked policies g (reach env.old) (reach env.new) c) →
+        IfOk result (λ it. IsReading store.os m c (ts ++ (steps.Scan IterationOrder.Ascending (prefix_range prefix.now) ∷ [])) it
+        (rows_seen (rules_of c.settings m) c.state.commits (newest c) (own_of ts) IterationOrder.Ascending (prefix_range prefix.now))) }
     ensures undamaged { let reach = ⟦<EnvOf<S, M, T> as Outside>⟧.reach in
         let policies = map (λ p. meaning (p.vtable, p.value)) laws.now.policies.items in
         (c : CoreModel) (level : IsolationLevel) (ts : List TranscriptStep) (g : Segments) → IsWithin c id.now level ts core.old →
@@ -89,6 +96,12 @@ pub fn next<S: Store, M: MergeOperator, T: BlockTransformer>(
         let m = (reach env.old).meaning in
         (c : CoreModel) (ts : List TranscriptStep) (os : Objects) (rows : List RowEntry) →
         (reach env.old).objects ≡ Some os → IsReading os m c ts it.old rows →
+        IfOk result (λ a. (a ≡ first_left rows) × IsReading os m c (ts ++ (steps.Next (number_of it.old) a ∷ [])) it.new (drop 1 rows)
+        × (Sees m c ts → Sees m c (ts ++ (steps.Next (number_of it.old) a ∷ [])))) }
+    ensures checked { let reach = ⟦<EnvOf<S, M, T> as Outside>⟧.reach in
+        let m = (reach env.old).meaning in
+        (c : CoreModel) (ts : List TranscriptStep) (os : Objects) (rows : List RowEntry) →
+        IsMetBy m os (reach env.old) (reach env.new) → IsReading os m c ts it.old rows →
         IfOk result (λ a. (a ≡ first_left rows) × IsReading os m c (ts ++ (steps.Next (number_of it.old) a ∷ [])) it.new (drop 1 rows)
         × (Sees m c ts → Sees m c (ts ++ (steps.Next (number_of it.old) a ∷ [])))) }
     ensures undamaged { let reach = ⟦<EnvOf<S, M, T> as Outside>⟧.reach in

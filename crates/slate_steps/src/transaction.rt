@@ -18,7 +18,7 @@ ghost use Rattle.slate_db.specs.Opened.{HasTransaction};
 ghost use Rattle.slate_db.specs.Segmented.{IsSegmented};
 ghost use Rattle.slate_db.specs.Settled.{IsSettledIn};
 ghost use Rattle.slate_db.specs.Sound.{IsKept};
-ghost use Rattle.slate_steps.specs.Reads.{IsReadError};
+ghost use Rattle.slate_steps.specs.Reads.{IsChecked, IsReadError};
 ghost use Rattle.slate_steps.specs.Steps.{HasCommitted, HasEnded, IsBeginError, IsWithin, Sees, newest};
 
 use slate_db::engine::Core;
@@ -60,6 +60,11 @@ pub fn get<S: Store, M: MergeOperator, T: BlockTransformer, X: PrefixExtractor>(
         let policies = map (λ p. meaning (p.vtable, p.value)) laws.now.policies.items in
         (c : CoreModel) (level : IsolationLevel) (ts : List TranscriptStep) (g : Segments) → IsWithin c id.now level ts core.old →
         IsSettledIn policies g (reach env.old) c → Sees (reach env.old).meaning c ts →
+        IfOk result (λ a. Sees (reach env.old).meaning c (ts ++ (steps.Get key.now a ∷ []))) }
+    ensures checked { let reach = ⟦<EnvOf<S, M, T> as Outside>⟧.reach in
+        let policies = map (λ p. meaning (p.vtable, p.value)) laws.now.policies.items in
+        (c : CoreModel) (level : IsolationLevel) (ts : List TranscriptStep) (g : Segments) → IsWithin c id.now level ts core.old →
+        IsChecked policies g (reach env.old) (reach env.new) c → Sees (reach env.old).meaning c ts →
         IfOk result (λ a. Sees (reach env.old).meaning c (ts ++ (steps.Get key.now a ∷ []))) }
     ensures undamaged { let reach = ⟦<EnvOf<S, M, T> as Outside>⟧.reach in
         let policies = map (λ p. meaning (p.vtable, p.value)) laws.now.policies.items in

@@ -31,6 +31,7 @@ use Rattle.slate_db.specs.Model.{CoreModel}
 use Rattle.slate_db.specs.SerialLaws.{IsVouchedCore}
 use Rattle.slate_db.specs.Settled.{IsSettledIn}
 use Rattle.slate_steps.specs.Steps.{newest}
+use Rattle.slate_steps.proofs.StoreTruth.{checked_in}
 use Rattle.slate_stock.specs.declared.error.StockError.{StockError}
 use Rattle.slate_stock.specs.declared.order.Order.{Order}
 use Rattle.slate_stock.specs.declared.order.Order.TheVariants.{Issue, Pay, Trade}
@@ -200,7 +201,7 @@ stepped_is None x y e = cc
 stepped_is (Some s) x y e = cc
 
 -- on a core that was settled the order's commit moves the books as its step does
-module _ (policies : List Policy) (g : Segments) (before : Reach) (c d : CoreModel) (o : Order) (now : ℤ) (n : ℕ) (h : HasOrdered policies before c o now n d) (settled : IsSettledIn policies g before c) (b : Books) (stands : StandsFor before.meaning c b) where
+module _ (policies : List Policy) (g : Segments) (before after : Reach) (c d : CoreModel) (o : Order) (now : ℤ) (n : ℕ) (h : HasOrdered policies before after c o now n d) (settled : IsSettledIn policies g before c) (b : Books) (stands : StandsFor before.meaning c b) where
   abbrev made : Commit
   made = record { seq = n; now = now; ops = kept_ops (own_of h.taken); tracked = batch_keys (own_of h.taken) }
 
@@ -237,7 +238,7 @@ module _ (policies : List Policy) (g : Segments) (before : Reach) (c d : CoreMod
   }
     where
       steps : StepsTo before.meaning c d o
-      steps = ordered_steps policies before c o now n d h g settled
+      steps = ordered_steps policies before after c o now n d h g (checked_in policies g before after c settled)
 
       after_is : steps.after ≡ put_amounts (amounts_of before.meaning c) (order_moves (amounts_of before.meaning c) o)
       after_is = stepped_is (order_refusal (amounts_of before.meaning c) o) (put_amounts (amounts_of before.meaning c) (order_moves (amounts_of before.meaning c) o)) steps.after steps.step

@@ -9,7 +9,7 @@ use Rattle.slate_types.specs.declared.config.IsolationLevel.TheVariants.{Seriali
 use Rattle.slate_types.specs.declared.error.SlateDBError.{SlateDBError}
 use Rattle.slate_types.specs.declared.error.SlateDBError.TheVariants as errors
 use Rattle.slate_types.specs.declared.types.KeyValue.{KeyValue}
-use Rattle.slate_types.specs.Outside.{IsFault, Meaning, Objects, OnlyReads, Reach}
+use Rattle.slate_types.specs.Outside.{Meaning, Objects, OnlyReads, Reach}
 use Rattle.slate_types.specs.Rows.{key_value}
 use Rattle.slate_types.proofs.Reaching.{fault_earlier, reads_none, reads_then}
 use Rattle.slate_filter.specs.Policy.{Policy}
@@ -25,7 +25,7 @@ use Rattle.slate_txn.proofs.ReadLaws.{alone_rest}
 use Rattle.slate_db.specs.Meaning.{rules_of}
 use Rattle.slate_db.specs.Model.{CoreModel}
 use Rattle.slate_db.specs.Settled.{IsSettled, IsSettledIn}
-use Rattle.slate_steps.specs.Reads.{IsReadError, IsReadFault}
+use Rattle.slate_steps.specs.Reads.{IsFaultSettled, IsReadError, IsReadFault}
 use Rattle.slate_steps.specs.Steps.{IsWithin, Sees, newest}
 use Rattle.slate_stock.specs.declared.error.StockError.{StockError}
 use Rattle.slate_stock.specs.declared.error.StockError.TheVariants.{SameName, SameAsset, TooMuch, BadAmount, AlreadyIssued, NotEnough, Db, ForeignCommit}
@@ -35,7 +35,7 @@ use Rattle.slate_stock.specs.Amounts.{balance_key, head, issued_key, money}
 use Rattle.slate_stock.specs.Names.{is_letter_or_digit}
 use Rattle.slate_stock.specs.Commits.{HasNames, IsPlainName}
 use Rattle.slate_stock.specs.Orders.{order_keys}
-use Rattle.slate_stock.specs.Running.{HasSeen, IsBad, IsBadAmount, IsDb, IsGetCause, IsGetTruth, IsKey, IsReadCause, IsReadTruth}
+use Rattle.slate_stock.specs.Running.{IsBad, IsBadAmount, IsDb, IsGetCause, IsGetTruth, IsKey, IsReadCause, IsReadTruth}
 use Rattle.slate_stock.proofs.StepLaws.{bad_there}
 
 -- ---- of a database error
@@ -73,11 +73,8 @@ pub settled_before : (policies : List Policy) (g : Segments) (a b : Reach) (c : 
 settled_before policies g a b c reads h =
     subst (λ (m : Meaning). IsSettled policies m g a.objects c) reads.meaning (subst (λ (o : Option Objects). IsSettled policies b.meaning g o c) reads.objects h)
 
-pub seen_later : (policies : List Policy) (a b : Reach) (c : CoreModel) (ts : List TranscriptStep) → OnlyReads a b → HasSeen policies a c ts → HasSeen policies b c ts
-seen_later policies a b c ts reads h g settled = subst (λ (m : Meaning). Sees m c ts) (sym reads.meaning) (h g (settled_before policies g a b c reads settled))
-
-pub seen_before : (policies : List Policy) (a b : Reach) (c : CoreModel) (ts : List TranscriptStep) → OnlyReads a b → HasSeen policies b c ts → HasSeen policies a c ts
-seen_before policies a b c ts reads h g settled = subst (λ (m : Meaning). Sees m c ts) reads.meaning (h g (settled_as policies g a b c reads settled))
+pub settled_fault : (policies : List Policy) (a b z : Reach) (c : CoreModel) (x : SlateDBError) → OnlyReads a b → IsFaultSettled policies b z c x → IsFaultSettled policies a z c x
+settled_fault policies a b z c x reads f g settled = fault_earlier a b z x reads.later (f g (settled_as policies g a b c reads settled))
 
 -- ---- one get
 
@@ -98,14 +95,15 @@ pub found_cause : (policies : List Policy) (a b : Reach) (c : CoreModel) (id k :
 found_cause policies a b c id k found e (inl is) = inl (db_is _ e errors.OutOfMemory is (inl refl))
 found_cause policies a b c id k found e (inr bad) = inr bad.0
 
-pub found_truth : (a b : Reach) (c : CoreModel) (k : List ℕ) (ts : List TranscriptStep) (found : Option KeyValue) (e : StockError) → own_of ts ≡ [] → Sees a.meaning c (ts ++ (steps.Get k found ∷ [])) → IsFoundCause found k e → IsGetTruth a b c k e
-found_truth a b c k ts found e none sees (inl is) = inl (db_is (IsFault a b) e errors.OutOfMemory is tt)
-found_truth a b c k ts found e none sees (inr (is, (row, there, long))) =
+pub found_truth : (P : SlateDBError → Type 0) (m : Meaning) (c : CoreModel) (k : List ℕ) (ts : List TranscriptStep) (found : Option KeyValue) (e : StockError) → P errors.OutOfMemory → own_of ts ≡ [] → Sees m c (ts ++ (steps.Get k found ∷ [])) →
+    IsFoundCause found k e → IsGetTruth P m c k e
+found_truth P m c k ts found e wanting none sees (inl is) = inl (db_is P e errors.OutOfMemory is wanting)
+found_truth P m c k ts found e wanting none sees (inr (is, (row, there, long))) =
     inr (
       is,
-      bad_there (rules_of c.settings a.meaning) c.state.commits (newest c) k found row
-          (subst (λ (os : Ops). found ≡ option_map key_value (seen (rules_of c.settings a.meaning) c.state.commits (newest c) os k)) none
-          (alone_rest (rules_of c.settings a.meaning) c.state.commits (newest c) [] [] ts (steps.Get k found ∷ []) sees).0) there long,
+      bad_there (rules_of c.settings m) c.state.commits (newest c) k found row
+          (subst (λ (os : Ops). found ≡ option_map key_value (seen (rules_of c.settings m) c.state.commits (newest c) os k)) none
+          (alone_rest (rules_of c.settings m) c.state.commits (newest c) [] [] ts (steps.Get k found ∷ []) sees).0) there long,
     )
 
 -- ---- several
@@ -115,11 +113,16 @@ pub cause_more : (policies : List Policy) (a b z : Reach) (c : CoreModel) (id : 
 cause_more policies a b z c id keys i d k e reads within is (inl h) = inl (db_map _ _ e (λ x. elim [ inl m ↦ inl m | inr f ↦ inr (fault_since policies a b z c id x reads f) ]) h)
 cause_more policies a b z c id keys i d k e reads within is (inr bad) = inr (subst (IsBad (λ j. Contains keys j)) (sym bad) (subst (Contains keys) (sym is) (Contains-get_or keys i d within)))
 
-pub truth_more : (a b z : Reach) (c : CoreModel) (keys : List (List ℕ)) (i : ℕ) (d k : List ℕ) (e : StockError) → OnlyReads a b → i < length keys → k ≡ get_or keys i d → IsGetTruth b z c k e → IsReadTruth a z c keys e
-truth_more a b z c keys i d k e reads within is (inl h) = inl (db_map (IsFault b z) (IsFault a z) e (λ x f. fault_earlier a b z x reads.later f) h)
-truth_more a b z c keys i d k e reads within is (inr (bad, value)) =
+pub truth_more : (policies : List Policy) (a b z : Reach) (c : CoreModel) (keys : List (List ℕ)) (i : ℕ) (d k : List ℕ) (e : StockError) → OnlyReads a b → i < length keys → k ≡ get_or keys i d →
+    IsGetTruth (IsFaultSettled policies b z c) b.meaning c k e → IsReadTruth (IsFaultSettled policies a z c) a.meaning c keys e
+truth_more policies a b z c keys i d k e reads within is (inl h) = inl (db_map (IsFaultSettled policies b z c) (IsFaultSettled policies a z c) e (λ x f. settled_fault policies a b z c x reads f) h)
+truth_more policies a b z c keys i d k e reads within is (inr (bad, value)) =
     inr (subst (IsBad (λ j. Contains keys j × IsBadAmount a.meaning c j)) (sym bad)
     (subst (Contains keys) (sym is) (Contains-get_or keys i d within), subst (λ (m : Meaning). IsBadAmount m c k) reads.meaning value))
+
+-- want of memory between reads
+pub wanting_truth : (P : SlateDBError → Type 0) (m : Meaning) (c : CoreModel) (keys : List (List ℕ)) (x : SlateDBError) → P errors.OutOfMemory → x ≡ errors.OutOfMemory → IsReadTruth P m c keys (Db x)
+wanting_truth P m c keys x wanting is = inl (subst P (sym is) wanting)
 
 -- ---- puts
 

@@ -23,9 +23,11 @@ use Rattle.slate_db.specs.Load.{load, weight}
 use Rattle.slate_db.specs.Meaning.{rules_of}
 use Rattle.slate_db.specs.Model.{CoreModel}
 use Rattle.slate_db.specs.SerialLaws.{IsVouchedCore}
-use Rattle.slate_db.specs.Settled.{IsSettled, IsSettledIn}
-use Rattle.slate_steps.specs.Steps.{HasEnded, IsWithin, newest}
+use Rattle.slate_db.specs.Settled.{IsSettled}
+use Rattle.slate_steps.specs.Reads.{IsChecked}
+use Rattle.slate_steps.specs.Steps.{HasEnded, IsWithin, Sees, newest}
 use Rattle.slate_steps.proofs.Settling.{committed_kind, committed_vouched, committed_weight, ended_kind, ended_load, ended_settled, ended_vouched, ended_weight}
+use Rattle.slate_steps.proofs.StoreTruth.{checked_before, checked_behind}
 use Rattle.slate_stock.specs.declared.order.Order.{Order}
 use Rattle.slate_stock.specs.declared.order.Order.TheVariants.{Issue, Pay, Trade}
 use Rattle.slate_stock.specs.Amounts.{Amounts, amount_at, put_amounts}
@@ -39,7 +41,6 @@ use Rattle.slate_stock.proofs.LegLaws.{reads_again, zip_moves}
 use Rattle.slate_stock.proofs.OrderLaws.{Agree, moves_fit, same_moves, same_refusal}
 use Rattle.slate_stock.proofs.PutLaws.{AllFit, after_puts}
 use Rattle.slate_stock.proofs.ReadingLaws.{all_fit}
-use Rattle.slate_stock.proofs.CauseLaws.{seen_before, seen_later}
 use Rattle.slate_stock.proofs.StepLaws.{steps_more, agree_reads, four_moves, gets_own, no_merges, own_puts_own, owns_alone, reads_there, some_moves}
 
 -- ---- an order's transcript
@@ -47,9 +48,9 @@ use Rattle.slate_stock.proofs.StepLaws.{steps_more, agree_reads, four_moves, get
 abbrev whole_steps : List TranscriptStep → Amounts → Order → List TranscriptStep
 whole_steps taken m o = taken ++ own_puts (order_moves m o)
 
-pub has_taken : (policies : List Policy) (before : Reach) (c d e : CoreModel) (id : List ℕ) (o : Order) (m : Amounts) (keys : List (List ℕ)) (ns : List ℕ) → HasNames o → keys ≡ order_keys o → order_refusal m o ≡ None →
-    (h : HasRead policies before c id keys ns d) → ns ≡ map m (order_keys o) → IsWithin c id SerializableSnapshot (h.taken ++ own_puts (order_moves m o)) e → HasTaken policies before c id o e
-has_taken policies before c d e id o m keys ns names same fits h are within = record {
+pub has_taken : (policies : List Policy) (before after : Reach) (c d e : CoreModel) (id : List ℕ) (o : Order) (m : Amounts) (keys : List (List ℕ)) (ns : List ℕ) → HasNames o → keys ≡ order_keys o → order_refusal m o ≡ None →
+    (h : HasRead policies before after c id keys ns d) → ns ≡ map m (order_keys o) → IsWithin c id SerializableSnapshot (h.taken ++ own_puts (order_moves m o)) e → HasTaken policies before after c id o e
+has_taken policies before after c d e id o m keys ns names same fits h are within = record {
   taken = all;
   within = within;
   amounts = m;
@@ -63,7 +64,7 @@ has_taken policies before c d e id o m keys ns names same fits h are within = re
     kept = ap kept_ops own;
     keys = sym (keeps_its_keys (own_of all));
   };
-  seen = λ g settled. alone_more (rules_of c.settings before.meaning) c.state.commits (newest c) [] [] h.taken (own_puts (order_moves m o)) (h.seen g settled)
+  seen = λ g store. alone_more (rules_of c.settings before.meaning) c.state.commits (newest c) [] [] h.taken (own_puts (order_moves m o)) (h.seen g store)
       (owns_alone (rules_of c.settings before.meaning) c.state.commits (newest c) _ _ (order_moves m o));
 }
   where
@@ -73,7 +74,7 @@ has_taken policies before c d e id o m keys ns names same fits h are within = re
     own : own_of all ≡ puts (order_moves m o)
     own = own_append h.taken (own_puts (order_moves m o)) ∙ ap (λ (os : Ops). os ++ own_of (own_puts (order_moves m o))) (gets_own keys ns h.taken h.read) ∙ own_puts_own (order_moves m o)
 
-module _ (policies : List Policy) (before : Reach) (c : CoreModel) (id : List ℕ) (o : Order) (d : CoreModel) (h : HasTaken policies before c id o d) where
+module _ (policies : List Policy) (before after : Reach) (c : CoreModel) (id : List ℕ) (o : Order) (d : CoreModel) (h : HasTaken policies before after c id o d) where
   pub taken_plain : holds_merge (own_of h.taken) ≡ false
   taken_plain = ap holds_merge h.own ∙ no_merges (order_moves h.amounts o)
 
@@ -82,8 +83,8 @@ module _ (policies : List Policy) (before : Reach) (c : CoreModel) (id : List �
 
 -- ---- what was read stands in the state
 
-pub read_there : (policies : List Policy) (g : Segments) (before : Reach) (c d : CoreModel) (id : List ℕ) (keys : List (List ℕ)) (ns : List ℕ) → (h : HasRead policies before c id keys ns d) → IsSettledIn policies g before c → ns ≡ map (amounts_of before.meaning c) keys
-read_there policies g before c d id keys ns h settled = reads_there (rules_of c.settings before.meaning) c.state.commits (newest c) keys ns h.taken h.read (h.seen g settled)
+pub read_there : (policies : List Policy) (g : Segments) (before after : Reach) (c d : CoreModel) (id : List ℕ) (keys : List (List ℕ)) (ns : List ℕ) → (h : HasRead policies before after c id keys ns d) → IsChecked policies g before after c → ns ≡ map (amounts_of before.meaning c) keys
+read_there policies g before after c d id keys ns h store = reads_there (rules_of c.settings before.meaning) c.state.commits (newest c) keys ns h.taken h.read (h.seen g store)
 
 -- ---- what the commit makes of the amounts
 
@@ -98,7 +99,7 @@ pub record StepsTo (m : Meaning) (c d : CoreModel) (o : Order) : Type 0 where
   pub step : order_step (amounts_of m c) o ≡ Ok after
   pub state : (k : List ℕ) → amounts_of m d k ≡ after k
 
-module _ (policies : List Policy) (before : Reach) (c : CoreModel) (o : Order) (now : ℤ) (n : ℕ) (d : CoreModel) (h : HasOrdered policies before c o now n d) where
+module _ (policies : List Policy) (before after : Reach) (c : CoreModel) (o : Order) (now : ℤ) (n : ℕ) (d : CoreModel) (h : HasOrdered policies before after c o now n d) where
   abbrev r : Rules
   r = rules_of c.settings before.meaning
 
@@ -114,8 +115,8 @@ module _ (policies : List Policy) (before : Reach) (c : CoreModel) (o : Order) (
   abbrev old : Amounts
   old = amounts_of before.meaning c
 
-  pub ordered_steps : (g : Segments) → IsSettledIn policies g before c → StepsTo before.meaning c d o
-  ordered_steps g settled = record {
+  pub ordered_steps : (g : Segments) → IsChecked policies g before after c → StepsTo before.meaning c d o
+  ordered_steps g store = record {
     after = put_amounts old (order_moves old o);
     step = ap (λ z. stepped z (put_amounts old (order_moves old o))) (sym (same_refusal h.amounts old o agree) ∙ h.by.fits);
     state = λ k.
@@ -129,7 +130,7 @@ module _ (policies : List Policy) (before : Reach) (c : CoreModel) (o : Order) (
       newest_after = last_of c.settings.start_seq (c.state.commits ++ (made ∷ []))
 
       agree : Agree h.amounts old (order_keys o)
-      agree = agree_reads r c.state.commits (newest c) h.amounts (order_keys o) h.by.reads (own_puts (order_moves h.amounts o)) h.by.read (subst (IsAlone r c.state.commits (newest c)) h.by.whole (h.seen g settled))
+      agree = agree_reads r c.state.commits (newest c) h.amounts (order_keys o) h.by.reads (own_puts (order_moves h.amounts o)) h.by.read (subst (IsAlone r c.state.commits (newest c)) h.by.whole (h.seen g store))
 
       moves : order_moves h.amounts o ≡ order_moves old o
       moves = same_moves h.amounts old o agree
@@ -140,8 +141,8 @@ module _ (policies : List Policy) (before : Reach) (c : CoreModel) (o : Order) (
       kept : made.ops ≡ kept_ops (puts (order_moves old o))
       kept = h.by.kept ∙ ap (λ ps. kept_ops (puts ps)) moves
 
-  pub ordered_vouched : (g : Segments) → IsSettledIn policies g before c → IsVouchedCore before.meaning c → IsVouchedCore before.meaning d
-  ordered_vouched g settled vouched = committed_vouched c d h.id SerializableSnapshot h.taken (Some n) now h.committed before.meaning (h.seen g settled) vouched
+  pub ordered_vouched : (g : Segments) → IsChecked policies g before after c → IsVouchedCore before.meaning c → IsVouchedCore before.meaning d
+  ordered_vouched g store vouched = committed_vouched c d h.id SerializableSnapshot h.taken (Some n) now h.committed before.meaning (h.seen g store) vouched
 
   pub ordered_orders : IsOrders c.events → IsOrders d.events
   ordered_orders are = committed_kind order_kind c d h.id SerializableSnapshot h.taken (Some n) now h.committed
@@ -184,28 +185,30 @@ left_grows c d (inr (id, e)) =
 
 -- ---- one read more
 
-pub read_first : (policies : List Policy) (before : Reach) (c d : CoreModel) (id : List ℕ) (ns : List ℕ) → ns ≡ [] → IsWithin c id SerializableSnapshot [] d → HasRead policies before c id [] ns d
-read_first policies before c d id ns none h = record {
+pub read_first : (policies : List Policy) (before after : Reach) (c d : CoreModel) (id : List ℕ) (ns : List ℕ) → ns ≡ [] → IsWithin c id SerializableSnapshot [] d → HasRead policies before after c id [] ns d
+read_first policies before after c d id ns none h = record {
   taken = [];
   within = h;
   read = subst (λ xs. AreSteps IsRead [] xs []) (sym none) tt;
-  seen = λ g settled. tt;
+  seen = λ g store. tt;
 }
 
-pub read_more : (policies : List Policy) (before now : Reach) (c d e : CoreModel) (id : List ℕ) (keys : List (List ℕ)) (i : ℕ) (k0 k : List ℕ) (ns : List ℕ) (n : ℕ) (vs : List ℕ) → OnlyReads before now → i < length keys → k ≡ get_or keys i k0 → vs ≡ ns ++ (n ∷ []) →
-    (old : HasRead policies before c id (take i keys) ns d) → HasGot policies now c id old.taken k n e → HasRead policies before c id (take (i + 1) keys) vs e
-read_more policies before now c d e id keys i k0 k ns n vs reads within is pushed old got = record {
+pub read_more : (policies : List Policy) (before now after : Reach) (c d e : CoreModel) (id : List ℕ) (keys : List (List ℕ)) (i : ℕ) (k0 k : List ℕ) (ns : List ℕ) (n : ℕ) (vs : List ℕ) → OnlyReads before now → OnlyReads now after → i < length keys → k ≡ get_or keys i k0 → vs ≡ ns ++ (n ∷ []) →
+    (old : HasRead policies before now c id (take i keys) ns d) → HasGot policies now after c id old.taken k n e → HasRead policies before after c id (take (i + 1) keys) vs e
+read_more policies before now after c d e id keys i k0 k ns n vs reads later within is pushed old got = record {
   taken = old.taken ++ (steps.Get k got.answer ∷ []);
   within = got.within;
   read =
       subst (λ ks. AreSteps IsRead ks vs (old.taken ++ (steps.Get k got.answer ∷ []))) (sym (take_more keys i k0 within ∙ ap (λ j. take i keys ++ (j ∷ [])) (sym is)))
       (subst (λ xs. AreSteps IsRead (take i keys ++ (k ∷ [])) xs (old.taken ++ (steps.Get k got.answer ∷ []))) (sym pushed)
       (steps_more IsRead (take i keys) ns old.taken k n (steps.Get k got.answer) old.read (refl, got.is)));
-  seen = seen_before policies before now c (old.taken ++ (steps.Get k got.answer ∷ [])) reads (got.seen (seen_later policies before now c old.taken reads old.seen));
+  seen = λ g store. subst (λ (m : Meaning). Sees m c (old.taken ++ (steps.Get k got.answer ∷ []))) reads.meaning
+      (got.seen g (checked_behind policies g before now after c reads later store)
+      (subst (λ (m : Meaning). Sees m c old.taken) (sym reads.meaning) (old.seen g (checked_before policies g before now after c reads later store))));
 }
 
-pub all_read : (policies : List Policy) (before : Reach) (c d : CoreModel) (id : List ℕ) (keys : List (List ℕ)) (i : ℕ) (ns : List ℕ) → length keys ≤ i → HasRead policies before c id (take i keys) ns d → HasRead policies before c id keys ns d
-all_read policies before c d id keys i ns past h = record {
+pub all_read : (policies : List Policy) (before after : Reach) (c d : CoreModel) (id : List ℕ) (keys : List (List ℕ)) (i : ℕ) (ns : List ℕ) → length keys ≤ i → HasRead policies before after c id (take i keys) ns d → HasRead policies before after c id keys ns d
+all_read policies before after c d id keys i ns past h = record {
   taken = h.taken;
   within = h.within;
   read = subst (λ ks. AreSteps IsRead ks ns h.taken) (take_all i keys past) h.read;

@@ -1,15 +1,15 @@
 -- A run over lines: what it keeps from line to line, how it begins, and how it ends.
-use Rattle.std.proofs.Common.{◌≡◌, ℕ, ◌+◌, ◌*◌, ◌<◌, ◌≤◌, ◌⊎◌, inl, inr, Bool, true, false, ◌||◌, List, [], ◌∷◌, ◌++◌, length, append-nil, is_some, Option, Some, None, Result, Ok, Err, ℤ, refl, sym, ap, subst, ◌∙◌, arith}
-use Rattle.std.specs.Prelude.{IfErr, IfOk, IsSome, OnOk}
+use Rattle.std.proofs.Common.{◌≡◌, ℕ, ◌+◌, ◌*◌, ◌<◌, ◌≤◌, ◌⊎◌, inl, inr, Bool, true, false, ◌||◌, List, [], ◌∷◌, ◌++◌, length, is_some, Option, Some, None, Result, Ok, Err, ℤ, refl, sym, ap, subst, ◌∙◌, arith}
+use Rattle.std.specs.Prelude.{IfErr, IfOk, IsSome}
 use Rattle.std.specs.Global.{Vec}
 use Rattle.slate_types.specs.declared.error.SlateDBError.{SlateDBError}
 use Rattle.slate_types.specs.declared.error.SlateDBError.TheVariants as errors
 use Rattle.slate_types.specs.declared.config.Options.{Options}
 use Rattle.slate_types.specs.Outside.{IsFault, Meaning, Objects, Reach}
-use Rattle.slate_types.proofs.Reaching.{fault_earlier, reads_none, reads_then}
+use Rattle.slate_types.proofs.Reaching.{reads_none}
 use Rattle.slate_filter.specs.Policy.{Policy}
 use Rattle.slate_store.specs.Lines.{script_limit}
-use Rattle.slate_store.specs.Run.{IsProgramError, LineSays, Says, WritesLine}
+use Rattle.slate_store.specs.Run.{IsRunCause, LineSays, Says}
 use Rattle.slate_mem.specs.KeyTests.{Segments}
 use Rattle.slate_txn.specs.declared.event.Event.{Event}
 use Rattle.slate_txn.specs.Named.{find_named}
@@ -39,33 +39,10 @@ use Rattle.slate_stock.specs.Journals.{IsOrders}
 use Rattle.slate_stock.specs.Lines.{Books, after_by, is_stock_line, line_step, ok_words, opening_books, read_line, refused_words, replies_on, reply_of_words, said_by, total_words}
 use Rattle.slate_stock.specs.Running.{amounts_of}
 use Rattle.slate_stock.specs.Runs.{Answers, Goes, IsRunError, IsRunning, Premises, RunEnds, RunsAs, is_limit}
+use Rattle.slate_stock.specs.Onward.{EndsBetween, GoesBetween}
 use Rattle.slate_stock.specs.Words.{has_reply, is_said}
 use Rattle.slate_stock.proofs.CoreLaws.{left_grows}
 use Rattle.slate_stock.proofs.RunLaws.{IsOrderCall, IsTotalCall, memory_ends, order_ends, order_made, order_refused, total_ends, total_found, total_unsaid}
-
--- ---- from line to line
-
-pub goes_still : (policies : List Policy) (a : Reach) (x : CoreModel) → Goes policies a a x x 0
-goes_still policies a x = record { settled = λ h. h; grows = omega arith; reads = reads_none a }
-
-pub goes_both : (policies : List Policy) (a b c : Reach) (x y z : CoreModel) (n m : ℕ) → Goes policies a b x y n → Goes policies b c y z m → Goes policies a c x z (n + m)
-goes_both policies a b c x y z n m p q = record {
-  settled = λ h. q.settled (p.settled h);
-  grows = let one : weight y ≤ weight x + 2 * n = p.grows in let two : weight z ≤ weight y + 2 * m = q.grows in omega (arith, one, two);
-  reads = reads_then a b c p.reads q.reads;
-}
-
-pub run_error_later : (policies : List Policy) (a b c : Reach) (x y z : CoreModel) (n : ℕ) (e : SlateDBError) → Goes policies a b x y n → IsRunError policies b c y z e → IsRunError policies a c x z e
-run_error_later policies a b c x y z n e p q = record {
-  apart = q.apart;
-  settled = λ h. by (q.settled (p.settled h));
-  limit = q.limit;
-  cause = record { from = q.cause.from; upto = q.cause.upto; core = q.cause.core; first = reads_then a b q.cause.from p.reads q.cause.first; later = q.cause.later; refused = q.cause.refused };
-}
-  where
-    by : IsFault b c e ⊎ (is_limit e ≡ true) → IsFault a c e ⊎ (is_limit e ≡ true)
-    by (inl fault) = inl (fault_earlier a b c e p.reads.later fault)
-    by (inr limit) = inr limit
 
 -- ---- what is said
 
@@ -211,20 +188,11 @@ no_limit policies before after c d n e settled light few goes error = by (is_lim
         at (inl fault) = fault
         at (inr limit) = let clash : true ≡ false = sym limit ∙ is in cc
 
--- ---- what is written for a line
-
-same_error : {V : Type 0} (a b : SlateDBError) → ◌≡◌ {A = Result V SlateDBError} (Err a) (Err b) → a ≡ b
-same_error a b is = cc
+-- ---- what is said for a line
 
 module _ (policies : List Policy) (before after : Reach) (c d : CoreModel) (f : Says) (line : List ℕ) where
-  pub silence_writes : {V : Type 0} (v : V) (sink : Option (List ℕ)) → is_silent line ≡ true → RunsAs policies before c f → WritesLine {T = V} f (RunsAs policies before c) line sink sink (Ok v)
-  silence_writes v sink silent h = record {
-    whole = ([], record { later = f; answers = h; said = λ rest. h.2 (line ∷ rest) ∙ silence_said h.0 line silent rest ∙ sym (h.2 rest) }, λ told is. is ∙ ap Some (sym (append-nil told)));
-    begun = λ e. cc;
-  }
-
-  pub nothing_written : {V : Type 0} (e : SlateDBError) (now : Reach) (x : CoreModel) (sink : Option (List ℕ)) → (e ≡ errors.WriteFault → ⊥) → WritesLine {T = V} f (RunsAs policies now x) line sink sink (Err e)
-  nothing_written e now x sink other = record { whole = tt; begun = λ is. absurd (other (same_error e errors.WriteFault is)) }
+  pub silence_says : is_silent line ≡ true → RunsAs policies before c f → LineSays f (RunsAs policies before c) line []
+  silence_says silent h = record { later = f; answers = h; said = λ rest. h.2 (line ∷ rest) ∙ silence_said h.0 line silent rest ∙ sym (h.2 rest) }
 
   pub line_answers : (l : StockLine) (text : Vec ℕ) → is_silent line ≡ false → read_line line ≡ Some l → Answers policies l before after c d (Ok text) → RunsAs policies before c f → LineSays f (RunsAs policies after d) line text.items
   line_answers l text loud means answers h =
@@ -234,9 +202,6 @@ module _ (policies : List Policy) (before after : Reach) (c d : CoreModel) (f : 
         answers = ((line_step h.0 l).0, said.1, λ ls. refl);
         said = λ rest. h.2 (line ∷ rest) ∙ line_said h.0 line l loud means rest ∙ ap (λ bs. bs ++ replies_on (line_step h.0 l).0 rest) (sym said.0);
       }
-
-pub no_write_fault : (e : SlateDBError) → IsProgramError e → e ≡ errors.WriteFault → ⊥
-no_write_fault e apart is = subst IsProgramError is apart
 
 pub taken_line : (line : List ℕ) (l : StockLine) → read_line line ≡ Some l → is_stock_line line ≡ true
 taken_line line l means = ap (λ o. is_silent line || is_some o) means ∙ or_true (is_silent line)
@@ -262,10 +227,23 @@ goes_line policies line before after c d result h = record { settled = h.settled
 -- a line that isn't read: want of memory, or none that asks for something
 pub unread_line : (policies : List Policy) (before after : Reach) (c d : CoreModel) (line : List ℕ) (n : ℕ) (e : SlateDBError) →
     (e ≡ errors.OutOfMemory) ⊎ ((e ≡ errors.ScriptSyntax n) × (is_silent line ≡ false) × (read_line line ≡ None)) →
-    (e ≡ errors.WriteFault → ⊥) × (((e ≡ errors.ScriptSyntax n) × (is_stock_line line ≡ false)) ⊎ IsRunError policies before after c d e)
-unread_line policies before after c d line n e (inl memory) = (λ fault. let clash : errors.OutOfMemory ≡ errors.WriteFault = sym memory ∙ fault in cc, inr (memory_ends policies before after c d e memory))
-unread_line policies before after c d line n e (inr (syntax_is, loud, none)) = (λ fault. let clash : errors.ScriptSyntax n ≡ errors.WriteFault = sym syntax_is ∙ fault in cc, inl (syntax_is, not_taken line loud none))
+    ((e ≡ errors.ScriptSyntax n) × (is_stock_line line ≡ false)) ⊎ IsRunError policies before after c d e
+unread_line policies before after c d line n e (inl memory) = inr (memory_ends policies before after c d e memory)
+unread_line policies before after c d line n e (inr (syntax_is, loud, none)) = inl (syntax_is, not_taken line loud none)
 
-pub sink_still : {V : Type 0} (result : Result V SlateDBError) (a b : ℕ) → IfErr result (λ e. e ≡ errors.WriteFault) → OnOk result (b ≡ a) → (result ≡ Err errors.WriteFault) ⊎ (b ≡ a)
-sink_still (Ok v) a b h k = inr k
-sink_still (Err e) a b h k = inl (ap Err h)
+-- ---- how a run ends
+
+pub cause_map : (A B : Type 0) (P Q : SlateDBError → Type 0) (e : SlateDBError) → (P e → Q e) → IsRunCause A B P e → IsRunCause A B Q e
+cause_map A B P Q e f (inl h) = inl h
+cause_map A B P Q e f (inr (inl h)) = inr (inl h)
+cause_map A B P Q e f (inr (inr (inl h))) = inr (inr (inl h))
+cause_map A B P Q e f (inr (inr (inr (inl h)))) = inr (inr (inr (inl h)))
+cause_map A B P Q e f (inr (inr (inr (inr (inl h))))) = inr (inr (inr (inr (inl h))))
+cause_map A B P Q e f (inr (inr (inr (inr (inr h))))) = inr (inr (inr (inr (inr (f h)))))
+
+pub run_ends : {V P : Type 0} {policies : P → List Policy} {reach : P → Reach} {core : P → CoreModel} {p q : P} {n : ℕ} {after : Reach} (A B : Type 0) (result : Result V SlateDBError) → GoesBetween policies reach core p q n →
+    IfErr result (IsRunCause A B (EndsBetween policies reach core p q)) → reach q ≡ after → (Premises (policies p) (reach p) → IsSettledIn (policies p) None (reach p) (core p)) → weight (core p) ≡ 0 → n ≤ script_limit →
+    IfErr result (IsRunCause A B (RunEnds (policies p) (reach p) after))
+run_ends A B (Ok v) goes cause same settled light few = tt
+run_ends {policies = policies} {reach = reach} {core = core} {p = p} {q = q} {n = n} {after = after} A B (Err e) goes cause same settled light few =
+    cause_map A B (EndsBetween policies reach core p q) (RunEnds (policies p) (reach p) after) e (λ x. subst (λ t. RunEnds (policies p) (reach p) t e) same (no_limit (policies p) (reach p) (reach q) (core p) (core q) n e settled light few goes.goes x.error)) cause

@@ -24,6 +24,7 @@ use Rattle.slate_db.specs.SerialLaws.{IsVouchedCore}
 use Rattle.slate_db.specs.Settled.{IsSettledIn}
 use Rattle.slate_steps.specs.Steps.{newest}
 use Rattle.slate_steps.proofs.Settling.{ended_weight}
+use Rattle.slate_steps.proofs.StoreTruth.{checked_in}
 use Rattle.slate_stock.specs.declared.error.StockError.{StockError}
 use Rattle.slate_stock.specs.declared.error.StockError.TheVariants.{SameName, SameAsset, TooMuch, BadAmount, AlreadyIssued, NotEnough, Db, ForeignCommit}
 use Rattle.slate_stock.specs.declared.line.StockLine.{StockLine}
@@ -67,11 +68,11 @@ no_db m (Pay asset from to n) = none_first (form_refusals (Pay asset from to n) 
 no_db m (Trade asset buyer seller q p) = none_first (form_refusals (Trade asset buyer seller q p) ++ amount_refusals m (Trade asset buyer seller q p))
     (none_where _ _ (λ x is. cc), (none_where _ _ (λ x is. cc), (none_where _ _ (λ x is. cc), (none_where _ _ (λ x is. cc), (none_where _ _ (λ x is. cc), (none_where _ _ (λ x is. cc), (none_where _ _ (λ x is. cc), tt)))))))
 
-truth_ends : (before after : Reach) (c : CoreModel) (x : SlateDBError) → IsDbTruth before after c x → IsFault before after x ⊎ (is_limit x ≡ true)
+truth_ends : (before after : Reach) (c : CoreModel) (x : SlateDBError) → IsDbTruth (IsFault before after) c x → IsFault before after x ⊎ (is_limit x ≡ true)
 truth_ends before after c x (IsDbTruth.fault f) = inl f
 truth_ends before after c x (IsDbTruth.full is place) = inr (ap is_limit is)
 
-truth_unsaid : (before after : Reach) (c : CoreModel) (x : SlateDBError) → IsDbTruth before after c x → has_reply x ≡ false
+truth_unsaid : (before after : Reach) (c : CoreModel) (x : SlateDBError) → IsDbTruth (IsFault before after) c x → has_reply x ≡ false
 truth_unsaid before after c x (IsDbTruth.fault f) = (fault_ends before.faults after.faults x f).unsaid
 truth_unsaid before after c x (IsDbTruth.full is place) = ap has_reply is
 
@@ -132,10 +133,10 @@ left_running policies before after c d b reads left settled h = record {
 
 -- what the call says
 pub record IsOrderCall (policies : List Policy) (o : Order) (now : ℤ) (before after : Reach) (c d : CoreModel) (made : Result ℕ StockError) : Type 0 where
-  pub committed : IfOk made (λ n. HasOrdered policies before c o now n d)
+  pub committed : IfOk made (λ n. HasOrdered policies before after c o now n d)
   pub left : OnErr made (IsLeft c d)
   pub cause : IfErr made (IsOrderCause policies before after c o)
-  pub refused : (g : Segments) → IsSettledIn policies g before c → IfErr made (IsOrderTruth before after c o)
+  pub refused : (g : Segments) → IsSettledIn policies g before c → IfErr made (IsOrderTruth (IsFault before after) before.meaning c o)
   pub exhausted : newest c ≡ 2 ^ 64 - 2 → IfOk made (λ _. ⊥)
   pub settled : IsSettledIn policies None before c → IsSettledIn policies None after d
   pub vouched : (g : Segments) → IsSettledIn policies g before c → IsVouchedCore before.meaning c → IsVouchedCore before.meaning d
@@ -189,12 +190,12 @@ module _ (policies : List Policy) (o : Order) (now : ℤ) (before after : Reach)
       settled = call.settled h.settled;
       orders = call.orders h.orders;
       vouched = subst (λ (x : Meaning). IsVouchedCore x d) (sym call.reads.meaning) (call.vouched None h.settled h.vouched);
-      stands = subst (λ (x : Meaning). StandsFor x d (moved b o)) (sym call.reads.meaning) (books_moved policies None before c d o now n call.committed h.settled b h.stands);
+      stands = subst (λ (x : Meaning). StandsFor x d (moved b o)) (sym call.reads.meaning) (books_moved policies None before after c d o now n call.committed h.settled b h.stands);
     },
   )
     where
       steps : StepsTo before.meaning c d o
-      steps = ordered_steps policies before c o now n d call.committed None h.settled
+      steps = ordered_steps policies before after c o now n d call.committed None (checked_in policies None before after c h.settled)
 
   pub order_refused : (e : StockError) → IsOrderCall policies o now before after c d (Err e) → is_said e ≡ true → (line_step b (lines.Order o) ≡ (b, refused_words e)) × IsRunning policies after d b
   order_refused e call said = (by e said (call.refused None h.settled), left_running policies before after c d b call.reads call.left call.settled h)
@@ -202,7 +203,7 @@ module _ (policies : List Policy) (o : Order) (now : ℤ) (before after : Reach)
       bad : (k : List ℕ) → IsBadAmount before.meaning c k → ⊥
       bad k x = none_bad before.meaning c call.legal call.replays h.orders h.vouched k x
 
-      by : (y : StockError) → is_said y ≡ true → IsOrderTruth before after c o y → line_step b (lines.Order o) ≡ (b, refused_words y)
+      by : (y : StockError) → is_said y ≡ true → IsOrderTruth (IsFault before after) before.meaning c o y → line_step b (lines.Order o) ≡ (b, refused_words y)
       by (Db x) s (inl truth) = said_or x s (truth_unsaid before after c x truth)
       by (Db x) s (inr (inl wrong)) = absurd wrong
       by (BadAmount k) s (inr (inl (among, wrong))) = absurd (bad k wrong)
@@ -226,7 +227,7 @@ module _ (policies : List Policy) (o : Order) (now : ℤ) (before after : Reach)
 pub order_ends : (policies : List Policy) (o : Order) (now : ℤ) (before after : Reach) (c d : CoreModel) (x : SlateDBError) → IsOrderCall policies o now before after c d (Err (Db x)) → has_reply x ≡ false → IsRunError policies before after c d x
 order_ends policies o now before after c d x call unsaid = by call.cause
   where
-    truth : IsOrderTruth before after c o (Db x) → IsFault before after x ⊎ (is_limit x ≡ true)
+    truth : IsOrderTruth (IsFault before after) before.meaning c o (Db x) → IsFault before after x ⊎ (is_limit x ≡ true)
     truth (inl t) = truth_ends before after c x t
     truth (inr (inl wrong)) = absurd wrong
     truth (inr (inr (inl refused))) = absurd (no_db (amounts_of before.meaning c) o x refused)
@@ -276,7 +277,7 @@ module _ (policies : List Policy) (asset : List ℕ) (before after : Reach) (c d
       bad : (k : List ℕ) → IsBadAmount before.meaning c k → ⊥
       bad k x = none_bad before.meaning c call.legal call.replays h.orders h.vouched k x
 
-      of_db : (y : StockError) → is_said y ≡ true → IsDb (IsDbTruth before after c) y → ⊥
+      of_db : (y : StockError) → is_said y ≡ true → IsDb (IsDbTruth (IsFault before after) c) y → ⊥
       of_db (Db x) s truth = said_or x s (truth_unsaid before after c x truth)
       of_db SameName s truth = truth
       of_db SameAsset s truth = truth

@@ -22,8 +22,9 @@ use Rattle.slate_txn.specs.Reads.{rows_seen}
 use Rattle.slate_db.specs.Meaning.{rules_of}
 use Rattle.slate_db.specs.Model.{CoreModel}
 use Rattle.slate_db.specs.Settled.{IsSettledIn}
-use Rattle.slate_steps.specs.Reads.{IsReadError}
+use Rattle.slate_steps.specs.Reads.{IsFaultSettled, IsReadError}
 use Rattle.slate_steps.specs.Steps.{IsBeginError, IsWithin, newest}
+use Rattle.slate_steps.proofs.StoreTruth.{checked_in}
 use Rattle.slate_stock.specs.declared.error.StockError.{StockError}
 use Rattle.slate_stock.specs.declared.error.StockError.TheVariants.{SameName, SameAsset, TooMuch, BadAmount, AlreadyIssued, NotEnough, Db, ForeignCommit}
 use Rattle.slate_stock.specs.Amounts.{amount_bytes, amount_of, head, issued_key}
@@ -78,14 +79,14 @@ sum_refused xs i n d row e within is sum (inr (inr (much, past))) =
 
 -- ---- what was read
 
-pub got_there : (policies : List Policy) (g : Segments) (a : Reach) (c d : CoreModel) (id k : List ℕ) (n : ℕ) → HasGot policies a c id [] k n d → IsSettledIn policies g a c → n ≡ amounts_of a.meaning c k
-got_there policies g a c d id k n h settled = first (reads_there (rules_of c.settings a.meaning) c.state.commits (newest c) (k ∷ []) (n ∷ []) (steps.Get k h.answer ∷ []) ((refl, h.is), tt) (h.seen (λ s x. tt) g settled))
+pub got_there : (policies : List Policy) (g : Segments) (a b : Reach) (c d : CoreModel) (id k : List ℕ) (n : ℕ) → HasGot policies a b c id [] k n d → IsSettledIn policies g a c → n ≡ amounts_of a.meaning c k
+got_there policies g a b c d id k n h settled = first (reads_there (rules_of c.settings a.meaning) c.state.commits (newest c) (k ∷ []) (n ∷ []) (steps.Get k h.answer ∷ []) ((refl, h.is), tt) (h.seen g (checked_in policies g a b c settled) tt))
   where
     first : {m : ℕ} → (n ∷ []) ≡ (m ∷ []) → n ≡ m
     first is = cc
 
-pub got_key : (policies : List Policy) (a : Reach) (c d : CoreModel) (id k j : List ℕ) (r : Result ℕ StockError) → k ≡ j → IfOk r (λ n. HasGot policies a c id [] k n d) → IfOk r (λ n. HasGot policies a c id [] j n d)
-got_key policies a c d id k j r same h = subst (λ (x : List ℕ). IfOk r (λ n. HasGot policies a c id [] x n d)) same h
+pub got_key : (policies : List Policy) (a b : Reach) (c d : CoreModel) (id k j : List ℕ) (r : Result ℕ StockError) → k ≡ j → IfOk r (λ n. HasGot policies a b c id [] k n d) → IfOk r (λ n. HasGot policies a b c id [] j n d)
+got_key policies a b c d id k j r same h = subst (λ (x : List ℕ). IfOk r (λ n. HasGot policies a b c id [] x n d)) same h
 
 -- the rows behind the head of an asset's keys, where the transaction wrote nothing
 pub balances_are : (m : Meaning) (c : CoreModel) (asset prefix : List ℕ) (ops : Ops) (rows : List KeyValue) → prefix ≡ head asset → ops ≡ [] →
@@ -110,7 +111,7 @@ module _ (policies : List Policy) (a z : Reach) (c : CoreModel) (asset : List �
   memory_cause e is = inl (db_is (IsDbCause policies a z c) e errors.OutOfMemory is (IsDbCause.fault tt))
 
   pub memory_truth : (e : StockError) → e ≡ Db errors.OutOfMemory → IsTotalTruth a z c asset e
-  memory_truth e is = IsTotalTruth.database (db_is (IsDbTruth a z c) e errors.OutOfMemory is (IsDbTruth.fault tt))
+  memory_truth e is = IsTotalTruth.database (db_is (IsDbTruth (IsFault a z) c) e errors.OutOfMemory is (IsDbTruth.fault tt))
 
   pub begin_total_cause : (x : SlateDBError) → IsBeginError c x → IsTotalCause policies a z c (Db x)
   begin_total_cause x (inl m) = inl (IsDbCause.fault (subst (IsFault a z) (sym m) tt))
@@ -132,9 +133,9 @@ module _ (policies : List Policy) (a z : Reach) (c : CoreModel) (asset : List �
   issued_cause k id e (inl h) = inl (db_map _ (IsDbCause policies a z c) e (λ x. elim [ inl m ↦ IsDbCause.fault (subst (IsFault a z) (sym m) tt) | inr f ↦ IsDbCause.read id f ]) h)
   issued_cause k id e (inr bad) = inr (inl (subst (IsBad (λ j. Unit {0})) (sym bad) tt))
 
-  pub issued_truth : (e : StockError) → IsGetTruth a z c (issued_key asset) e → IsTotalTruth a z c asset e
-  issued_truth e (inl h) = IsTotalTruth.database (db_map (IsFault a z) (IsDbTruth a z c) e (λ x f. IsDbTruth.fault f) h)
-  issued_truth e (inr (bad, value)) = IsTotalTruth.issued bad value
+  pub issued_truth : (g : Segments) (e : StockError) → IsSettledIn policies g a c → IsGetTruth (IsFaultSettled policies a z c) a.meaning c (issued_key asset) e → IsTotalTruth a z c asset e
+  issued_truth g e settled (inl h) = IsTotalTruth.database (db_map (IsFaultSettled policies a z c) (IsDbTruth (IsFault a z) c) e (λ x f. IsDbTruth.fault (f g settled)) h)
+  issued_truth g e settled (inr (bad, value)) = IsTotalTruth.issued bad value
 
 -- since an earlier moment
 module _ (policies : List Policy) (a b z : Reach) (c : CoreModel) (asset : List ℕ) (only : OnlyReads a b) where
@@ -144,7 +145,7 @@ module _ (policies : List Policy) (a b z : Reach) (c : CoreModel) (asset : List 
   db_cause_since x (IsDbCause.full is place) = IsDbCause.full is place
   db_cause_since x (IsDbCause.last is last) = IsDbCause.last is last
 
-  db_truth_since : (x : SlateDBError) → IsDbTruth b z c x → IsDbTruth a z c x
+  db_truth_since : (x : SlateDBError) → IsDbTruth (IsFault b z) c x → IsDbTruth (IsFault a z) c x
   db_truth_since x (IsDbTruth.fault f) = IsDbTruth.fault (fault_earlier a b z x only.later f)
   db_truth_since x (IsDbTruth.full is place) = IsDbTruth.full is place
 
@@ -153,6 +154,6 @@ module _ (policies : List Policy) (a b z : Reach) (c : CoreModel) (asset : List 
   total_cause_since e (inr other) = inr other
 
   pub total_truth_since : (e : StockError) → IsTotalTruth b z c asset e → IsTotalTruth a z c asset e
-  total_truth_since e (IsTotalTruth.database h) = IsTotalTruth.database (db_map (IsDbTruth b z c) (IsDbTruth a z c) e db_truth_since h)
+  total_truth_since e (IsTotalTruth.database h) = IsTotalTruth.database (db_map (IsDbTruth (IsFault b z) c) (IsDbTruth (IsFault a z) c) e db_truth_since h)
   total_truth_since e (IsTotalTruth.issued is wrong) = IsTotalTruth.issued is (subst (λ (m : Meaning). IsBadAmount m c (issued_key asset)) only.meaning wrong)
   total_truth_since e (IsTotalTruth.refused h) = IsTotalTruth.refused (subst (λ (m : Meaning). IsSumRefusal (map key_value (balance_rows m c asset)) e) only.meaning h)

@@ -13,10 +13,11 @@
 --     IsLeftOn o old new e      what a refused order leaves: the pass as it was; or nothing begun, as the refusal says; or a transaction that began and ended without a commit
 --     HasBegunAt o old new start      a transaction began behind this journal, which begins with what the pass had seen
 --     IsReadWithin o policies before after seen x      a read in the call was refused so, by some journal that begins what is seen then
+--     HasMetBad o from k t      the last step of the attempt was a get of the key, and its answer isn't 8 bytes long
 --     IsGetCauseOn, IsReadsCauseOn, IsTakeCauseOn      what a read of a key, reads of keys, and an order before its commit are refused for
---     IsGetTruthOn, IsReadsTruthOn, IsTakeTruthOn      the same over a store that holds the journal's tables, by the state at the begin n
+--     IsGetTruthOn P, IsReadsTruthOn P, IsTakeTruthOn P      the same where what was read is checked, by the state at the begin n; P holds of a refusal of the database
 --     IsDbCauseOn, IsOrderCauseOn      what an order is refused for, by its causes
---     IsDbTruthOn, IsOrderTruthOn      the same over such a store: the refusal is the order's at the attempt's start
+--     IsDbTruthOn, IsOrderTruthOn      the same where what was read is checked: the refusal is the order's at the attempt's start
 use Rattle.std.specs.Prelude.{◌≡◌, ◌≢◌, ◌⊎◌, ℕ, List, [], ◌∷◌, ◌++◌, Contains, Option, Some, None, Ok, length, ℤ}
 use mathlib.Core.List.{IsPrefix}
 use Rattle.slate_types.specs.declared.config.IsolationLevel.TheVariants.{SerializableSnapshot}
@@ -39,7 +40,7 @@ use Rattle.slate_txn.specs.Settings.{settings_of}
 use Rattle.slate_txn.specs.State.{last_of}
 use Rattle.slate_db.specs.Meaning.{rules_of}
 use Rattle.slate_shared.specs.Passes.{Opened, PassModel}
-use Rattle.slate_steps.specs.Attempts.{HasCommittedBehind, HasEndedBehind, IsAttempt, IsReadErrorOn, IsRefusedBehind, IsUnbegun, IsVouchedThere}
+use Rattle.slate_steps.specs.Attempts.{HasCommittedBehind, HasEndedBehind, IsAttempt, IsFaultOn, IsReadErrorOn, IsRefusedBehind, IsUnbegun, IsVouchedThere}
 use Rattle.slate_stock.specs.declared.order.Order.{Order}
 use Rattle.slate_stock.specs.declared.error.StockError.{StockError}
 use Rattle.slate_stock.specs.declared.error.StockError.TheVariants.{BadAmount}
@@ -131,23 +132,30 @@ pub record IsReadWithin (o : Options) (policies : List Policy) (before after : R
   pub known : IsPrefix by seen
   pub refused : IsReadErrorOn o policies from upto by x
 
-abbrev pub IsGetCauseOn : Options → List Policy → Reach → Reach → List Event → List ℕ → StockError → Type 0
-IsGetCauseOn o policies before after seen k e = IsDb (IsReadErrorOn o policies before after seen) e ⊎ (e ≡ BadAmount k)
+-- before: the steps that it took before
+pub record HasMetBad (o : Options) (from : List Event) (k : List ℕ) (t : Opened) : Type 0 where
+  pub before : List TranscriptStep
+  pub answer : KeyValue
+  pub within : IsAttempt o from SerializableSnapshot (before ++ (steps.Get k (Some answer) ∷ [])) t
+  pub long : length answer.value ≢ 8
 
-abbrev pub IsReadsCauseOn : Options → List Policy → Reach → Reach → List Event → List (List ℕ) → StockError → Type 0
-IsReadsCauseOn o policies before after seen keys e = IsDb (IsReadWithin o policies before after seen) e ⊎ IsBad (λ k. Contains keys k) e
+abbrev pub IsGetCauseOn : Options → List Policy → Reach → Reach → List Event → List ℕ → Opened → StockError → Type 0
+IsGetCauseOn o policies before after from k t e = IsDb (IsReadErrorOn o policies before after t.seen) e ⊎ ((e ≡ BadAmount k) × HasMetBad o from k t)
 
-abbrev pub IsTakeCauseOn : Options → List Policy → Reach → Reach → List Event → Order → StockError → Type 0
-IsTakeCauseOn o policies before after seen order e = IsReadsCauseOn o policies before after seen (order_keys order) e ⊎ ((m : Amounts) × (order_refusal m order ≡ Some e))
+abbrev pub IsReadsCauseOn : Options → List Policy → Reach → Reach → List Event → List (List ℕ) → Opened → StockError → Type 0
+IsReadsCauseOn o policies before after from keys t e = IsDb (IsReadWithin o policies before after t.seen) e ⊎ IsBad (λ k. Contains keys k × HasMetBad o from k t) e
 
-abbrev pub IsGetTruthOn : Options → Meaning → Reach → Reach → List Event → ℕ → List ℕ → StockError → Type 0
-IsGetTruthOn o m before after es n k e = IsDb (IsFault before after) e ⊎ ((e ≡ BadAmount k) × IsBadSince o m es n k)
+abbrev pub IsTakeCauseOn : Options → List Policy → Reach → Reach → List Event → Order → Opened → StockError → Type 0
+IsTakeCauseOn o policies before after from order t e = IsReadsCauseOn o policies before after from (order_keys order) t e ⊎ ((m : Amounts) × (order_refusal m order ≡ Some e))
 
-abbrev pub IsReadsTruthOn : Options → Meaning → Reach → Reach → List Event → ℕ → List (List ℕ) → StockError → Type 0
-IsReadsTruthOn o m before after es n keys e = IsDb (IsFault before after) e ⊎ IsBad (λ k. Contains keys k × IsBadSince o m es n k) e
+abbrev pub IsGetTruthOn : (SlateDBError → Type 0) → Options → Meaning → List Event → ℕ → List ℕ → StockError → Type 0
+IsGetTruthOn P o m es n k e = IsDb P e ⊎ ((e ≡ BadAmount k) × IsBadSince o m es n k)
 
-abbrev pub IsTakeTruthOn : Options → Meaning → Reach → Reach → List Event → ℕ → Order → StockError → Type 0
-IsTakeTruthOn o m before after es n order e = IsReadsTruthOn o m before after es n (order_keys order) e ⊎ (order_refusal (amounts_since o m es n) order ≡ Some e)
+abbrev pub IsReadsTruthOn : (SlateDBError → Type 0) → Options → Meaning → List Event → ℕ → List (List ℕ) → StockError → Type 0
+IsReadsTruthOn P o m es n keys e = IsDb P e ⊎ IsBad (λ k. Contains keys k × IsBadSince o m es n k) e
+
+abbrev pub IsTakeTruthOn : (SlateDBError → Type 0) → Options → Meaning → List Event → ℕ → Order → StockError → Type 0
+IsTakeTruthOn P o m es n order e = IsReadsTruthOn P o m es n (order_keys order) e ⊎ (order_refusal (amounts_since o m es n) order ≡ Some e)
 
 -- want of memory or a fault, a read that was refused, want of a place for events, a conflict or want of a sequence
 pub data IsDbCauseOn (o : Options) (policies : List Policy) (before after : Reach) (old new : PassModel) (order : Order) (x : SlateDBError) : Type 0 where
@@ -157,16 +165,19 @@ pub data IsDbCauseOn (o : Options) (policies : List Policy) (before after : Reac
   refused : (t : Opened) → HasTakenOn o old.seen order t → IsRefusedBehind o t old new x → IsDbCauseOn o policies before after old new order x
 
 abbrev pub IsOrderCauseOn : Options → List Policy → Reach → Reach → PassModel → PassModel → Order → StockError → Type 0
-IsOrderCauseOn o policies before after old new order e = IsDb (IsDbCauseOn o policies before after old new order) e ⊎ IsBad (λ k. Contains (order_keys order) k) e ⊎ ((m : Amounts) × (order_refusal m order ≡ Some e))
+IsOrderCauseOn o policies before after old new order e =
+    IsDb (IsDbCauseOn o policies before after old new order) e
+    ⊎ IsBad (λ k. Contains (order_keys order) k × ((t : Opened) × HasMetBad o old.seen k t × HasEndedBehind t old new)) e
+    ⊎ ((m : Amounts) × (order_refusal m order ≡ Some e))
 
-pub data IsDbTruthOn (o : Options) (m : Meaning) (before after : Reach) (old new : PassModel) (order : Order) (x : SlateDBError) : Type 0 where
-  fault : IsFault before after x → IsDbTruthOn o m before after old new order x
-  unbegun : IsUnbegun old new x → IsDbTruthOn o m before after old new order x
-  refused : (t : Opened) → (h : HasTakenOn o old.seen order t) → IsRefusedBehind o t old new x → order_refusal (amounts_behind o m h.within.start) order ≡ None → IsDbTruthOn o m before after old new order x
+pub data IsDbTruthOn (o : Options) (m : Meaning) (policies : List Policy) (before after : Reach) (old new : PassModel) (order : Order) (x : SlateDBError) : Type 0 where
+  fault : IsFaultOn policies m new.seen before after x → IsDbTruthOn o m policies before after old new order x
+  unbegun : IsUnbegun old new x → IsDbTruthOn o m policies before after old new order x
+  refused : (t : Opened) → (h : HasTakenOn o old.seen order t) → IsRefusedBehind o t old new x → order_refusal (amounts_behind o m h.within.start) order ≡ None → IsDbTruthOn o m policies before after old new order x
 
 -- what the order alone shows is tested first, and then nothing is begun
-pub data IsOrderTruthOn (o : Options) (m : Meaning) (before after : Reach) (old new : PassModel) (order : Order) (e : StockError) : Type 0 where
-  database : IsDb (IsDbTruthOn o m before after old new order) e → IsOrderTruthOn o m before after old new order e
-  shown : first_of (form_refusals order) ≡ Some e → IsOrderTruthOn o m before after old new order e
-  bad : (start : List Event) → HasBegunAt o old.seen new.seen start → IsBad (λ k. Contains (order_keys order) k × IsBadBehind o m start k) e → IsOrderTruthOn o m before after old new order e
-  amounts : (start : List Event) → HasBegunAt o old.seen new.seen start → order_refusal (amounts_behind o m start) order ≡ Some e → IsOrderTruthOn o m before after old new order e
+pub data IsOrderTruthOn (o : Options) (m : Meaning) (policies : List Policy) (before after : Reach) (old new : PassModel) (order : Order) (e : StockError) : Type 0 where
+  database : IsDb (IsDbTruthOn o m policies before after old new order) e → IsOrderTruthOn o m policies before after old new order e
+  shown : first_of (form_refusals order) ≡ Some e → new ≡ old → after ≡ before → IsOrderTruthOn o m policies before after old new order e
+  bad : (start : List Event) → HasBegunAt o old.seen new.seen start → IsBad (λ k. Contains (order_keys order) k × IsBadBehind o m start k) e → IsOrderTruthOn o m policies before after old new order e
+  amounts : (start : List Event) → HasBegunAt o old.seen new.seen start → order_refusal (amounts_behind o m start) order ≡ Some e → IsOrderTruthOn o m policies before after old new order e

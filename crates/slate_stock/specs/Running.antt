@@ -1,30 +1,30 @@
 -- An order on a core, in one transaction. c: the core before the call; before, after: what the call reaches
 --     amounts_of m c      the amounts in the core's state
 --     HoldsAmount m c k      what stands at the key is an amount: 8 bytes, or nothing for 0
---     SeesSettled policies m objects c ts, HasSeen policies before c ts      where the core is settled, the steps' answers are those of its state
+--     HasSeen policies before after c ts      where what was read is checked, the steps' answers are those of the core's state
 --     IsKey k      a key that may be put
---     HasGot policies before c id ts k n d      the transaction read the amount at a key behind the steps
---     HasRead policies before c id keys ns d      the transaction read these amounts at the keys, in their order, and nothing else
---     HasTaken policies before c id order d      it read and put what the order reads and puts
+--     HasGot policies before after c id ts k n d      the transaction read the amount at a key behind the steps
+--     HasRead policies before after c id keys ns d      the transaction read these amounts at the keys, in their order, and nothing else
+--     HasTaken policies before after c id order d      it read and put what the order reads and puts
 --     HasTakenSome id d      so it did of some order
---     HasOrdered policies before c order now n d      it was committed then
+--     HasOrdered policies before after c order now n d      it was committed then
 --     IsLeft c d      what a refused order leaves: the core as it was, or a transaction that began and ended without a commit
 --     IsIn c id d      what a refused step leaves: the transaction with the steps before it
 --     IsDb P e, IsBad P e      a refusal of the database, or of a value at a key, of which P holds
 --     IsBadAmount m c k      the value at the key isn't 8 bytes long
 --     IsGetCause policies before after c id k e, IsReadCause policies before after c id keys e      what a read of the key, or reads of the keys, are refused for
---     IsGetTruth before after c k e, IsReadTruth before after c keys e      the same on a settled core
---     IsTakeCause policies before after c id order e, IsTakeTruth before after c order e      the same of an order before its commit
+--     IsGetTruth P m c k e, IsReadTruth P m c keys e      the same where what was read is checked: P holds of a refusal of the database, and a value is bad in the core's state
+--     IsTakeCause policies before after c id order e, IsTakeTruth P m c order e      the same of an order before its commit
 --     IsOrderCause policies before after c order e      what an order is refused for, by its causes
 --     IsLast m c order e      no sequence is left for the order
---     IsOrderTruth before after c order e      the same on a settled core
+--     IsDbTruth P c x, IsOrderTruth P m c order e      the same where what was read is checked
 use Rattle.std.specs.Prelude.{◌≡◌, ◌≢◌, ◌⊎◌, ◌<◌, ◌≤◌, ℕ, ◌-◌, ◌^◌, ◌++◌, ◌∷◌, List, [], Contains, Option, Some, None, length, option_map, ℤ}
 use Rattle.slate_types.specs.declared.config.IsolationLevel.TheVariants.{SerializableSnapshot}
 use Rattle.slate_types.specs.declared.error.SlateDBError.{SlateDBError}
 use Rattle.slate_types.specs.declared.error.SlateDBError.TheVariants as errors
 use Rattle.slate_types.specs.declared.types.KeyValue.{KeyValue}
 use Rattle.slate_types.specs.declared.types.RowEntry.{RowEntry}
-use Rattle.slate_types.specs.Outside.{IsFault, Meaning, Objects, Reach}
+use Rattle.slate_types.specs.Outside.{IsFault, Meaning, Reach}
 use Rattle.slate_types.specs.Rows.{key_value, operand}
 use Rattle.slate_filter.specs.Policy.{Policy}
 use Rattle.slate_mem.specs.Batch.{batch_keys, kept_ops}
@@ -37,8 +37,7 @@ use Rattle.slate_db.specs.Flushed.{NoPlace}
 use Rattle.slate_db.specs.Log.{LIMIT}
 use Rattle.slate_db.specs.Meaning.{rules_of}
 use Rattle.slate_db.specs.Model.{CoreModel}
-use Rattle.slate_db.specs.Settled.{IsSettled}
-use Rattle.slate_steps.specs.Reads.{IsReadFault}
+use Rattle.slate_steps.specs.Reads.{IsChecked, IsReadFault}
 use Rattle.slate_steps.specs.Steps.{HasCommitted, HasEnded, IsWithin, Sees, newest}
 use Rattle.slate_stock.specs.declared.order.Order.{Order}
 use Rattle.slate_stock.specs.declared.error.StockError.{StockError}
@@ -57,11 +56,8 @@ amounts_of m c = amount_at (rules_of c.settings m) c.state.commits (newest c)
 abbrev pub HoldsAmount : Meaning → CoreModel → List ℕ → Type 0
 HoldsAmount m c k = IsAmount (amounts_of m c k) (option_map key_value (row_in m c k))
 
-abbrev pub SeesSettled : List Policy → Meaning → Option Objects → CoreModel → List TranscriptStep → Type 0
-SeesSettled policies m objects c ts = (g : Segments) → IsSettled policies m g objects c → Sees m c ts
-
-abbrev pub HasSeen : List Policy → Reach → CoreModel → List TranscriptStep → Type 0
-HasSeen policies before c ts = SeesSettled policies before.meaning before.objects c ts
+abbrev pub HasSeen : List Policy → Reach → Reach → CoreModel → List TranscriptStep → Type 0
+HasSeen policies before after c ts = (g : Segments) → IsChecked policies g before after c → Sees before.meaning c ts
 
 abbrev pub IsKey : List ℕ → Type 0
 IsKey k = (0 < length k) × (length k ≤ 65535)
@@ -72,42 +68,43 @@ abbrev pub IsIn : CoreModel → List ℕ → CoreModel → Type 0
 IsIn c id d = (taken : List TranscriptStep) × IsWithin c id SerializableSnapshot taken d
 
 -- one get more
-pub record HasGot (policies : List Policy) (before : Reach) (c : CoreModel) (id : List ℕ) (ts : List TranscriptStep) (k : List ℕ) (n : ℕ) (d : CoreModel) : Type 0 where
+pub record HasGot (policies : List Policy) (before after : Reach) (c : CoreModel) (id : List ℕ) (ts : List TranscriptStep) (k : List ℕ) (n : ℕ) (d : CoreModel) : Type 0 where
   pub answer : Option KeyValue
   pub is : IsAmount n answer
   pub within : IsWithin c id SerializableSnapshot (ts ++ (steps.Get k answer ∷ [])) d
-  pub seen : HasSeen policies before c ts → HasSeen policies before c (ts ++ (steps.Get k answer ∷ []))
+  pub seen : (g : Segments) → IsChecked policies g before after c → Sees before.meaning c ts → Sees before.meaning c (ts ++ (steps.Get k answer ∷ []))
 
-pub record HasRead (policies : List Policy) (before : Reach) (c : CoreModel) (id : List ℕ) (keys : List (List ℕ)) (ns : List ℕ) (d : CoreModel) : Type 0 where
+pub record HasRead (policies : List Policy) (before after : Reach) (c : CoreModel) (id : List ℕ) (keys : List (List ℕ)) (ns : List ℕ) (d : CoreModel) : Type 0 where
   pub taken : List TranscriptStep
   pub within : IsWithin c id SerializableSnapshot taken d
   pub read : AreSteps IsRead keys ns taken
-  pub seen : HasSeen policies before c taken
+  pub seen : HasSeen policies before after c taken
 
-pub record HasTaken (policies : List Policy) (before : Reach) (c : CoreModel) (id : List ℕ) (order : Order) (d : CoreModel) : Type 0 where
+pub record HasTaken (policies : List Policy) (before after : Reach) (c : CoreModel) (id : List ℕ) (order : Order) (d : CoreModel) : Type 0 where
   pub taken : List TranscriptStep
   pub within : IsWithin c id SerializableSnapshot taken d
   pub amounts : Amounts
   pub own : own_of taken ≡ puts (order_moves amounts order)
   pub by : IsOrderBy order amounts (kept_ops (own_of taken)) (batch_keys (own_of taken)) taken
-  pub seen : HasSeen policies before c taken
+  pub seen : HasSeen policies before after c taken
 
 -- some order's operations stand in the transaction
 pub record HasTakenSome (id : List ℕ) (d : CoreModel) : Type 0 where
   pub policies : List Policy
   pub before : Reach
+  pub after : Reach
   pub core : CoreModel
   pub order : Order
-  pub is : HasTaken policies before core id order d
+  pub is : HasTaken policies before after core id order d
 
-pub record HasOrdered (policies : List Policy) (before : Reach) (c : CoreModel) (order : Order) (now : ℤ) (n : ℕ) (d : CoreModel) : Type 0 where
+pub record HasOrdered (policies : List Policy) (before after : Reach) (c : CoreModel) (order : Order) (now : ℤ) (n : ℕ) (d : CoreModel) : Type 0 where
   pub id : List ℕ
   pub taken : List TranscriptStep
   pub committed : HasCommitted c id SerializableSnapshot taken (Some n) now d
   pub amounts : Amounts
   pub own : own_of taken ≡ puts (order_moves amounts order)
   pub by : IsOrderBy order amounts (kept_ops (own_of taken)) (batch_keys (own_of taken)) taken
-  pub seen : HasSeen policies before c taken
+  pub seen : HasSeen policies before after c taken
 
 abbrev pub IsLeft : CoreModel → CoreModel → Type 0
 IsLeft c d = (d ≡ c) ⊎ ((id : List ℕ) × HasEnded c id SerializableSnapshot d)
@@ -134,11 +131,11 @@ IsReadCause policies before after c id keys e = IsDb (λ x. (x ≡ errors.OutOfM
 abbrev pub IsBadAmount : Meaning → CoreModel → List ℕ → Type 0
 IsBadAmount m c k = (row : RowEntry) × (row_in m c k ≡ Some row) × (length (operand row) ≢ 8)
 
-abbrev pub IsGetTruth : Reach → Reach → CoreModel → List ℕ → StockError → Type 0
-IsGetTruth before after c k e = IsDb (IsFault before after) e ⊎ ((e ≡ BadAmount k) × IsBadAmount before.meaning c k)
+abbrev pub IsGetTruth : (SlateDBError → Type 0) → Meaning → CoreModel → List ℕ → StockError → Type 0
+IsGetTruth P m c k e = IsDb P e ⊎ ((e ≡ BadAmount k) × IsBadAmount m c k)
 
-abbrev pub IsReadTruth : Reach → Reach → CoreModel → List (List ℕ) → StockError → Type 0
-IsReadTruth before after c keys e = IsDb (IsFault before after) e ⊎ IsBad (λ k. Contains keys k × IsBadAmount before.meaning c k) e
+abbrev pub IsReadTruth : (SlateDBError → Type 0) → Meaning → CoreModel → List (List ℕ) → StockError → Type 0
+IsReadTruth P m c keys e = IsDb P e ⊎ IsBad (λ k. Contains keys k × IsBadAmount m c k) e
 
 -- want of memory or a fault, a read that was refused, want of a place for events, or of a sequence
 pub data IsDbCause (policies : List Policy) (before after : Reach) (c : CoreModel) (x : SlateDBError) : Type 0 where
@@ -154,17 +151,17 @@ IsOrderCause policies before after c order e = IsDb (IsDbCause policies before a
 abbrev pub IsTakeCause : List Policy → Reach → Reach → CoreModel → List ℕ → Order → StockError → Type 0
 IsTakeCause policies before after c id order e = IsReadCause policies before after c id (order_keys order) e ⊎ ((m : Amounts) × (order_refusal m order ≡ Some e))
 
-abbrev pub IsTakeTruth : Reach → Reach → CoreModel → Order → StockError → Type 0
-IsTakeTruth before after c order e = IsReadTruth before after c (order_keys order) e ⊎ (order_refusal (amounts_of before.meaning c) order ≡ Some e)
+abbrev pub IsTakeTruth : (SlateDBError → Type 0) → Meaning → CoreModel → Order → StockError → Type 0
+IsTakeTruth P m c order e = IsReadTruth P m c (order_keys order) e ⊎ (order_refusal (amounts_of m c) order ≡ Some e)
 
-pub data IsDbTruth (before after : Reach) (c : CoreModel) (x : SlateDBError) : Type 0 where
-  fault : IsFault before after x → IsDbTruth before after c x
-  full : x ≡ errors.LimitReached LIMIT → NoPlace 2 c → IsDbTruth before after c x
+pub data IsDbTruth (P : SlateDBError → Type 0) (c : CoreModel) (x : SlateDBError) : Type 0 where
+  fault : P x → IsDbTruth P c x
+  full : x ≡ errors.LimitReached LIMIT → NoPlace 2 c → IsDbTruth P c x
 
 -- no sequence is left for an order that isn't refused
 abbrev pub IsLast : Meaning → CoreModel → Order → StockError → Type 0
 IsLast m c order e = (e ≡ Db errors.SequenceExhausted) × (newest c ≡ 2 ^ 64 - 2) × (order_refusal (amounts_of m c) order ≡ None)
 
-abbrev pub IsOrderTruth : Reach → Reach → CoreModel → Order → StockError → Type 0
-IsOrderTruth before after c order e =
-    IsDb (IsDbTruth before after c) e ⊎ IsBad (λ k. Contains (order_keys order) k × IsBadAmount before.meaning c k) e ⊎ (order_refusal (amounts_of before.meaning c) order ≡ Some e) ⊎ IsLast before.meaning c order e
+abbrev pub IsOrderTruth : (SlateDBError → Type 0) → Meaning → CoreModel → Order → StockError → Type 0
+IsOrderTruth P m c order e =
+    IsDb (IsDbTruth P c) e ⊎ IsBad (λ k. Contains (order_keys order) k × IsBadAmount m c k) e ⊎ (order_refusal (amounts_of m c) order ≡ Some e) ⊎ IsLast m c order e

@@ -11,7 +11,7 @@ use Rattle.slate_types.specs.declared.iter.IterationOrder.TheVariants.{Ascending
 use Rattle.slate_types.specs.declared.types.KeyValue.{KeyValue}
 use Rattle.slate_types.specs.declared.types.RowEntry.{RowEntry}
 use Rattle.slate_types.specs.Keys.{prefix_range}
-use Rattle.slate_types.specs.Outside.{Meaning, Reach}
+use Rattle.slate_types.specs.Outside.{IsFault, Meaning, Reach}
 use Rattle.slate_types.specs.Rows.{key_value}
 use Rattle.slate_filter.specs.Policy.{Policy}
 use Rattle.slate_txn.specs.Reads.{rows_seen}
@@ -50,6 +50,6 @@ abbrev pub IsTotalCause : List Policy → Reach → Reach → CoreModel → Stoc
 IsTotalCause policies before after c e = IsDb (IsDbCause policies before after c) e ⊎ IsBad (λ k. Unit {0}) e ⊎ (e ≡ TooMuch)
 
 pub data IsTotalTruth (before after : Reach) (c : CoreModel) (asset : List ℕ) (e : StockError) : Type 0 where
-  database : IsDb (IsDbTruth before after c) e → IsTotalTruth before after c asset e
+  database : IsDb (IsDbTruth (IsFault before after) c) e → IsTotalTruth before after c asset e
   issued : e ≡ BadAmount (issued_key asset) → IsBadAmount before.meaning c (issued_key asset) → IsTotalTruth before after c asset e
   refused : IsSumRefusal (map key_value (balance_rows before.meaning c asset)) e → IsTotalTruth before after c asset e

@@ -18,6 +18,7 @@ ghost use Rattle.slate_db.specs.Segmented.{IsSegmented};
 ghost use Rattle.slate_db.specs.SerialLaws.{IsVouchedCore};
 ghost use Rattle.slate_db.specs.Settled.{IsSettledIn};
 ghost use Rattle.slate_db.specs.Sound.{IsKept};
+ghost use Rattle.slate_steps.specs.Reads.{IsChecked, IsFaultSettled};
 ghost use Rattle.slate_steps.specs.Steps.{HasEnded, IsWithin, Sees, newest};
 ghost use Rattle.slate_stock.specs.declared.error.StockError.{StockError};
 ghost use Rattle.slate_stock.specs.declared.order.Order.{Order};
@@ -50,7 +51,8 @@ use uuid::Uuid;
 /// Refuses in the order of `StockError`, and then nothing is committed: a transaction that began has ended. `Db` holds `OutOfMemory`,
 /// what a read was refused for, `LimitReached` where the journal has no place for two events, or `SequenceExhausted` where no
 /// sequence is left. Over a store that holds what was put, for lawful parts, the answer is the order's on the amounts in the core's
-/// state, and `BadAmount` names a key whose value isn't 8 bytes long there.
+/// state, and `BadAmount` names a key whose value isn't 8 bytes long there; and so over one that tells its acts alone, and may lie, unless
+/// a section slipped through whose checksum fits.
 pub fn run_order_core<S: Store, M: MergeOperator, T: BlockTransformer, X: PrefixExtractor>(
     core: &mut Core,
     order: &Order,
@@ -61,7 +63,7 @@ pub fn run_order_core<S: Store, M: MergeOperator, T: BlockTransformer, X: Prefix
     requires segments { laws.now.segments ≡ None }
     ensures committed { let reach = ⟦<EnvOf<S, M, T> as Outside>⟧.reach in
         let policies = map (λ p. meaning (p.vtable, p.value)) laws.now.policies.items in
-        IfOk result (λ n. HasOrdered policies (reach env.old) core.old order.now now n core.new) }
+        IfOk result (λ n. HasOrdered policies (reach env.old) (reach env.new) core.old order.now now n core.new) }
     ensures left { OnErr result (IsLeft core.old core.new) }
     ensures cause { let reach = ⟦<EnvOf<S, M, T> as Outside>⟧.reach in
         let policies = map (λ p. meaning (p.vtable, p.value)) laws.now.policies.items in
@@ -69,11 +71,12 @@ pub fn run_order_core<S: Store, M: MergeOperator, T: BlockTransformer, X: Prefix
     ensures answer { let reach = ⟦<EnvOf<S, M, T> as Outside>⟧.reach in
         let policies = map (λ p. meaning (p.vtable, p.value)) laws.now.policies.items in
         let m = (reach env.old).meaning in
-        (g : Segments) → IsSettledIn policies g (reach env.old) core.old →
+        (g : Segments) → IsChecked policies g (reach env.old) (reach env.new) core.old →
         IfOk result (λ n. (n ≡ newest core.old + 1) × ((after : Amounts) × (order_step (amounts_of m core.old) order.now ≡ Ok after) × ((k : List ℕ) → amounts_of m core.new k ≡ after k))) }
     ensures refused { let reach = ⟦<EnvOf<S, M, T> as Outside>⟧.reach in
         let policies = map (λ p. meaning (p.vtable, p.value)) laws.now.policies.items in
-        (g : Segments) → IsSettledIn policies g (reach env.old) core.old → IfErr result (IsOrderTruth (reach env.old) (reach env.new) core.old order.now) }
+        (g : Segments) → IsChecked policies g (reach env.old) (reach env.new) core.old →
+        IfErr result (IsOrderTruth (IsFaultSettled policies (reach env.old) (reach env.new) core.old) (reach env.old).meaning core.old order.now) }
     ensures exhausted { newest core.old ≡ 2 ^ 64 - 2 → IfOk result (λ _. ⊥) }
     ensures settled { let reach = ⟦<EnvOf<S, M, T> as Outside>⟧.reach in
         let policies = map (λ p. meaning (p.vtable, p.value)) laws.now.policies.items in
@@ -117,14 +120,15 @@ fn make_order<S: Store, M: MergeOperator, T: BlockTransformer, X: PrefixExtracto
     requires segments { laws.now.segments ≡ None }
     ensures committed { let reach = ⟦<EnvOf<S, M, T> as Outside>⟧.reach in
         let policies = map (λ p. meaning (p.vtable, p.value)) laws.now.policies.items in
-        IfOk result (λ n. HasOrdered policies (reach env.old) core.old order.now now n core.new) }
+        IfOk result (λ n. HasOrdered policies (reach env.old) (reach env.new) core.old order.now now n core.new) }
     ensures left { OnErr result (IsLeft core.old core.new) }
     ensures cause { let reach = ⟦<EnvOf<S, M, T> as Outside>⟧.reach in
         let policies = map (λ p. meaning (p.vtable, p.value)) laws.now.policies.items in
         IfErr result (IsOrderCause policies (reach env.old) (reach env.new) core.old order.now) }
     ensures refused { let reach = ⟦<EnvOf<S, M, T> as Outside>⟧.reach in
         let policies = map (λ p. meaning (p.vtable, p.value)) laws.now.policies.items in
-        (g : Segments) → IsSettledIn policies g (reach env.old) core.old → IfErr result (IsOrderTruth (reach env.old) (reach env.new) core.old order.now) }
+        (g : Segments) → IsChecked policies g (reach env.old) (reach env.new) core.old →
+        IfErr result (IsOrderTruth (IsFaultSettled policies (reach env.old) (reach env.new) core.old) (reach env.old).meaning core.old order.now) }
     ensures exhausted { newest core.old ≡ 2 ^ 64 - 2 → IfOk result (λ _. ⊥) }
     ensures kept { let reach = ⟦<EnvOf<S, M, T> as Outside>⟧.reach in
         let m = (reach env.old).meaning in
@@ -156,14 +160,15 @@ fn order_within<S: Store, M: MergeOperator, T: BlockTransformer, X: PrefixExtrac
     requires segments { laws.now.segments ≡ None }
     ensures committed { let reach = ⟦<EnvOf<S, M, T> as Outside>⟧.reach in
         let policies = map (λ p. meaning (p.vtable, p.value)) laws.now.policies.items in
-        (c : CoreModel) → IsWithin c id.now IsolationLevel.SerializableSnapshot [] core.old → IfOk result (λ n. HasOrdered policies (reach env.old) c order.now now n core.new) }
+        (c : CoreModel) → IsWithin c id.now IsolationLevel.SerializableSnapshot [] core.old → IfOk result (λ n. HasOrdered policies (reach env.old) (reach env.new) c order.now now n core.new) }
     ensures ended { (c : CoreModel) → IsWithin c id.now IsolationLevel.SerializableSnapshot [] core.old → OnErr result (HasEnded c id.now IsolationLevel.SerializableSnapshot core.new) }
     ensures cause { let reach = ⟦<EnvOf<S, M, T> as Outside>⟧.reach in
         let policies = map (λ p. meaning (p.vtable, p.value)) laws.now.policies.items in
         (c : CoreModel) → IsWithin c id.now IsolationLevel.SerializableSnapshot [] core.old → IfErr result (IsOrderCause policies (reach env.old) (reach env.new) c order.now) }
     ensures refused { let reach = ⟦<EnvOf<S, M, T> as Outside>⟧.reach in
         let policies = map (λ p. meaning (p.vtable, p.value)) laws.now.policies.items in
-        (c : CoreModel) (g : Segments) → IsWithin c id.now IsolationLevel.SerializableSnapshot [] core.old → IsSettledIn policies g (reach env.old) c → IfErr result (IsOrderTruth (reach env.old) (reach env.new) c order.now) }
+        (c : CoreModel) (g : Segments) → IsWithin c id.now IsolationLevel.SerializableSnapshot [] core.old → IsChecked policies g (reach env.old) (reach env.new) c →
+        IfErr result (IsOrderTruth (IsFaultSettled policies (reach env.old) (reach env.new) c) (reach env.old).meaning c order.now) }
     ensures exhausted { (c : CoreModel) → IsWithin c id.now IsolationLevel.SerializableSnapshot [] core.old → newest c ≡ 2 ^ 64 - 2 → IfOk result (λ _. ⊥) }
     ensures kept { let reach = ⟦<EnvOf<S, M, T> as Outside>⟧.reach in
         let m = (reach env.old).meaning in
@@ -192,13 +197,13 @@ fn end_order<S: Store, M: MergeOperator, T: BlockTransformer, X: PrefixExtractor
     requires open { HasTransaction core.old id.now }
     requires taken { HasTakenSome id.now core.old }
     requires segments { laws.now.segments ≡ None }
-    ensures ordered { (policies : List Policy) (before : Reach) (c : CoreModel) (order : Order) → HasTaken policies before c id.now order core.old →
-        IfOk result (λ n. HasOrdered policies before c order now n core.new) }
+    ensures ordered { (policies : List Policy) (before after : Reach) (c : CoreModel) (order : Order) → HasTaken policies before after c id.now order core.old →
+        IfOk result (λ n. HasOrdered policies before after c order now n core.new) }
     ensures ended { (c : CoreModel) (ts : List TranscriptStep) → IsWithin c id.now IsolationLevel.SerializableSnapshot ts core.old → OnErr result (HasEnded c id.now IsolationLevel.SerializableSnapshot core.new) }
     ensures cause { let reach = ⟦<EnvOf<S, M, T> as Outside>⟧.reach in
-        (policies : List Policy) (before : Reach) (c : CoreModel) (order : Order) → HasTaken policies before c id.now order core.old →
+        (policies : List Policy) (before after : Reach) (c : CoreModel) (order : Order) → HasTaken policies before after c id.now order core.old →
         IfErr result (IsDb (λ x. IsFault (reach env.old) (reach env.new) x ⊎ ((x ≡ SlateDBError.SequenceExhausted) × (newest c ≡ 2 ^ 64 - 2)))) }
-    ensures exhausted { (policies : List Policy) (before : Reach) (c : CoreModel) (order : Order) → HasTaken policies before c id.now order core.old →
+    ensures exhausted { (policies : List Policy) (before after : Reach) (c : CoreModel) (order : Order) → HasTaken policies before after c id.now order core.old →
         newest c ≡ 2 ^ 64 - 2 → IfOk result (λ _. ⊥) }
     ensures kept { let reach = ⟦<EnvOf<S, M, T> as Outside>⟧.reach in
         let m = (reach env.old).meaning in
@@ -230,14 +235,15 @@ fn take_order<S: Store, M: MergeOperator, T: BlockTransformer, X: PrefixExtracto
     requires keys { keys.now ≡ order_keys order.now }
     ensures taken { let reach = ⟦<EnvOf<S, M, T> as Outside>⟧.reach in
         let policies = map (λ p. meaning (p.vtable, p.value)) laws.now.policies.items in
-        (c : CoreModel) → IsWithin c id.now IsolationLevel.SerializableSnapshot [] core.old → OnOk result (HasTaken policies (reach env.old) c id.now order.now core.new) }
+        (c : CoreModel) → IsWithin c id.now IsolationLevel.SerializableSnapshot [] core.old → OnOk result (HasTaken policies (reach env.old) (reach env.new) c id.now order.now core.new) }
     ensures left { (c : CoreModel) → IsWithin c id.now IsolationLevel.SerializableSnapshot [] core.old → OnErr result (IsIn c id.now core.new) }
     ensures cause { let reach = ⟦<EnvOf<S, M, T> as Outside>⟧.reach in
         let policies = map (λ p. meaning (p.vtable, p.value)) laws.now.policies.items in
         (c : CoreModel) → IsWithin c id.now IsolationLevel.SerializableSnapshot [] core.old → IfErr result (IsTakeCause policies (reach env.old) (reach env.new) c id.now order.now) }
     ensures truth { let reach = ⟦<EnvOf<S, M, T> as Outside>⟧.reach in
         let policies = map (λ p. meaning (p.vtable, p.value)) laws.now.policies.items in
-        (c : CoreModel) (g : Segments) → IsWithin c id.now IsolationLevel.SerializableSnapshot [] core.old → IsSettledIn policies g (reach env.old) c → IfErr result (IsTakeTruth (reach env.old) (reach env.new) c order.now) }
+        (c : CoreModel) (g : Segments) → IsWithin c id.now IsolationLevel.SerializableSnapshot [] core.old → IsChecked policies g (reach env.old) (reach env.new) c →
+        IfErr result (IsTakeTruth (IsFaultSettled policies (reach env.old) (reach env.new) c) (reach env.old).meaning c order.now) }
     ensures open { HasTransaction core.new id.now }
     ensures reads { let reach = ⟦<EnvOf<S, M, T> as Outside>⟧.reach in OnlyReads (reach env.old) (reach env.new) }
 {
@@ -293,7 +299,7 @@ fn read_amounts<S: Store, M: MergeOperator, T: BlockTransformer, X: PrefixExtrac
     requires open { HasTransaction core.old id.now }
     ensures read { let reach = ⟦<EnvOf<S, M, T> as Outside>⟧.reach in
         let policies = map (λ p. meaning (p.vtable, p.value)) laws.now.policies.items in
-        (c : CoreModel) → IsWithin c id.now IsolationLevel.SerializableSnapshot [] core.old → IfOk result (λ ns. HasRead policies (reach env.old) c id.now keys.now ns.items core.new) }
+        (c : CoreModel) → IsWithin c id.now IsolationLevel.SerializableSnapshot [] core.old → IfOk result (λ ns. HasRead policies (reach env.old) (reach env.new) c id.now keys.now ns.items core.new) }
     ensures long { IfOk result (λ ns. length ns.items ≡ length keys.now) }
     ensures left { (c : CoreModel) → IsWithin c id.now IsolationLevel.SerializableSnapshot [] core.old → OnErr result (IsIn c id.now core.new) }
     ensures cause { let reach = ⟦<EnvOf<S, M, T> as Outside>⟧.reach in
@@ -301,7 +307,8 @@ fn read_amounts<S: Store, M: MergeOperator, T: BlockTransformer, X: PrefixExtrac
         (c : CoreModel) → IsWithin c id.now IsolationLevel.SerializableSnapshot [] core.old → IfErr result (IsReadCause policies (reach env.old) (reach env.new) c id.now keys.now) }
     ensures truth { let reach = ⟦<EnvOf<S, M, T> as Outside>⟧.reach in
         let policies = map (λ p. meaning (p.vtable, p.value)) laws.now.policies.items in
-        (c : CoreModel) (g : Segments) → IsWithin c id.now IsolationLevel.SerializableSnapshot [] core.old → IsSettledIn policies g (reach env.old) c → IfErr result (IsReadTruth (reach env.old) (reach env.new) c keys.now) }
+        (c : CoreModel) (g : Segments) → IsWithin c id.now IsolationLevel.SerializableSnapshot [] core.old → IsChecked policies g (reach env.old) (reach env.new) c →
+        IfErr result (IsReadTruth (IsFaultSettled policies (reach env.old) (reach env.new) c) (reach env.old).meaning c keys.now) }
     ensures open { HasTransaction core.new id.now }
     ensures reads { let reach = ⟦<EnvOf<S, M, T> as Outside>⟧.reach in OnlyReads (reach env.old) (reach env.new) }
 {
@@ -329,15 +336,16 @@ pub(crate) fn read_amount<S: Store, M: MergeOperator, T: BlockTransformer, X: Pr
     requires open { HasTransaction core.old id.now }
     ensures read { let reach = ⟦<EnvOf<S, M, T> as Outside>⟧.reach in
         let policies = map (λ p. meaning (p.vtable, p.value)) laws.now.policies.items in
-        (c : CoreModel) (ts : List TranscriptStep) → IsWithin c id.now IsolationLevel.SerializableSnapshot ts core.old → IfOk result (λ n. HasGot policies (reach env.old) c id.now ts key.now n core.new) }
+        (c : CoreModel) (ts : List TranscriptStep) → IsWithin c id.now IsolationLevel.SerializableSnapshot ts core.old → IfOk result (λ n. HasGot policies (reach env.old) (reach env.new) c id.now ts key.now n core.new) }
     ensures left { (c : CoreModel) (ts : List TranscriptStep) → IsWithin c id.now IsolationLevel.SerializableSnapshot ts core.old → OnErr result (IsIn c id.now core.new) }
     ensures cause { let reach = ⟦<EnvOf<S, M, T> as Outside>⟧.reach in
         let policies = map (λ p. meaning (p.vtable, p.value)) laws.now.policies.items in
         (c : CoreModel) (ts : List TranscriptStep) → IsWithin c id.now IsolationLevel.SerializableSnapshot ts core.old → IfErr result (IsGetCause policies (reach env.old) (reach env.new) c id.now key.now) }
     ensures truth { let reach = ⟦<EnvOf<S, M, T> as Outside>⟧.reach in
         let policies = map (λ p. meaning (p.vtable, p.value)) laws.now.policies.items in
-        (c : CoreModel) (ts : List TranscriptStep) (g : Segments) → IsWithin c id.now IsolationLevel.SerializableSnapshot ts core.old → own_of ts ≡ [] → IsSettledIn policies g (reach env.old) c → Sees (reach env.old).meaning c ts →
-        IfErr result (IsGetTruth (reach env.old) (reach env.new) c key.now) }
+        (c : CoreModel) (ts : List TranscriptStep) (g : Segments) → IsWithin c id.now IsolationLevel.SerializableSnapshot ts core.old → own_of ts ≡ [] →
+        IsChecked policies g (reach env.old) (reach env.new) c → Sees (reach env.old).meaning c ts →
+        IfErr result (IsGetTruth (IsFaultSettled policies (reach env.old) (reach env.new) c) (reach env.old).meaning c key.now) }
     ensures open { HasTransaction core.new id.now }
     ensures reads { let reach = ⟦<EnvOf<S, M, T> as Outside>⟧.reach in OnlyReads (reach env.old) (reach env.new) }
 {

@@ -1,5 +1,5 @@
 //! Orders on a database that threads share, each in one attempt.
-ghost use Rattle.std.specs.Prelude.{◌≡◌, ◌⊎◌, ◌++◌, ◌∷◌, List, [], None, OnOk, OnErr, IfOk, IfErr, IsOkUnless, length, map};
+ghost use Rattle.std.specs.Prelude.{◌≡◌, ◌⊎◌, ◌++◌, ◌∷◌, List, [], Some, None, Err, OnOk, OnErr, IfOk, IfErr, IsOkUnless, length, map};
 ghost use Rattle.std.specs.List.{AllByRecursion, zip};
 ghost use mathlib.Core.List.{IsPrefix};
 ghost use Rattle.slate_types.specs.declared.config.IsolationLevel.{IsolationLevel};
@@ -12,7 +12,7 @@ ghost use Rattle.slate_txn.specs.Alone.{own_of};
 ghost use Rattle.slate_txn.specs.Replay.{IsLegal};
 ghost use Rattle.slate_db.specs.Meaning.{segments_by};
 ghost use Rattle.slate_shared.specs.Given.{AreGiven};
-ghost use Rattle.slate_steps.specs.Attempts.{HasEndedBehind, IsAttempt, IsRefusedBehind, IsStoreTrue, IsVouchedThere, SeesOnly};
+ghost use Rattle.slate_steps.specs.Attempts.{HasEndedBehind, IsAttempt, IsFaultOn, IsRefusedBehind, IsStoreChecked, IsVouchedThere, SeesOnly};
 ghost use Rattle.slate_stock.specs.declared.error.StockError.{StockError};
 ghost use Rattle.slate_stock.specs.declared.order.Order.{Order};
 ghost use Rattle.slate_stock.specs.Amounts.{Amounts};
@@ -42,11 +42,12 @@ use std::sync::Wait;
 /// Makes the order at a moment, in one serializable transaction, and gives the commit's sequence. It is one attempt: where another
 /// thread's commit conflicts with it, it is refused, and a caller may try again.
 ///
-/// Refuses in the order of `StockError`, and then the pass commits nothing, and a transaction that began has ended. `Db` holds
-/// `OutOfMemory`, what a read was refused for, `LimitReached` where the journal has no place for two events, `TransactionConflict` with
-/// the greatest sequence that conflicts with this attempt, or `SequenceExhausted` where no sequence is left. Over a store that holds the
-/// journal's tables, for lawful parts, the answer is the order's on the amounts at the start of the attempt, and `BadAmount` names a key
-/// whose value isn't 8 bytes long there.
+/// Refuses in the order of `StockError`, and then the pass commits nothing, and a transaction that began has ended; what the order alone
+/// shows is refused before one begins. `Db` holds `OutOfMemory`, what a read was refused for, `LimitReached` where the journal has no place
+/// for two events, `TransactionConflict` with the greatest sequence that conflicts with this attempt, or `SequenceExhausted` where no
+/// sequence is left. Over a store that holds the journal's tables, for lawful parts, the answer is the order's on the amounts at the start
+/// of the attempt, and `BadAmount` names a key whose value isn't 8 bytes long there; and so over one that tells its acts alone, and may
+/// lie, unless a section slipped through whose checksum fits.
 pub fn run_order<
     P: Parts,
     R: Wait,
@@ -74,11 +75,13 @@ pub fn run_order<
     ensures cause { let reach = ⟦<EnvOf<S, M, T> as Outside>⟧.reach in
         IfErr result (IsOrderCauseOn P.options P.policies (reach env.old) (reach env.new) pass.old pass.new order.now) }
     ensures answer { let reach = ⟦<EnvOf<S, M, T> as Outside>⟧.reach in
-        IsStoreTrue P.policies P.meaning pass.new.seen (reach env.old) (reach env.new) →
+        IsStoreChecked P.policies P.meaning pass.new.seen (reach env.old) (reach env.new) →
         IfOk result (λ n. HasSteppedOn P.options P.meaning order.now now n pass.old pass.new) }
     ensures refused { let reach = ⟦<EnvOf<S, M, T> as Outside>⟧.reach in
-        IsStoreTrue P.policies P.meaning pass.new.seen (reach env.old) (reach env.new) →
-        IfErr result (IsOrderTruthOn P.options P.meaning (reach env.old) (reach env.new) pass.old pass.new order.now) }
+        IsStoreChecked P.policies P.meaning pass.new.seen (reach env.old) (reach env.new) →
+        IfErr result (IsOrderTruthOn P.options P.meaning P.policies (reach env.old) (reach env.new) pass.old pass.new order.now) }
+    ensures first { let reach = ⟦<EnvOf<S, M, T> as Outside>⟧.reach in
+        (e : StockError) → first_of (form_refusals order.now) ≡ Some e → (result ≡ Err e) × (pass.new ≡ pass.old) × (reach env.new ≡ reach env.old) }
     ensures orders { OnOk result (OrdersGoOn pass.old pass.new) }
     ensures reads { let reach = ⟦<EnvOf<S, M, T> as Outside>⟧.reach in OnlyReads (reach env.old) (reach env.new) }
 {
@@ -125,11 +128,11 @@ fn make_order<
     ensures cause { let reach = ⟦<EnvOf<S, M, T> as Outside>⟧.reach in
         IfErr result (IsOrderCauseOn P.options P.policies (reach env.old) (reach env.new) pass.old pass.new order.now) }
     ensures answer { let reach = ⟦<EnvOf<S, M, T> as Outside>⟧.reach in
-        IsStoreTrue P.policies P.meaning pass.new.seen (reach env.old) (reach env.new) →
+        IsStoreChecked P.policies P.meaning pass.new.seen (reach env.old) (reach env.new) →
         IfOk result (λ n. HasSteppedOn P.options P.meaning order.now now n pass.old pass.new) }
     ensures refused { let reach = ⟦<EnvOf<S, M, T> as Outside>⟧.reach in
-        IsStoreTrue P.policies P.meaning pass.new.seen (reach env.old) (reach env.new) →
-        IfErr result (IsOrderTruthOn P.options P.meaning (reach env.old) (reach env.new) pass.old pass.new order.now) }
+        IsStoreChecked P.policies P.meaning pass.new.seen (reach env.old) (reach env.new) →
+        IfErr result (IsOrderTruthOn P.options P.meaning P.policies (reach env.old) (reach env.new) pass.old pass.new order.now) }
     ensures reads { let reach = ⟦<EnvOf<S, M, T> as Outside>⟧.reach in OnlyReads (reach env.old) (reach env.new) }
 {
     match begin(rt, db, pass, IsolationLevel::SerializableSnapshot) {
@@ -173,11 +176,11 @@ fn order_within<
     ensures cause { let reach = ⟦<EnvOf<S, M, T> as Outside>⟧.reach in
         IfErr result (IsOrderCauseOn P.options P.policies (reach env.old) (reach env.new) pass.old pass.new order.now) }
     ensures answer { let reach = ⟦<EnvOf<S, M, T> as Outside>⟧.reach in
-        IsStoreTrue P.policies P.meaning pass.new.seen (reach env.old) (reach env.new) →
+        IsStoreChecked P.policies P.meaning pass.new.seen (reach env.old) (reach env.new) →
         IfOk result (λ n. HasSteppedOn P.options P.meaning order.now now n pass.old pass.new) }
     ensures refused { let reach = ⟦<EnvOf<S, M, T> as Outside>⟧.reach in
-        IsStoreTrue P.policies P.meaning pass.new.seen (reach env.old) (reach env.new) →
-        IfErr result (IsOrderTruthOn P.options P.meaning (reach env.old) (reach env.new) pass.old pass.new order.now) }
+        IsStoreChecked P.policies P.meaning pass.new.seen (reach env.old) (reach env.new) →
+        IfErr result (IsOrderTruthOn P.options P.meaning P.policies (reach env.old) (reach env.new) pass.old pass.new order.now) }
     ensures reads { let reach = ⟦<EnvOf<S, M, T> as Outside>⟧.reach in OnlyReads (reach env.old) (reach env.new) }
 {
     match take_order(alloc, rt, db, &mut txn, order, keys, env, laws) {
@@ -256,15 +259,15 @@ fn take_order<
     ensures taken { (from : List Event) → IsAttempt P.options from IsolationLevel.SerializableSnapshot [] txn.old → OnOk result (HasTakenOn P.options from order.now txn.new) }
     ensures left { (from : List Event) → IsAttempt P.options from IsolationLevel.SerializableSnapshot [] txn.old → OnErr result (IsOpenFrom P.options from txn.new) }
     ensures sees { let reach = ⟦<EnvOf<S, M, T> as Outside>⟧.reach in
-        (from : List Event) → IsAttempt P.options from IsolationLevel.SerializableSnapshot [] txn.old → IsStoreTrue P.policies P.meaning txn.new.seen (reach env.old) (reach env.new) →
+        (from : List Event) → IsAttempt P.options from IsolationLevel.SerializableSnapshot [] txn.old → IsStoreChecked P.policies P.meaning txn.new.seen (reach env.old) (reach env.new) →
         IsVouchedThere P.options P.meaning txn.old → OnOk result (IsVouchedThere P.options P.meaning txn.new) }
     ensures cause { let reach = ⟦<EnvOf<S, M, T> as Outside>⟧.reach in
         (from : List Event) → IsAttempt P.options from IsolationLevel.SerializableSnapshot [] txn.old →
-        IfErr result (IsTakeCauseOn P.options P.policies (reach env.old) (reach env.new) txn.new.seen order.now) }
+        IfErr result (IsTakeCauseOn P.options P.policies (reach env.old) (reach env.new) from order.now txn.new) }
     ensures truth { let reach = ⟦<EnvOf<S, M, T> as Outside>⟧.reach in
-        (from es : List Event) → IsAttempt P.options from IsolationLevel.SerializableSnapshot [] txn.old → IsStoreTrue P.policies P.meaning txn.new.seen (reach env.old) (reach env.new) →
+        (from es : List Event) → IsAttempt P.options from IsolationLevel.SerializableSnapshot [] txn.old → IsStoreChecked P.policies P.meaning txn.new.seen (reach env.old) (reach env.new) →
         IsVouchedThere P.options P.meaning txn.old → IsPrefix txn.new.seen es → IsLegal P.options.start_seq es →
-        IfErr result (IsTakeTruthOn P.options P.meaning (reach env.old) (reach env.new) es txn.new.tx.begin order.now) }
+        IfErr result (IsTakeTruthOn (IsFaultOn P.policies P.meaning txn.new.seen (reach env.old) (reach env.new)) P.options P.meaning es txn.new.tx.begin order.now) }
     ensures more { (txn.new.table ≡ txn.old.table) × IsPrefix txn.old.seen txn.new.seen }
     ensures reads { let reach = ⟦<EnvOf<S, M, T> as Outside>⟧.reach in OnlyReads (reach env.old) (reach env.new) }
 {
@@ -332,15 +335,15 @@ fn read_amounts<
     ensures long { IfOk result (λ ns. length ns.items ≡ length keys.now) }
     ensures left { (from : List Event) → IsAttempt P.options from IsolationLevel.SerializableSnapshot [] txn.old → OnErr result (IsOpenFrom P.options from txn.new) }
     ensures sees { let reach = ⟦<EnvOf<S, M, T> as Outside>⟧.reach in
-        (from : List Event) → IsAttempt P.options from IsolationLevel.SerializableSnapshot [] txn.old → IsStoreTrue P.policies P.meaning txn.new.seen (reach env.old) (reach env.new) →
+        (from : List Event) → IsAttempt P.options from IsolationLevel.SerializableSnapshot [] txn.old → IsStoreChecked P.policies P.meaning txn.new.seen (reach env.old) (reach env.new) →
         IsVouchedThere P.options P.meaning txn.old → OnOk result (IsVouchedThere P.options P.meaning txn.new) }
     ensures cause { let reach = ⟦<EnvOf<S, M, T> as Outside>⟧.reach in
         (from : List Event) → IsAttempt P.options from IsolationLevel.SerializableSnapshot [] txn.old →
-        IfErr result (IsReadsCauseOn P.options P.policies (reach env.old) (reach env.new) txn.new.seen keys.now) }
+        IfErr result (IsReadsCauseOn P.options P.policies (reach env.old) (reach env.new) from keys.now txn.new) }
     ensures truth { let reach = ⟦<EnvOf<S, M, T> as Outside>⟧.reach in
-        (from es : List Event) → IsAttempt P.options from IsolationLevel.SerializableSnapshot [] txn.old → IsStoreTrue P.policies P.meaning txn.new.seen (reach env.old) (reach env.new) →
+        (from es : List Event) → IsAttempt P.options from IsolationLevel.SerializableSnapshot [] txn.old → IsStoreChecked P.policies P.meaning txn.new.seen (reach env.old) (reach env.new) →
         IsVouchedThere P.options P.meaning txn.old → IsPrefix txn.new.seen es → IsLegal P.options.start_seq es →
-        IfErr result (IsReadsTruthOn P.options P.meaning (reach env.old) (reach env.new) es txn.new.tx.begin keys.now) }
+        IfErr result (IsReadsTruthOn (IsFaultOn P.policies P.meaning txn.new.seen (reach env.old) (reach env.new)) P.options P.meaning es txn.new.tx.begin keys.now) }
     ensures more { (txn.new.table ≡ txn.old.table) × IsPrefix txn.old.seen txn.new.seen }
     ensures reads { let reach = ⟦<EnvOf<S, M, T> as Outside>⟧.reach in OnlyReads (reach env.old) (reach env.new) }
 {
@@ -381,14 +384,14 @@ fn read_amount<
     ensures left { (from : List Event) (ts : List TranscriptStep) → IsAttempt P.options from IsolationLevel.SerializableSnapshot ts txn.old → OnErr result (IsOpenFrom P.options from txn.new) }
     ensures sees { let reach = ⟦<EnvOf<S, M, T> as Outside>⟧.reach in
         (from : List Event) (ts : List TranscriptStep) → IsAttempt P.options from IsolationLevel.SerializableSnapshot ts txn.old →
-        IsStoreTrue P.policies P.meaning txn.new.seen (reach env.old) (reach env.new) → IsVouchedThere P.options P.meaning txn.old → OnOk result (IsVouchedThere P.options P.meaning txn.new) }
+        IsStoreChecked P.policies P.meaning txn.new.seen (reach env.old) (reach env.new) → IsVouchedThere P.options P.meaning txn.old → OnOk result (IsVouchedThere P.options P.meaning txn.new) }
     ensures cause { let reach = ⟦<EnvOf<S, M, T> as Outside>⟧.reach in
         (from : List Event) (ts : List TranscriptStep) → IsAttempt P.options from IsolationLevel.SerializableSnapshot ts txn.old →
-        IfErr result (IsGetCauseOn P.options P.policies (reach env.old) (reach env.new) txn.new.seen key.now) }
+        IfErr result (IsGetCauseOn P.options P.policies (reach env.old) (reach env.new) from key.now txn.new) }
     ensures truth { let reach = ⟦<EnvOf<S, M, T> as Outside>⟧.reach in
         (from es : List Event) (ts : List TranscriptStep) → IsAttempt P.options from IsolationLevel.SerializableSnapshot ts txn.old → own_of ts ≡ [] →
-        IsStoreTrue P.policies P.meaning txn.new.seen (reach env.old) (reach env.new) → IsVouchedThere P.options P.meaning txn.old → IsPrefix txn.new.seen es → IsLegal P.options.start_seq es →
-        IfErr result (IsGetTruthOn P.options P.meaning (reach env.old) (reach env.new) es txn.new.tx.begin key.now) }
+        IsStoreChecked P.policies P.meaning txn.new.seen (reach env.old) (reach env.new) → IsVouchedThere P.options P.meaning txn.old → IsPrefix txn.new.seen es → IsLegal P.options.start_seq es →
+        IfErr result (IsGetTruthOn (IsFaultOn P.policies P.meaning txn.new.seen (reach env.old) (reach env.new)) P.options P.meaning es txn.new.tx.begin key.now) }
     ensures more { (txn.new.table ≡ txn.old.table) × IsPrefix txn.old.seen txn.new.seen }
     ensures reads { let reach = ⟦<EnvOf<S, M, T> as Outside>⟧.reach in OnlyReads (reach env.old) (reach env.new) }
 {

@@ -119,7 +119,7 @@ fn issued_within<S: Store, M: MergeOperator, T: BlockTransformer, X: PrefixExtra
     requires { HasTransaction core.old id.now }
     ensures read { let reach = ⟦<EnvOf<S, M, T> as Outside>⟧.reach in
         let policies = map (λ p. meaning (p.vtable, p.value)) laws.now.policies.items in
-        (c : CoreModel) → IsWithin c id.now IsolationLevel.SerializableSnapshot [] core.old → IfOk result (λ n. HasGot policies (reach env.old) c id.now [] (issued_key asset.now) n core.new) }
+        (c : CoreModel) → IsWithin c id.now IsolationLevel.SerializableSnapshot [] core.old → IfOk result (λ n. HasGot policies (reach env.old) (reach env.new) c id.now [] (issued_key asset.now) n core.new) }
     ensures left { (c : CoreModel) → IsWithin c id.now IsolationLevel.SerializableSnapshot [] core.old → OnErr result (IsIn c id.now core.new) }
     ensures refused { let reach = ⟦<EnvOf<S, M, T> as Outside>⟧.reach in
         let policies = map (λ p. meaning (p.vtable, p.value)) laws.now.policies.items in

@@ -5,7 +5,7 @@ use Rattle.slate_store.specs.Reach.{reach_of}
 use Rattle.slate_db.specs.Meaning.{segments_by}
 use Rattle.slate_steps.specs.Steps.{HasCommitted, newest}
 use Rattle.slate_index.specs.Calls.{change_steps, greatest}
-use Rattle.slate_index.proofs.Changing.{committed_at, has_changed, none_begun, never_full, not_committed, rolled_back, within_counts}
+use Rattle.slate_index.proofs.Changing.{committed_at, has_changed, none_begun, never_full, not_committed, rolled_back, taken_upto, within_counts}
 use Rattle.slate_index.proofs.Operating.{merges_none, puts_some, room_below}
 use Rattle.slate_index.proofs.change.change.Goals as goal
 
@@ -32,7 +32,7 @@ returns-in-Ok-Some g c =
     let id = c.args.id.now in
     let new = option_copied c.args.new in
     let core = c.args.core.now in
-    let taken = c.in-Ok-take_steps.ensures.taken core c.in-Ok.ensures.within in
+    let taken = taken_upto policies before mid after fs id new core c.take_steps.new.core c.in-Ok.tx c.take_steps.ensures.reads c.commit.ensures.reads (c.in-Ok-take_steps.ensures.taken core c.in-Ok.ensures.within) in
     let ts = change_steps fs id taken.answer new in
     let committed : HasCommitted core c.in-Ok.tx SerializableSnapshot ts (Some c.in-Ok-Some.seq) c.args.now c.commit.new.core = committed_at core c.commit.new.core c.in-Ok.tx ts _ c.args.now (Some c.in-Ok-Some.seq) (to_z-of_z w64 c.args.now c.ranges.now)
     (rw c.in-Ok-Some.field-0-is at (c.in-Ok-Some.ensures.committed core SerializableSnapshot ts taken.within)) in
@@ -53,7 +53,7 @@ returns-in-Err-commit g c =
     let id = c.args.id.now in
     let new = option_copied c.args.new in
     let core = c.args.core.now in
-    let taken = c.in-Ok-take_steps.ensures.taken core c.in-Ok.ensures.within in
+    let taken = taken_upto policies before mid after fs id new core c.take_steps.new.core c.in-Ok.tx c.take_steps.ensures.reads c.commit.ensures.reads (c.in-Ok-take_steps.ensures.taken core c.in-Ok.ensures.within) in
     let ts = change_steps fs id taken.answer new in
     not_committed policies seg fs id new c.args.now before mid after core c.take_steps.new.core c.commit.new.core c.in-Ok.tx c.in-Err-commit.error (within_counts core c.take_steps.new.core c.in-Ok.tx SerializableSnapshot ts taken.within) taken
     (c.in-Err-commit.ensures.ended core SerializableSnapshot ts taken.within) c.take_steps.ensures.reads c.commit.ensures.reads

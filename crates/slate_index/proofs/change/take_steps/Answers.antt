@@ -31,7 +31,7 @@ returns-in-Ok-found-clause-taken g c = λ d h.
     let within : IsWithin d c.args.tx.now SerializableSnapshot (steps.Get (record_key id) row ∷ []) c.get-found.new.core =
     subst (λ (k : List ℕ). IsWithin d c.args.tx.now SerializableSnapshot (steps.Get k row ∷ []) c.get-found.new.core) key (c.in-Ok-found.ensures.within d SerializableSnapshot [] h) in
     on_ok_both c.take_change.result (λ passes taken. all_taken policies before after fs id (option_copied c.args.new) d c.args.tx.now c.take_change.new.core row c.requires.accepted passes
-    (λ seg settled. subst (λ (k : List ℕ). Sees before.meaning d (steps.Get k row ∷ [])) key (c.in-Ok-found.ensures.sees d SerializableSnapshot [] seg h settled tt)) taken)
+    (λ seg store. subst (λ (k : List ℕ). Sees before.meaning d (steps.Get k row ∷ [])) key (c.in-Ok-found.ensures.checked d SerializableSnapshot [] seg h store tt)) taken)
     c.take_change.ensures.passes (c.take_change.ensures.taken d SerializableSnapshot (steps.Get (record_key id) row ∷ []) within)
 
 pub returns-in-Ok-found-clause-stopped : goal.returns-in-Ok-found-clause-stopped
@@ -46,7 +46,7 @@ returns-in-Ok-found-clause-stopped g c = λ d h.
     let within : IsWithin d c.args.tx.now SerializableSnapshot (steps.Get (record_key id) row ∷ []) c.get-found.new.core =
     subst (λ (k : List ℕ). IsWithin d c.args.tx.now SerializableSnapshot (steps.Get k row ∷ []) c.get-found.new.core) key (c.in-Ok-found.ensures.within d SerializableSnapshot [] h) in
     if_err_map c.take_change.result _ _ (λ e x. change_stopped policies before after fs id (option_copied c.args.new) d c.args.tx.now c.take_change.new.core c.get-found.new.core row e within
-    (λ seg settled. subst (λ (k : List ℕ). Sees before.meaning d (steps.Get k row ∷ [])) key (c.in-Ok-found.ensures.sees d SerializableSnapshot [] seg h settled tt))
+    (λ seg store. subst (λ (k : List ℕ). Sees before.meaning d (steps.Get k row ∷ [])) key (c.in-Ok-found.ensures.checked d SerializableSnapshot [] seg h store tt))
     (c.take_change.ensures.still d SerializableSnapshot (steps.Get (record_key id) row ∷ []) within) x) c.take_change.ensures.cause
 
 pub returns-in-Err-found-clause-stopped : goal.returns-in-Err-found-clause-stopped

@@ -6,8 +6,8 @@ use Rattle.slate_index.proofs.Searching.{unless_fault, unless_read}
 use Rattle.slate_index.proofs.lookups.ids_behind.Goals as goal
 
 pub returns-in-Ok-clause-found : goal.returns-in-Ok-clause-found
-returns-in-Ok-clause-found g c = λ d level ts seg h settled.
-    if_ok_map c.names_behind.result _ _ (λ ids is. is ∙ ap (names_behind c.args.prefix.now) (c.in-Ok.ensures.found d level ts seg h settled)) c.names_behind.ensures.names
+returns-in-Ok-clause-found g c = λ d level ts seg h store.
+    if_ok_map c.names_behind.result _ _ (λ ids is. is ∙ ap (names_behind c.args.prefix.now) (c.in-Ok.ensures.found d level ts seg h store)) c.names_behind.ensures.names
 
 pub returns-in-Ok-clause-undamaged : goal.returns-in-Ok-clause-undamaged
 returns-in-Ok-clause-undamaged g c = λ d level ts seg h settled.

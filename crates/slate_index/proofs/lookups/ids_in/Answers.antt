@@ -24,7 +24,7 @@ pub returns-in-Err-clause-cause : goal.returns-in-Err-clause-cause
 returns-in-Err-clause-cause g c = memory_read _ _ _ _ c.from.result c.from.ensures
 
 pub returns-clause-found : goal.returns-clause-found
-returns-clause-found g c = λ d level ts seg h settled.
+returns-clause-found g c = λ d level ts seg h store.
     let before = reach_of g.S.Store g.M.MergeOperator g.T.BlockTransformer c.args.env.now in
     let whole : c.as_slice-2.result.now ≡ entry_prefix c.args.number c.args.field.now = c.as_slice-2.ensures ∙ c.in-Ok.ensures ∙ ap (entry_prefix c.args.number) c.as_slice.ensures in
-    subst (λ (p : List ℕ). IfOk c.ids_behind-ids.result (λ ids. ids.items ≡ names_behind p (map (λ r. r.key) (rows_seen (rules_of d.settings before.meaning) d.state.commits (newest d) (own_of ts) Ascending (prefix_range p))))) whole (c.ids_behind-ids.ensures.found d level ts seg h settled)
+    subst (λ (p : List ℕ). IfOk c.ids_behind-ids.result (λ ids. ids.items ≡ names_behind p (map (λ r. r.key) (rows_seen (rules_of d.settings before.meaning) d.state.commits (newest d) (own_of ts) Ascending (prefix_range p))))) whole (c.ids_behind-ids.ensures.found d level ts seg h store)

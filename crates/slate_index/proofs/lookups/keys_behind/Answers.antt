@@ -9,6 +9,7 @@ use Rattle.slate_txn.specs.Reads.{rows_seen}
 use Rattle.slate_db.specs.Meaning.{rules_of}
 use Rattle.slate_steps.specs.Steps.{newest}
 use Rattle.slate_steps.proofs.Reading.{if_err_map, if_ok_map}
+use Rattle.slate_steps.proofs.StoreTruth.{checked_before}
 use Rattle.slate_index.proofs.Looked.{reading_mid, still_behind, still_none, told_mid, walked_rows}
 use Rattle.slate_index.proofs.Searching.{at_objects}
 use Rattle.slate_index.proofs.lookups.keys_behind.Goals as goal
@@ -24,13 +25,17 @@ returns-clause-still g c = λ d level ts h.
     still_behind d level ts (steps.Scan Ascending (prefix_range c.args.prefix.now)) c.args.tx.now _ c.scan_prefix.new.core c.keys_left-keys.new.core (c.in-Ok.ensures.named d level ts h).named (c.in-Ok.ensures.within d level ts h) c.keys_left-keys.ensures.still
 
 pub returns-clause-found : goal.returns-clause-found
-returns-clause-found g c = λ d level ts seg h settled.
+returns-clause-found g c = λ d level ts seg h store.
     let before = reach_of g.S.Store g.M.MergeOperator g.T.BlockTransformer c.args.env.now in
     let mid = reach_of g.S.Store g.M.MergeOperator g.T.BlockTransformer c.scan_prefix.new.env in
+    let after = reach_of g.S.Store g.M.MergeOperator g.T.BlockTransformer c.keys_left-keys.new.env in
     let policies = map (λ p. (goal.FilterPolicy-dyn g (p.vtable, p.value)).meaning p.value) c.args.laws.now.policies.items in
     let range = prefix_range c.args.prefix.now in
-    at_objects policies seg before d settled (λ os told. if_ok_map c.keys_left-keys.result _ _
-    (λ keys w. walked_rows before mid c.scan_prefix.ensures.reads c.in-Ok.scan os told d (ts ++ (steps.Scan Ascending range ∷ [])) (rows_seen (rules_of d.settings before.meaning) d.state.commits (newest d) (own_of ts) Ascending range) keys.items (c.in-Ok.ensures.reading d level ts seg os h told settled) w) c.keys_left-keys.ensures.found)
+    let first = c.scan_prefix.ensures.reads in
+    let later = c.keys_left-keys.ensures.reads in
+    if_ok_map c.keys_left-keys.result _ _
+    (λ keys w. walked_rows before mid after c.in-Ok.scan store.os d (ts ++ (steps.Scan Ascending range ∷ [])) (rows_seen (rules_of d.settings before.meaning) d.state.commits (newest d) (own_of ts) Ascending range) keys.items first later store.met
+    (c.in-Ok.ensures.checked d level ts seg h (checked_before policies seg before mid after d first later store)) w) c.keys_left-keys.ensures.found
 
 pub returns-clause-undamaged : goal.returns-clause-undamaged
 returns-clause-undamaged g c = λ d level ts seg h settled.

@@ -1,4 +1,4 @@
-use Rattle.std.proofs.Common.{◌≡◌, ◌∙◌, ◌+◌, ◌∷◌, ◌++◌, [], List, Some, ap, arith, length, length-append, subst, sym, ℕ}
+use Rattle.std.proofs.Common.{◌≡◌, ◌∙◌, ◌+◌, ◌∷◌, ◌++◌, [], inl, List, Some, ap, arith, length, length-append, subst, sym, ℕ}
 use Rattle.slate_types.proofs.Reaching.{fault_earlier, reads_then}
 use Rattle.slate_store.specs.Reach.{reach_of}
 use Rattle.slate_index.specs.Looking.{IsWalking}
@@ -23,7 +23,7 @@ loop-preserved g c =
       names = c.next.ensures.named;
       opened = c.next.ensures.opened;
       within = λ b level ts h. c.in-Ok-Some.ensures.within b level ts h;
-      reading = λ b ts os rows told h. c.in-Ok-Some.ensures.reading b ts os rows told h;
+      reading = λ b ts os rows met h. c.in-Ok-Some.ensures.checked b ts os rows met h;
       since = λ b from h. c.in-Ok-Some.ensures.since b from h;
       reads = c.next.ensures.reads;
     } in
@@ -49,7 +49,7 @@ returns-in-Ok-None-clause-found g c =
       names = c.next.ensures.named;
       opened = c.next.ensures.opened;
       within = λ b level ts h. c.in-Ok-None.ensures.within b level ts h;
-      reading = λ b ts os rows told h. c.in-Ok-None.ensures.reading b ts os rows told h;
+      reading = λ b ts os rows met h. c.in-Ok-None.ensures.checked b ts os rows met h;
       since = λ b from h. c.in-Ok-None.ensures.since b from h;
       reads = c.next.ensures.reads;
     } in
@@ -65,7 +65,7 @@ returns-in-Err-clause-undamaged g c = λ d ts os rows told h.
     let now = reach_of g.S.Store g.M.MergeOperator g.T.BlockTransformer c.loop.env in
     let after = reach_of g.S.Store g.M.MergeOperator g.T.BlockTransformer c.next.new.env in
     let w = c.loop.invariant.walking in
-    let k = w.hands os d ts rows told h in
+    let k = w.hands os d ts rows (inl (inl told)) h in
     fault_earlier before now after c.in-Err.error w.reads.later
     (c.in-Err.ensures.undamaged d (ts ++ w.steps) os k.rest (told_mid before now w.reads c.loop.scan os told) (reading_mid before now w.reads c.loop.scan os told d (ts ++ w.steps) k.rest k.left))
 

@@ -26,7 +26,7 @@ returns-in-Ok-ids g c =
     let core = c.args.core.now in
     let s = c.ids_in-ids.ensures.still core Snapshot [] c.in-Ok.ensures.within in
     search_done policies (segments_by g.X.PrefixExtractor.lengths c.args.laws.now.segments) c.args.number c.args.field.now before after core c.begin.new.core c.rollback.new.core c.in-Ok.tx c.in-Ok.ensures.within (c.rollback.ensures.ended core Snapshot s.0 s.1) c.ids_in-ids.ensures.reads c.in-Ok-ids.ids
-    (omega arith) c.requires.short (subst AreBytes c.as_slice.ensures c.are_bytes.ensures) (λ seg settled. c.in-Ok-ids.ensures.found core Snapshot [] seg c.in-Ok.ensures.within settled)
+    (omega arith) c.requires.short (subst AreBytes c.as_slice.ensures c.are_bytes.ensures) (λ seg store. c.in-Ok-ids.ensures.found core Snapshot [] seg c.in-Ok.ensures.within store)
 
 pub returns-in-Err-ids : goal.returns-in-Err-ids
 returns-in-Err-ids g c =

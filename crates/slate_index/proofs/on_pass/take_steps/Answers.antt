@@ -3,7 +3,7 @@ use Rattle.slate_types.specs.declared.config.IsolationLevel.TheVariants.{Seriali
 use Rattle.slate_types.proofs.Exits.{on_ok_both}
 use Rattle.slate_store.specs.Reach.{reach_of}
 use Rattle.slate_txn.specs.declared.event.TranscriptStep.TheVariants as steps
-use Rattle.slate_steps.specs.Attempts.{IsAttempt, IsStoreTrue}
+use Rattle.slate_steps.specs.Attempts.{IsAttempt, IsStoreChecked}
 use Rattle.slate_steps.proofs.Reading.{if_err_map}
 use Rattle.slate_index.specs.Entries.{record_key}
 use Rattle.slate_index.proofs.Attempted.{all_there, change_there, key_there, read_there, vouched_none}
@@ -32,7 +32,7 @@ returns-in-Ok-found-clause-taken g c = λ from h.
     let attempt : IsAttempt o from SerializableSnapshot (steps.Get (record_key id) row ∷ []) c.get-found.new.txn =
     subst (λ (k : List ℕ). IsAttempt o from SerializableSnapshot (steps.Get k row ∷ []) c.get-found.new.txn) key (c.in-Ok-found.ensures.within from SerializableSnapshot [] h) in
     on_ok_both c.take_change.result (λ passes taken. all_there o m policies fs id (option_copied c.args.new) from before after c.take_change.new.txn row c.requires.accepted passes
-    (λ true. c.take_change.ensures.sees (c.in-Ok-found.ensures.sees from SerializableSnapshot [] h (subst (λ es. IsStoreTrue policies m es before after) c.take_change.ensures.more.1 true) (vouched_none o m from c.args.txn.now h))) taken)
+    (λ store. c.take_change.ensures.sees (c.in-Ok-found.ensures.checked from SerializableSnapshot [] h (subst (λ es. IsStoreChecked policies m es before after) c.take_change.ensures.more.1 store) (vouched_none o m from c.args.txn.now h))) taken)
     c.take_change.ensures.passes (c.take_change.ensures.taken from SerializableSnapshot (steps.Get (record_key id) row ∷ []) attempt)
 
 pub returns-in-Ok-found-clause-stopped : goal.returns-in-Ok-found-clause-stopped
@@ -49,7 +49,7 @@ returns-in-Ok-found-clause-stopped g c = λ from h.
     let attempt : IsAttempt o from SerializableSnapshot (steps.Get (record_key id) row ∷ []) c.get-found.new.txn =
     subst (λ (k : List ℕ). IsAttempt o from SerializableSnapshot (steps.Get k row ∷ []) c.get-found.new.txn) key (c.in-Ok-found.ensures.within from SerializableSnapshot [] h) in
     if_err_map c.take_change.result _ _ (λ e x. change_there o m policies fs id (option_copied c.args.new) from before after c.take_change.new.txn row e
-    (λ true. c.take_change.ensures.sees (c.in-Ok-found.ensures.sees from SerializableSnapshot [] h (subst (λ es. IsStoreTrue policies m es before after) c.take_change.ensures.more.1 true) (vouched_none o m from c.args.txn.now h)))
+    (λ store. c.take_change.ensures.sees (c.in-Ok-found.ensures.checked from SerializableSnapshot [] h (subst (λ es. IsStoreChecked policies m es before after) c.take_change.ensures.more.1 store) (vouched_none o m from c.args.txn.now h)))
     (c.take_change.ensures.still from SerializableSnapshot (steps.Get (record_key id) row ∷ []) attempt) x) c.take_change.ensures.cause
 
 pub returns-in-Err-found-clause-stopped : goal.returns-in-Err-found-clause-stopped

@@ -13,7 +13,7 @@ returns-in-Ok g c =
     record {
       «open» = c.get.ensures.«open»;
       attempt = λ k within. counted policies before after k c.args.id.now c.get.new.core c.in-Ok.answer c.id_behind.result
-          (c.in-Ok.ensures.within k SerializableSnapshot [] within) (λ s settled. c.in-Ok.ensures.sees k SerializableSnapshot [] s within settled tt) c.id_behind.ensures.id c.id_behind.ensures.refused;
+          (c.in-Ok.ensures.within k SerializableSnapshot [] within) (λ s store. c.in-Ok.ensures.checked k SerializableSnapshot [] s within store tt) c.id_behind.ensures.id c.id_behind.ensures.refused;
       reads = c.get.ensures.reads;
     }
 

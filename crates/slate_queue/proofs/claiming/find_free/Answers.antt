@@ -49,10 +49,11 @@ returns g c =
             within = c.in-Ok.ensures.within k SerializableSnapshot [] within;
             named = named.named;
             rows = rows_seen (rules_of k.settings before.meaning) k.state.commits (newest k) [] Ascending (prefix_range jobs_prefix);
-            reading = λ s os told settled. c.in-Ok.ensures.reading k SerializableSnapshot [] s os within told settled;
+            reading = λ s store. c.in-Ok.ensures.checked k SerializableSnapshot [] s within store;
             since = c.in-Ok.ensures.since;
             reads = c.scan_prefix.ensures.reads;
           })
+          c.walk-found.ensures.reads
           c.walk-found.result
           (walks_at _ c.args.now middle after c.scan_prefix.new.core c.walk-found.new.core c.in-Ok.scan c.walk-found.result (to_z-of_z w64 c.args.now c.ranges.now) c.walk-found.ensures.to)
           (halts_at _ c.args.now middle after c.scan_prefix.new.core c.walk-found.new.core c.in-Ok.scan c.walk-found.result (to_z-of_z w64 c.args.now c.ranges.now) c.walk-found.ensures.stops);

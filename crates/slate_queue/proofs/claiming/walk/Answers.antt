@@ -62,7 +62,7 @@ returns-in-Ok-End g c =
     let more = goes_at _ c.args.now now after c.loop.core c.walk_on.new.core c.loop.scan c.walk_on.new.scan step.End (to_z-of_z w64 c.args.now c.ranges.now) (rw c.in-Ok-End.field-0-is at c.in-Ok-End.ensures.goes) in
     record {
       «open» = subst (HasTransaction c.walk_on.new.core) walk.2.named.named c.walk_on.ensures.«open»;
-      to = (walk.0, passed_at _ c.args.now walk.0 (to_z-of_z w64 c.args.now c.ranges.now) walk.1, walks_then before now c.args.core.now c.loop.core c.walk_on.new.core c.args.scan.now c.loop.scan (nexts walk.0) (steps.Next 0 None ∷ []) walk.2 more.walks);
+      to = (walk.0, passed_at _ c.args.now walk.0 (to_z-of_z w64 c.args.now c.ranges.now) walk.1, walks_then before now after c.args.core.now c.loop.core c.walk_on.new.core c.args.scan.now c.loop.scan (nexts walk.0) (steps.Next 0 None ∷ []) walk.2 more.reads more.walks);
       stops = tt;
       reads = reads_then before now after walk.2.reads c.walk_on.ensures.reads;
     }

@@ -12,7 +12,7 @@ returns-in-Ok-Some g c =
     let e = c.next.new.core in
     let x = c.args.scan.now in
     let y = c.next.new.it in
-    let walked = next_walked before after d e x y c.in-Ok-Some.field-0 (Some c.in-Ok-Some.row) c.in-Ok-Some.field-0-is c.requires.first c.in-Ok-Some.ensures.within c.next.ensures.named c.in-Ok-Some.ensures.reading c.in-Ok-Some.ensures.since c.next.ensures.reads in
+    let walked = next_walked before after d e x y c.in-Ok-Some.field-0 (Some c.in-Ok-Some.row) c.in-Ok-Some.field-0-is c.requires.first c.in-Ok-Some.ensures.within c.next.ensures.named c.in-Ok-Some.ensures.checked c.in-Ok-Some.ensures.since c.next.ensures.reads in
     record {
       opened = c.next.ensures.opened;
       «open» = c.next.ensures.«open» c.requires.«open»;
@@ -28,7 +28,7 @@ returns-in-Ok-None g c =
     record {
       opened = c.next.ensures.opened;
       «open» = c.next.ensures.«open» c.requires.«open»;
-      goes = next_walked before after c.args.core.now c.next.new.core c.args.scan.now c.next.new.it c.in-Ok-None.field-0 None c.in-Ok-None.field-0-is c.requires.first c.in-Ok-None.ensures.within c.next.ensures.named c.in-Ok-None.ensures.reading c.in-Ok-None.ensures.since c.next.ensures.reads;
+      goes = next_walked before after c.args.core.now c.next.new.core c.args.scan.now c.next.new.it c.in-Ok-None.field-0 None c.in-Ok-None.field-0-is c.requires.first c.in-Ok-None.ensures.within c.next.ensures.named c.in-Ok-None.ensures.checked c.in-Ok-None.ensures.since c.next.ensures.reads;
       stops = tt;
       reads = c.next.ensures.reads;
     }

@@ -25,7 +25,7 @@ returns-in-Err-tested g c =
     record {
       «open» = c.get.ensures.«open»;
       attempt = λ k within. finish_refused policies before after k c.args.id.now c.args.job c.args.lease c.job_key-key.result c.get.new.core c.in-Ok.answer c.in-Err-tested.error c.job_key-key.ensures
-          (c.in-Ok.ensures.within k SerializableSnapshot [] within) (λ s settled. c.in-Ok.ensures.sees k SerializableSnapshot [] s within settled tt) c.in-Err-tested.ensures.refused;
+          (c.in-Ok.ensures.within k SerializableSnapshot [] within) (λ s store. c.in-Ok.ensures.checked k SerializableSnapshot [] s within store tt) c.in-Err-tested.ensures.refused;
       reads = c.get.ensures.reads;
     }
 
@@ -37,7 +37,7 @@ returns-in-Ok-tested g c =
     record {
       «open» = c.delete_job.ensures.«open»;
       attempt = λ k within. finish_deleted policies before after k c.args.id.now c.args.job c.args.lease c.job_key-key.result c.get.new.core c.delete_job.new.core c.in-Ok.answer c.delete_job.result c.job_key-key.ensures
-          (c.in-Ok.ensures.within k SerializableSnapshot [] within) (λ s settled. c.in-Ok.ensures.sees k SerializableSnapshot [] s within settled tt) c.in-Ok-tested.ensures.claimed
+          (c.in-Ok.ensures.within k SerializableSnapshot [] within) (λ s store. c.in-Ok.ensures.checked k SerializableSnapshot [] s within store tt) c.in-Ok-tested.ensures.claimed
           (c.delete_job.ensures.taken k SerializableSnapshot _ (c.in-Ok.ensures.within k SerializableSnapshot [] within)) c.delete_job.ensures.same c.delete_job.ensures.cause;
       reads = c.get.ensures.reads;
     }

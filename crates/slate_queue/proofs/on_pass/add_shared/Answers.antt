@@ -4,7 +4,7 @@ use Rattle.slate_types.specs.declared.config.IsolationLevel.TheVariants.{Seriali
 use Rattle.slate_types.specs.Outside.{IsFault}
 use Rattle.slate_store.specs.Reach.{reach_of}
 use Rattle.slate_shared.specs.Passes.{PassModel}
-use Rattle.slate_queue.proofs.PassCalls.{add_answered_on, add_not_begun_on, add_stopped_on, add_too_long_on, add_uncommitted_on, committed_from, leaves_from, pass_committed, pass_left, pass_same, pass_unbegun, refused_from}
+use Rattle.slate_queue.proofs.PassCalls.{add_answered_on, add_not_begun_on, add_stopped_on, add_too_long_on, add_uncommitted_on, committed_from, ended_from, leaves_from, pass_committed, pass_ended, pass_left, pass_unbegun, refused_from}
 use Rattle.slate_queue.proofs.on_pass.add_shared.Goals as goal
 
 pub commit-requires-clause-table : goal.commit-requires-clause-table
@@ -29,10 +29,10 @@ returns-in-Err-add_job g c =
     let m = g.P.Parts.meaning in
     let old = c.args.pass.now in
     let h = c.in-Err-add_job.ensures.attempt old.seen c.in-Ok.ensures.begun.1 in
-    let left = leaves_from o c.add_job.new.txn h.refused.steps old c.begin.new.pass c.rollback.new.pass h.refused.attempt c.in-Ok.ensures.same c.rollback.ensures.ended in
+    let ended = ended_from c.add_job.new.txn old c.begin.new.pass c.rollback.new.pass c.in-Ok.ensures.same c.rollback.ensures.ended in
     record {
-      called = add_stopped_on c.args.payload.now c.args.now o m g.P.Parts.policies old c.rollback.new.pass before middle c.add_job.new.txn c.in-Err-add_job.error (omega arith) c.add_job.ensures.reads h left c.rollback.ensures.known c.rollback.ensures.legal;
-      same = pass_left o old c.rollback.new.pass left;
+      called = add_stopped_on c.args.payload.now c.args.now o m g.P.Parts.policies old c.rollback.new.pass before middle c.add_job.new.txn c.in-Err-add_job.error (omega arith) c.add_job.ensures.reads h ended c.rollback.ensures.known c.rollback.ensures.legal c.rollback.ensures.vouched;
+      same = pass_ended c.add_job.new.txn old c.rollback.new.pass ended;
     }
 
 pub returns-in-Err-commit : goal.returns-in-Err-commit

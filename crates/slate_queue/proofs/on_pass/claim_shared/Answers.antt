@@ -4,7 +4,7 @@ use Rattle.slate_types.specs.declared.config.IsolationLevel.TheVariants.{Seriali
 use Rattle.slate_types.specs.Outside.{IsFault}
 use Rattle.slate_store.specs.Reach.{reach_of}
 use Rattle.slate_shared.specs.Passes.{PassModel}
-use Rattle.slate_queue.proofs.PassCalls.{claim_answered_on, claim_none_on, claim_not_begun_on, claim_stopped_on, claim_uncommitted_on, committed_from, leaves_from, pass_committed, pass_left, pass_unbegun, refused_from}
+use Rattle.slate_queue.proofs.PassCalls.{claim_answered_on, claim_none_on, claim_not_begun_on, claim_stopped_on, claim_uncommitted_on, committed_from, ended_from, leaves_from, pass_committed, pass_ended, pass_left, pass_unbegun, refused_from}
 use Rattle.slate_queue.proofs.PassFinding.{claims_on_at}
 use Rattle.slate_queue.proofs.on_pass.claim_shared.Goals as goal
 
@@ -33,10 +33,10 @@ returns-in-Err-claim_job g c =
     let m = g.P.Parts.meaning in
     let old = c.args.pass.now in
     let h = claims_on_at o m g.P.Parts.policies old.seen before middle c.claim_job.new.txn c.args.ms _ c.args.now _ (to_z-of_z w64 c.args.now c.ranges.now) (c.in-Err-claim_job.ensures.attempt old.seen c.in-Ok.ensures.begun.1) in
-    let left = leaves_from o c.claim_job.new.txn h.refused.steps old c.begin.new.pass c.rollback-in-Err-claim_job.new.pass h.refused.attempt c.in-Ok.ensures.same c.rollback-in-Err-claim_job.ensures.ended in
+    let ended = ended_from c.claim_job.new.txn old c.begin.new.pass c.rollback-in-Err-claim_job.new.pass c.in-Ok.ensures.same c.rollback-in-Err-claim_job.ensures.ended in
     record {
-      called = claim_stopped_on c.args.now c.args.ms o m g.P.Parts.policies old c.rollback-in-Err-claim_job.new.pass before middle c.claim_job.new.txn c.in-Err-claim_job.error c.claim_job.ensures.reads h left c.rollback-in-Err-claim_job.ensures.known c.rollback-in-Err-claim_job.ensures.legal;
-      same = pass_left o old c.rollback-in-Err-claim_job.new.pass left;
+      called = claim_stopped_on c.args.now c.args.ms o m g.P.Parts.policies old c.rollback-in-Err-claim_job.new.pass before middle c.claim_job.new.txn c.in-Err-claim_job.error c.claim_job.ensures.reads h ended c.rollback-in-Err-claim_job.ensures.known c.rollback-in-Err-claim_job.ensures.legal c.rollback-in-Err-claim_job.ensures.vouched;
+      same = pass_ended c.claim_job.new.txn old c.rollback-in-Err-claim_job.new.pass ended;
     }
 
 pub returns-in-Ok-None : goal.returns-in-Ok-None
@@ -47,10 +47,10 @@ returns-in-Ok-None g c =
     let m = g.P.Parts.meaning in
     let old = c.args.pass.now in
     let h = claims_on_at o m g.P.Parts.policies old.seen before middle c.claim_job.new.txn c.args.ms _ c.args.now _ (to_z-of_z w64 c.args.now c.ranges.now) ((rw c.in-Ok-None.field-0-is at c.in-Ok-None.ensures.attempt) old.seen c.in-Ok.ensures.begun.1) in
-    let left = leaves_from o c.claim_job.new.txn h.done.steps old c.begin.new.pass c.rollback.new.pass h.done.attempt c.in-Ok.ensures.same c.rollback.ensures.ended in
+    let ended = ended_from c.claim_job.new.txn old c.begin.new.pass c.rollback.new.pass c.in-Ok.ensures.same c.rollback.ensures.ended in
     record {
-      called = claim_none_on c.args.now c.args.ms o m g.P.Parts.policies old c.rollback.new.pass before middle c.claim_job.new.txn c.claim_job.ensures.reads h left c.rollback.ensures.known c.rollback.ensures.legal;
-      same = pass_left o old c.rollback.new.pass left;
+      called = claim_none_on c.args.now c.args.ms o m g.P.Parts.policies old c.rollback.new.pass before middle c.claim_job.new.txn c.claim_job.ensures.reads h ended c.rollback.ensures.known c.rollback.ensures.legal c.rollback.ensures.vouched;
+      same = pass_ended c.claim_job.new.txn old c.rollback.new.pass ended;
     }
 
 pub returns-in-Err-commit : goal.returns-in-Err-commit

@@ -4,7 +4,7 @@ use Rattle.slate_types.specs.declared.config.IsolationLevel.TheVariants.{Seriali
 use Rattle.slate_types.specs.Outside.{IsFault}
 use Rattle.slate_store.specs.Reach.{reach_of}
 use Rattle.slate_shared.specs.Passes.{PassModel}
-use Rattle.slate_queue.proofs.PassCalls.{committed_from, finish_answered_on, finish_not_begun_on, finish_stopped_on, finish_uncommitted_on, leaves_from, pass_committed, pass_left, pass_unbegun, refused_from}
+use Rattle.slate_queue.proofs.PassCalls.{committed_from, ended_from, finish_answered_on, finish_not_begun_on, finish_stopped_on, finish_uncommitted_on, leaves_from, pass_committed, pass_ended, pass_left, pass_unbegun, refused_from}
 use Rattle.slate_queue.proofs.on_pass.finish_shared.Goals as goal
 
 pub commit-requires-clause-table : goal.commit-requires-clause-table
@@ -29,10 +29,10 @@ returns-in-Err-finish_job g c =
     let m = g.P.Parts.meaning in
     let old = c.args.pass.now in
     let h = c.in-Err-finish_job.ensures.attempt old.seen c.in-Ok.ensures.begun.1 in
-    let left = leaves_from o c.finish_job.new.txn h.refused.steps old c.begin.new.pass c.rollback.new.pass h.refused.attempt c.in-Ok.ensures.same c.rollback.ensures.ended in
+    let ended = ended_from c.finish_job.new.txn old c.begin.new.pass c.rollback.new.pass c.in-Ok.ensures.same c.rollback.ensures.ended in
     record {
-      called = finish_stopped_on c.args.id c.args.lease c.args.now o m g.P.Parts.policies old c.rollback.new.pass before middle c.finish_job.new.txn c.in-Err-finish_job.error c.ranges.id.fits c.finish_job.ensures.reads h left c.rollback.ensures.known c.rollback.ensures.legal;
-      same = pass_left o old c.rollback.new.pass left;
+      called = finish_stopped_on c.args.id c.args.lease c.args.now o m g.P.Parts.policies old c.rollback.new.pass before middle c.finish_job.new.txn c.in-Err-finish_job.error c.ranges.id.fits c.finish_job.ensures.reads h ended c.rollback.ensures.known c.rollback.ensures.legal c.rollback.ensures.vouched;
+      same = pass_ended c.finish_job.new.txn old c.rollback.new.pass ended;
     }
 
 pub returns-in-Err-commit : goal.returns-in-Err-commit

@@ -6,7 +6,7 @@ use Rattle.slate_db.specs.Meaning.{segments_by}
 use Rattle.slate_queue.specs.declared.line.Line.{Line}
 use Rattle.slate_queue.specs.Script.{meaning}
 use Rattle.slate_queue.proofs.LineLaws.{line_says, silence_says, taken_line, taken_silence, unread}
-use Rattle.slate_queue.proofs.ProgramLaws.{goes_same}
+use Rattle.slate_queue.specs.Onward.{goes_same}
 use Rattle.slate_queue.proofs.run.answer_line.Goals as goal
 
 pub returns-in-Ok : goal.returns-in-Ok

@@ -51,5 +51,5 @@ returns-in-Err g c =
     record {
       said = λ r at. refused_text _ _ _ _ policies seg before after c.args.core.now d r at c.in-Err.error c.refuse.result done c.refuse.ensures.text;
       goes = goes_one policies seg before after c.args.core.now d done.reads done.keeps;
-      cause = refused_ends _ _ _ _ policies seg before after c.args.core.now d (claim_apart c.args.now) c.in-Err.error c.refuse.result done c.refuse.ensures.cause;
+      cause = refused_ends _ _ _ _ policies seg before after c.args.core.now d (claim_apart c.args.now policies before after c.args.core.now d) c.in-Err.error c.refuse.result done c.refuse.ensures.cause;
     }

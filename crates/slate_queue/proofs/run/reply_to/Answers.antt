@@ -4,7 +4,7 @@ use Rattle.slate_store.specs.Reach.{reach_of}
 use Rattle.slate_db.specs.Meaning.{segments_by}
 use Rattle.slate_queue.specs.declared.line.Line.TheVariants as lines
 use Rattle.slate_queue.proofs.LineLaws.{feed_says, says_as, text_ends}
-use Rattle.slate_queue.proofs.ProgramLaws.{goes_same}
+use Rattle.slate_queue.specs.Onward.{goes_same}
 use Rattle.slate_queue.proofs.run.reply_to.Goals as goal
 
 pub returns-in-Add : goal.returns-in-Add

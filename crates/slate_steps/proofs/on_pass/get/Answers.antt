@@ -1,7 +1,7 @@
 use Rattle.std.proofs.Common.{None, sym}
 use Rattle.slate_store.specs.Reach.{reach_of}
 use Rattle.slate_table.specs.Filtered.{point_query}
-use Rattle.slate_steps.proofs.OnPass.{get_attempt, get_cause, get_more, get_refused, get_undamaged, get_vouched_there}
+use Rattle.slate_steps.proofs.OnPass.{get_attempt, get_cause, get_checked, get_more, get_refused, get_undamaged, get_vouched_there}
 use Rattle.slate_steps.proofs.on_pass.get.Goals as goal
 
 pub returns : goal.returns
@@ -22,6 +22,7 @@ returns g c =
       same = read.unnoted;
       refused = λ from level ts h. get_refused o m ps q k t u before after r read from level ts h;
       sees = λ from level ts h s v. get_vouched_there o m ps q k t u before after r read from level ts h s v;
+      checked = λ from level ts h s v. get_checked o m ps q k t u before after c.requires.meaning r read from level ts h s v;
       undamaged = λ from level ts h s. get_undamaged o m ps q k t u before after r read from level ts h s;
       cause = λ from level ts h. get_cause o m ps q k t u before after r read from level ts h (sym c.requires.meaning);
       more = get_more o m (record { policies = ps; query = q }) k t u before after r read;

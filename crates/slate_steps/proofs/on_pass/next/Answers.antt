@@ -1,6 +1,6 @@
 use Rattle.slate_db.specs.Scans.{number_of}
 use Rattle.slate_store.specs.Reach.{reach_of}
-use Rattle.slate_steps.proofs.OnPass.{next_attempt, next_cause_on, next_more, next_reading_on, next_since_on, next_undamaged_on}
+use Rattle.slate_steps.proofs.OnPass.{next_attempt, next_cause_on, next_checked_on, next_more, next_reading_on, next_since_on, next_undamaged_on}
 use Rattle.slate_steps.proofs.on_pass.next.Goals as goal
 
 pub returns : goal.returns
@@ -20,6 +20,7 @@ returns g c =
       within = λ from level ts h. next_attempt o m t u x y before after r noted from level ts h;
       named = step.names;
       reading = λ os rows meant answered h. next_reading_on o m t u x y before after r noted step.names step.rows os rows meant answered h;
+      checked = λ os rows meant unslipped h. next_checked_on o m t u x y before after r noted step.names step.rows step.checked step.later os rows meant unslipped h;
       undamaged = λ os rows meant answered h. next_undamaged_on o m t u x y before after r step.undamaged os rows meant answered h;
       since = λ from seen h. next_since_on r o from before after seen x y h step.later;
       cause = λ from policies seen only h. next_cause_on r o policies from before after seen x only h step.cause;

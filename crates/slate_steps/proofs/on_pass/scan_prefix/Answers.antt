@@ -5,7 +5,7 @@ use Rattle.slate_types.proofs.KeyLaws.{whole_subrange}
 use Rattle.slate_store.specs.Reach.{reach_of}
 use Rattle.slate_db.specs.Prefixes.{asked_prefix}
 use Rattle.slate_db.specs.ScanFilters.{scan_query}
-use Rattle.slate_steps.proofs.OnPass.{scan_attempt, scan_cause, scan_more, scan_reading_on, scan_refused, scan_since, scan_undamaged, scan_vouched_there}
+use Rattle.slate_steps.proofs.OnPass.{scan_attempt, scan_cause, scan_checked, scan_more, scan_reading_on, scan_refused, scan_since, scan_undamaged, scan_vouched_there}
 use Rattle.slate_steps.proofs.on_pass.scan_prefix.Goals as goal
 
 pub returns : goal.returns
@@ -29,6 +29,7 @@ returns g c =
       named = opened.names;
       sees = λ from level ts h v. scan_vouched_there o m ps q range Ascending t u before after quiet r opened v;
       reading = λ from level ts h s. scan_reading_on o m ps q range Ascending t u before after quiet r opened from level ts h s;
+      checked = λ from level ts h s. scan_checked o m ps q range Ascending t u before after quiet c.requires.meaning r opened from level ts h s;
       undamaged = λ from level ts h s. scan_undamaged o m ps q range Ascending t u before after quiet r opened from level ts h s;
       since = λ from level ts h. scan_since o m ps q range Ascending t u before after quiet r opened from level ts h (sym c.requires.meaning);
       cause = λ from level ts h. scan_cause o m ps q range Ascending t u before after quiet r opened from level ts h (sym c.requires.meaning);

@@ -1,7 +1,7 @@
 use Rattle.std.proofs.Common.{refl}
 use Rattle.slate_txn.specs.declared.event.TranscriptStep.TheVariants as steps
 use Rattle.slate_db.specs.Scans.{id_of, number_of}
-use Rattle.slate_steps.proofs.Reading.{if_ok_map, next_error, next_reading, next_undamaged, since_next}
+use Rattle.slate_steps.proofs.Reading.{if_ok_map, next_checked, next_error, next_reading, next_undamaged, since_next}
 use Rattle.slate_steps.proofs.Taking.{within_noted}
 use Rattle.slate_steps.proofs.scan.next.Goals as goal
 
@@ -11,6 +11,9 @@ returns-clause-within g c = λ d level ts h.
 
 pub returns-clause-reading : goal.returns-clause-reading
 returns-clause-reading g c = λ d ts os rows told h. next_reading c.next.result os _ _ d ts c.args.it.now c.next.new.it rows c.next.ensures.names c.next.ensures.rows told h
+
+pub returns-clause-checked : goal.returns-clause-checked
+returns-clause-checked g c = λ d ts os rows met h. next_checked c.next.result os _ _ d ts c.args.it.now c.next.new.it rows c.next.ensures.names c.next.ensures.rows c.next.ensures.checked c.next.ensures.later met h
 
 pub returns-clause-undamaged : goal.returns-clause-undamaged
 returns-clause-undamaged g c = λ d ts os rows told h. next_undamaged c.next.result os _ _ d ts c.args.it.now rows c.next.ensures.undamaged told h

@@ -9,7 +9,7 @@ use Rattle.slate_db.specs.Model.{CoreModel}
 use Rattle.slate_db.specs.Scans.{IsScanOf}
 use Rattle.slate_db.proofs.OpenIds.{transaction_reads}
 use Rattle.slate_store.specs.Reach.{reach_of}
-use Rattle.slate_steps.proofs.Reading.{answered_within, as_ordered, as_reading, on_ok_map, prefix_fits, scan_error, scan_named, scan_reading}
+use Rattle.slate_steps.proofs.Reading.{answered_within, as_ordered, as_reading, on_ok_map, prefix_fits, scan_checked, scan_error, scan_named, scan_reading}
 use Rattle.slate_steps.proofs.Taking.{within_noted}
 use Rattle.slate_steps.proofs.scan.scan_prefix.Goals as goal
 
@@ -39,6 +39,16 @@ returns-clause-reading g c = λ d level ts seg os h told settled.
     let policies = map (λ p. (goal.FilterPolicy-dyn g (p.vtable, p.value)).meaning p.value) c.args.laws.now.policies.items in
     as_reading c.scan.result os before.meaning d ts _ _ _ _ upward whole
     (scan_reading c.scan.result policies seg before after os d c.args.core.now c.args.id.now level ts c.default.result.order c.in_ok-range.range h c.scan.ensures.names c.scan.ensures.opened told settled)
+
+pub returns-clause-checked : goal.returns-clause-checked
+returns-clause-checked g c = λ d level ts seg h store.
+    let upward : ◌≡◌ {A = IterationOrder} c.default.result.order Ascending = search rules in
+    let whole : ◌≡◌ {A = BytesRange} c.in_ok-range.range (prefix_range c.args.prefix.now) = c.in_ok-range.ensures.range in
+    let before = reach_of g.S.Store g.M.MergeOperator g.T.BlockTransformer c.args.env.now in
+    let after = reach_of g.S.Store g.M.MergeOperator g.T.BlockTransformer c.scan.new.env in
+    let policies = map (λ p. (goal.FilterPolicy-dyn g (p.vtable, p.value)).meaning p.value) c.args.laws.now.policies.items in
+    as_reading c.scan.result store.os before.meaning d ts _ _ _ _ upward whole
+    (scan_checked c.scan.result policies seg before after d c.args.core.now c.args.id.now level ts c.default.result.order c.in_ok-range.range h c.scan.ensures.names c.scan.ensures.opened c.scan.ensures.checked store)
 
 pub returns-clause-undamaged : goal.returns-clause-undamaged
 returns-clause-undamaged g c = λ d level ts seg h settled.

@@ -2,7 +2,7 @@ use Rattle.std.proofs.Common.{map, refl}
 use Rattle.slate_txn.specs.declared.event.TranscriptStep.TheVariants as steps
 use Rattle.slate_table.specs.Filtered.{point_query}
 use Rattle.slate_db.proofs.OpenIds.{transaction_reads}
-use Rattle.slate_steps.proofs.Reading.{answered_within, get_error, get_sees, if_ok_map}
+use Rattle.slate_steps.proofs.Reading.{answered_within, get_checked, get_error, get_sees, if_ok_map}
 use Rattle.slate_steps.proofs.Taking.{within_noted}
 use Rattle.slate_steps.proofs.transaction.get.Goals as goal
 
@@ -18,6 +18,12 @@ returns-clause-sees g c = λ d level ts seg h settled sees.
     get_sees c.get.result _ seg _ _ d c.args.core.now c.get.new.self c.args.id.now c.args.key.now level ts
     (if_ok_map c.get.result _ _ (λ a is. within_noted d c.args.core.now c.get.new.self c.args.id.now level ts (steps.Get c.args.key.now a) refl is c.get.ensures.kept h) c.get.ensures.noted)
     c.get.ensures.vouched h settled sees
+
+pub returns-clause-checked : goal.returns-clause-checked
+returns-clause-checked g c = λ d level ts seg h store sees.
+    get_checked c.get.result _ seg _ _ d c.args.core.now c.get.new.self c.args.id.now c.args.key.now level ts
+    (if_ok_map c.get.result _ _ (λ a is. within_noted d c.args.core.now c.get.new.self c.args.id.now level ts (steps.Get c.args.key.now a) refl is c.get.ensures.kept h) c.get.ensures.noted)
+    c.get.ensures.vouched c.get.ensures.read.checked h store sees
 
 pub returns-clause-undamaged : goal.returns-clause-undamaged
 returns-clause-undamaged g c = λ d level ts seg h settled. c.get.ensures.read.undamaged (answered_within _ seg _ _ d c.args.core.now c.args.id.now level ts h settled)

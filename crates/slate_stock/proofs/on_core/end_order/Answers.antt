@@ -8,17 +8,17 @@ use Rattle.slate_stock.proofs.on_core.end_order.Goals as goal
 pub unreachable-requires : goal.unreachable-requires
 unreachable-requires g c =
     let t = c.requires.taken in
-    some_committed t.policies t.before t.core c.args.core.now c.commit.new.core c.args.id.now t.order _ t.is
+    some_committed t.policies t.before t.after t.core c.args.core.now c.commit.new.core c.args.id.now t.order _ t.is
     (rw c.in-Ok-None.field-0-is at (c.in-Ok-None.ensures.committed t.core SerializableSnapshot t.is.taken t.is.within))
 
 pub returns-in-Ok-Some-clause-ordered : goal.returns-in-Ok-Some-clause-ordered
-returns-in-Ok-Some-clause-ordered g c = λ policies before d order h.
-    has_ordered policies before d c.args.core.now c.commit.new.core c.args.id.now order c.args.now _ h
+returns-in-Ok-Some-clause-ordered g c = λ policies before after d order h.
+    has_ordered policies before after d c.args.core.now c.commit.new.core c.args.id.now order c.args.now _ h
     (committed_at d c.commit.new.core c.args.id.now h.taken _ c.args.now _ (to_z-of_z w64 c.args.now c.ranges.now) (rw c.in-Ok-Some.field-0-is at (c.in-Ok-Some.ensures.committed d SerializableSnapshot h.taken h.within)))
 
 pub returns-in-Ok-Some-clause-exhausted : goal.returns-in-Ok-Some-clause-exhausted
-returns-in-Ok-Some-clause-exhausted g c = λ policies before d order h full.
-    never_full c.commit.result _ c.in-Ok-Some.is (c.commit.ensures.exhausted d SerializableSnapshot h.taken h.within (taken_some policies before d c.args.id.now order c.args.core.now h) full)
+returns-in-Ok-Some-clause-exhausted g c = λ policies before after d order h full.
+    never_full c.commit.result _ c.in-Ok-Some.is (c.commit.ensures.exhausted d SerializableSnapshot h.taken h.within (taken_some policies before after d c.args.id.now order c.args.core.now h) full)
 
 pub returns-in-Ok-Some-clause-kept : goal.returns-in-Ok-Some-clause-kept
 returns-in-Ok-Some-clause-kept g c = λ d ts h kept. c.in-Ok-Some.ensures.kept d SerializableSnapshot ts h kept
@@ -30,7 +30,7 @@ pub returns-in-Err-clause-ended : goal.returns-in-Err-clause-ended
 returns-in-Err-clause-ended g c = λ d ts h. c.in-Err.ensures.ended d SerializableSnapshot ts h
 
 pub returns-in-Err-clause-cause : goal.returns-in-Err-clause-cause
-returns-in-Err-clause-cause g c = λ policies before d order h. c.in-Err.ensures.cause d SerializableSnapshot h.taken h.within c.requires.segments (taken_plain policies before d c.args.id.now order c.args.core.now h)
+returns-in-Err-clause-cause g c = λ policies before after d order h. c.in-Err.ensures.cause d SerializableSnapshot h.taken h.within c.requires.segments (taken_plain policies before after d c.args.id.now order c.args.core.now h)
 
 pub returns-in-Err-clause-kept : goal.returns-in-Err-clause-kept
 returns-in-Err-clause-kept g c = λ d ts h kept. c.in-Err.ensures.kept d SerializableSnapshot ts h kept

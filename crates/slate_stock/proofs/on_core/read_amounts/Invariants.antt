@@ -16,6 +16,6 @@ invariant-loop-key g l =
     record {
       open_there : HasTransaction l.core l.id;
       reads : OnlyReads before now;
-      read : (c : CoreModel) → IsWithin c l.id SerializableSnapshot [] l.initial.core → HasRead policies before c l.id (take l.key-index l.keys) l.amounts.items l.core;
+      read : (c : CoreModel) → IsWithin c l.id SerializableSnapshot [] l.initial.core → HasRead policies before now c l.id (take l.key-index l.keys) l.amounts.items l.core;
       long : length l.amounts.items ≡ l.key-index;
     }

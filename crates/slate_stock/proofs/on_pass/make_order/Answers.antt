@@ -44,7 +44,7 @@ pub returns-in-Ok-clause-refused : goal.returns-in-Ok-clause-refused
 returns-in-Ok-clause-refused g c = λ holds.
     let before = reach_of g.S.Store g.M.MergeOperator g.T.BlockTransformer c.args.env.now in
     let after = reach_of g.S.Store g.M.MergeOperator g.T.BlockTransformer c.order_within.new.env in
-    subst (λ (p : PassModel). IfErr c.order_within.result (IsOrderTruthOn g.P.Parts.options g.P.Parts.meaning before after p c.order_within.new.pass c.args.order.now)) c.in-Ok.ensures.same (c.order_within.ensures.refused holds)
+    subst (λ (p : PassModel). IfErr c.order_within.result (IsOrderTruthOn g.P.Parts.options g.P.Parts.meaning g.P.Parts.policies before after p c.order_within.new.pass c.args.order.now)) c.in-Ok.ensures.same (c.order_within.ensures.refused holds)
 
 pub returns-in-Err-clause-only : goal.returns-in-Err-clause-only
 returns-in-Err-clause-only g c = c.in-Err.ensures.unbegun.only
@@ -56,4 +56,4 @@ pub returns-in-Err-clause-cause : goal.returns-in-Err-clause-cause
 returns-in-Err-clause-cause g c = begin_cause_on g.P.Parts.options _ _ _ c.args.pass.now c.begin.new.pass c.args.order.now c.in-Err.error c.in-Err.ensures.unbegun
 
 pub returns-in-Err-clause-refused : goal.returns-in-Err-clause-refused
-returns-in-Err-clause-refused g c = λ holds. begin_truth_on g.P.Parts.options _ _ _ c.args.pass.now c.begin.new.pass c.args.order.now c.in-Err.error c.in-Err.ensures.unbegun
+returns-in-Err-clause-refused g c = λ holds. begin_truth_on g.P.Parts.options _ g.P.Parts.policies _ _ c.args.pass.now c.begin.new.pass c.args.order.now c.in-Err.error c.in-Err.ensures.unbegun

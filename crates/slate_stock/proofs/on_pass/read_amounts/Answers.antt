@@ -2,8 +2,10 @@ use Rattle.std.proofs.Common.{◌≡◌, ◌∙◌, ◌+◌, [], ◌∷◌, ◌+
 use Rattle.slate_types.proofs.Reaching.{reads_none, reads_then}
 use Rattle.slate_store.specs.Reach.{reach_of}
 use Rattle.slate_shared.proofs.Lists.{prefix_self, prefix_trans}
+use Rattle.slate_steps.proofs.StoreTruth.{checked_earlier, checked_later}
+use Rattle.slate_steps.specs.Attempts.{IsFaultOn}
 use Rattle.slate_stock.proofs.AttemptCauses.{reads_cause_on, reads_truth_on, wanting_cause_on, wanting_truth_on}
-use Rattle.slate_stock.proofs.AttemptLaws.{first_read, more_read, true_first, true_last, whole_read}
+use Rattle.slate_stock.proofs.AttemptLaws.{first_read, more_read, whole_read}
 use Rattle.slate_stock.proofs.StepLaws.{gets_own}
 use Rattle.slate_stock.proofs.on_pass.read_amounts.Goals as goal
 
@@ -43,21 +45,21 @@ loop-key-preserved g c =
       long = omega (arith, i.long, grown, ap length c.in-Ok-push.ensures.items);
       sees = λ from h holds v.
           let old = i.read from h in
-          c.in-Ok.ensures.sees from old.taken old.within (true_last g.P.Parts.policies m _ _ before now after (prefix_self _) i.reads c.read_amount.ensures.reads holds)
-          (i.sees from h (true_first g.P.Parts.policies m c.loop-key.txn.seen c.read_amount.new.txn.seen before now after later i.reads c.read_amount.ensures.reads holds) v);
+          c.in-Ok.ensures.sees from old.taken old.within (checked_later g.P.Parts.policies m _ before now after i.reads c.read_amount.ensures.reads holds)
+          (i.sees from h (checked_earlier g.P.Parts.policies m c.loop-key.txn.seen c.read_amount.new.txn.seen before now after later i.reads c.read_amount.ensures.reads holds) v);
     }
 
 pub returns-in-Err-push-clause-left : goal.returns-in-Err-push-clause-left
 returns-in-Err-push-clause-left g c = λ from h. let old = c.loop-key.invariant.read from h in (_, (c.in-Ok.ensures.read from old.taken old.within).within)
 
 pub returns-in-Err-push-clause-cause : goal.returns-in-Err-push-clause-cause
-returns-in-Err-push-clause-cause g c = λ from h. wanting_cause_on _ _ _ _ _ c.args.keys.now c.from.result c.from.ensures
+returns-in-Err-push-clause-cause g c = λ from h. wanting_cause_on g.P.Parts.options _ _ _ from c.args.keys.now c.read_amount.new.txn c.from.result c.from.ensures
 
 pub returns-in-Err-push-clause-truth : goal.returns-in-Err-push-clause-truth
 returns-in-Err-push-clause-truth g c = λ from es h holds v later legal.
     let before = reach_of g.S.Store g.M.MergeOperator g.T.BlockTransformer c.args.env.now in
     let after = reach_of g.S.Store g.M.MergeOperator g.T.BlockTransformer c.read_amount.new.env in
-    wanting_truth_on g.P.Parts.options g.P.Parts.meaning before after es c.read_amount.new.txn.tx.begin c.args.keys.now c.from.result c.from.ensures
+    wanting_truth_on (IsFaultOn g.P.Parts.policies g.P.Parts.meaning c.read_amount.new.txn.seen before after) g.P.Parts.options g.P.Parts.meaning es c.read_amount.new.txn.tx.begin c.args.keys.now c.from.result (λ s. tt) c.from.ensures
 
 pub returns-in-Err-push-clause-more : goal.returns-in-Err-push-clause-more
 returns-in-Err-push-clause-more g c = (c.read_amount.ensures.more.0 ∙ c.loop-key.invariant.table, prefix_trans _ _ _ c.loop-key.invariant.begins c.read_amount.ensures.more.1)
@@ -72,7 +74,7 @@ pub returns-in-Err-clause-cause : goal.returns-in-Err-clause-cause
 returns-in-Err-clause-cause g c = λ from h.
     let i = c.loop-key.invariant in
     let old = i.read from h in
-    reads_cause_on _ _ _ _ _ _ c.args.keys.now c.loop-key.key-index _ _ c.in-Err.error i.reads (omega arith) c.key-item.is (c.in-Err.ensures.cause from old.taken old.within)
+    reads_cause_on g.P.Parts.options _ _ _ _ from c.args.keys.now c.loop-key.key-index _ _ c.read_amount.new.txn c.in-Err.error i.reads (omega arith) c.key-item.is (c.in-Err.ensures.cause from old.taken old.within)
 
 pub returns-in-Err-clause-truth : goal.returns-in-Err-clause-truth
 returns-in-Err-clause-truth g c = λ from es h holds v later legal.
@@ -84,9 +86,9 @@ returns-in-Err-clause-truth g c = λ from es h holds v later legal.
     let now = reach_of g.S.Store g.M.MergeOperator g.T.BlockTransformer c.loop-key.env in
     let after = reach_of g.S.Store g.M.MergeOperator g.T.BlockTransformer c.read_amount.new.env in
     let more = c.read_amount.ensures.more.1 in
-    reads_truth_on o m before now after es c.read_amount.new.txn.tx.begin c.args.keys.now c.loop-key.key-index _ _ c.in-Err.error i.reads (omega arith) c.key-item.is
-    (c.in-Err.ensures.truth from es old.taken old.within (gets_own _ _ _ old.read) (true_last g.P.Parts.policies m _ _ before now after (prefix_self _) i.reads c.read_amount.ensures.reads holds)
-    (i.sees from h (true_first g.P.Parts.policies m c.loop-key.txn.seen c.read_amount.new.txn.seen before now after more i.reads c.read_amount.ensures.reads holds) v) later legal)
+    reads_truth_on o m g.P.Parts.policies before now after c.read_amount.new.txn.seen es c.read_amount.new.txn.tx.begin c.args.keys.now c.loop-key.key-index _ _ c.in-Err.error i.reads c.read_amount.ensures.reads (omega arith) c.key-item.is
+    (c.in-Err.ensures.truth from es old.taken old.within (gets_own _ _ _ old.read) (checked_later g.P.Parts.policies m _ before now after i.reads c.read_amount.ensures.reads holds)
+    (i.sees from h (checked_earlier g.P.Parts.policies m c.loop-key.txn.seen c.read_amount.new.txn.seen before now after more i.reads c.read_amount.ensures.reads holds) v) later legal)
 
 pub returns-in-Err-clause-more : goal.returns-in-Err-clause-more
 returns-in-Err-clause-more g c = (c.read_amount.ensures.more.0 ∙ c.loop-key.invariant.table, prefix_trans _ _ _ c.loop-key.invariant.begins c.read_amount.ensures.more.1)

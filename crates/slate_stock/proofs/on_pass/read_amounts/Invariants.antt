@@ -4,7 +4,7 @@ use Rattle.slate_types.specs.declared.config.IsolationLevel.TheVariants.{Seriali
 use Rattle.slate_types.specs.Outside.{OnlyReads}
 use Rattle.slate_store.specs.Reach.{reach_of}
 use Rattle.slate_txn.specs.declared.event.Event.{Event}
-use Rattle.slate_steps.specs.Attempts.{IsAttempt, IsStoreTrue, IsVouchedThere}
+use Rattle.slate_steps.specs.Attempts.{IsAttempt, IsStoreChecked, IsVouchedThere}
 use Rattle.slate_stock.specs.Attempting.{HasReadOn}
 use Rattle.slate_stock.proofs.on_pass.read_amounts.Given as goal
 
@@ -20,5 +20,5 @@ invariant-loop-key g l =
       reads : OnlyReads before now;
       read : (from : List Event) → IsAttempt o from SerializableSnapshot [] l.initial.txn → HasReadOn o from (take l.key-index l.keys) l.amounts.items l.txn;
       long : length l.amounts.items ≡ l.key-index;
-      sees : (from : List Event) → IsAttempt o from SerializableSnapshot [] l.initial.txn → IsStoreTrue g.P.Parts.policies m l.txn.seen before now → IsVouchedThere o m l.initial.txn → IsVouchedThere o m l.txn;
+      sees : (from : List Event) → IsAttempt o from SerializableSnapshot [] l.initial.txn → IsStoreChecked g.P.Parts.policies m l.txn.seen before now → IsVouchedThere o m l.initial.txn → IsVouchedThere o m l.txn;
     }

@@ -1,9 +1,9 @@
-use Rattle.std.proofs.Common.{ℕ, List, inl, inr, refl, sym, w64}
+use Rattle.std.proofs.Common.{◌∙◌, ℕ, List, inl, inr, refl, sym, w64}
 use Rattle.std.proofs.lemmas.Int.{to_z-of_z}
 use Rattle.slate_types.proofs.Exits.{err_exit, on_err}
 use Rattle.slate_stock.specs.Attempting.{IsDbCauseOn, IsDbTruthOn, IsOrderTruthOn}
 use Rattle.slate_stock.proofs.AttemptLaws.{ordered_then, orders_then, same_then, stays_only, stepped_then}
-use Rattle.slate_stock.proofs.EndLaws.{form_refused}
+use Rattle.slate_stock.proofs.EndLaws.{first_shown, form_refused}
 use Rattle.slate_stock.proofs.on_pass.run_order.Goals as goal
 
 pub returns-in-Some-clause-only : goal.returns-in-Some-clause-only
@@ -16,7 +16,10 @@ pub returns-in-Some-clause-cause : goal.returns-in-Some-clause-cause
 returns-in-Some-clause-cause g c = inr (inr (λ k. 0, form_refused (λ (k : List ℕ). 0) c.args.order.now c.in-Some.error (sym c.in-Some.ensures)))
 
 pub returns-in-Some-clause-refused : goal.returns-in-Some-clause-refused
-returns-in-Some-clause-refused g c = λ holds. IsOrderTruthOn.shown (sym c.in-Some.ensures)
+returns-in-Some-clause-refused g c = λ holds. IsOrderTruthOn.shown (sym c.in-Some.ensures) refl refl
+
+pub returns-in-Some-clause-first : goal.returns-in-Some-clause-first
+returns-in-Some-clause-first g c = λ e is. (first_shown c.in-Some.error e (c.in-Some.ensures ∙ is), refl, refl)
 
 pub returns-in_err-keys-clause-only : goal.returns-in_err-keys-clause-only
 returns-in_err-keys-clause-only g c = on_err c.from_residual.result (stays_only c.args.pass.now c.args.pass.now refl)
@@ -28,7 +31,7 @@ pub returns-in_err-keys-clause-cause : goal.returns-in_err-keys-clause-cause
 returns-in_err-keys-clause-cause g c = err_exit c.from_residual.result _ c.from_residual.ensures.1 _ (inl (IsDbCauseOn.fault tt))
 
 pub returns-in_err-keys-clause-refused : goal.returns-in_err-keys-clause-refused
-returns-in_err-keys-clause-refused g c = λ holds. err_exit c.from_residual.result _ c.from_residual.ensures.1 _ (IsOrderTruthOn.database (IsDbTruthOn.fault tt))
+returns-in_err-keys-clause-refused g c = λ holds. err_exit c.from_residual.result _ c.from_residual.ensures.1 _ (IsOrderTruthOn.database (IsDbTruthOn.fault (λ s. tt)))
 
 pub returns-clause-committed : goal.returns-clause-committed
 returns-clause-committed g c =

@@ -2,8 +2,11 @@ use Rattle.std.proofs.Common.{map, subst}
 use Rattle.slate_store.specs.Reach.{reach_of}
 use Rattle.slate_db.specs.Meaning.{segments_by}
 use Rattle.slate_db.specs.Settled.{IsSettledIn}
+use Rattle.slate_steps.proofs.Reading.{if_err_map}
+use Rattle.slate_steps.proofs.StoreTruth.{checked_in}
 use Rattle.slate_stock.proofs.CauseLaws.{settled_as}
 use Rattle.slate_stock.proofs.CoreLaws.{left_settled}
+use Rattle.slate_stock.proofs.EndLaws.{truth_settled}
 use Rattle.slate_stock.proofs.GoingLaws.{order_answers, total_answers}
 use Rattle.slate_stock.proofs.RunLaws.{IsOrderCall, IsTotalCall}
 use Rattle.slate_stock.proofs.run.answer_line.Goals as goal
@@ -19,7 +22,7 @@ returns-in-Order g c =
       committed = made.committed;
       left = made.left;
       cause = made.cause;
-      refused = λ seg settled. made.refused seg settled;
+      refused = λ seg settled. if_err_map c.run_order_core-made.result _ _ (λ e x. truth_settled policies seg before after before.meaning core c.in-Order.order e settled x) (made.refused seg (checked_in policies seg before after core settled));
       exhausted = λ full. made.exhausted full;
       settled = subst (λ s. IsSettledIn policies (segments_by g.X.PrefixExtractor.lengths s) before core → IsSettledIn policies (segments_by g.X.PrefixExtractor.lengths s) after c.run_order_core-made.new.core) c.requires.whole made.settled;
       vouched = λ seg settled vouched. made.vouched seg settled vouched;

@@ -16,7 +16,7 @@ returns-in-Ok-sum_within-clause-total g c = λ d seg h settled.
     let got = c.in-Ok.ensures.read d h in
     let only = c.issued_within.ensures.reads in (
       sum_is_there before now d c.args.asset.now c.in-Ok-sum_within.sum only (c.in-Ok-sum_within.ensures.sum d _ seg got.within refl (settled_as policies seg before now d only settled)),
-      got_there policies seg before d c.issued_within.new.core c.args.id.now _ c.in-Ok.issued got settled,
+      got_there policies seg before now d c.issued_within.new.core c.args.id.now _ c.in-Ok.issued got settled,
     )
 
 pub returns-in-Ok-sum_within-clause-reads : goal.returns-in-Ok-sum_within-clause-reads

@@ -13,7 +13,7 @@ returns-in-Ok g c =
     record {
       attempt = λ from h. counted_on g.P.Parts.options g.P.Parts.meaning g.P.Parts.policies from before after c.get.new.txn c.in-Ok.answer c.id_behind.result
           (c.in-Ok.ensures.within from SerializableSnapshot [] h)
-          (λ s. c.get.ensures.sees from SerializableSnapshot [] h s (begun_vouched g.P.Parts.options g.P.Parts.meaning from SerializableSnapshot c.args.txn.now h))
+          (λ s. c.in-Ok.ensures.checked from SerializableSnapshot [] h s (begun_vouched g.P.Parts.options g.P.Parts.meaning from SerializableSnapshot c.args.txn.now h))
           c.id_behind.ensures.id c.id_behind.ensures.refused;
       table = c.get.ensures.more.0;
       reads = c.get.ensures.reads;

@@ -42,7 +42,7 @@ returns g c =
           (record {
             attempt = c.in-Ok.ensures.within from SerializableSnapshot [] h;
             rows = rows_of_range o m c.scan_prefix.new.txn.seen c.args.txn.now.tx Ascending (prefix_range jobs_prefix);
-            reading = λ s. c.in-Ok.ensures.reading from SerializableSnapshot [] h s;
+            reading = λ s. c.in-Ok.ensures.checked from SerializableSnapshot [] h s;
             vouched = c.scan_prefix.ensures.sees from SerializableSnapshot [] h (begun_vouched o m from SerializableSnapshot c.args.txn.now h);
             since = c.in-Ok.ensures.since from SerializableSnapshot [] h;
             meaning = c.requires.meaning;

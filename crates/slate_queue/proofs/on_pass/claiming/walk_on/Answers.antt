@@ -1,7 +1,7 @@
 use Rattle.std.proofs.Common.{Some, None, w64}
 use Rattle.std.proofs.lemmas.Int.{to_z-of_z}
 use Rattle.slate_store.specs.Reach.{reach_of}
-use Rattle.slate_queue.proofs.PassWalkLaws.{may_go, next_fails_on, next_walked_on, row_goes_on, row_halts, walking_next, walking_same}
+use Rattle.slate_queue.proofs.PassWalkLaws.{may_go, met_by, next_fails_on, next_walked_on, row_goes_on, row_halts, walking_next, walking_same}
 use Rattle.slate_queue.proofs.WalkSteps.{steps_at}
 use Rattle.slate_queue.proofs.on_pass.claiming.walk_on.Goals as goal
 
@@ -19,7 +19,7 @@ returns-in-Ok-Some g c =
     let x = c.args.scan.now in
     let y = c.next.new.it in
     let walked = next_walked_on o m before after t u x y c.in-Ok-Some.field-0 (Some c.in-Ok-Some.row) c.in-Ok-Some.field-0-is c.requires.walking.first c.in-Ok-Some.ensures.within c.next.ensures.named
-    (λ os rows meaning answers reading. c.in-Ok-Some.ensures.reading os rows meaning answers reading) (λ from. c.in-Ok-Some.ensures.since from c.args.txn.now.seen) c.next.ensures.more.2 c.next.ensures.reads in
+    (λ os rows meaning met reading. met_by o m os before after (λ answers. c.in-Ok-Some.ensures.reading os rows meaning answers reading) (λ unslipped. c.in-Ok-Some.ensures.checked os rows meaning unslipped reading) met) (λ from. c.in-Ok-Some.ensures.since from c.args.txn.now.seen) c.next.ensures.more.2 c.next.ensures.reads in
     record {
       walking = walking_next o m t u x y c.in-Ok-Some.field-0 c.in-Ok-Some.ensures.within c.next.ensures.named c.next.ensures.more.1 c.requires.walking;
       goes = row_goes_on o m c.args.now before after t u x y c.in-Ok-Some.row c.at_row.result walked (steps_at _ c.args.now c.in-Ok-Some.row c.at_row.result (to_z-of_z w64 c.args.now c.ranges.now) c.at_row.ensures.step);
@@ -37,7 +37,7 @@ returns-in-Ok-None g c =
     record {
       walking = walking_next o m c.args.txn.now c.next.new.txn c.args.scan.now c.next.new.it c.in-Ok-None.field-0 c.in-Ok-None.ensures.within c.next.ensures.named c.next.ensures.more.1 c.requires.walking;
       goes = next_walked_on o m before after c.args.txn.now c.next.new.txn c.args.scan.now c.next.new.it c.in-Ok-None.field-0 None c.in-Ok-None.field-0-is c.requires.walking.first c.in-Ok-None.ensures.within c.next.ensures.named
-          (λ os rows meaning answers reading. c.in-Ok-None.ensures.reading os rows meaning answers reading) (λ from. c.in-Ok-None.ensures.since from c.args.txn.now.seen) c.next.ensures.more.2 c.next.ensures.reads;
+          (λ os rows meaning met reading. met_by o m os before after (λ answers. c.in-Ok-None.ensures.reading os rows meaning answers reading) (λ unslipped. c.in-Ok-None.ensures.checked os rows meaning unslipped reading) met) (λ from. c.in-Ok-None.ensures.since from c.args.txn.now.seen) c.next.ensures.more.2 c.next.ensures.reads;
       halts = tt;
       table = c.next.ensures.more.0;
       reads = c.next.ensures.reads;

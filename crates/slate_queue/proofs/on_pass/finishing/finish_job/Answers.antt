@@ -24,7 +24,7 @@ returns-in-Err-tested g c =
     record {
       attempt = λ from h. finish_refused_on g.P.Parts.options g.P.Parts.meaning g.P.Parts.policies from before after c.args.job c.args.lease c.job_key-key.result c.get.new.txn c.in-Ok.answer c.in-Err-tested.error c.job_key-key.ensures
           (c.in-Ok.ensures.within from SerializableSnapshot [] h)
-          (λ s. c.get.ensures.sees from SerializableSnapshot [] h s (begun_vouched g.P.Parts.options g.P.Parts.meaning from SerializableSnapshot c.args.txn.now h)) c.in-Err-tested.ensures.refused;
+          (λ s. c.in-Ok.ensures.checked from SerializableSnapshot [] h s (begun_vouched g.P.Parts.options g.P.Parts.meaning from SerializableSnapshot c.args.txn.now h)) c.in-Err-tested.ensures.refused;
       table = c.get.ensures.more.0;
       reads = c.get.ensures.reads;
     }
@@ -36,7 +36,7 @@ returns-in-Ok-tested g c =
     record {
       attempt = λ from h. finish_deleted_on g.P.Parts.options g.P.Parts.meaning g.P.Parts.policies from before after c.args.job c.args.lease c.job_key-key.result c.get.new.txn c.delete_job.new.txn c.in-Ok.answer c.delete_job.result c.job_key-key.ensures
           (c.in-Ok.ensures.within from SerializableSnapshot [] h)
-          (λ s. c.get.ensures.sees from SerializableSnapshot [] h s (begun_vouched g.P.Parts.options g.P.Parts.meaning from SerializableSnapshot c.args.txn.now h)) c.in-Ok-tested.ensures.claimed
+          (λ s. c.in-Ok.ensures.checked from SerializableSnapshot [] h s (begun_vouched g.P.Parts.options g.P.Parts.meaning from SerializableSnapshot c.args.txn.now h)) c.in-Ok-tested.ensures.claimed
           (c.delete_job.ensures.taken from SerializableSnapshot _ (c.in-Ok.ensures.within from SerializableSnapshot [] h)) c.delete_job.ensures.sees c.delete_job.ensures.more.1 c.delete_job.ensures.same c.delete_job.ensures.cause;
       table = c.delete_job.ensures.more.0 ∙ c.get.ensures.more.0;
       reads = c.get.ensures.reads;

@@ -1,0 +1,52 @@
+use Rattle.std.proofs.Common.{◌≡◌, Ok, Some, ap, false, inr, map, subst}
+use Rattle.std.specs.Prelude.{IfSome}
+use Rattle.slate_store.specs.Reach.{reach_of}
+use Rattle.slate_language.specs.Replies.{is_silent}
+use Rattle.slate_stock.specs.Lines.{read_line}
+use Rattle.slate_stock.proofs.GoingLaws.{goes_line, goes_silent, line_answers, silence_says, taken_line, taken_silence, unread_line}
+use Rattle.slate_stock.proofs.run.reply.Goals as goal
+
+pub returns-in-Ok : goal.returns-in-Ok
+returns-in-Ok g c =
+    let policies = map (λ p. (goal.FilterPolicy-dyn g (p.vtable, p.value)).meaning p.value) c.args.laws.now.policies.items in
+    let before = reach_of g.S.Store g.M.MergeOperator g.T.BlockTransformer c.args.env.now in
+    let after = reach_of g.S.Store g.M.MergeOperator g.T.BlockTransformer c.answer_line.new.env in
+    let line = c.args.line.now in
+    let meant = subst (λ o. IfSome o (λ l. (is_silent line ≡ false) × (read_line line ≡ Some l))) c.in-Ok-Some.field-0-is c.in-Ok-Some.ensures.meant in
+    record {
+      own = taken_line line c.in-Ok-Some.meant meant.1;
+      said = λ f h. line_answers policies before after c.args.core.now c.answer_line.new.core f line c.in-Ok-Some.meant c.in-Ok.text meant.0 meant.1 c.in-Ok.ensures h;
+      goes = goes_line _ _ _ _ c.args.core.now c.answer_line.new.core _ c.answer_line.ensures;
+      cause = tt;
+    }
+
+pub returns-in-Err-answer_line : goal.returns-in-Err-answer_line
+returns-in-Err-answer_line g c = record {
+  own = tt;
+  said = λ f h. tt;
+  goes = goes_line _ _ _ _ c.args.core.now c.answer_line.new.core _ c.answer_line.ensures;
+  cause = inr c.in-Err-answer_line.ensures.cause;
+}
+
+pub returns-in-Ok-None : goal.returns-in-Ok-None
+returns-in-Ok-None g c =
+    let policies = map (λ p. (goal.FilterPolicy-dyn g (p.vtable, p.value)).meaning p.value) c.args.laws.now.policies.items in
+    let before = reach_of g.S.Store g.M.MergeOperator g.T.BlockTransformer c.args.env.now in
+    let silent = c.in-Ok-None.ensures.silent (ap Ok c.in-Ok-None.field-0-is) in
+    record {
+      own = taken_silence c.args.line.now silent;
+      said = λ f h. silence_says policies before before c.args.core.now c.args.core.now f c.args.line.now silent h;
+      goes = goes_silent _ _ c.args.core.now;
+      cause = tt;
+    }
+
+pub returns-in-Err : goal.returns-in-Err
+returns-in-Err g c =
+    let policies = map (λ p. (goal.FilterPolicy-dyn g (p.vtable, p.value)).meaning p.value) c.args.laws.now.policies.items in
+    let before = reach_of g.S.Store g.M.MergeOperator g.T.BlockTransformer c.args.env.now in
+    record {
+      own = tt;
+      said = λ f h. tt;
+      goes = goes_silent _ _ c.args.core.now;
+      cause = unread_line policies before before c.args.core.now c.args.core.now c.args.line.now c.args.number c.in-Err.error c.in-Err.ensures.cause;
+    }
