@@ -1,5 +1,5 @@
 -- What a line is answered, from what is answered to its kind.
---     unasked      a line that reaches nothing, and is no get, reads nothing
+--     unasked      a line that reaches nothing, and is no get, does nothing
 --     of_line, within_answers, read_answers, write_answers, failed_answers      a line that asks nothing outside, a get or a scan, one that may call the operator, and one that failed
 use Rattle.std.proofs.Common.{◌≡◌, ◌⊎◌, inl, inr, ℕ, List, Option, Some, Result, Ok, Err, OnOk, refl, sym, subst}
 use Rattle.std.specs.Prelude.{IfErr}
@@ -21,7 +21,7 @@ use Rattle.slate_language.specs.declared.reply.Answer.{Answer}
 use Rattle.slate_script.specs.Calls.Line.{Answers, AnswersByRead, AnswersWithin, AnswersByWrite, AsksAt}
 use Rattle.slate_script.specs.Session.{SessionModel, StepsAs, Grows, IsLimit, StoresNothing}
 use Rattle.slate_script.specs.Told.{IsRefusedAt, IsUntrue, asking_for}
-use Rattle.slate_script.proofs.LineReads.{nothing_read}
+use Rattle.slate_script.proofs.LineReads.{nothing_added, nothing_put}
 use Rattle.slate_script.proofs.Running.{always, not_damage}
 use Rattle.slate_script.proofs.LineEnds.{keeps_core, keeps_settings, keeps_settled, limit_between, memory_or_limit, no_damage, no_error, or_damage, or_limit, stores_at}
 use Rattle.slate_script.proofs.SessionScans.{scan_limit}
@@ -35,9 +35,10 @@ of_line {layout = layout} {before = before} {after = after} {old = old} {new = n
 
 pub unasked : (policies : List Policy) (line : Line) (reach : Reach) (old : SessionModel) (result : Result Answer SlateDBError) → ((name k : List ℕ) → line ≡ lines.Get name k → ⊥) → AsksAt policies line reach reach old result
 unasked policies (lines.Get name k) reach old result others = absurd (others name k refl)
-unasked policies (lines.Scan name order start end sts) reach old result others = tt
-unasked policies (lines.Prefix name order p start end sts) reach old result others = tt
-unasked policies line reach old result others = always result (nothing_read reach.acts)
+unasked policies (lines.Scan name order start end sts) reach old result others = (reads_none reach).acts
+unasked policies (lines.Prefix name order p start end sts) reach old result others = (reads_none reach).acts
+unasked policies lines.Flush reach old result others = always result (nothing_put reach.acts)
+unasked policies line reach old result others = always result (nothing_added reach.acts)
 
 -- a line that stores nothing, and puts nothing
 quiet : (layout : Layout) (line : Line) (before after : Reach) (old new : SessionModel) (result : Result Answer SlateDBError) →

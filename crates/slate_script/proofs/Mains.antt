@@ -20,8 +20,10 @@ use Rattle.slate_language.specs.declared.words.Settings.{Settings}
 use Rattle.slate_language.specs.Words.{read_generated, read_words}
 use Rattle.slate_language.proofs.WordLaws.{generated_alone}
 use Rattle.slate_language.specs.Parts.{named, xored}
+use Rattle.slate_script.specs.Calls.Main.{Ends}
 use Rattle.slate_script.specs.Program.{segments_of, changed, main_rules, parts_of}
 use Rattle.slate_script.specs.Run.{Premises, run_rules}
+use Rattle.slate_script.specs.Terms.{Storage, Streams, new_storage}
 use Rattle.slate_language.proofs.PartsLaws.{named_lawful, xor_back}
 use Rattle.slate_script.proofs.MeaningOf.{meaning_of}
 
@@ -107,3 +109,10 @@ names_fit b xs ys name tests same is = subst (λ zs. AreValidNames (map name zs)
 
 pub names_unfit : {B : Type 0} (b : Bool) (xs ys : List B) (name : B → List ℕ) → (b ≡ true) ↔ AreValidNames (map name xs) → xs ≡ ys → b ≡ false → AreValidNames (map name ys) → ⊥
 names_unfit b xs ys name tests same is valid = false≢true (sym is ∙ tests.1 (subst (λ zs. AreValidNames (map name zs)) (sym same) valid))
+
+-- ---- a run over a store that is new
+
+pub over_new : {ws handed : List (List ℕ)} {given : List Policy} {old new : Streams} {before after : Storage} {n : ℕ} → Ends ws handed given old new before after n →
+    before.objects ≡ Some [] → before.acts ≡ Some [] → before.faults ≡ 0 → Ends ws handed given old new new_storage after n
+over_new {ws = ws} {handed = handed} {given = given} {old = old} {new = new} {after = after} {n = n} ends objects acts faults =
+    subst (λ (s : Storage). Ends ws handed given old new s after n) (λ i. record { objects = objects i; acts = acts i; faults = faults i }) ends

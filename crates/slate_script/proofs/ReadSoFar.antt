@@ -1,7 +1,7 @@
--- What the lines of a run have read so far, each its part.
+-- What the lines of a run have done so far, each its part.
 --     Includes all some      each of some tables is among all
 --     StandApart all      at one path there is one of the tables
---     IsReadSoFar t ls known acts tables      of the lines each has its part of the reads; tables: those that the journal names, which more may join
+--     IsReadSoFar t ls known acts tables      of the lines each has its part of the acts; tables: those that the journal names, which more may join
 --     read_none, read_on, read_whole      at the beginning, one line more, and at the end
 --     lines_end      all lines were given at the end of the script
 use Rattle.std.proofs.Common.{◌≡◌, ℕ, ◌+◌, ◌-◌, ◌^◌, ◌≤◌, ◌<◌, ◌⊎◌, inl, inr, Bool, true, false, cond, List, [], ◌∷◌, ◌++◌, append-nil, flat_map, length, take, Option, Some, None, Ok, refl, sym, ap, subst, ◌∙◌, arith, append_assoc}
@@ -13,11 +13,10 @@ use Rattle.std.proofs.lemmas.List.Elements.{All-contains, All-from_recursion, Co
 use Rattle.std.proofs.lemmas.Option.{same_Some}
 use Rattle.std.proofs.lemmas.Slice.Eq.{bytes_eq-Decides}
 use Rattle.slate_types.specs.declared.types.Ulid.{Ulid}
-use Rattle.slate_types.specs.Outside.{Act, Objects, Meaning, Reach, object_at, part_of}
-use Rattle.slate_types.specs.World.{IsReadAct, AnswersObjects, IsCall, Made, Section}
+use Rattle.slate_types.specs.Outside.{Act, AddsReads, Objects, Meaning, PutsNothing, Reach, object_at, part_of}
+use Rattle.slate_types.specs.World.{AnswersObjects, IsCall, Made, Section}
 use Rattle.slate_types.proofs.Lists.{AllByRecursion_behind}
 use Rattle.slate_store.specs.Lines.{lines_of, script_limit, IsEnd, LinesModel}
-use Rattle.slate_store.specs.Lying.{reads_of}
 use Rattle.slate_table.specs.Parts.{Encode}
 use Rattle.slate_table.specs.Paths.{path_of}
 use Rattle.slate_mem.specs.KeyTests.{Segments}
@@ -42,7 +41,7 @@ use Rattle.slate_db.proofs.RunsOf.{tables_are}
 use Rattle.slate_db.proofs.Settled.{settled_answered}
 use Rattle.slate_language.specs.declared.tally.Tally.{Tally}
 use Rattle.slate_language.specs.Replies.{after_lines, meanings}
-use Rattle.slate_script.specs.Calls.Line.{AsksAt, AsksLine, IsGetAsked, ReadsNothing}
+use Rattle.slate_script.specs.Calls.Line.{AddsNothing, AsksAt, AsksLine, IsGetAsked, IsPutAct, OnlyPuts}
 use Rattle.slate_script.specs.LineReads.{HasAsked, IsReadInParts, ReadsByLine, ReadsFor, ReadsOf}
 use Rattle.slate_script.specs.Run.{AreLines}
 use Rattle.slate_script.specs.Session.{HasTablesAlone, SessionModel, StandsFor}
@@ -63,28 +62,24 @@ pub record IsReadSoFar (t : Terms) (ls : List (List ℕ)) (known : List Act) (no
   pub acts : List Act
   pub told : now ≡ Some (known ++ acts)
   pub parts : List (List Act)
-  pub whole : reads_of acts ≡ flat_map (λ part. part) parts
+  pub whole : acts ≡ flat_map (λ part. part) parts
   pub each : (all : List (Ulid × List ℕ)) → Includes all tables → StandApart all → ReadsByLine t all opening ls parts
 
--- ---- reads among acts
+-- ---- acts that were added
 
-reads_are : (acts : List Act) → AllByRecursion IsReadAct acts → reads_of acts ≡ acts
-reads_are [] h = refl
-reads_are (Act.put path bytes ∷ acts) h = absurd h.0
-reads_are (Act.read path start len answer ∷ acts) h = ap (λ (xs : List Act). Act.read path start len answer ∷ xs) (reads_are acts h.1)
-reads_are (Act.len path answer ∷ acts) h = absurd h.0
-
-reads_both : (acts more : List Act) → reads_of (acts ++ more) ≡ reads_of acts ++ reads_of more
-reads_both [] more = refl
-reads_both (Act.put path bytes ∷ acts) more = reads_both acts more
-reads_both (Act.read path start len answer ∷ acts) more = ap (λ (xs : List Act). Act.read path start len answer ∷ xs) (reads_both acts more)
-reads_both (Act.len path answer ∷ acts) more = reads_both acts more
+-- what is told behind the known acts, told in two ways
+same_acts : (known some acts : List Act) (after : Option (List Act)) → after ≡ Some (known ++ some) → after ≡ Some (known ++ acts) → some ≡ acts
+same_acts known some acts after is ended = append_cancel_left known some acts (same_Some _ _ (sym is ∙ ended))
 
 -- what a call read is all that was told of it
-told_reads : (known acts reads : List Act) (now after : Reach) → now.acts ≡ Some known → after.acts ≡ Some (known ++ acts) → IsCall now after reads → reads ≡ reads_of acts
-told_reads known acts reads now after began ended call =
-    let same : reads ≡ acts = append_cancel_left known reads acts (same_Some _ _ (sym (call.adds known began) ∙ ended)) in
-    sym (reads_are reads call.each) ∙ ap reads_of same
+told_reads : (known acts reads : List Act) (now after : Reach) → now.acts ≡ Some known → after.acts ≡ Some (known ++ acts) → IsCall now after reads → reads ≡ acts
+told_reads known acts reads now after began ended call = same_acts known reads acts after.acts (call.adds known began) ended
+
+told_alone : (known acts : List Act) (before after : Option (List Act)) → before ≡ Some known → after ≡ Some (known ++ acts) → AddsReads before after → AllByRecursion PutsNothing acts
+told_alone known acts before after began ended adds = let p = adds known began in subst (AllByRecursion PutsNothing) (same_acts known p.0 acts after p.1 ended) p.2
+
+told_nothing : (known acts : List Act) (before after : Option (List Act)) → before ≡ Some known → after ≡ Some (known ++ acts) → AddsNothing before after → acts ≡ []
+told_nothing known acts before after began ended adds = sym (same_acts known [] acts after (adds known began ∙ ap (λ (l : List Act). Some l) (sym (append-nil known))) ended)
 
 -- ---- tables that join others
 
@@ -145,18 +140,20 @@ filters_among encode by os tables all reads named includes apart answered first 
 
 get_reads : {T : Type 0} (v : T) (t : Terms) (name k : List ℕ) (s : State) (known acts : List Act) (os : Objects) (all : List (Ulid × List ℕ)) (now after : Reach) (old : SessionModel) → now.meaning ≡ t.parts → old.core.settings ≡ settings_of t.options →
     IsAnswered t.policies now after old.core → StandsFor old s → now.objects ≡ Some os → AllByRecursion (IsObjectOf (tables_of old.core.events)) os → Includes all (tables_of old.core.events) → StandApart all →
-    now.acts ≡ Some known → after.acts ≡ Some (known ++ acts) → IsGetAsked {A = T} t.policies name k now after old (Ok v) → HasAsked t all s name k (reads_of acts)
+    now.acts ≡ Some known → after.acts ≡ Some (known ++ acts) → IsGetAsked {A = T} t.policies name k now after old (Ok v) → HasAsked t all s name k acts
 get_reads v t name k s known acts os all now after old meaning settings answered stands told named includes apart began ended asked = record {
   filters = λ some.
-      let made = asked.0 answered some in
+      let made = asked.filters answered some in
       subst (ReadsFiltersFirst t.parts.encode (asking_for t.policies k) all) (told_reads known acts made.0 now after began ended made.1)
       (filters_among t.parts.encode (asking_for t.policies k) os (tables_of old.core.events) all made.0 named includes apart (made.1.answered os told)
       (subst (λ (m : Meaning). ReadsFiltersFirst m.encode (asking_for t.policies k) (tables_of old.core.events) made.0) meaning made.2));
   finds = λ from is needs.
-      let made : Made now after (ReadsKey now.meaning.encode k (tables_of old.core.events)) = asked.1 s stands from is answered (same from ∙ needs) in
+      let made : Made now after (ReadsKey now.meaning.encode k (tables_of old.core.events)) = asked.finds s stands from is answered (same from ∙ needs) in
       subst (ReadsKey t.parts.encode k all) (told_reads known acts made.0 now after began ended made.1)
       (key_among t.parts.encode k (tables_of old.core.events) all made.0 includes
       (subst (λ (m : Meaning). ReadsKey m.encode k (tables_of old.core.events) made.0) meaning made.2));
+  alone = told_alone known acts now.acts after.acts began ended asked.alone;
+  closed = λ not. told_nothing known acts now.acts after.acts began ended (asked.closed s stands not);
 }
   where
     same : (from : Reader) → needs_tables (rules_of old.core.settings now.meaning) s from.at from.ops k ≡ needs_tables (rules_by t) s from.at from.ops k
@@ -194,11 +191,11 @@ pub read_on : {T : Type 0} (v : T) (t : Terms) (line : List ℕ) (ls : List (Lis
 read_on {T = T} v t line ls known m layout seg now after old new meant meaning settings settled alone stands adds puts asked far = record {
   acts = far.acts ++ acts;
   told = ended ∙ ap (λ (l : List Act). Some l) (append_assoc known far.acts acts);
-  parts = far.parts ++ (reads_of acts ∷ []);
-  whole = reads_both far.acts acts ∙ ap (λ (l : List Act). l ++ reads_of acts) far.whole ∙ parts_more far.parts (reads_of acts);
+  parts = far.parts ++ (acts ∷ []);
+  whole = ap (λ (l : List Act). l ++ acts) far.whole ∙ parts_more far.parts acts;
   each = λ all includes apart.
       let before : Includes all (tables_of old.core.events) = λ u among. includes u (subst (λ (us : List (Ulid × List ℕ)). Contains us u) (sym grown.3) (Contains-append_left (tables_of old.core.events) grown.1 u among)) in
-      read_more t all opening ls line far.parts (reads_of acts) meant (far.each all before apart)
+      read_more t all opening ls line far.parts acts meant (far.each all before apart)
       (reads_of_line all before apart (meanings (line ∷ [])) asked);
 }
   where
@@ -214,19 +211,24 @@ read_on {T = T} v t line ls known m layout seg now after old new meant meaning s
     named : AllByRecursion (IsObjectOf (tables_of old.core.events)) alone.os
     named = subst (λ (ts : List (Ulid × List ℕ)). AllByRecursion (IsObjectOf ts) alone.os) (sym (tables_are old.core.events)) alone.named
 
-    none : ReadsNothing now.acts after.acts → reads_of acts ≡ []
-    none reads =
-        let p = reads (known ++ far.acts) far.told in
-        ap reads_of (append_cancel_left (known ++ far.acts) acts p.0 (same_Some _ _ (sym ended ∙ p.1))) ∙ p.2
+    none : AddsNothing now.acts after.acts → acts ≡ []
+    none = told_nothing (known ++ far.acts) acts now.acts after.acts far.told ended
 
-    reads_for : (all : List (Ulid × List ℕ)) → Includes all (tables_of old.core.events) → StandApart all → (l : Line) → AsksAt {A = T} t.policies l now after old (Ok v) → ReadsFor t all (after_lines (rules_by t) opening ls) l (reads_of acts)
+    alone_told : AddsReads now.acts after.acts → AllByRecursion PutsNothing acts
+    alone_told = told_alone (known ++ far.acts) acts now.acts after.acts far.told ended
+
+    only_puts : OnlyPuts now.acts after.acts → AllByRecursion IsPutAct acts
+    only_puts flushed = let p = flushed (known ++ far.acts) far.told in subst (AllByRecursion IsPutAct) (same_acts (known ++ far.acts) p.0 acts after.acts p.1 ended) p.2
+
+    reads_for : (all : List (Ulid × List ℕ)) → Includes all (tables_of old.core.events) → StandApart all → (l : Line) → AsksAt {A = T} t.policies l now after old (Ok v) → ReadsFor t all (after_lines (rules_by t) opening ls) l acts
     reads_for all includes apart (lines.Get name k) h =
         get_reads v t name k (after_lines (rules_by t) opening ls) (known ++ far.acts) acts alone.os all now after old meaning settings (settled_answered t.policies now after old.core settled) stands alone.told named includes apart far.told ended h
-    reads_for all includes apart (lines.Scan name order start end sts) h = tt
-    reads_for all includes apart (lines.Prefix name order p start end sts) h = tt
+    reads_for all includes apart (lines.Scan name order start end sts) h = alone_told h
+    reads_for all includes apart (lines.Prefix name order p start end sts) h = alone_told h
+    reads_for all includes apart lines.Flush h = only_puts h
     reads_for all includes apart l h = none h
 
-    reads_of_line : (all : List (Ulid × List ℕ)) → Includes all (tables_of old.core.events) → StandApart all → (meant : List Line) → AsksLine {A = T} t.policies meant now after old (Ok v) → ReadsOf t all (after_lines (rules_by t) opening ls) meant (reads_of acts)
+    reads_of_line : (all : List (Ulid × List ℕ)) → Includes all (tables_of old.core.events) → StandApart all → (meant : List Line) → AsksLine {A = T} t.policies meant now after old (Ok v) → ReadsOf t all (after_lines (rules_by t) opening ls) meant acts
     reads_of_line all includes apart [] h = none h
     reads_of_line all includes apart (l ∷ rest) h = reads_for all includes apart l h
 

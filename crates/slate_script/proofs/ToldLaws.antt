@@ -26,10 +26,10 @@ use Rattle.slate_db.specs.Segmented.{IsSegmented}
 use Rattle.slate_db.specs.Sound.{IsKept}
 use Rattle.slate_db.specs.Log.{LIMIT}
 use Rattle.slate_db.specs.Settled.{IsSettled}
-use Rattle.slate_script.specs.Calls.Line.{ReadsNothing}
+use Rattle.slate_script.specs.Calls.Line.{IsPutAct, OnlyPuts}
 use Rattle.slate_script.specs.Session.{SessionModel, StoresNothing}
 use Rattle.slate_script.specs.Told.{ArePut, AreTrue, Follows, IsRefusedAt, IsShownAtEnd, IsShownBy, IsUntrue, PutsTables}
-use Rattle.slate_store.specs.Lying.{after_act, after_acts, reads_of}
+use Rattle.slate_store.specs.Lying.{after_act, after_acts}
 use Rattle.slate_db.proofs.Logs.{tables_more}
 use Rattle.slate_script.proofs.Running.{not_damage}
 use Rattle.slate_script.proofs.SessionLeaves.{leaves_frozen}
@@ -82,12 +82,12 @@ puts_told [] before after known same is = same ∙ is ∙ ap (λ (l : List Act).
 puts_told (t ∷ ts) before after known (middle, act, rest) is =
     puts_told ts middle after (known ++ (Act.put (path_of root t.0.0) t.1 ∷ [])) rest (act known is) ∙ ap (λ (l : List Act). Some l) (append_assoc known (Act.put (path_of root t.0.0) t.1 ∷ []) (put_acts ts))
 
-pub puts_read_nothing : (old new : List (Ulid × List ℕ)) (before after : Option (List Act)) → AddsTables old new before after → ReadsNothing before after
-puts_read_nothing old new before after (ts, grown, acts) known is = (put_acts ts, puts_told ts before after known acts is, none ts)
+pub puts_alone : (old new : List (Ulid × List ℕ)) (before after : Option (List Act)) → AddsTables old new before after → OnlyPuts before after
+puts_alone old new before after (ts, grown, acts) known is = (put_acts ts, puts_told ts before after known acts is, all ts)
   where
-    none : (us : List (Ulid × List ℕ)) → reads_of (put_acts us) ≡ []
-    none [] = refl
-    none (u ∷ us) = none us
+    all : (us : List (Ulid × List ℕ)) → AllByRecursion IsPutAct (put_acts us)
+    all [] = tt
+    all (u ∷ us) = (tt, all us)
 
 puts_objects : (os : Objects) (ts : List (Ulid × List ℕ)) → after_acts os (put_acts ts) ≡ with_tables os ts
 puts_objects os [] = refl

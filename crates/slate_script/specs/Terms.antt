@@ -6,7 +6,8 @@
 --     streams_of left read content written source sink      those of a source and a sink
 --     sink_of content written sink      those of a sink alone
 --     Storage, storage_of objects acts faults store      what a store tells, and its count of faults
-use Rattle.std.specs.Prelude.{ℕ, List, Option, None}
+--     new_storage      that of a store that tells all: no object, no act and no fault
+use Rattle.std.specs.Prelude.{ℕ, List, [], Option, Some, None}
 use Rattle.slate_types.specs.declared.config.Options.{Options}
 use Rattle.slate_types.specs.Outside.{Act, Objects}
 use Rattle.slate_filter.specs.Policy.{Policy}
@@ -60,3 +61,6 @@ pub record Storage : Type 0 where
 
 abbrev pub storage_of : {S : Type 0} → (S → Option Objects) → (S → Option (List Act)) → (S → ℕ) → S → Storage
 storage_of objects acts faults store = record { objects = objects store; acts = acts store; faults = faults store }
+
+abbrev pub new_storage : Storage
+new_storage = record { objects = Some []; acts = Some []; faults = 0 }

@@ -38,9 +38,9 @@ use std::alloc::Global;
 /// Over such a store 12, 14, 15, 16, 18 and 19 never come, and over one that tells its acts only where a read was answered
 /// otherwise than by what the run had put; by whichever policies, the last acts that it tells show the error. At 0 each line was
 /// answered, and the store's objects are the tables that flushes put, with the filters of the policies that the words use, and their rows
-/// alone fold to the state at the last flush; where the store tells its acts too, the reads that it returned are one part for each line, as in
-/// `run_script`. Over a store that tells its acts alone and whatever it answers, the replies at 0 are right, or a read returned a section of a
-/// table that isn't what the run had put there, and whose checksum fits. At 7 and 20 the replies to some first lines are written.
+/// alone fold to the state at the last flush; where the store tells its acts too, what it did is one part for each line, as in `run_script`.
+/// Over a store that tells its acts alone and whatever it answers, the replies at 0 are right, or a read returned a section of a table that
+/// isn't what the run had put there, and whose checksum fits. At 7 and 20 the replies to some first lines are written.
 pub fn run_main<R: Source, W: Sink, S: Store>(
     alloc: Global,
     words: &[String],

@@ -8,9 +8,10 @@ ghost use Rattle.slate_language.specs.declared.words.Generated.{Generated};
 ghost use Rattle.slate_language.specs.declared.words.Settings.{Settings};
 ghost use Rattle.slate_language.specs.Generate.{generate};
 ghost use Rattle.slate_language.specs.Words.{read_generated, read_words, used};
+ghost use Rattle.slate_script.specs.Calls.Main.{Ends};
 ghost use Rattle.slate_script.specs.LineReads.{IsReadInParts};
 ghost use Rattle.slate_script.specs.Program.{parts_of, segments_of};
-ghost use Rattle.slate_script.specs.Terms.{terms_of};
+ghost use Rattle.slate_script.specs.Terms.{new_storage, storage_of, streams_of, terms_of};
 
 use crate::program::run_main;
 use slate_filter::FilterPolicy;
@@ -18,11 +19,12 @@ use slate_store::{LyingStore, Sink, Source, Store};
 use std::alloc::Global;
 
 /// Runs a script as `run_main` does, over a new store in memory that answers honestly and keeps its reads, and gives the status and that store.
+/// Of that run all is said that `run_main` says of its own.
 ///
-/// At 0, by lawful policies, its reads are one part for each line of the script, one behind the other, over the tables that it holds then. In the
+/// At 0, by lawful policies, what it did is one part for each line of the script, one behind the other, over the tables that it holds then. In the
 /// part of a line that gets a key, where policies are used, a block of a table with filters is read behind these alone, and only where they don't
-/// deny the key, and where the row that is got takes one of a commit that was flushed, a block is read that has the key. A line that
-/// neither gets nor scans reads nothing.
+/// deny the key, and where the row that is got takes one of a commit that was flushed, a block is read that has the key. Flushes alone put, gets
+/// and scans alone read, and a get of a name that isn't open does neither.
 pub fn run_recorded<R: Source, W: Sink>(
     alloc: Global,
     words: &[String],
@@ -30,6 +32,13 @@ pub fn run_recorded<R: Source, W: Sink>(
     sink: &mut W,
     policies: Vec<Box<dyn FilterPolicy>>,
 ) -> (u8, LyingStore)
+    ensures ends { let ws = map string_bytes words.now in
+        let handed = map (λ p. (meaning p).name) policies.items in
+        let given = map (λ p. meaning p) policies.items in
+        let streams = streams_of R.left R.faults W.content W.faults in
+        let storage = storage_of ⟦<LyingStore as Store>⟧.objects ⟦<LyingStore as Store>⟧.acts ⟦<LyingStore as Store>⟧.faults in
+        Ends ws handed given (streams source.old sink.old) (streams source.new sink.new)
+        new_storage (storage result.1) result.0 }
     ensures script { let ws = map string_bytes words.now in
         let handed = map (λ p. (meaning p).name) policies.items in
         let given = map (λ p. meaning p) policies.items in

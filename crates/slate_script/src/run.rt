@@ -24,10 +24,11 @@ use std::alloc::Global;
 /// was empty besides. At Ok each line was answered, and the store's objects are the tables that flushes put, with the
 /// filters of the policies, and their rows alone fold to the state at the last flush. What is said of replies holds over a store
 /// that tells its acts alone, too, or a section slipped through: a read returned a section of a table that isn't what this run had
-/// put there, and whose checksum fits. Where an honest store that was empty tells its acts too, the reads that it returned in a run that answers Ok are one
+/// put there, and whose checksum fits. Where an honest store that was empty tells its acts too, what it did in a run that answers Ok is one
 /// part for each line, one behind the other, over the tables that it holds after the run: in the part of a line that gets a key, where policies are set, a
 /// block of a table with filters is read behind these alone, and only where they don't deny the key, and where the row that is got takes one of a
-/// commit that was flushed, a block is read that has the key. A line that neither gets nor scans reads nothing.
+/// commit that was flushed, a block is read that has the key. Flushes alone put, gets and scans alone read, and a get of a name that isn't open
+/// does neither.
 ///
 /// An error of the script itself, `ScriptSyntax` or `ScriptTooLong`, comes exactly where `script_error` has it, unless
 /// another error came first. `ReadFault`, `WriteFault`, `StoreFault`, `Callback` and `BlockTransformError` come only

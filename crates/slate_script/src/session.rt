@@ -109,7 +109,8 @@ impl Session {
     /// otherwise, the answer is that of the model's step, or one of the reads returned a section of those tables that isn't what
     /// stands there, and whose checksum fits. A part's fault is answered only where its count rose in this call, and `LimitReached`
     /// only where the journal or memory holds more than a script can bring. A line that gets a key asks filters before it reads blocks, and
-    /// reads a block that has the key where its answer rests on a stored row. One that neither gets nor scans, and is answered, reads nothing.
+    /// reads a block that has the key where its answer rests on a stored row. One that is answered puts nothing unless it flushes, and reads nothing
+    /// unless it gets or scans; a get of a name that isn't open does neither.
     pub fn answer<S: Store, M: MergeOperator, T: BlockTransformer, X: PrefixExtractor>(
         &mut self,
         line: Line,

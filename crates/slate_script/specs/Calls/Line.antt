@@ -1,23 +1,25 @@
 -- What a session makes of a line. old, new: the session; before, after: what it reaches.
 --     AnswersWithin line old new result      a line that asks nothing outside
 --     AnswersByRead policies line before after old new result      a get or a scan
---     IsGetAsked policies name k before after old result      a get asks filters before it reads blocks, and one of an open name reads a block that has the key where its fold needs one
---     ReadsNothing before after      of what a store tells of its acts: none was added that is a read
---     AsksAt policies line before after old result      so does the get of a line; a scan reads as it likes, and other lines read nothing
---     AsksLine policies meant before after old result      the same of what a line means; a silent one reads nothing
+--     IsGetAsked policies name k before after old result      a get puts nothing and asks filters before it reads blocks, and one of an open name reads a block that has the key where its
+--                 fold needs one; of a name that isn't open it adds nothing
+--     IsPutAct act      the act is a put
+--     OnlyPuts, AddsNothing before after      of what a store tells of its acts: none was added but puts, or none at all
+--     AsksAt policies line before after old result      so does the get of a line; a scan reads as it likes and puts nothing, a flush puts and does nothing else, and other lines do nothing
+--     AsksLine policies meant before after old result      the same of what a line means; a silent one does nothing
 --     AnswersByGet policies name k before after old new result      a get
 --     AnswersByScan policies name order range steps before after old new result      a scan of a range, where bounds leave one
 --     AnswersByWrite given seg line before after old new result      a line that may call the operator; it steps as the model does where `given` holds
 --     AnswersHonest, AnswersTold, AnswersSound      a line over a store that holds the journal's tables, one whose acts tell of them, and any store where what is kept of the rows holds
 --     Answers layout line before after old new result      all of these, and what holds of each line
-use Rattle.std.specs.Prelude.{◌≡◌, ◌⊎◌, ℕ, List, [], ◌∷◌, ◌++◌, Option, Some, Result, IfErr, OnOk}
+use Rattle.std.specs.Prelude.{◌≡◌, ◌⊎◌, ℕ, List, [], ◌∷◌, ◌++◌, Option, Some, None, Result, IfErr, OnOk}
+use Rattle.std.specs.List.{AllByRecursion}
 use Rattle.slate_types.specs.declared.bytes_range.BytesRange.{BytesRange}
 use Rattle.slate_types.specs.declared.error.SlateDBError.{SlateDBError}
 use Rattle.slate_types.specs.declared.error.SlateDBError.TheVariants.{OutOfMemory}
 use Rattle.slate_types.specs.declared.iter.IterationOrder.{IterationOrder}
-use Rattle.slate_types.specs.Outside.{Act, Objects, Reach, IsFault, OnlyReads, Puts}
+use Rattle.slate_types.specs.Outside.{Act, AddsReads, Objects, Reach, IsFault, OnlyReads, Puts}
 use Rattle.slate_types.specs.World.{IsCall, Made}
-use Rattle.slate_store.specs.Lying.{reads_of}
 use Rattle.slate_filter.specs.Policy.{Policy}
 use Rattle.slate_mem.specs.KeyTests.{Segments}
 use Rattle.slate_txn.specs.declared.line.Line.{Line}
@@ -57,22 +59,33 @@ pub record AnswersByRead (policies : List Policy) (line : Line) (before after : 
   pub undamaged : IsAnswered policies before after old.core → IfErr result (IsFault before after)
   pub reads : OnlyReads before after
 
--- at the state that the session stands for, over the tables that its journal names
-abbrev pub IsGetAsked : {A : Type 0} → List Policy → List ℕ → List ℕ → Reach → Reach → SessionModel → Result A SlateDBError → Type 0
-IsGetAsked policies name k before after old result = Asks (asking_for policies k) before after old.core × ((s : State) → StandsFor old s → (from : Reader) → reader s name ≡ Some from →
-    Finds (asking_for policies k) k (needs_tables (rules_of old.core.settings before.meaning) s from.at from.ops k) before after old.core result)
+abbrev pub IsPutAct : Act → Type 0
+IsPutAct (Act.put path bytes) = Unit {0}
+IsPutAct _ = ⊥
 
-abbrev pub ReadsNothing : Option (List Act) → Option (List Act) → Type 0
-ReadsNothing before after = (known : List Act) → before ≡ Some known → (more : List Act) × (after ≡ Some (known ++ more)) × (reads_of more ≡ [])
+abbrev pub OnlyPuts : Option (List Act) → Option (List Act) → Type 0
+OnlyPuts before after = (known : List Act) → before ≡ Some known → (more : List Act) × (after ≡ Some (known ++ more)) × AllByRecursion IsPutAct more
+
+abbrev pub AddsNothing : Option (List Act) → Option (List Act) → Type 0
+AddsNothing before after = (known : List Act) → before ≡ Some known → after ≡ Some known
+
+-- at the state that the session stands for, over the tables that its journal names
+pub record IsGetAsked {A : Type 0} (policies : List Policy) (name k : List ℕ) (before after : Reach) (old : SessionModel) (result : Result A SlateDBError) : Type 0 where
+  pub filters : Asks (asking_for policies k) before after old.core
+  pub finds : (s : State) → StandsFor old s → (from : Reader) → reader s name ≡ Some from →
+      Finds (asking_for policies k) k (needs_tables (rules_of old.core.settings before.meaning) s from.at from.ops k) before after old.core result
+  pub alone : AddsReads before.acts after.acts
+  pub closed : (s : State) → StandsFor old s → reader s name ≡ None → AddsNothing before.acts after.acts
 
 abbrev pub AsksAt : {A : Type 0} → List Policy → Line → Reach → Reach → SessionModel → Result A SlateDBError → Type 0
 AsksAt policies (lines.Get name k) before after old result = IsGetAsked policies name k before after old result
-AsksAt policies (lines.Scan name order start end sts) before after old result = Unit {0}
-AsksAt policies (lines.Prefix name order p start end sts) before after old result = Unit {0}
-AsksAt policies line before after old result = OnOk result (ReadsNothing before.acts after.acts)
+AsksAt policies (lines.Scan name order start end sts) before after old result = AddsReads before.acts after.acts
+AsksAt policies (lines.Prefix name order p start end sts) before after old result = AddsReads before.acts after.acts
+AsksAt policies lines.Flush before after old result = OnOk result (OnlyPuts before.acts after.acts)
+AsksAt policies line before after old result = OnOk result (AddsNothing before.acts after.acts)
 
 abbrev pub AsksLine : {A : Type 0} → List Policy → List Line → Reach → Reach → SessionModel → Result A SlateDBError → Type 0
-AsksLine policies [] before after old result = OnOk result (ReadsNothing before.acts after.acts)
+AsksLine policies [] before after old result = OnOk result (AddsNothing before.acts after.acts)
 AsksLine policies (line ∷ rest) before after old result = AsksAt policies line before after old result
 
 pub record AnswersByGet (policies : List Policy) (name k : List ℕ) (before after : Reach) (old new : SessionModel) (result : Result Answer SlateDBError) : Type 0 where

@@ -79,6 +79,7 @@ pub record IsCaused (old new : Streams) (before after : Storage) (n : ℕ) : Typ
   pub store_fault : n ≡ 7 → Rose before.faults after.faults
   pub sink_still : (n ≡ 6) ⊎ (new.sink ≡ old.sink)
   pub later : old.sink ≤ new.sink
+  pub store_later : before.faults ≤ after.faults
 
 -- unfit, unknown: 2 where the names won't do or the words are none, and `known` of a script says where else it isn't
 pub record Ends (ws handed : List (List ℕ)) (given : List Policy) (old new : Streams) (before after : Storage) (n : ℕ) : Type 0 where

@@ -64,6 +64,7 @@ returns-in-Ok g c =
         store_fault = λ seven. absurd (omega (arith, seven));
         sink_still = inr (unless_error _ WriteFault c.in-Ok.ensures.sink_still);
         later = c.run_generated-ran.ensures.later;
+        store_later = subst (λ t. g.S.Store.faults c.args.store.now ≤ g.S.Store.faults t) (sym (c.store-1.given.1 (sym c.in-Ok.ensures.puts.store))) c.in-Ok.ensures.puts.later.store;
       };
       undamaged = λ lawful_policies empty which. absurd (omega (arith, (damage_between 0 which).0));
       untrue = λ lawful_policies which. absurd (omega (arith, (damage_between 0 which).0));
@@ -112,6 +113,7 @@ returns-in-Err g c =
             subst (λ t. Rose (g.S.Store.faults c.args.store.now) (g.S.Store.faults t)) (sym (c.store-1.given.1 (sym c.in-Err.ensures.puts.store))) rose);
         sink_still = status_or c.in-Err.error WriteFault c.status_of-status.result _ c.status_of-status.ensures refl c.in-Err.ensures.sink_still;
         later = c.run_generated-ran.ensures.later;
+        store_later = subst (λ t. g.S.Store.faults c.args.store.now ≤ g.S.Store.faults t) (sym (c.store-1.given.1 (sym c.in-Err.ensures.puts.store))) c.in-Err.ensures.puts.later.store;
       };
       undamaged = (λ lawful_policies empty which.
           let within = subst (λ (n : ℕ). (12 ≤ n) × (n ≤ 19)) c.status_of-status.ensures (damage_between c.status_of-status.result which) in

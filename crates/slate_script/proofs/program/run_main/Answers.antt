@@ -128,6 +128,7 @@ returns-in-Ok g c =
           store_fault = λ seven. absurd (omega (arith, seven));
           sink_still = inr (unless_error _ WriteFault c.in-Ok.ensures.sink_still);
           later = c.run_script-ran.ensures.later.1;
+          store_later = subst (λ t. g.S.Store.faults c.args.store.now ≤ g.S.Store.faults t) (sym (c.store-1.given.1 (sym c.in-Ok.ensures.puts.store))) c.in-Ok.ensures.puts.later.store;
         };
       };
       undamaged = λ lawful_policies empty which. absurd (omega (arith, (damage_between 0 which).0));
@@ -226,6 +227,7 @@ returns-in-Err g c =
               subst (λ t. Rose (g.S.Store.faults c.args.store.now) (g.S.Store.faults t)) (sym (c.store-1.given.1 (sym c.in-Err.ensures.puts.store))) rose);
           sink_still = status_or c.in-Err.error WriteFault c.status_of-status.result _ c.status_of-status.ensures refl c.in-Err.ensures.sink_still;
           later = c.run_script-ran.ensures.later.1;
+          store_later = subst (λ t. g.S.Store.faults c.args.store.now ≤ g.S.Store.faults t) (sym (c.store-1.given.1 (sym c.in-Err.ensures.puts.store))) c.in-Err.ensures.puts.later.store;
         };
       };
       undamaged = (λ lawful_policies empty which.
@@ -288,6 +290,7 @@ returns-then-not-have_valid_names g c =
           store_fault = λ seven. absurd (omega (arith, seven));
           sink_still = inr refl;
           later = omega arith;
+          store_later = omega arith;
         };
       };
       undamaged = λ lawful_policies empty which. absurd (omega (arith, (damage_between 2 which).0));
@@ -346,6 +349,7 @@ returns-in_default-parse_words g c =
           store_fault = λ seven. absurd (omega (arith, seven));
           sink_still = inr refl;
           later = omega arith;
+          store_later = omega arith;
         };
       };
       undamaged = λ lawful_policies empty which. absurd (omega (arith, (damage_between 2 which).0));
@@ -421,6 +425,7 @@ returns-in-Some g c =
           store_fault = c.main_generated.ensures.caused.store_fault;
           sink_still = c.main_generated.ensures.caused.sink_still;
           later = c.main_generated.ensures.caused.later;
+          store_later = c.main_generated.ensures.caused.store_later;
         };
       };
       undamaged = λ lawful_policies. c.main_generated.ensures.undamaged (fit lawful_policies);

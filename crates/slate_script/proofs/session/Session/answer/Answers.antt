@@ -1,6 +1,6 @@
 use Rattle.std.proofs.Common.{sym}
 use Rattle.slate_db.specs.Meaning.{segments_by}
-use Rattle.slate_script.proofs.LineReads.{call_reads_nothing}
+use Rattle.slate_script.proofs.LineReads.{call_adds_nothing}
 use Rattle.slate_script.proofs.LineWords.{of_line, read_answers, unasked, within_answers, write_answers}
 use Rattle.slate_script.proofs.session.Session.answer.Goals as goal
 
@@ -14,19 +14,19 @@ pub returns-in-Get : goal.returns-in-Get
 returns-in-Get g c = of_line (sym c.in-Get.is) (read_answers _ _ _ _ _ _ _ c.get.ensures.read c.get.ensures.asked)
 
 pub returns-in-Scan : goal.returns-in-Scan
-returns-in-Scan g c = of_line (sym c.in-Scan.is) (read_answers _ _ _ _ _ _ _ c.scan.ensures tt)
+returns-in-Scan g c = of_line (sym c.in-Scan.is) (read_answers _ _ _ _ _ _ _ c.scan.ensures c.scan.ensures.reads.acts)
 
 pub returns-in-Prefix : goal.returns-in-Prefix
-returns-in-Prefix g c = of_line (sym c.in-Prefix.is) (read_answers _ _ _ _ _ _ _ c.prefix.ensures tt)
+returns-in-Prefix g c = of_line (sym c.in-Prefix.is) (read_answers _ _ _ _ _ _ _ c.prefix.ensures c.prefix.ensures.reads.acts)
 
 pub returns-in-Write : goal.returns-in-Write
-returns-in-Write g c = of_line (sym c.in-Write.is) (write_answers _ _ _ _ _ _ _ (λ objects settled. settled.segmented) c.write.ensures (call_reads_nothing _ _ _ c.write.ensures.call))
+returns-in-Write g c = of_line (sym c.in-Write.is) (write_answers _ _ _ _ _ _ _ (λ objects settled. settled.segmented) c.write.ensures (call_adds_nothing _ _ _ c.write.ensures.call))
 
 pub returns-in-Merge : goal.returns-in-Merge
-returns-in-Merge g c = of_line (sym c.in-Merge.is) (write_answers _ _ _ _ _ _ _ (λ objects settled. tt) (c.merge.ensures (segments_by g.X.PrefixExtractor.lengths c.args.laws.now.segments)) (call_reads_nothing _ _ _ (c.merge.ensures (segments_by g.X.PrefixExtractor.lengths c.args.laws.now.segments)).call))
+returns-in-Merge g c = of_line (sym c.in-Merge.is) (write_answers _ _ _ _ _ _ _ (λ objects settled. tt) (c.merge.ensures (segments_by g.X.PrefixExtractor.lengths c.args.laws.now.segments)) (call_adds_nothing _ _ _ (c.merge.ensures (segments_by g.X.PrefixExtractor.lengths c.args.laws.now.segments)).call))
 
 pub returns-in-Commit : goal.returns-in-Commit
-returns-in-Commit g c = of_line (sym c.in-Commit.is) (write_answers _ _ _ _ _ _ _ (λ objects settled. (settled.kept.2, settled.segmented)) c.commit.ensures (call_reads_nothing _ _ _ c.commit.ensures.call))
+returns-in-Commit g c = of_line (sym c.in-Commit.is) (write_answers _ _ _ _ _ _ _ (λ objects settled. (settled.kept.2, settled.segmented)) c.commit.ensures (call_adds_nothing _ _ _ c.commit.ensures.call))
 
 pub answer_within-requires-clause-moment : goal.answer_within-requires-clause-moment
 answer_within-requires-clause-moment g c = c.requires.moment

@@ -16,7 +16,7 @@ use Rattle.slate_script.proofs.SessionParts.{flush_cause, has_room, operable_cau
 use Rattle.slate_script.proofs.SessionSteps.{flush_as}
 use Rattle.slate_script.proofs.SessionStores.{flush_settled}
 use Rattle.slate_script.proofs.TablesAlone.{flush_alone}
-use Rattle.slate_script.proofs.ToldLaws.{follows_flush, puts_read_nothing, stores_added}
+use Rattle.slate_script.proofs.ToldLaws.{follows_flush, puts_alone, stores_added}
 use Rattle.slate_script.proofs.Growth.{grows, takes_flushed}
 use Rattle.std.proofs.lemmas.Result.{err_from_is_err_and}
 use Rattle.slate_script.proofs.LineWords.{failed_answers}
@@ -71,7 +71,7 @@ returns g c =
           (takes_flushed _ _ c.self.inside.core c.in_ok-seq.ensures.installed.0 c.flush.new.self c.in_ok-seq.seq _ _ c.in_ok-seq.ensures.installed.1 c.in_ok-seq.ensures.installed.2 c.in_ok-seq.ensures.taken.0 c.in_ok-seq.ensures.taken.1)));
       cause = tt;
       tables = stores_added _ _ _ _ (subst (λ (v : SessionModel). AddsTables (tables_of v.core.events) (tables_of c.flush.new.self.events) (g.S.Store.acts c.args.env.now.store.now) (g.S.Store.acts c.flush.new.env.store.now)) c.self.view_is c.in_ok-seq.ensures.acts);
-      asked = puts_read_nothing _ _ _ _ (subst (λ (v : SessionModel). AddsTables (tables_of v.core.events) (tables_of c.flush.new.self.events) (g.S.Store.acts c.args.env.now.store.now) (g.S.Store.acts c.flush.new.env.store.now)) c.self.view_is c.in_ok-seq.ensures.acts);
+      asked = puts_alone _ _ _ _ (subst (λ (v : SessionModel). AddsTables (tables_of v.core.events) (tables_of c.flush.new.self.events) (g.S.Store.acts c.args.env.now.store.now) (g.S.Store.acts c.flush.new.env.store.now)) c.self.view_is c.in_ok-seq.ensures.acts);
       adds = c.flush.ensures.adds;
       puts = c.flush.ensures.puts;
     }

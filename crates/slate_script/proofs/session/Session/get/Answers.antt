@@ -19,7 +19,7 @@ use Rattle.slate_language.specs.declared.reply.Answer.{Answer}
 use Rattle.slate_language.specs.declared.reply.Answer.TheVariants as answers
 use Rattle.slate_script.specs.Session.{SessionModel, StepsAs, Grows, NamesStand, StoresNothing, reader_id}
 use Rattle.slate_script.specs.Told.{asking_for}
-use Rattle.slate_script.proofs.LineReads.{FindsFrom, closed_asked, get_asked}
+use Rattle.slate_script.proofs.LineReads.{FindsFrom, closed_asked, get_asked, not_closed}
 use Rattle.slate_script.proofs.SessionLeaves.{segmented_noted}
 use Rattle.slate_script.proofs.SessionNames.{names_updated}
 use Rattle.slate_script.proofs.SessionParts.{checked_reads}
@@ -75,8 +75,9 @@ returns g c =
     (subst (λ (k : List ℕ). Asks (asking_for policies k) old new c.self.inside.core) c.as_slice.ensures c.in_ok-row.ensures.asks) in
     let sought = subst (λ (v : SessionModel). FindsFrom policies c.args.key c.in-Some.id old new v.core) c.self.view_is
     (subst (λ (k : List ℕ). FindsFrom policies k c.in-Some.id old new c.self.inside.core) c.as_slice.ensures c.in_ok-row.ensures.finds) in
+    let live = subst (λ (o : Option (List ℕ)). IfSome o (λ id. IsSome (reader c.args.self.now.core.state id))) c.in-Some.is c.reader_id.ensures.known in
     record {
-      asked = get_asked policies c.args.name c.args.key c.in-Some.id c.reader_id.result old new c.args.self.now (answers.Found c.in_ok-row.row) c.reader_id.ensures.reads c.in-Some.is asked sought;
+      asked = get_asked policies c.args.name c.args.key c.in-Some.id c.reader_id.result old new c.args.self.now (answers.Found c.in_ok-row.row) c.reader_id.ensures.reads c.in-Some.is live asked sought c.get-read.ensures.read.reads.acts;
       read = record {
         step = found;
         checked = λ os readable seg. checked_reads (steps c.args.self.now seg) policies os old new c.args.self.now.core readable (λ is. found is seg)
@@ -103,8 +104,14 @@ returns-in_err-row g c =
     let new = reach_of g.S.Store g.M.MergeOperator g.T.BlockTransformer c.get-read.new.env in
     let asked = subst (λ (v : SessionModel). Asks (asking_for policies c.args.key) old new v.core) c.self.view_is
     (subst (λ (k : List ℕ). Asks (asking_for policies k) old new c.self.inside.core) c.as_slice.ensures c.in_err-row.ensures.asks) in
+    let live = subst (λ (o : Option (List ℕ)). IfSome o (λ id. IsSome (reader c.args.self.now.core.state id))) c.in-Some.is c.reader_id.ensures.known in
     record {
-      asked = (asked, λ s stands from is answered needs. IfOk-from_err c.from_residual.result _ c.from_residual.ensures.0);
+      asked = record {
+        filters = asked;
+        finds = λ s stands from is answered needs. IfOk-from_err c.from_residual.result _ c.from_residual.ensures.0;
+        alone = c.get-read.ensures.read.reads.acts;
+        closed = λ s stands not. not_closed c.args.name c.in-Some.id c.reader_id.result c.args.self.now s (c.reader_id.ensures.reads s stands) c.in-Some.is live not;
+      };
       read = record {
         step = λ is seg s stands. IfOk-from_err c.from_residual.result _ c.from_residual.ensures.0;
         checked = λ os readable seg known began. inl (λ s stands. IfOk-from_err c.from_residual.result _ c.from_residual.ensures.0);
