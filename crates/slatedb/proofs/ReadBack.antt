@@ -70,12 +70,8 @@ read_by by k p q t u x y from later e f r none get bare start known opened withi
     }
     each (Err error) answer = tt
 
-pub on_ok_of : {A E : Type 0} (r : Result A E) (P : A → Type 0) (T : Type 0) → ((a : A) → P a → T) → IfOk r P → OnOk r T
-on_ok_of (Ok a) P T by h = by a h
-on_ok_of (Err e) P T by h = tt
-
 -- what was seen before it is seen then
-pub seen_on : (k : List ℕ) (p q : PassModel) (x y : Reach) (a : Option KeyValue) → IsReadBy k p q x y a → IsPrefix p.seen q.seen
+seen_on : (k : List ℕ) (p q : PassModel) (x y : Reach) (a : Option KeyValue) → IsReadBy k p q x y a → IsPrefix p.seen q.seen
 seen_on k p q x y a h = prefix_trans p.seen h.from q.seen h.known (prefix_trans h.from h.seen q.seen h.begins h.ends)
 
 -- ---- what the store holds then
@@ -313,8 +309,10 @@ module _ (fault : SlateDBError → Type 0) (g : Segments) (b : BatchModel) (p q 
                     absurd (omega (arith, end, more, short))
                 at_write (suc c) some_here sum = one_place i (length h.before) (subst (λ (ns : List ℕ). 0 < times i ns) own_one (omega (arith, some_here)))
 
-    pub takes_put : (n : Option ℕ) → w ≡ Ok n → IsPrefix s.seen z.seen → ((j : List Event) × IsPrefix q.seen j × IsPrefix j s.seen × (through ≡ last_of 0 (replay j).commits)) → AllByRecursion (λ c. through < c.seq) (above_install s.seen) → g ≡ None → TakesFirstPut k v before x.objects
-    takes_put n is later newest last none = stored w written n is later newest.0 newest.1 newest.2 newest.3 last none
+    -- so where a read of its own answered then
+    pub taken_on : (r : Result (Option KeyValue) SlateDBError) → IfOk r (IsReadBy k s z x y) → (n : Option ℕ) → w ≡ Ok n → ((j : List Event) × IsPrefix q.seen j × IsPrefix j s.seen × (through ≡ last_of 0 (replay j).commits)) → AllByRecursion (λ c. through < c.seq) (above_install s.seen) → g ≡ None → OnOk r (TakesFirstPut k v before x.objects)
+    taken_on (Ok a) read n is newest last none = stored w written n is (seen_on k s z x y a read) newest.0 newest.1 newest.2 newest.3 last none
+    taken_on (Err e) read n is newest last none = tt
 
     pub found_put : (n : Option ℕ) → w ≡ Ok n → (a : Option KeyValue) → IsReadBy k s z x y a → a ≡ Some (first_put k v)
     found_put n is a read = found w written n is a read

@@ -18,7 +18,8 @@ use std::sync::Wait;
 use std::thread;
 use std::thread::Threads;
 
-type Lent<'a, S> = Env<'a, S, NoOperator, NoTransformer>;
+/// A store that is lent, without an operator and a transformer.
+pub type Lent<'a, S> = Env<'a, S, NoOperator, NoTransformer>;
 
 /// A store, and no operator and no transformer.
 fn lent<S: Store>(store: &mut S) -> Lent<'_, S>
@@ -245,27 +246,28 @@ fn store_rows<R: Wait, S: Store>(
 }
 
 /// Writes a row, stores it, and gives what a transaction reads at its key, all by one pass: of a store that tells its objects, that
-/// row. That nobody else wrote or stored anything is known at the end, since the pass has all parts.
+/// row, whose table the store took then. That nobody else wrote or stored anything is known at the end, since the pass has all parts.
 pub fn write_and_read<R: Wait, S: Store>(
     rt: &R,
     alloc: Global,
-    store: &mut S,
+    env: &mut Lent<'_, S>,
     key: &[u8],
     value: &[u8],
 ) -> Result<Option<KeyValue>, SlateDBError>
-    ensures found { (os : Objects) → S.objects store.old ≡ Some os →
+    requires { let reach = ⟦<EnvOf<S, NoOperator, NoTransformer> as Outside>⟧.reach in
+        (reach env.old).meaning ≡ no_parts }
+    ensures found { let reach = ⟦<EnvOf<S, NoOperator, NoTransformer> as Outside>⟧.reach in
+        (os : Objects) → (reach env.old).objects ≡ Some os →
         IfOk result (λ found. found ≡ Some (first_put key.now value.now)) }
+    ensures stored { let reach = ⟦<EnvOf<S, NoOperator, NoTransformer> as Outside>⟧.reach in
+        (os : Objects) → (reach env.old).objects ≡ Some os →
+        OnOk result (TakesFirstPut key.now value.now (reach env.old).objects (reach env.new).objects) }
 {
     let laws = Plain::laws(alloc);
     let (db, mut pass) = Database::<Plain>::new(alloc, &laws.options)?;
     let mut batch = WriteBatch::new(alloc);
     batch.put(key, value)?;
-    let mut env: Lent<'_, S> = Env {
-        store,
-        operator: None,
-        transformer: None,
-    };
-    let found = store_and_read(rt, &db, &mut pass, batch, key, &mut env, &laws);
+    let found = store_and_read(rt, &db, &mut pass, batch, key, env, &laws);
     let core = db.close(rt, pass);
     core.close();
     found
@@ -291,6 +293,10 @@ fn store_and_read<R: Wait, S: Store>(
         (value : List ℕ) (journal : List Event) (os : Objects) →
         batch ≡ with_op no_ops key.now (plain_put value) → IsAllOwn pass.new journal →
         (reach env.old).objects ≡ Some os → IfOk result (λ found. found ≡ Some (first_put key.now value)) }
+    ensures stored { let reach = ⟦<EnvOf<S, NoOperator, NoTransformer> as Outside>⟧.reach in
+        (value : List ℕ) (journal : List Event) (os : Objects) →
+        batch ≡ with_op no_ops key.now (plain_put value) → IsAllOwn pass.new journal →
+        (reach env.old).objects ≡ Some os → OnOk result (TakesFirstPut key.now value (reach env.old).objects (reach env.new).objects) }
 {
     pass.write(rt, db, batch, 0, env, laws)?;
     pass.flush(rt, db, env, laws)?;

@@ -1,8 +1,9 @@
-use Rattle.std.proofs.Common.{List, Option, Some, refl, sym, subst, ◌∙◌}
+use Rattle.std.proofs.Common.{Option, refl, sym, subst, ◌∙◌}
+use Rattle.std.specs.Prelude.{OnOk}
 use Rattle.std.proofs.lemmas.Result.{IfOk-weaker}
 use Rattle.slate_types.specs.Outside.{Objects}
 use Rattle.slatedb.specs.ReadBack.{TakesFirstPut}
-use Rattle.slatedb.proofs.ReadBack.{found_put, on_ok_of, seen_on, still_objects, takes_put}
+use Rattle.slatedb.proofs.ReadBack.{found_put, still_objects, taken_on}
 use Rattle.slatedb.proofs.threads.store_and_read.Goals as goal
 
 pub returns-clause-found : goal.returns-clause-found
@@ -14,3 +15,13 @@ returns-clause-found g c = λ value journal os batch all told.
     (found_put _ _ c.args.batch c.args.pass.now q s c.read_once.new.pass c.write.result _ _ _ c.in_ok-flush.field-0 c.args.key.now value journal
     c.requires.unused.0 c.requires.unused.1 batch c.write.ensures.written c.flush.ensures.seen own all c.read_once.ensures.own os (c.write.ensures.reads.objects ∙ told) c.in_ok-write.field-0 c.in_ok-write.was)
     c.read_once.ensures.read
+
+pub returns-clause-stored : goal.returns-clause-stored
+returns-clause-stored g c = λ value journal os batch all told.
+    let q = c.write.new.self in
+    let s = c.flush.new.self in
+    let own = still_objects q.own s.own c.write.new.env c.flush.new.env (λ e. g.S.Store.objects e.store.now) _ c.in_ok-flush.ensures.own in
+    subst (λ (o : Option Objects × Option Objects). OnOk c.read_once.result (TakesFirstPut c.args.key.now value o.0 o.1)) (λ i. (c.write.ensures.reads.objects i, sym c.read_once.ensures.reads.objects i))
+    (taken_on _ _ c.args.batch c.args.pass.now q s c.read_once.new.pass c.write.result _ _ _ c.in_ok-flush.field-0 c.args.key.now value journal
+    c.requires.unused.0 c.requires.unused.1 batch c.write.ensures.written c.flush.ensures.seen own all c.read_once.ensures.own os (c.write.ensures.reads.objects ∙ told)
+    c.read_once.result c.read_once.ensures.read c.in_ok-write.field-0 c.in_ok-write.was c.in_ok-flush.ensures.newest c.in_ok-flush.ensures.through refl)

@@ -10,4 +10,5 @@ returns g c =
     let all : IsAllOwn c.store_and_read-found.new.pass c.close-core.result.events = record { begins = c.close-core.ensures.seen; owns = c.close-core.ensures.whole (c.store_and_read-found.ensures.same.1 ∙ new.1) } in
     record {
       found = λ os told. c.store_and_read-found.ensures.found c.args.value.now c.close-core.result.events os batch all told;
+      stored = λ os told. c.store_and_read-found.ensures.stored c.args.value.now c.close-core.result.events os batch all told;
     }
