@@ -1,42 +1,35 @@
 -- The entries of an index, read one after the other.
 use Rattle.std.proofs.Common.{◌≡◌, ℕ, zero, suc, ◌+◌, ◌-◌, ◌^◌, ◌<◌, ◌≤◌, Bool, true, false, cond, ◌&&◌, eqb, leb, List, [], ◌∷◌, ◌++◌, length, get_or, drop, Ordering, Less, Equal, Greater, Option, Some, None, Ok, Err, refl, sym, ap, subst, ◌∙◌, ◌⊎◌, inl, inr, append_assoc, arith}
-use Rattle.std.specs.Prelude.{slice_get, slice_range, IsTrue, IsSorted}
+use Rattle.std.specs.Prelude.{map, option_map, slice_get, slice_range, IsTrue, IsSorted}
 use Rattle.std.specs.List.{flat_map, AllByRecursion}
+use Rattle.std.specs.Borrow.{Bor}
+use Rattle.std.specs.Iterator.{YieldsFirstBy}
 use Rattle.std.specs.Int.{w16, w32, w64}
 use Rattle.std.proofs.lemmas.Bool.{ltb-true, leb-true, le-leb, lt-ltb}
 use Rattle.std.proofs.lemmas.Bool.Decides.{nat_tests}
-use Rattle.std.proofs.lemmas.List.{append-nil, length-append, length-drop, nil_from_length}
+use Rattle.std.proofs.lemmas.List.{append-nil, length-append, length-drop, length-map, map-append, nil_from_length}
+use Rattle.std.proofs.lemmas.Option.{none-some, same_Some, slice_get-get_or}
 use Rattle.std.proofs.lemmas.List.Concat.{flat_map-cons}
 use Rattle.slate_types.specs.declared.error.SlateDBError.{SlateDBError}
 use Rattle.slate_types.specs.declared.error.SlateDBError.TheVariants.{CorruptTable}
 use Rattle.std.specs.Ordering.{is_lt, is_le, ordering_reverse}
 use Rattle.slate_types.specs.Keys.{key_cmp, key_lt, key_le}
 use Rattle.slate_types.proofs.KeyOrder.{turned_key}
+use Rattle.slate_types.proofs.Lists.{slice_get_map}
 use Rattle.slate_block.specs.RowSpelling.{be16, be32, be64}
 use Rattle.slate_block.specs.Damage.{◌>>=◌, Field, number_field, block_field}
 use Rattle.slate_block.proofs.Groups.{IsBytes}
 use Rattle.slate_block.proofs.FieldLaws.{bind_ok, ok_is, Stands, behind, wide16, wide32, wide64, number_takes, number_again, block_takes, block_again, block_text}
 use Rattle.slate_block.proofs.ReadingLaws.{then}
+use Rattle.slate_table.specs.declared.sst_index.EntryPlace.{EntryPlace}
 use Rattle.slate_table.specs.Decoded.{entry_bytes, FitsEntry, RisesFrom, RisesFromZero, IsIndex}
-use Rattle.slate_table.specs.IndexReading.{is_next_offset, is_next_key, offset_field, separator_field, entry_field, entries_from, counted, index_of, index_keys}
+use Rattle.slate_table.specs.IndexReading.{is_next_offset, is_next_key, offset_field, separator_field, entry_field, entries_from, counted, index_of, index_keys, borrowed_entry, entry_in}
 use Rattle.slate_types.proofs.Plain.{both_true}
 
 abbrev pub Entry : Type 0
 Entry = ℕ × List ℕ
 
 -- ---- entries that were read, and those that are still to be read
-
-abbrev pub last_entry : List Entry → Option Entry
-last_entry es = slice_get es (length es - 1)
-
-pushed : (es : List Entry) (e : Entry) → slice_get (es ++ e ∷ []) (length es) ≡ Some e
-pushed [] e = refl
-pushed (x ∷ es) e = pushed es e
-
-last_pushed : (es : List Entry) (e : Entry) → last_entry (es ++ e ∷ []) ≡ Some e
-last_pushed es e =
-    let place : length (es ++ e ∷ []) - 1 ≡ length es = omega (arith, length-append es (e ∷ [])) in
-    ap (slice_get (es ++ e ∷ [])) place ∙ pushed es e
 
 abbrev pub with_front : List Entry → Field (List Entry) → Field (List Entry)
 with_front front read = read >>= λ rest. Ok (front ++ rest.0, rest.1)
@@ -49,30 +42,30 @@ pub begins : (read : Field (List Entry)) → with_front [] read ≡ read
 begins (Ok x) = refl
 begins (Err d) = refl
 
-pub goes_on : (front : List Entry) (count i end : ℕ) (bytes : List ℕ) (at : ℕ) (e : Entry) (next : ℕ) (total : Field (List Entry)) → i < count → entry_field end (last_entry front) bytes at ≡ Ok (e, next) →
-    with_front front (entries_from (count - i) end (last_entry front) bytes at) ≡ total →
-    with_front (front ++ e ∷ []) (entries_from (count - (i + 1)) end (last_entry (front ++ e ∷ [])) bytes next) ≡ total
+pub goes_on : (front : List Entry) (count i end : ℕ) (last : Option Entry) (bytes : List ℕ) (at : ℕ) (e : Entry) (next : ℕ) (total : Field (List Entry)) → i < count → entry_field end last bytes at ≡ Ok (e, next) →
+    with_front front (entries_from (count - i) end last bytes at) ≡ total →
+    with_front (front ++ e ∷ []) (entries_from (count - (i + 1)) end (Some e) bytes next) ≡ total
 unfolding entries_from
-goes_on front count i end bytes at e next total lt h so_far =
+goes_on front count i end last bytes at e next total lt h so_far =
     let k : count - i ≡ suc (count - (i + 1)) = omega arith in
-    let one : with_front front (entries_from (count - i) end (last_entry front) bytes at) ≡ with_front (front ++ e ∷ []) (entries_from (count - (i + 1)) end (Some e) bytes next) =
+    let one : with_front front (entries_from (count - i) end last bytes at) ≡ with_front (front ++ e ∷ []) (entries_from (count - (i + 1)) end (Some e) bytes next) =
     rw (k, h) (regroup front e (entries_from (count - (i + 1)) end (Some e) bytes next)) in
-    ap (λ (o : Option Entry). with_front (front ++ e ∷ []) (entries_from (count - (i + 1)) end o bytes next)) (last_pushed front e) ∙ sym one ∙ so_far
+    sym one ∙ so_far
 
-pub stops : (d : SlateDBError) (front : List Entry) (count i end : ℕ) (bytes : List ℕ) (at : ℕ) (total : Field (List Entry)) → i < count → entry_field end (last_entry front) bytes at ≡ Err d →
-    with_front front (entries_from (count - i) end (last_entry front) bytes at) ≡ total → total ≡ Err d
+pub stops : (d : SlateDBError) (front : List Entry) (count i end : ℕ) (last : Option Entry) (bytes : List ℕ) (at : ℕ) (total : Field (List Entry)) → i < count → entry_field end last bytes at ≡ Err d →
+    with_front front (entries_from (count - i) end last bytes at) ≡ total → total ≡ Err d
 unfolding entries_from
-stops d front count i end bytes at total lt h so_far =
+stops d front count i end last bytes at total lt h so_far =
     let k : count - i ≡ suc (count - (i + 1)) = omega arith in
-    let one : with_front front (entries_from (count - i) end (last_entry front) bytes at) ≡ Err d = rw (k, h) refl in
+    let one : with_front front (entries_from (count - i) end last bytes at) ≡ Err d = rw (k, h) refl in
     sym so_far ∙ one
 
-pub is_done : (front : List Entry) (count i end : ℕ) (bytes : List ℕ) (at : ℕ) (total : Field (List Entry)) → count ≤ i →
-    with_front front (entries_from (count - i) end (last_entry front) bytes at) ≡ total → total ≡ Ok (front, at)
+pub is_done : (front : List Entry) (count i end : ℕ) (last : Option Entry) (bytes : List ℕ) (at : ℕ) (total : Field (List Entry)) → count ≤ i →
+    with_front front (entries_from (count - i) end last bytes at) ≡ total → total ≡ Ok (front, at)
 unfolding entries_from
-is_done front count i end bytes at total le so_far =
+is_done front count i end last bytes at total le so_far =
     let k : count - i ≡ 0 = omega arith in
-    let one : with_front front (entries_from (count - i) end (last_entry front) bytes at) ≡ Ok (front, at) = rw k (ap (λ (l : List Entry). Ok (l, at)) (append-nil front)) in
+    let one : with_front front (entries_from (count - i) end last bytes at) ≡ Ok (front, at) = rw k (ap (λ (l : List Entry). Ok (l, at)) (append-nil front)) in
     sym so_far ∙ one
 
 -- ---- what is read is spelled
@@ -288,19 +281,29 @@ pub refused_index : (end : ℕ) (es : List Entry) (bytes : List ℕ) (d m : Slat
 refused_index end es bytes d m (inl h) i = h
 refused_index end es bytes d m (inr h) i = let clash : Ok es ≡ Err d = sym (index_again end bytes es i) ∙ h in absurd cc
 
--- the last entry, as it was borrowed from the list
-pub read_on : (items now : List Entry) (o : Option Entry) (end : ℕ) (bytes : List ℕ) (at : ℕ) (r : Field Entry) → o ≡ last_entry now → now ≡ items → entry_field end o bytes at ≡ r → entry_field end (last_entry items) bytes at ≡ r
-read_on items now o end bytes at r is same h = ap (λ (x : Option Entry). entry_field end x bytes at) (sym (is ∙ ap last_entry same)) ∙ h
+-- ---- entries by their places
 
-pub stops_or : (d m : SlateDBError) (front : List Entry) (count i end : ℕ) (bytes : List ℕ) (at : ℕ) (total : Field (List Entry)) → i < count → (d ≡ m) ⊎ (entry_field end (last_entry front) bytes at ≡ Err d) →
-    with_front front (entries_from (count - i) end (last_entry front) bytes at) ≡ total → (d ≡ m) ⊎ (total ≡ Err d)
-stops_or d m front count i end bytes at total lt (inl h) so_far = inl h
-stops_or d m front count i end bytes at total lt (inr h) so_far = inr (stops d front count i end bytes at total lt h so_far)
+pub entry_pushed : (bytes : List ℕ) (places now : List EntryPlace) (p : EntryPlace) → now ≡ places ++ p ∷ [] → map (entry_in bytes) now ≡ map (entry_in bytes) places ++ entry_in bytes p ∷ []
+entry_pushed bytes places now p is = ap (map (entry_in bytes)) is ∙ map-append (entry_in bytes) places (p ∷ [])
 
-pub read_on_or : (d m : SlateDBError) (items now : List Entry) (o : Option Entry) (end : ℕ) (bytes : List ℕ) (at : ℕ) → o ≡ last_entry now → now ≡ items →
-    (d ≡ m) ⊎ (entry_field end o bytes at ≡ Err d) → (d ≡ m) ⊎ (entry_field end (last_entry items) bytes at ≡ Err d)
-read_on_or d m items now o end bytes at is same (inl h) = inl h
-read_on_or d m items now o end bytes at is same (inr h) = inr (read_on items now o end bytes at (Err d) is same h)
+pub keys_count : (bytes : List ℕ) (places : List EntryPlace) → length (index_keys (map (entry_in bytes) places)) ≡ length places
+keys_count bytes places = length-map (map (entry_in bytes) places) (λ (e : Entry). e.1) ∙ length-map places (entry_in bytes)
+
+pub key_at : (bytes : List ℕ) (places : List EntryPlace) (i : ℕ) (p : EntryPlace) → slice_get places i ≡ Some p → slice_get (index_keys (map (entry_in bytes) places)) i ≡ Some (entry_in bytes p).1
+key_at bytes places i p h = slice_get_map (λ (e : Entry). e.1) (map (entry_in bytes) places) i (entry_in bytes p) (slice_get_map (entry_in bytes) places i p h)
+
+-- ---- entries handed out one by one
+
+left_from : (es : List Entry) (i : ℕ) (e : Entry) → slice_get es i ≡ Some e → drop i es ≡ e ∷ drop (i + 1) es
+left_from [] i e h = cc
+left_from (x ∷ es) zero e h = ap (λ (y : Entry). y ∷ es) (same_Some x e h)
+left_from (x ∷ es) (suc i) e h =
+    let place : suc i + 1 ≡ suc (i + 1) = omega arith in
+    left_from es i e h ∙ ap (λ (k : ℕ). e ∷ drop k (x ∷ es)) (sym place)
+
+pub hands_out : (es : List Entry) (i : ℕ) (o : Option (ℕ × Bor (List ℕ))) → i < length es → option_map borrowed_entry o ≡ slice_get es i → YieldsFirstBy borrowed_entry (λ (l : List Entry). l) (drop i es) o (drop (i + 1) es)
+hands_out es i None lt is = absurd (none-some _ (is ∙ slice_get-get_or es i (0, []) lt))
+hands_out es i (Some e) lt is = left_from es i (borrowed_entry e) (sym is)
 
 -- ---- separators are sorted
 

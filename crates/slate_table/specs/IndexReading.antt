@@ -7,9 +7,11 @@
 --     index_of end bytes      the entries, or the refusal
 --     index_keys entries      their separators
 --     borrowed_entry e      an entry whose separator is borrowed
-use Rattle.std.specs.Prelude.{ℕ, zero, suc, Bool, true, ◌&&◌, if◌then◌else◌, nat_lt, nat_le, ◌==◌, List, [], ◌∷◌, length, map, slice_range, Option, Some, None, Result, Ok, Err}
+--     entry_in bytes place, LiesIn bytes place      the entry at a place, and whether the bytes have that place
+use Rattle.std.specs.Prelude.{◌≤◌, ℕ, zero, suc, Bool, true, ◌&&◌, if◌then◌else◌, nat_lt, nat_le, ◌==◌, List, [], ◌∷◌, length, map, slice_range, Option, Some, None, Result, Ok, Err}
 use Rattle.std.specs.Int.{w16, w32, w64}
 use Rattle.std.specs.Borrow.{Bor}
+use Rattle.slate_table.specs.declared.sst_index.EntryPlace.{EntryPlace}
 use Rattle.slate_types.specs.declared.error.SlateDBError.{SlateDBError}
 use Rattle.slate_types.specs.declared.error.SlateDBError.TheVariants.{CorruptTable}
 use Rattle.slate_types.specs.Keys.{key_le}
@@ -59,3 +61,9 @@ index_keys entries = map (λ e. e.1) entries
 
 abbrev pub borrowed_entry : ℕ × Bor (List ℕ) → ℕ × List ℕ
 borrowed_entry e = (e.0, e.1.now)
+
+abbrev pub entry_in : List ℕ → EntryPlace → ℕ × List ℕ
+entry_in bytes place = (place.offset, slice_range bytes place.start place.end)
+
+abbrev pub LiesIn : List ℕ → EntryPlace → Type 0
+LiesIn bytes place = (place.start ≤ place.end) × (place.end ≤ length bytes)

@@ -1,5 +1,6 @@
 //! The index of a table: where each block's section begins, and a separator before its keys.
-ghost use Rattle.std.specs.Prelude.{◌≡◌, ◌≤◌, ◌<◌, ◌==◌, ◌⊎◌, ℕ, Bool, List, Option, Ok, Err, Some, None, true, false, length, slice_get, slice_index, IfOk, IfErr, IsOkUnless, IsSorted, option_copied, option_map};
+ghost use Rattle.std.specs.Prelude.{◌≡◌, ◌≤◌, ◌<◌, ◌==◌, ◌⊎◌, ℕ, Bool, List, Option, Ok, Err, Some, None, true, false, length, map, slice_get, slice_index, IfOk, IfErr, IsOkUnless, IsSorted, option_map};
+ghost use Rattle.std.specs.List.{AllByRecursion};
 ghost use Rattle.std.specs.Iterator.{YieldsFirstBy, item_count};
 ghost use Rattle.slate_block.specs.RowReading.{refusal};
 ghost use Rattle.slate_types.specs.Keys.{key_cmp};
@@ -15,21 +16,32 @@ ghost use Rattle.slate_table.specs.IndexReading.{
   index_of,
   index_keys,
   borrowed_entry,
+  entry_in,
+  LiesIn,
 };
 
 use bytes::Bytes;
 use slate_block::fields::{block_field, corrupt, u16_field, u32_field, u64_field};
-use slate_types::{RangePartitionedKeySpace, SlateDBError};
+use slate_types::{RangePartitionedKeySpace, SlateDBError, compare_keys};
 use std::alloc::Global;
 use std::marker::Model;
-use std::slice;
 
-/// The offset and the separator of each block of a table, in their order. The separators share the buffer of the bytes that they
-/// were read from.
+/// The offset of a block, and where its separator lies in the bytes of an index.
+#[derive(Clone, Copy)]
+struct EntryPlace {
+    offset: u64,
+    start: usize,
+    end: usize,
+}
+
+/// The offset and the separator of each block of a table, in their order. The separators stay where they lie in the bytes that
+/// they were read from.
 #[derive(Drop)]
 pub struct SstIndex {
-    entries: Vec<(u64, Bytes)>,
-    ghost rising: { IsSorted key_cmp (index_keys entries.items) },
+    bytes: Bytes,
+    places: Vec<EntryPlace>,
+    ghost within: { (i : ℕ) (place : _) → slice_get places.items i ≡ Some place → LiesIn bytes place },
+    ghost rising: { IsSorted key_cmp (index_keys (map (entry_in bytes) places.items)) },
 }
 
 impl SstIndex {
@@ -43,11 +55,12 @@ impl SstIndex {
         ensures only { (entries : List (ℕ × List ℕ)) → IsIndex end bytes entries → IsOkUnless result SlateDBError.OutOfMemory }
         ensures cause { IfErr result (λ e. (e ≡ SlateDBError.OutOfMemory) ⊎ (refusal (index_of end bytes) ≡ Some e)) }
     {
-        let entries = read_entries(alloc, end, &bytes);
-        drop(bytes);
-        match entries {
-            Ok(entries) => Ok(SstIndex { entries }),
-            Err(error) => Err(error),
+        match read_entries(alloc, end, bytes.as_slice()) {
+            Ok(places) => Ok(SstIndex { bytes, places }),
+            Err(error) => {
+                drop(bytes);
+                Err(error)
+            }
         }
     }
 
@@ -55,22 +68,22 @@ impl SstIndex {
     pub fn len(&self) -> usize
         ensures { result ≡ length (entries_of self.now) }
     {
-        self.entries.len()
+        self.places.len()
     }
 
     /// Whether there is no block, which no table's index is.
     pub fn is_empty(&self) -> bool
         ensures { result ≡ (length (entries_of self.now) == 0) }
     {
-        self.entries.is_empty()
+        self.places.is_empty()
     }
 
     /// The offset and the separator of a block, or `None` exactly where there is no such block.
     pub fn get(&self, index: usize) -> Option<(u64, &[u8])>
         ensures { option_map borrowed_entry result ≡ slice_get (entries_of self.now) index }
     {
-        match self.entries.get(index) {
-            Some(entry) => Some((entry.0, entry.1.as_slice())),
+        match self.places.get(index) {
+            Some(place) => Some((place.offset, separator_at(self.bytes.as_slice(), *place))),
             None => None,
         }
     }
@@ -79,9 +92,7 @@ impl SstIndex {
     pub fn iter(&self) -> SstIndexIter<'_>
         ensures { result ≡ entries_of self.now }
     {
-        SstIndexIter {
-            entries: self.entries.iter(),
-        }
+        SstIndexIter { index: self, at: 0 }
     }
 
     /// The length of the front of blocks whose separators pass a test, found by halves. The test must pass no separator behind
@@ -105,27 +116,28 @@ impl RangePartitionedKeySpace for SstIndex {
     ghost rising = { λ index. index.rising };
 
     fn partitions(&self) -> usize {
-        self.entries.len()
+        self.places.len()
     }
 
     fn partition_first_key(&self, partition: usize) -> &[u8] {
-        self.entries[partition].1.as_slice()
+        separator_at(self.bytes.as_slice(), self.places[partition])
     }
 }
 
 /// The offsets and the separators of an index, in their order.
 #[derive(Drop)]
 pub struct SstIndexIter<'a> {
-    entries: slice::Iter<'a, (u64, Bytes)>,
+    index: &'a SstIndex,
+    at: usize,
 }
 
 impl<'a> Model for SstIndexIter<'a> {
-    ghost use Rattle.std.specs.Prelude.{ℕ, List};
-    ghost use Rattle.std.specs.Slice.Iter.{iter_rest};
+    ghost use Rattle.std.specs.Prelude.{ℕ, List, drop};
+    ghost use Rattle.slate_table.specs.IndexValue.{entries_of};
 
     ghost Value = { List (ℕ × List ℕ) };
 
-    ghost view = { λ iter. iter_rest iter.entries };
+    ghost view = { λ iter. drop iter.at (entries_of iter.index.now) };
 }
 
 impl<'a> Iterator for SstIndexIter<'a> {
@@ -136,10 +148,12 @@ impl<'a> Iterator for SstIndexIter<'a> {
     ghost remaining = { item_count (λ entries. entries) };
 
     fn next(&mut self) -> Option<(u64, &'a [u8])> {
-        match self.entries.next() {
-            Some(entry) => Some((entry.0, entry.1.as_slice())),
-            None => None,
+        if self.at >= self.index.len() {
+            return None;
         }
+        let entry = self.index.get(self.at);
+        self.at += 1;
+        entry
     }
 
     fn size_hint(&self) -> (usize, Option<usize>) {
@@ -150,13 +164,21 @@ impl<'a> Iterator for SstIndexIter<'a> {
 
 impl<'a> ExactSizeIterator for SstIndexIter<'a> {
     fn len(&self) -> usize {
-        self.entries.len()
+        self.index.len().saturating_sub(self.at)
     }
 }
 
+/// The separator at a place.
+fn separator_at(bytes: &[u8], place: EntryPlace) -> &[u8]
+    requires { LiesIn bytes.now place }
+    ensures { result.now ≡ (entry_in bytes.now place).1 }
+{
+    &bytes[place.start..place.end]
+}
+
 /// Whether an offset can stand behind the last entry.
-fn is_next_offset(last: Option<&(u64, Bytes)>, offset: u64) -> bool
-    ensures { result ≡ is_next_offset (option_copied last.entry) offset }
+fn is_next_offset(last: Option<(u64, &[u8])>, offset: u64) -> bool
+    ensures { result ≡ is_next_offset (option_map borrowed_entry last.entry) offset }
 {
     match last {
         Some(last) => last.0 < offset,
@@ -165,11 +187,11 @@ fn is_next_offset(last: Option<&(u64, Bytes)>, offset: u64) -> bool
 }
 
 /// Whether a separator can stand behind the last entry.
-fn is_next_key(last: Option<&(u64, Bytes)>, key: &[u8]) -> bool
-    ensures { result ≡ is_next_key (option_copied last.entry) key.now }
+fn is_next_key(last: Option<(u64, &[u8])>, key: &[u8]) -> bool
+    ensures { result ≡ is_next_key (option_map borrowed_entry last.entry) key.now }
 {
     match last {
-        Some(last) => last.1.as_slice().cmp(key).is_le(),
+        Some(last) => compare_keys(last.1, key).is_le(),
         None => true,
     }
 }
@@ -177,12 +199,12 @@ fn is_next_key(last: Option<&(u64, Bytes)>, key: &[u8]) -> bool
 #[tactic(auto, unfolding(crate::specs::IndexReading::offset_field))]
 fn offset_field(
     end: u64,
-    last: Option<&(u64, Bytes)>,
+    last: Option<(u64, &[u8])>,
     bytes: &[u8],
     at: usize,
 ) -> Result<(u64, usize), SlateDBError>
     requires { at ≤ length bytes.now }
-    ensures value { result ≡ offset_field end (option_copied last.entry) bytes.now at }
+    ensures value { result ≡ offset_field end (option_map borrowed_entry last.entry) bytes.now at }
     ensures within { IfOk result (λ field. field.1 ≤ length bytes.now) }
 {
     let (offset, next) = u64_field(bytes, at)?;
@@ -194,12 +216,12 @@ fn offset_field(
 
 #[tactic(auto, unfolding(crate::specs::IndexReading::separator_field))]
 fn separator_field(
-    last: Option<&(u64, Bytes)>,
+    last: Option<(u64, &[u8])>,
     bytes: &[u8],
     at: usize,
 ) -> Result<(usize, usize), SlateDBError>
     requires { at ≤ length bytes.now }
-    ensures value { result ≡ separator_field (option_copied last.entry) bytes.now at }
+    ensures value { result ≡ separator_field (option_map borrowed_entry last.entry) bytes.now at }
     ensures within { IfOk result (λ field. (field.0 ≤ field.1) × (field.1 ≤ length bytes.now)) }
 {
     let (len, at) = u16_field(bytes, at)?;
@@ -210,23 +232,22 @@ fn separator_field(
     Err(corrupt(start))
 }
 
-/// The entry that stands at a place behind the last one, and the place behind it.
+/// Where the entry lies that stands at a place behind the last one. It ends with its separator.
 #[tactic(auto, unfolding(crate::specs::IndexReading::entry_field))]
 fn entry_field(
     end: u64,
-    last: Option<&(u64, Bytes)>,
-    bytes: &Bytes,
+    last: Option<(u64, &[u8])>,
+    bytes: &[u8],
     at: usize,
-) -> Result<((u64, Bytes), usize), SlateDBError>
+) -> Result<EntryPlace, SlateDBError>
     requires { at ≤ length bytes.now }
-    ensures found { IfOk result (λ field. entry_field end (option_copied last.entry) bytes.now at ≡ Ok field) }
-    ensures cause { IfErr result (λ e. (e ≡ SlateDBError.OutOfMemory) ⊎ (entry_field end (option_copied last.entry) bytes.now at ≡ Err e)) }
-    ensures within { IfOk result (λ field. field.1 ≤ length bytes.now) }
+    ensures found { IfOk result (λ place. entry_field end (option_map borrowed_entry last.entry) bytes.now at ≡ Ok (entry_in bytes.now place, place.end)) }
+    ensures cause { IfErr result (λ e. entry_field end (option_map borrowed_entry last.entry) bytes.now at ≡ Err e) }
+    ensures within { IfOk result (λ place. LiesIn bytes.now place) }
 {
-    let (offset, at) = offset_field(end, last, bytes.as_slice(), at)?;
-    let (start, stop) = separator_field(last, bytes.as_slice(), at)?;
-    let separator = bytes.slice(start..stop)?;
-    Ok(((offset, separator), stop))
+    let (offset, at) = offset_field(end, last, bytes, at)?;
+    let (start, end) = separator_field(last, bytes, at)?;
+    Ok(EntryPlace { offset, start, end })
 }
 
 #[tactic(auto, unfolding(crate::specs::IndexReading::counted))]
@@ -247,33 +268,37 @@ fn entries_from(
     alloc: Global,
     count: u32,
     end: u64,
-    bytes: &Bytes,
+    bytes: &[u8],
     at: usize,
-) -> Result<(Vec<(u64, Bytes)>, usize), SlateDBError>
+) -> Result<(Vec<EntryPlace>, usize), SlateDBError>
     requires { at ≤ length bytes.now }
-    ensures found { IfOk result (λ found. entries_from count end None bytes.now at ≡ Ok (found.0.items, found.1)) }
+    ensures found { IfOk result (λ found. entries_from count end None bytes.now at ≡ Ok (map (entry_in bytes.now) found.0.items, found.1)) }
+    ensures within { IfOk result (λ found. AllByRecursion (LiesIn bytes.now) found.0.items) }
     ensures cause { IfErr result (λ e. (e ≡ SlateDBError.OutOfMemory) ⊎ (entries_from count end None bytes.now at ≡ Err e)) }
 {
-    let mut entries = Vec::new(alloc);
+    let mut places = Vec::new(alloc);
+    let mut last = None;
     let mut at = at;
     for _ in 0..count {
-        let (entry, next) = entry_field(end, entries.last(), bytes, at)?;
-        entries.push(entry)?;
-        at = next;
+        let place = entry_field(end, last, bytes, at)?;
+        places.push(place)?;
+        last = Some((place.offset, separator_at(bytes, place)));
+        at = place.end;
     }
-    Ok((entries, at))
+    Ok((places, at))
 }
 
 #[tactic(auto, unfolding(crate::specs::IndexReading::index_of))]
-fn read_entries(alloc: Global, end: u64, bytes: &Bytes) -> Result<Vec<(u64, Bytes)>, SlateDBError>
-    ensures found { IfOk result (λ entries. index_of end bytes.now ≡ Ok entries.items) }
+fn read_entries(alloc: Global, end: u64, bytes: &[u8]) -> Result<Vec<EntryPlace>, SlateDBError>
+    ensures found { IfOk result (λ places. index_of end bytes.now ≡ Ok (map (entry_in bytes.now) places.items)) }
+    ensures within { IfOk result (λ places. AllByRecursion (LiesIn bytes.now) places.items) }
     ensures cause { IfErr result (λ e. (e ≡ SlateDBError.OutOfMemory) ⊎ (index_of end bytes.now ≡ Err e)) }
     ensures bytes { IfOk result (λ _. (i : ℕ) → slice_index bytes.now i < 256) }
 {
-    let (count, at) = counted(bytes.as_slice())?;
-    let (entries, at) = entries_from(alloc, count, end, bytes, at)?;
+    let (count, at) = counted(bytes)?;
+    let (places, at) = entries_from(alloc, count, end, bytes, at)?;
     if at == bytes.len() {
-        return Ok(entries);
+        return Ok(places);
     }
     Err(corrupt(at))
 }
