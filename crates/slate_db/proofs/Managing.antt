@@ -1,5 +1,5 @@
 -- What ties the managers to the state stays so.
-use Rattle.std.proofs.Common.{◌≡◌, ℕ, ◌+◌, ◌-◌, Bool, true, false, cond, bytes_eq, List, [], ◌∷◌, ◌++◌, map, Option, Some, None, refl, sym, ap, subst, ◌∙◌, arith}
+use Rattle.std.proofs.Common.{◌≡◌, ◌⊎◌, inl, inr, IfSome, ℕ, ◌+◌, ◌-◌, ◌<◌, ◌≤◌, Bool, true, false, cond, bytes_eq, List, [], ◌∷◌, ◌++◌, map, Option, Some, None, refl, sym, ap, subst, ◌∙◌, arith}
 use Rattle.std.specs.List.{AllByRecursion}
 use Rattle.std.proofs.lemmas.List.{map-append}
 use Rattle.slate_types.specs.declared.config.IsolationLevel.{IsolationLevel}
@@ -7,7 +7,8 @@ use Rattle.slate_txn.specs.Conflict.{tracked_writes}
 use Rattle.slate_txn.specs.HandedOver.{Grown}
 use Rattle.slate_txn.specs.Tested.{IsTracked}
 use Rattle.slate_txn.specs.Ids.{IsOfCount, IsSnapshotOf}
-use Rattle.slate_txn.specs.Managers.{Active, Manager, Snapshots, StandsFor, IsCommitOf, untracked, with_commit, writes_at}
+use Rattle.slate_types.proofs.Lists.{AllByRecursion_push, AllByRecursion_weaken}
+use Rattle.slate_txn.specs.Managers.{Active, Manager, Snapshots, StandsFor, KeepsAbove, IsCommitOf, least_start, untracked, with_commit, writes_at}
 use Rattle.slate_txn.specs.Named.{find_named, without, update_named}
 use Rattle.slate_txn.specs.State.{Commit, Tx, begun}
 use Rattle.slate_txn.proofs.NamedLaws.{without_last, update_map}
@@ -85,6 +86,17 @@ managed_written m n ids last seq cs ps c is stands w = record {
   counted = ap (λ (x : Manager). x.ids) is ∙ w.counted;
   opened = ap (λ (x : Manager). x.active) is ∙ w.opened;
 }
+
+-- a commit by itself, of which the manager was given the keys, or anything where nothing is open
+pub stands_tracked : (m n : Manager) (seq : ℕ) (cs : List Commit) (c : Commit) (keys : List (List ℕ)) → n ≡ record m { last = seq; kept = n.kept } → m.last < seq → c.seq ≡ seq → (m.active ≡ []) ⊎ (keys ≡ c.tracked)
+    → ((ds : List Commit) (d : Commit) → IsCommitOf seq keys d → StandsFor m ds → StandsFor n (ds ++ (d ∷ []))) → StandsFor m cs → StandsFor n (cs ++ (c ∷ []))
+stands_tracked m n seq cs c keys is later number (inl idle) stands s =
+    let last : n.last ≡ seq = ap (λ (x : Manager). x.last) is in
+    let none : n.active ≡ [] = ap (λ (x : Manager). x.active) is ∙ idle in (
+      AllByRecursion_push (λ d. d.seq ≤ n.last) cs c (AllByRecursion_weaken (λ d. d.seq ≤ m.last) (λ d. d.seq ≤ n.last) (λ d h. omega (arith, h, last, later)) cs s.0) (omega (arith, number, last)),
+      subst (λ (ps : List (List ℕ × Active)). IfSome (least_start ps) (λ start. KeepsAbove start n.kept (cs ++ (c ∷ [])))) (sym none) tt,
+    )
+stands_tracked m n seq cs c keys is later number (inr tracked) stands s = stands cs c (number, sym tracked) s
 
 -- of the same manager, but for what it keeps
 pub managed_same : (m n : Manager) (ids last : ℕ) (cs : List Commit) (ps : List (List ℕ × Tx)) → n ≡ m → IsManaged m ids last cs ps → IsManaged n ids last cs ps

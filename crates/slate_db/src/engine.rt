@@ -59,7 +59,7 @@ use crate::flush::stored;
 use crate::laws::Laws;
 use crate::layers::Layers;
 use crate::log::Log;
-use crate::put::{enter, put_batch};
+use crate::put::{enter, keys_to_track, put_batch};
 use crate::segments::SegmentPrefixes;
 use crate::tested::{rows_of_batch, test_batch};
 use bytes::Bytes;
@@ -363,7 +363,7 @@ impl Core {
             &mut env.operator,
         )?;
         let ops = batch.ops(self.alloc)?;
-        let keys = batch.keys()?;
+        let keys = keys_to_track(self.alloc, &self.manager, &batch)?;
         put_batch(
             self.alloc,
             &mut self.segments,

@@ -1,9 +1,10 @@
 //! The steps of a call that touch two parts of a core: both, or, where memory is wanting, neither.
-ghost use Rattle.std.specs.Prelude.{◌≡◌, ◌+◌, ◌<◌, ◌≤◌, ◌∷◌, ◌++◌, [], ℕ, List, None, OnOk, OnErr, IsOkUnless};
+ghost use Rattle.std.specs.Prelude.{◌≡◌, ◌⊎◌, ◌+◌, ◌<◌, ◌≤◌, ◌∷◌, ◌++◌, [], ℕ, List, None, IfOk, OnOk, OnErr, IsOkUnless};
 ghost use Rattle.std.specs.declared.cmp.Ordering.TheVariants.{Greater};
 ghost use Rattle.std.specs.List.{AllByRecursion};
 ghost use Rattle.slate_types.specs.declared.error.SlateDBError.{SlateDBError};
 ghost use Rattle.slate_types.specs.Keys.{key_cmp, keys_set};
+ghost use Rattle.slate_mem.specs.Batch.{batch_keys};
 ghost use Rattle.slate_mem.specs.Table.{put_rows};
 ghost use Rattle.slate_txn.specs.Ids.{id_of};
 ghost use Rattle.slate_txn.specs.Managers.{StandsFor, IsCommitOf, with_commit, writes_at};
@@ -17,6 +18,7 @@ use crate::layers::Layers;
 use crate::log::Log;
 use crate::segments::SegmentPrefixes;
 use bytes::Bytes;
+use slate_mem::WriteBatch;
 use slate_txn::{OpenTransactions, TransactionManager};
 use slate_types::{IsolationLevel, RowEntry, SlateDBError};
 use std::alloc::Global;
@@ -50,6 +52,21 @@ pub(crate) fn enter(
         return Err(SlateDBError::from(error));
     }
     Ok(())
+}
+
+/// The keys of a batch that commits by itself, ascending. Where nothing is open the manager keeps none, so none is listed.
+pub(crate) fn keys_to_track(
+    alloc: Global,
+    manager: &TransactionManager,
+    batch: &WriteBatch,
+) -> Result<Vec<Bytes>, SlateDBError>
+    ensures keys { IfOk result (λ keys. (manager.now.active ≡ []) ⊎ (keys.items ≡ batch_keys batch.now.ops)) }
+    ensures cause { IsOkUnless result SlateDBError.OutOfMemory }
+{
+    if manager.is_idle() {
+        return Ok(Vec::new(alloc));
+    }
+    batch.keys()
 }
 
 /// Puts the rows of a batch that commits by itself, records its segment prefixes, and has the manager track its keys.

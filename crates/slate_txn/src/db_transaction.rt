@@ -24,6 +24,7 @@ ghost use Rattle.slate_txn.specs.Own.{read_on, only_key};
 
 use crate::hand_over::test_conflict;
 use crate::reading::Reading;
+use crate::row_room::RowRoom;
 use crate::transaction_manager::{TransactionManager, append};
 use crate::{KeyList, Transcript, TranscriptStep};
 use bytes::Bytes;
@@ -56,6 +57,8 @@ pub struct DbTransactionInner {
     /// How many scans it opened.
     scans: u64,
     transcript: Vec<TranscriptStep>,
+    /// Where the bytes of the next rows of the transcript go.
+    room: RowRoom,
 }
 
 impl Model for DbTransactionInner {
@@ -83,6 +86,7 @@ impl DbTransactionInner {
             reading: Reading::new(alloc),
             scans: 0,
             transcript: Vec::new(alloc),
+            room: RowRoom::new(alloc),
         }
     }
 
@@ -250,7 +254,7 @@ impl DbTransactionInner {
         ensures noted { OnOk result (self.new ≡ record self.old { transcript = self.old.transcript ++ steps.Next scan answer.now ∷ [] }) }
         ensures same { OnErr result (self.new ≡ self.old) }
     {
-        let answer = unshared_next(alloc, answer)?;
+        let answer = unshared_next(alloc, &mut self.room, answer)?;
         note(
             self.level,
             &mut self.reading,
@@ -335,8 +339,10 @@ impl DbTransactionInner {
             unmarked,
             reading,
             transcript,
+            room,
             ..
         } = self;
+        drop(room);
         let handed = handed(
             alloc,
             manager,
@@ -566,12 +572,16 @@ fn unshared(
     }
 }
 
-/// The same answer without the buffers that it came in.
-fn unshared_next(alloc: Global, answer: &Option<KeyValue>) -> Result<Option<KeyValue>, AllocError>
+/// The same answer without the buffers that it came in, its row in a block of rows.
+fn unshared_next(
+    alloc: Global,
+    room: &mut RowRoom,
+    answer: &Option<KeyValue>,
+) -> Result<Option<KeyValue>, AllocError>
     ensures { IfOk result (λ same. same ≡ answer.now) }
 {
     match answer {
-        Some(row) => unshared_whole(alloc, row).map(Some),
+        Some(row) => room.copied(alloc, row).map(Some),
         None => Ok(None),
     }
 }
@@ -590,30 +600,6 @@ fn unshared_row(alloc: Global, key: &Bytes, row: &KeyValue) -> Result<KeyValue, 
         }),
         Err(error) => {
             drop(value);
-            Err(error)
-        }
-    }
-}
-
-/// The same row, its key and its value in one buffer of their own.
-fn unshared_whole(alloc: Global, row: &KeyValue) -> Result<KeyValue, AllocError>
-    ensures { IfOk result (λ same. same ≡ row.now) }
-{
-    let key_len = row.key.len();
-    let mut text = Vec::with_capacity(alloc, key_len.saturating_add(row.value.len()))?;
-    text.extend_from_slice(row.key.as_slice())?;
-    text.extend_from_slice(row.value.as_slice())?;
-    let mut key = Bytes::from_vec(text)?;
-    match key.split_off(key_len) {
-        Ok(value) => Ok(KeyValue {
-            key,
-            value,
-            seq: row.seq,
-            create_ts: row.create_ts,
-            expire_ts: row.expire_ts,
-        }),
-        Err(error) => {
-            drop(key);
             Err(error)
         }
     }

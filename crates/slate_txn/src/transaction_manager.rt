@@ -1,5 +1,5 @@
 //! The open transactions, and what is kept of commits to tell which of them conflict.
-ghost use Rattle.std.specs.Prelude.{◌≡◌, ◌⊎◌, ◌+◌, ◌-◌, ◌^◌, ◌<◌, ◌≤◌, ℕ, List, ◌++◌, ◌∷◌, [], true, false, nat_lt, length, bytes_eq, Some, None, Err, IfOk, IfErr, OnOk, OnErr, IsOkUnless};
+ghost use Rattle.std.specs.Prelude.{◌≡◌, ◌⊎◌, ◌↔◌, ◌+◌, ◌-◌, ◌^◌, ◌<◌, ◌≤◌, ℕ, List, ◌++◌, ◌∷◌, [], true, false, nat_lt, length, bytes_eq, Some, None, Err, IfOk, IfErr, IsTrue, OnOk, OnErr, IsOkUnless};
 ghost use Rattle.std.specs.BTreeMap as map;
 ghost use Rattle.std.specs.List.{AllByRecursion, list_any};
 ghost use Rattle.std.specs.Map.{keys_of};
@@ -388,6 +388,13 @@ impl TransactionManager {
         ensures { result ≡ least_start self.now.active }
     {
         least(&self.active_txns)
+    }
+
+    /// Whether nothing is open.
+    pub fn is_idle(&self) -> bool
+        ensures { IsTrue result ↔ (self.now.active ≡ []) }
+    {
+        self.active_txns.is_empty()
     }
 
     /// Opens a transaction at the last sequence, and gives its id and that sequence.

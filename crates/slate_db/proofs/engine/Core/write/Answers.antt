@@ -35,7 +35,7 @@ use Rattle.slate_db.proofs.Keeps.{kept_recorded, kept_same, room_made}
 use Rattle.slate_db.proofs.Segmenting.{segmented_more, segmented_same}
 use Rattle.slate_db.proofs.Calls.{none_left, past_place, placed, room_in_log, written_is}
 use Rattle.slate_db.proofs.Loads.{write_load}
-use Rattle.slate_db.proofs.Managing.{managed_written}
+use Rattle.slate_db.proofs.Managing.{managed_written, stands_tracked}
 use Rattle.slate_db.proofs.MemoryRows.{commit_within, puts_all, rise_more}
 use Rattle.slate_db.proofs.Opened.{stay_room, stay_same, stay_written}
 use Rattle.slate_db.proofs.Operands.{combine_is}
@@ -183,7 +183,8 @@ invariant_of-self-2 g c =
     c.put_batch.new.manager
     (managed_written c.self.inside.manager c.put_batch.new.manager c.self.inside.log.ids n (n + 1) c.self.inside.log.commits c.self.inside.transactions (record { seq = n + 1; now = c.args.now; ops = c.args.batch.ops; tracked = batch_keys c.args.batch.ops })
     (subst (λ (k : ℕ). c.put_batch.new.manager ≡ record c.self.inside.manager { last = k; kept = c.put_batch.new.manager.kept }) seq c.in_ok-put_batch.ensures.committed)
-    (c.in_ok-put_batch.ensures.stands _ _ (sym seq, sym c.in_ok-keys.ensures.keys)) c.self.invariant.tied.manager)
+    (stands_tracked c.self.inside.manager c.put_batch.new.manager (c.last-seq.result + 1) c.self.inside.log.commits (record { seq = n + 1; now = c.args.now; ops = c.args.batch.ops; tracked = batch_keys c.args.batch.ops }) c.in_ok-keys.keys.items c.in_ok-put_batch.ensures.committed
+    (let newest : c.self.inside.manager.last ≡ n = c.self.invariant.tied.manager.newest in omega (arith, newest, seq)) (sym seq) c.in_ok-keys.ensures.keys c.in_ok-put_batch.ensures.stands) c.self.invariant.tied.manager)
     (subst IsLog log c.push_write.ensures.whole) (subst AreLayers layers c.put_batch.ensures.whole) c.self.invariant))
 
 pub returns : goal.returns

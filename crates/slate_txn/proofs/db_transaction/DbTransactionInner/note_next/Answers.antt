@@ -5,8 +5,8 @@ use Rattle.slate_txn.proofs.OwnLaws.{own_read_by, after_read, after_none}
 use Rattle.slate_txn.proofs.db_transaction.DbTransactionInner.note_next.Goals as goal
 use Rattle.slate_types.proofs.Exits.{on_ok_weaker, on_err_weaker}
 
-pub invariant_of-self : goal.invariant_of-self
-invariant_of-self c =
+pub invariant_of-self-2 : goal.invariant_of-self-2
+invariant_of-self-2 c =
     let said = c.note.ensures in
     own_read_by c.note.result c.self.inside.level c.self.inside.transcript.items _ c.self.inside.batch c.self.inside.reading _ c.self.inside.scans (steps.Next c.args.scan c.in_ok-answer.answer) refl refl said.read said.noted said.same_reading said.same_steps c.self.invariant
 
