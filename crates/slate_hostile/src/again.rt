@@ -191,6 +191,7 @@ fn answer(
     requires valid { IsValid laws.now.options }
     requires names { AreValidNames (map (λ p. (meaning (p.vtable, p.value)).name) laws.now.policies.items) }
 {
+    let line = Vec::from_slice(alloc, line)?;
     match parse_line(alloc, line) {
         Ok(None) => Ok(None),
         Ok(Some(meaning)) => session

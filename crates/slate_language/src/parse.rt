@@ -39,14 +39,15 @@ enum Keyword {
 }
 
 /// What the line means; None for an empty line and a comment. `ScriptSyntax`, with line number 0, comes
-/// exactly where the line is none of these.
+/// exactly where the line is none of these. The meaning's names, and its keys and values of text, share the
+/// line's buffer.
 #[tactic(auto, using(crate::proofs::BuiltLaws::parse_built))]
-pub fn parse_line(alloc: Global, line: &[u8]) -> Result<Option<Line>, SlateDBError>
-    ensures meant { IfOk result (λ o. IfSome o (λ l. (is_silent line.now ≡ false) × (parse line.now ≡ Some l))) }
-    ensures silent { result ≡ Ok None → is_silent line.now ≡ true }
-    ensures cause { IfErr result (λ e. (e ≡ SlateDBError.OutOfMemory) ⊎ ((e ≡ SlateDBError.ScriptSyntax 0) × (is_silent line.now ≡ false) × (parse line.now ≡ None))) }
+pub fn parse_line(alloc: Global, line: Vec<u8>) -> Result<Option<Line>, SlateDBError>
+    ensures meant { IfOk result (λ o. IfSome o (λ l. (is_silent line.items ≡ false) × (parse line.items ≡ Some l))) }
+    ensures silent { result ≡ Ok None → is_silent line.items ≡ true }
+    ensures cause { IfErr result (λ e. (e ≡ SlateDBError.OutOfMemory) ⊎ ((e ≡ SlateDBError.ScriptSyntax 0) × (is_silent line.items ≡ false) × (parse line.items ≡ None))) }
 {
-    if is_silent(line) {
+    if is_silent(line.as_slice()) {
         return Ok(None);
     }
     match read_text(alloc, line)? {
@@ -62,11 +63,11 @@ fn is_silent(line: &[u8]) -> bool
     line.first().is_none_or(|byte| *byte == b'#')
 }
 
-/// The line that the text means, if any. Its names, keys and values share one copy of the text.
-fn read_text(alloc: Global, text: &[u8]) -> Result<Option<Line>, AllocError>
-    ensures line { IfOk result (λ o. o ≡ built_tokens (tokens_of text.now)) }
+/// The line that the text means, if any. Its names, and its keys and values of text, share the text's buffer.
+fn read_text(alloc: Global, text: Vec<u8>) -> Result<Option<Line>, AllocError>
+    ensures line { IfOk result (λ o. o ≡ built_tokens (tokens_of text.items)) }
 {
-    let text = Bytes::copy_from_slice(alloc, text)?;
+    let text = Bytes::from_vec(text)?;
     let line = read_shared(alloc, &text);
     drop(text);
     line

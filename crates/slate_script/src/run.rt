@@ -117,16 +117,7 @@ pub(crate) fn answer_lines<
             }
         };
         number += 1;
-        match answer_line(
-            alloc,
-            &mut session,
-            sink,
-            tally,
-            env,
-            laws,
-            line.as_slice(),
-            number,
-        ) {
+        match answer_line(alloc, &mut session, sink, tally, env, laws, line, number) {
             Ok(()) => {}
             Err(error) => {
                 session.close();
@@ -149,7 +140,7 @@ fn answer_line<W: Sink, S: Store, M: MergeOperator, T: BlockTransformer, X: Pref
     tally: &mut Tally,
     env: &mut Env<'_, S, M, T>,
     laws: &Laws<X>,
-    line: &[u8],
+    line: Vec<u8>,
     number: u64,
 ) -> Result<(), SlateDBError>
     requires valid { IsValid laws.now.options }
@@ -158,10 +149,10 @@ fn answer_line<W: Sink, S: Store, M: MergeOperator, T: BlockTransformer, X: Pref
         let policies = map (λ p. meaning (p.vtable, p.value)) laws.now.policies.items in
         let layout = layout_of laws.now.options policies (segments_by X.lengths laws.now.segments) in
         let sunk = sink_of W.content W.faults in
-        RepliesLine layout number line.now (reach env.old) (reach env.new) session.old session.new
+        RepliesLine layout number line.items (reach env.old) (reach env.new) session.old session.new
         (sunk sink.old) (sunk sink.new) tally.old tally.new result }
     ensures sink { let sunk = sink_of W.content W.faults in
-        WritesReply line.now (sunk sink.old) (sunk sink.new) result }
+        WritesReply line.items (sunk sink.old) (sunk sink.new) result }
 {
     let meaning = match parse_line(alloc, line) {
         Ok(None) => return Ok(()),

@@ -146,7 +146,7 @@ returns-in-Err g c =
 -- ---- at a line that isn't answered
 
 -- no limit ended the line
-its_cause : (g : given.Over) (c : goal.After-drop-lines-inside-in-Err-answer_line-2 g) → LineError (c.loop-line.number + 1) c.as_slice.result.now c.in-Err-answer_line.error
+its_cause : (g : given.Over) (c : goal.After-drop-lines-inside-in-Err-answer_line-2 g) → LineError (c.loop-line.number + 1) c.in-Ok-Some.line.items c.in-Err-answer_line.error
 its_cause g c =
     line_cause c.loop-line.session c.loop-line.number c.loop-line.lines.given c.in-Err-answer_line.error c.loop-line.invariant.weighs c.loop-line.invariant.loads c.loop-line.invariant.counted c.loop-line.invariant.within
     c.in-Err-answer_line.ensures.line.cause
@@ -160,42 +160,42 @@ returns-in-Err-answer_line g c =
     record {
       run = record {
         honest = λ script is premises. record {
-          said = λ before told-is. line_says c.answer_line.new.session c.answer_line.new.tally before (g.R.Source.left c.next.new.source) (g.W.Sink.content c.answer_line.new.sink) c.in-Err-answer_line.error (its_cause g c) (λ h. (c.in-Err-answer_line.ensures.sink.write_fault (ap Err h)).1) c.in-Err-answer_line.ensures.sink.unanswered (took_told (λ v. v.items) c.in-Ok-Some.field-0 c.in-Ok-Some.line c.as_slice.result.now (g.R.Source.left c.next.new.source) c.next.new.self c.in-Ok-Some.ensures.told c.in-Ok-Some.ensures.within c.in-Ok-Some.field-0-is c.as_slice.ensures.value (c.loop-line.invariant.told script is)) ((c.in-Err-answer_line.ensures.line.honest m r (c.loop-line.invariant.running premises)).answered) premises told-is;
+          said = λ before told-is. line_says c.answer_line.new.session c.answer_line.new.tally before (g.R.Source.left c.next.new.source) (g.W.Sink.content c.answer_line.new.sink) c.in-Err-answer_line.error (its_cause g c) (λ h. (c.in-Err-answer_line.ensures.sink.write_fault (ap Err h)).1) c.in-Err-answer_line.ensures.sink.unanswered (took_told (λ v. v.items) c.in-Ok-Some.field-0 c.in-Ok-Some.line c.in-Ok-Some.line.items (g.R.Source.left c.next.new.source) c.next.new.self c.in-Ok-Some.ensures.told c.in-Ok-Some.ensures.within c.in-Ok-Some.field-0-is refl (c.loop-line.invariant.told script is)) ((c.in-Err-answer_line.ensures.line.honest m r (c.loop-line.invariant.running premises)).answered) premises told-is;
           stored = tt;
           reads = tt;
-          complete = λ formed none. (let took = took_told (λ v. v.items) c.in-Ok-Some.field-0 c.in-Ok-Some.line c.as_slice.result.now (g.R.Source.left c.next.new.source) c.next.new.self c.in-Ok-Some.ensures.told c.in-Ok-Some.ensures.within c.in-Ok-Some.field-0-is c.as_slice.ensures.value (c.loop-line.invariant.told script is) in
+          complete = λ formed none. (let took = took_told (λ v. v.items) c.in-Ok-Some.field-0 c.in-Ok-Some.line c.in-Ok-Some.line.items (g.R.Source.left c.next.new.source) c.next.new.self c.in-Ok-Some.ensures.told c.in-Ok-Some.ensures.within c.in-Ok-Some.field-0-is refl (c.loop-line.invariant.told script is) in
               let by = line_error c.in-Err-answer_line.error took (its_cause g c) in
-              (only_memory c.in-Err-answer_line.error (line_complete script c.as_slice.result.now (c.loop-line.number + 1) c.in-Err-answer_line.error by (its_cause g c) formed (λ h. none.sink_still (rose_from _ _ _ c.loop-line.invariant.sink_later (c.in-Err-answer_line.ensures.sink.write_fault (ap Err h)).0)))
+              (only_memory c.in-Err-answer_line.error (line_complete script c.in-Ok-Some.line.items (c.loop-line.number + 1) c.in-Err-answer_line.error by (its_cause g c) formed (λ h. none.sink_still (rose_from _ _ _ c.loop-line.invariant.sink_later (c.in-Err-answer_line.ensures.sink.write_fault (ap Err h)).0)))
               (λ part. no_part (counts_of (g.S.Store.faults c.loop-line.env.store.now) g.M.MergeOperator.faults g.T.BlockTransformer.faults c.loop-line.env.operator c.loop-line.env.transformer) (counts_of (g.S.Store.faults c.answer_line.new.env.store.now) g.M.MergeOperator.faults g.T.BlockTransformer.faults c.answer_line.new.env.operator c.answer_line.new.env.transformer) c.in-Err-answer_line.error (λ h. none.store (rose_from _ _ _ c.loop-line.invariant.puts.later.store h)) (λ h. none.operator (rose_from _ _ _ c.loop-line.invariant.puts.later.operator h)) (λ h. none.transformer (rose_from _ _ _ c.loop-line.invariant.puts.later.transformer h))
               ((c.in-Err-answer_line.ensures.line.honest (meaning_of g.M.MergeOperator.combine g.T.BlockTransformer.encoded g.T.BlockTransformer.decoded c.args.env.now.operator c.args.env.now.transformer) (run_rules c.args.laws.now.options (meaning_of g.M.MergeOperator.combine g.T.BlockTransformer.encoded g.T.BlockTransformer.decoded c.args.env.now.operator c.args.env.now.transformer) (segments_by g.X.PrefixExtractor.lengths c.args.laws.now.segments)) (c.loop-line.invariant.running premises)).undamaged) part (c.in-Err-answer_line.ensures.line.part part))));
         };
         undamaged = (λ premises.
             ((c.in-Err-answer_line.ensures.line.honest (meaning_of g.M.MergeOperator.combine g.T.BlockTransformer.encoded g.T.BlockTransformer.decoded c.args.env.now.operator c.args.env.now.transformer) (run_rules c.args.laws.now.options (meaning_of g.M.MergeOperator.combine g.T.BlockTransformer.encoded g.T.BlockTransformer.decoded c.args.env.now.operator c.args.env.now.transformer) (segments_by g.X.PrefixExtractor.lengths c.args.laws.now.segments)) (c.loop-line.invariant.running premises)).undamaged));
         told = λ lawful. record {
-          said = λ script before is told-is. (slips_on (IsAt (Unit {0}) r script (g.R.Source.left c.loop-line.source) (g.W.Sink.content c.args.sink.now) (g.W.Sink.content c.loop-line.sink) c.args.tally.now c.loop-line.tally c.loop-line.lines c.loop-line.number c.loop-line.session) (AnswersLine r c.as_slice.result.now c.loop-line.session c.answer_line.new.session (g.W.Sink.content c.loop-line.sink) (g.W.Sink.content c.answer_line.new.sink) c.loop-line.tally c.answer_line.new.tally (failed c.in-Err-answer_line.error))
+          said = λ script before is told-is. (slips_on (IsAt (Unit {0}) r script (g.R.Source.left c.loop-line.source) (g.W.Sink.content c.args.sink.now) (g.W.Sink.content c.loop-line.sink) c.args.tally.now c.loop-line.tally c.loop-line.lines c.loop-line.number c.loop-line.session) (AnswersLine r c.in-Ok-Some.line.items c.loop-line.session c.answer_line.new.session (g.W.Sink.content c.loop-line.sink) (g.W.Sink.content c.answer_line.new.sink) c.loop-line.tally c.answer_line.new.tally (failed c.in-Err-answer_line.error))
               (HasSaid r script (g.R.Source.left c.next.new.source) before (g.W.Sink.content c.answer_line.new.sink) (failed c.in-Err-answer_line.error))
               policies seg c.loop-line.session (reach_of g.S.Store g.M.MergeOperator g.T.BlockTransformer c.args.env.now) (reach_of g.S.Store g.M.MergeOperator g.T.BlockTransformer c.loop-line.env) (reach_of g.S.Store g.M.MergeOperator g.T.BlockTransformer c.answer_line.new.env) c.loop-line.invariant.puts.meaning (c.loop-line.invariant.followed lawful.policies lawful.parts) c.answer_line.ensures.line.adds (c.loop-line.invariant.checked script is lawful.policies lawful.parts)
               (λ os settled. c.in-Err-answer_line.ensures.line.checked m r os (record { meaning = c.loop-line.invariant.puts.meaning; rules = ap (λ x. rules_in x m seg) c.loop-line.invariant.settings; settled = settled }))
-              (λ at says. line_says c.answer_line.new.session c.answer_line.new.tally before (g.R.Source.left c.next.new.source) (g.W.Sink.content c.answer_line.new.sink) c.in-Err-answer_line.error (its_cause g c) (λ h. (c.in-Err-answer_line.ensures.sink.write_fault (ap Err h)).1) c.in-Err-answer_line.ensures.sink.unanswered (took_told (λ v. v.items) c.in-Ok-Some.field-0 c.in-Ok-Some.line c.as_slice.result.now (g.R.Source.left c.next.new.source) c.next.new.self c.in-Ok-Some.ensures.told c.in-Ok-Some.ensures.within c.in-Ok-Some.field-0-is c.as_slice.ensures.value at) says tt told-is));
+              (λ at says. line_says c.answer_line.new.session c.answer_line.new.tally before (g.R.Source.left c.next.new.source) (g.W.Sink.content c.answer_line.new.sink) c.in-Err-answer_line.error (its_cause g c) (λ h. (c.in-Err-answer_line.ensures.sink.write_fault (ap Err h)).1) c.in-Err-answer_line.ensures.sink.unanswered (took_told (λ v. v.items) c.in-Ok-Some.field-0 c.in-Ok-Some.line c.in-Ok-Some.line.items (g.R.Source.left c.next.new.source) c.next.new.self c.in-Ok-Some.ensures.told c.in-Ok-Some.ensures.within c.in-Ok-Some.field-0-is refl at) says tt told-is));
           untrue = ((λ damage. untrue_on policies (meaning_of g.M.MergeOperator.combine g.T.BlockTransformer.encoded g.T.BlockTransformer.decoded c.args.env.now.operator c.args.env.now.transformer) (segments_by g.X.PrefixExtractor.lengths c.args.laws.now.segments) c.loop-line.session (g.S.Store.acts c.args.env.now.store.now) (g.S.Store.acts c.loop-line.env.store.now) (g.S.Store.acts c.answer_line.new.env.store.now) (c.loop-line.invariant.followed lawful.policies lawful.parts)
               (subst (λ (m : Meaning). (os : Objects) → IsSettled policies m (segments_by g.X.PrefixExtractor.lengths c.args.laws.now.segments) (Some os) c.loop-line.session.core → IsUntrue os (g.S.Store.acts c.loop-line.env.store.now) (g.S.Store.acts c.answer_line.new.env.store.now)) c.loop-line.invariant.puts.meaning (λ os settled. (c.in-Err-answer_line.ensures.line.told os settled).untrue damage))));
         };
         read = λ script is. record {
           whole = (tt);
           no_error = (tt);
-          error = (let took = took_told (λ v. v.items) c.in-Ok-Some.field-0 c.in-Ok-Some.line c.as_slice.result.now (g.R.Source.left c.next.new.source) c.next.new.self c.in-Ok-Some.ensures.told c.in-Ok-Some.ensures.within c.in-Ok-Some.field-0-is c.as_slice.ensures.value (c.loop-line.invariant.told script is) in
+          error = (let took = took_told (λ v. v.items) c.in-Ok-Some.field-0 c.in-Ok-Some.line c.in-Ok-Some.line.items (g.R.Source.left c.next.new.source) c.next.new.self c.in-Ok-Some.ensures.told c.in-Ok-Some.ensures.within c.in-Ok-Some.field-0-is refl (c.loop-line.invariant.told script is) in
               (line_error c.in-Err-answer_line.error took (its_cause g c)));
           too_long = (λ long.
               let kind : c.in-Err-answer_line.error ≡ ScriptTooLong = same_error c.in-Err-answer_line.error ScriptTooLong (Err c.in-Err-answer_line.error) refl long in
-              absurd (line_not_long (c.loop-line.number + 1) c.as_slice.result.now c.in-Err-answer_line.error (its_cause g c) kind));
-          taken = (let took = took_told (λ v. v.items) c.in-Ok-Some.field-0 c.in-Ok-Some.line c.as_slice.result.now (g.R.Source.left c.next.new.source) c.next.new.self c.in-Ok-Some.ensures.told c.in-Ok-Some.ensures.within c.in-Ok-Some.field-0-is c.as_slice.ensures.value (c.loop-line.invariant.told script is) in
+              absurd (line_not_long (c.loop-line.number + 1) c.in-Ok-Some.line.items c.in-Err-answer_line.error (its_cause g c) kind));
+          taken = (let took = took_told (λ v. v.items) c.in-Ok-Some.field-0 c.in-Ok-Some.line c.in-Ok-Some.line.items (g.R.Source.left c.next.new.source) c.next.new.self c.in-Ok-Some.ensures.told c.in-Ok-Some.ensures.within c.in-Ok-Some.field-0-is refl (c.loop-line.invariant.told script is) in
               line_read took c.in-Ok-Some.ensures.within);
         };
         shown = λ damage. shown_at_end policies (reach_of g.S.Store g.M.MergeOperator g.T.BlockTransformer c.args.env.now) (reach_of g.S.Store g.M.MergeOperator g.T.BlockTransformer c.loop-line.env) (reach_of g.S.Store g.M.MergeOperator g.T.BlockTransformer c.answer_line.new.env) c.loop-line.session.core c.in-Err-answer_line.error c.loop-line.invariant.puts.meaning c.loop-line.invariant.kept c.loop-line.invariant.stored
             ((c.in-Err-answer_line.ensures.line.sound (subst (λ (x : Meaning). IsKept x c.loop-line.session.core) (sym c.loop-line.invariant.puts.meaning) c.loop-line.invariant.kept)).shown damage);
         cause = record {
-          kinds = (line_kinds (c.loop-line.number + 1) c.as_slice.result.now c.in-Err-answer_line.error (its_cause g c));
-          read_fault = λ fault. absurd (line_not_read (c.loop-line.number + 1) c.as_slice.result.now c.in-Err-answer_line.error (its_cause g c) (same_error c.in-Err-answer_line.error ReadFault (Err c.in-Err-answer_line.error) refl fault));
+          kinds = (line_kinds (c.loop-line.number + 1) c.in-Ok-Some.line.items c.in-Err-answer_line.error (its_cause g c));
+          read_fault = λ fault. absurd (line_not_read (c.loop-line.number + 1) c.in-Ok-Some.line.items c.in-Err-answer_line.error (its_cause g c) (same_error c.in-Err-answer_line.error ReadFault (Err c.in-Err-answer_line.error) refl fault));
           write_fault = λ fault. rose_from _ _ _ c.loop-line.invariant.sink_later (c.in-Err-answer_line.ensures.sink.write_fault (ap Err (same_error c.in-Err-answer_line.error WriteFault (Err c.in-Err-answer_line.error) refl fault))).0;
           store_fault = (λ fault.
               let kind : c.in-Err-answer_line.error ≡ StoreFault = same_error c.in-Err-answer_line.error StoreFault (Err c.in-Err-answer_line.error) refl fault in
@@ -227,14 +227,14 @@ loop-line-preserved g c =
     let seg = segments_by g.X.PrefixExtractor.lengths c.args.laws.now.segments in
     let r = run_rules c.args.laws.now.options m seg in
     record {
-      told = λ script is. answer_it (Premises policies m (g.S.Store.objects c.args.env.now.store.now)) r script c.as_slice.result.now (g.R.Source.left c.next.new.source) (g.W.Sink.content c.args.sink.now) (g.W.Sink.content c.loop-line.sink) (g.W.Sink.content c.answer_line.new.sink) c.args.tally.now c.loop-line.tally c.answer_line.new.tally c.next.new.self (c.loop-line.number + 1) c.loop-line.session c.answer_line.new.session
-          (took_told (λ v. v.items) c.in-Ok-Some.field-0 c.in-Ok-Some.line c.as_slice.result.now (g.R.Source.left c.next.new.source) c.next.new.self c.in-Ok-Some.ensures.told c.in-Ok-Some.ensures.within c.in-Ok-Some.field-0-is c.as_slice.ensures.value (c.loop-line.invariant.told script is)) c.in-Ok.ensures.line.meant (λ premises. (c.in-Ok.ensures.line.honest m r (c.loop-line.invariant.running premises)).answered);
-      checked = λ script is lawful_policies lawful. slips_on (IsAt (Unit {0}) r script (g.R.Source.left c.loop-line.source) (g.W.Sink.content c.args.sink.now) (g.W.Sink.content c.loop-line.sink) c.args.tally.now c.loop-line.tally c.loop-line.lines c.loop-line.number c.loop-line.session) (AnswersLine r c.as_slice.result.now c.loop-line.session c.answer_line.new.session (g.W.Sink.content c.loop-line.sink) (g.W.Sink.content c.answer_line.new.sink) c.loop-line.tally c.answer_line.new.tally done)
+      told = λ script is. answer_it (Premises policies m (g.S.Store.objects c.args.env.now.store.now)) r script c.in-Ok-Some.line.items (g.R.Source.left c.next.new.source) (g.W.Sink.content c.args.sink.now) (g.W.Sink.content c.loop-line.sink) (g.W.Sink.content c.answer_line.new.sink) c.args.tally.now c.loop-line.tally c.answer_line.new.tally c.next.new.self (c.loop-line.number + 1) c.loop-line.session c.answer_line.new.session
+          (took_told (λ v. v.items) c.in-Ok-Some.field-0 c.in-Ok-Some.line c.in-Ok-Some.line.items (g.R.Source.left c.next.new.source) c.next.new.self c.in-Ok-Some.ensures.told c.in-Ok-Some.ensures.within c.in-Ok-Some.field-0-is refl (c.loop-line.invariant.told script is)) c.in-Ok.ensures.line.meant (λ premises. (c.in-Ok.ensures.line.honest m r (c.loop-line.invariant.running premises)).answered);
+      checked = λ script is lawful_policies lawful. slips_on (IsAt (Unit {0}) r script (g.R.Source.left c.loop-line.source) (g.W.Sink.content c.args.sink.now) (g.W.Sink.content c.loop-line.sink) c.args.tally.now c.loop-line.tally c.loop-line.lines c.loop-line.number c.loop-line.session) (AnswersLine r c.in-Ok-Some.line.items c.loop-line.session c.answer_line.new.session (g.W.Sink.content c.loop-line.sink) (g.W.Sink.content c.answer_line.new.sink) c.loop-line.tally c.answer_line.new.tally done)
           (IsAt (Unit {0}) r script (g.R.Source.left c.next.new.source) (g.W.Sink.content c.args.sink.now) (g.W.Sink.content c.answer_line.new.sink) c.args.tally.now c.answer_line.new.tally c.next.new.self (c.loop-line.number + 1) c.answer_line.new.session)
           policies seg c.loop-line.session (reach_of g.S.Store g.M.MergeOperator g.T.BlockTransformer c.args.env.now) (reach_of g.S.Store g.M.MergeOperator g.T.BlockTransformer c.loop-line.env) (reach_of g.S.Store g.M.MergeOperator g.T.BlockTransformer c.answer_line.new.env) c.loop-line.invariant.puts.meaning (c.loop-line.invariant.followed lawful_policies lawful) c.answer_line.ensures.line.adds (c.loop-line.invariant.checked script is lawful_policies lawful)
           (λ os settled. c.in-Ok.ensures.line.checked m r os (record { meaning = c.loop-line.invariant.puts.meaning; rules = ap (λ x. rules_in x m seg) c.loop-line.invariant.settings; settled = settled }))
-          (λ at says. answer_it (Unit {0}) r script c.as_slice.result.now (g.R.Source.left c.next.new.source) (g.W.Sink.content c.args.sink.now) (g.W.Sink.content c.loop-line.sink) (g.W.Sink.content c.answer_line.new.sink) c.args.tally.now c.loop-line.tally c.answer_line.new.tally c.next.new.self (c.loop-line.number + 1) c.loop-line.session c.answer_line.new.session
-          (took_told (λ v. v.items) c.in-Ok-Some.field-0 c.in-Ok-Some.line c.as_slice.result.now (g.R.Source.left c.next.new.source) c.next.new.self c.in-Ok-Some.ensures.told c.in-Ok-Some.ensures.within c.in-Ok-Some.field-0-is c.as_slice.ensures.value at) c.in-Ok.ensures.line.meant (λ p. says));
+          (λ at says. answer_it (Unit {0}) r script c.in-Ok-Some.line.items (g.R.Source.left c.next.new.source) (g.W.Sink.content c.args.sink.now) (g.W.Sink.content c.loop-line.sink) (g.W.Sink.content c.answer_line.new.sink) c.args.tally.now c.loop-line.tally c.answer_line.new.tally c.next.new.self (c.loop-line.number + 1) c.loop-line.session c.answer_line.new.session
+          (took_told (λ v. v.items) c.in-Ok-Some.field-0 c.in-Ok-Some.line c.in-Ok-Some.line.items (g.R.Source.left c.next.new.source) c.next.new.self c.in-Ok-Some.ensures.told c.in-Ok-Some.ensures.within c.in-Ok-Some.field-0-is refl at) c.in-Ok.ensures.line.meant (λ p. says));
       settings = c.in-Ok.ensures.line.settings ∙ c.loop-line.invariant.settings;
       counted =
           let further : c.loop-line.lines.given < c.next.new.self.given = subst (λ o. IfSome o (λ _. c.loop-line.lines.given < c.next.new.self.given)) c.in-Ok-Some.field-0-is c.in-Ok-Some.ensures.further in
@@ -243,8 +243,7 @@ loop-line-preserved g c =
       weighs = omega (arith, c.in-Ok.ensures.line.grows.0, c.loop-line.invariant.weighs);
       loads =
           let taken : c.loop-line.lines.given + length c.in-Ok-Some.line.items ≤ c.next.new.self.given = subst (λ o. IfSome o (λ l. c.loop-line.lines.given + length l.items ≤ c.next.new.self.given)) c.in-Ok-Some.field-0-is c.in-Ok-Some.ensures.counted in
-          let line : length c.as_slice.result.now ≡ length c.in-Ok-Some.line.items = ap length c.as_slice.ensures.value in
-          omega (arith, c.in-Ok.ensures.line.grows.1, c.loop-line.invariant.loads, taken, line);
+          omega (arith, c.in-Ok.ensures.line.grows.1, c.loop-line.invariant.loads, taken);
       running = λ premises. (c.in-Ok.ensures.line.honest (meaning_of g.M.MergeOperator.combine g.T.BlockTransformer.encoded g.T.BlockTransformer.decoded c.args.env.now.operator c.args.env.now.transformer) (run_rules c.args.laws.now.options (meaning_of g.M.MergeOperator.combine g.T.BlockTransformer.encoded g.T.BlockTransformer.decoded c.args.env.now.operator c.args.env.now.transformer) (segments_by g.X.PrefixExtractor.lengths c.args.laws.now.segments)) (c.loop-line.invariant.running premises)).running;
       kept = subst (λ (x : Meaning). IsKept x c.answer_line.new.session.core) c.loop-line.invariant.puts.meaning
           ((c.in-Ok.ensures.line.sound (subst (λ (x : Meaning). IsKept x c.loop-line.session.core) (sym c.loop-line.invariant.puts.meaning) c.loop-line.invariant.kept)).kept);
@@ -258,8 +257,8 @@ loop-line-preserved g c =
           let now = reach_of g.S.Store g.M.MergeOperator g.T.BlockTransformer c.loop-line.env in
           let after = reach_of g.S.Store g.M.MergeOperator g.T.BlockTransformer c.answer_line.new.env in
           subst (λ (ls : List (List ℕ)). IsReadSoFar terms ls known after.acts (tables_of c.answer_line.new.session.core.events))
-          (sym (lines_grow (λ v. v.items) c.in-Ok-Some.field-0 c.in-Ok-Some.line c.as_slice.result.now (g.R.Source.left c.next.new.source) c.next.new.self c.in-Ok-Some.ensures.told c.in-Ok-Some.ensures.within c.in-Ok-Some.field-0-is c.as_slice.ensures.value at))
-          (read_on tt terms c.as_slice.result.now (lines_of (take c.loop-line.lines.given script)) known m (layout_of c.args.laws.now.options policies seg) seg now after c.loop-line.session c.answer_line.new.session (lines_meant at) c.loop-line.invariant.puts.meaning c.loop-line.invariant.settings
+          (sym (lines_grow (λ v. v.items) c.in-Ok-Some.field-0 c.in-Ok-Some.line c.in-Ok-Some.line.items (g.R.Source.left c.next.new.source) c.next.new.self c.in-Ok-Some.ensures.told c.in-Ok-Some.ensures.within c.in-Ok-Some.field-0-is refl at))
+          (read_on tt terms c.in-Ok-Some.line.items (lines_of (take c.loop-line.lines.given script)) known m (layout_of c.args.laws.now.options policies seg) seg now after c.loop-line.session c.answer_line.new.session (lines_meant at) c.loop-line.invariant.puts.meaning c.loop-line.invariant.settings
           (is_settled (c.loop-line.invariant.running premises)) (c.loop-line.invariant.alone premises) (lines_stand at premises) c.answer_line.ensures.line.adds c.in-Ok.ensures.line.tables c.in-Ok.ensures.line.asked (c.loop-line.invariant.reads script is premises known began));
       source_later = omega (arith, c.next.ensures.later);
       sink_later = omega (arith, c.answer_line.ensures.sink.later);
