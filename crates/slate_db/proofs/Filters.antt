@@ -211,7 +211,7 @@ filtered_known policies m os ts hs lawful filtered handles holds = (lawful, by t
 abbrev pub asking_of : List Policy → FilterQuery → Asking
 asking_of policies query = record { policies = policies; query = query }
 
-pub asked_so : {P A : Type 0} (meaning : P → Policy) (xs ys : List P) (q r : FilterQuery) (before after : Reach) (c : CoreModel) (means : A → Type 0) (result : Result A SlateDBError) → xs ≡ ys → q ≡ r →
-    IsRead (asking_of (map meaning xs) q) before after c means result → IsRead (asking_of (map meaning ys) r) before after c means result
-asked_so {P = P} meaning xs ys q r before after c means result same is h =
-    subst (λ (zs : List P). IsRead (asking_of (map meaning zs) r) before after c means result) same (subst (λ (s : FilterQuery). IsRead (asking_of (map meaning xs) s) before after c means result) is h)
+pub asked_so : {P A : Type 0} (meaning : P → Policy) (xs ys : List P) (q r : FilterQuery) (upto : ℕ) (before after : Reach) (c : CoreModel) (means : A → Type 0) (result : Result A SlateDBError) → xs ≡ ys → q ≡ r →
+    IsRead (asking_of (map meaning xs) q) upto before after c means result → IsRead (asking_of (map meaning ys) r) upto before after c means result
+asked_so {P = P} meaning xs ys q r upto before after c means result same is h =
+    subst (λ (zs : List P). IsRead (asking_of (map meaning zs) r) upto before after c means result) same (subst (λ (s : FilterQuery). IsRead (asking_of (map meaning xs) s) upto before after c means result) is h)

@@ -59,9 +59,9 @@ some_given : (decode : Encode) (h : SsTableHandle) (entries : List (ℕ × List 
 some_given decode h entries first size i None block (part, (stored, is, decoded), apart) = cc
 some_given decode h entries first size i (Some bytes) block read = (bytes, refl)
 
-pub brought_key : (m : Meaning) (asking : Asking) (os : Objects) (ts : List (Ulid × List ℕ)) (hs : List SsTableHandle) (layers : List Rows) (reads : List Act) (k : List ℕ) (r : RowEntry) → AreHandles ts hs → Holds os ts → AreStoredAs m os hs layers → AllByRecursion (AnswersAct os) reads →
-    BringsRow m.decode asking hs reads r → r.key ≡ k → ReadsKey m.encode k ts reads
-brought_key m asking os ts hs layers reads k r are holds stored answered b key = record {
+pub brought_key : (m : Meaning) (asking : Asking) (upto : ℕ) (os : Objects) (ts : List (Ulid × List ℕ)) (hs : List SsTableHandle) (layers : List Rows) (reads : List Act) (k : List ℕ) (r : RowEntry) → AreHandles ts hs → Holds os ts → AreStoredAs m os hs layers → AllByRecursion (AnswersAct os) reads →
+    BringsRow m.decode asking upto hs reads r → r.key ≡ k → ReadsKey m.encode k ts reads
+brought_key m asking upto os ts hs layers reads k r are holds stored answered b key = record {
   table = named.table;
   among = named.among;
   version = h.format_version;
@@ -204,7 +204,7 @@ if_any (Ok a) x = x
 if_any (Err e) x = tt
 
 -- of the rows that were found, some stands behind those of memory
-pub some_brought : (m : Meaning) (asking : Asking) (hs : List SsTableHandle) (reads : List Act) (k : List ℕ) (near found : Rows) → (found ≡ near → ⊥) → AllByRecursion (λ r. r.key ≡ k) found → BringsRows m.decode asking hs near found reads → (r : RowEntry) × BringsRow m.decode asking hs reads r × (r.key ≡ k)
-some_brought m asking hs reads k near found differs keys ([], is, each) = absurd (differs (is ∙ append-nil near))
-some_brought m asking hs reads k near found differs keys ((r ∷ more), is, each) =
+pub some_brought : (m : Meaning) (asking : Asking) (upto : ℕ) (hs : List SsTableHandle) (reads : List Act) (k : List ℕ) (near found : Rows) → (found ≡ near → ⊥) → AllByRecursion (λ r. r.key ≡ k) found → BringsRows m.decode asking upto hs near found reads → (r : RowEntry) × BringsRow m.decode asking upto hs reads r × (r.key ≡ k)
+some_brought m asking upto hs reads k near found differs keys ([], is, each) = absurd (differs (is ∙ append-nil near))
+some_brought m asking upto hs reads k near found differs keys ((r ∷ more), is, each) =
     (r, each.0, All-contains (λ (x : RowEntry). x.key ≡ k) found r (All-from_recursion _ found keys) (subst (λ (l : Rows). Contains l r) (sym is) (Contains-append_right near (r ∷ more) r (0, omega arith, refl))))

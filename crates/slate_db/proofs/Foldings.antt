@@ -87,7 +87,7 @@ pub bases_closed : (barrier : Option ℕ) (rows : List RowEntry) → AreBases ro
 bases_closed barrier [] h = tt
 bases_closed barrier (r ∷ rows) h = (closed r (is_within barrier r.seq) h.0, bases_closed barrier rows h.1)
 
-not_open : (r : RowEntry) → (is_operand r && true) ≡ false → is_base r ≡ true
+pub not_open : (r : RowEntry) → (is_operand r && true) ≡ false → is_base r ≡ true
 not_open r h = by (is_operand r) refl h
   where
     by : (b : Bool) → is_operand r ≡ b → (b && true) ≡ false → is_base r ≡ true

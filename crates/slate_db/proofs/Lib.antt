@@ -1,6 +1,7 @@
 pub mod Lists
 pub mod SharedRuns
 pub mod Handed
+mod HandedRows
 pub mod BeginsLaws
 mod RangeRows
 mod RangeShares

@@ -7,6 +7,7 @@ use Rattle.slate_types.specs.declared.bytes_range.BytesRange.{BytesRange}
 use Rattle.slate_types.specs.declared.error.SlateDBError.{SlateDBError}
 use Rattle.slate_types.specs.declared.filter_policy.FilterQuery.{FilterQuery}
 use Rattle.slate_types.specs.declared.iter.IterationOrder.{IterationOrder}
+use Rattle.slate_types.specs.declared.types.KeyValue.{KeyValue}
 use Rattle.slate_types.specs.declared.types.RowEntry.{RowEntry}
 use Rattle.slate_types.specs.Iteration.{RowList}
 use Rattle.slate_types.specs.Outside.{Act, IsFault, Meaning, Objects, OnlyReads, Reach, unblamed}
@@ -15,6 +16,7 @@ use Rattle.slate_types.proofs.Calls.{call_both}
 use Rattle.slate_filter.specs.Policy.{Policy}
 use Rattle.slate_mem.specs.BatchModel.{holds_merge}
 use Rattle.slate_mem.specs.Lookup.{newest_first}
+use Rattle.slate_merge.specs.Offers.{Comes}
 use Rattle.slate_merge.specs.OperatorIterators.{IsGoing, rest_folding}
 use Rattle.slate_read.specs.declared.sorted_run.SortedRun.{SortedRun}
 use Rattle.slate_table.specs.declared.info.SsTableHandle.{SsTableHandle}
@@ -25,18 +27,18 @@ use Rattle.slate_db.specs.Checked.{OrSlips}
 use Rattle.slate_db.specs.Installs.{handles_of}
 use Rattle.slate_db.specs.Lookup.{AreFilteredAs, AreStoredAs}
 use Rattle.slate_db.specs.Model.{CoreModel, Rows, memory}
-use Rattle.slate_db.specs.OpenScans.{AreScanSources, CanOpen, FoldsRefuse, IsBlamedFor, LeftSources, folded_rows, merged_rows}
+use Rattle.slate_db.specs.OpenScans.{AreScanSources, CanOpen, FoldsRefuse, IsBlamedFor, LeftSources, SourcesBring, folded_rows, merged_rows}
 use Rattle.slate_db.specs.RangeShares.{HasUpto, IsOpened, IsPart, IsReaderOf, LeavesSeen, StandsIn}
 use Rattle.slate_db.specs.Readable.{IsAnswered, IsReadable}
 use Rattle.slate_db.specs.ScanFilters.{AreLeft, AreRunsLeft, AreTablesThere, FailsAsking, RunsAreLeft, ShowsFilters}
 use Rattle.slate_db.specs.Scanned.{AreStoredRuns, own_rows}
-use Rattle.slate_db.specs.Scans.{FoldsAll, IsFor, IsOpeningError, IsOperableIn, IsRefusedByScan, ScanRefuses, ScanSource, merge_refuses, merge_rows}
+use Rattle.slate_db.specs.Scans.{FoldsAll, IsFor, IsHandedByScan, IsOpeningError, IsOperableIn, IsRefusedByScan, ScanHands, ScanRefuses, ScanSource, merge_offers, merge_refuses, merge_rows}
 use Rattle.slate_db.specs.SharedRuns.{tables_in}
 use Rattle.slate_db.specs.Sound.{AreBases}
 use Rattle.slate_db.proofs.RangeRows.{has_part}
 use Rattle.slate_db.proofs.Readers.{own_of_reader}
 use Rattle.slate_db.proofs.ScanBringings.{layers_turned}
-use Rattle.slate_db.proofs.ScanMerges.{OpensScan, asking_refused, opening_refused, opening_whole, refused_later, runs_filtered, runs_there, scan_is_for, scan_opened, scan_refused}
+use Rattle.slate_db.proofs.ScanMerges.{OpensScan, asking_refused, handed_later, opening_refused, opening_whole, refused_later, runs_filtered, runs_there, scan_hands, scan_is_for, scan_opened, scan_refused}
 use Rattle.slate_db.proofs.ScanReaders.{plain_reader}
 use Rattle.slate_db.proofs.ScanStates.{Folds, IsSound, Merged}
 use Rattle.slate_db.proofs.SharedRuns.{same_handles}
@@ -99,6 +101,7 @@ asking_opens policies query before after c range n active frozen runs id from or
   opened = λ above a. tt;
   checked = λ above os r. tt;
   later = tt;
+  hands = tt;
   undamaged = λ above a. refused.undamaged a.os (runs_there policies before.meaning a.os c st.unseen st.whole a.readable) (runs_filtered policies before.meaning a.os c st.unseen st.whole a.readable) a.answers;
   cause = asking_refused policies query before after c st.unseen st.whole e refused.cause;
   still = still;
@@ -127,8 +130,9 @@ module _ (policies : List Policy) (query : Option FilterQuery) (before middle af
       ((v : World) → AllByRecursion (CanOpen v order) sources → Checks v middle after) →
       Made middle after (λ reads. (later : List Act) (at : Option (List ℕ)) (e : SlateDBError) → merge_refuses rows.iterator middle.meaning later at e → IsBlamedFor sources middle.meaning (reads ++ later) at e) →
       Made middle after (λ reads. (later : List Act) (at : Option (List ℕ)) (e : SlateDBError) → Folds rows middle.meaning later at e → FoldsRefuse sources middle.meaning (reads ++ later) at e) →
+      Made middle after (λ reads. (later : List Act) (r : RowEntry) → merge_offers rows.ahead rows.iterator middle.meaning later (Comes r) → SourcesBring sources middle.meaning (reads ++ later) r) →
       after.faults ≡ before.faults → IsOpened policies query before after c n from.ops range order (Ok it)
-  sources_open rows it state_is range_is order_is going sound rest op checks blamed brought still = record {
+  sources_open rows it state_is range_is order_is going sound rest op checks blamed brought offered still = record {
     opened = λ above a. (opens above).answered a;
     checked = λ above os r. (opens above).checked os r;
     later = (
@@ -143,6 +147,14 @@ module _ (policies : List Policy) (query : Option FilterQuery) (before middle af
             (subst (λ (k : Meaning). IsRefusedByScan k c (brought.0 ++ later) at e) first.meaning (by later at e (subst (λ (k : Meaning). ScanRefuses it k later at e) (sym first.meaning) h)))),
       ),
     );
+    hands = (
+      asked.0 ++ offered.0,
+      call_both before middle after asked.0 offered.0 asked.1 offered.1,
+      λ later a h.
+          subst (λ (reads : List Act). IsHandedByScan before.meaning c reads a) (sym (append_assoc asked.0 offered.0 later))
+          (handed_later before.meaning c asked.0 (offered.0 ++ later) a
+          (subst (λ (k : Meaning). IsHandedByScan k c (offered.0 ++ later) a) first.meaning (handed later a (subst (λ (k : Meaning). ScanHands it k later a) (sym first.meaning) h)))),
+    );
     undamaged = λ above a. tt;
     cause = tt;
     still = still;
@@ -156,11 +168,17 @@ module _ (policies : List Policy) (query : Option FilterQuery) (before middle af
           scan_refused middle.meaning c st.unseen st.whole lefts.left asked_here.among range order n from.ops (active ∷ reverse c.frozen) sources here
           (λ k. own_of_reader c id from k (own_rows from.ops k) mine.open_there refl) (layers_there c range n active st.active_has) rows it brought.0 state_is range_is going.0 brought.2 later at e h
 
+      handed : (later : List Act) (a : KeyValue) → ScanHands it middle.meaning later a → IsHandedByScan middle.meaning c (offered.0 ++ later) a
+      handed later a h =
+          scan_hands middle.meaning c st.unseen st.whole lefts.left asked_here.among range order n from.ops (active ∷ reverse c.frozen) sources here
+          (λ k. own_of_reader c id from k (own_rows from.ops k) mine.open_there refl) (layers_there c range n active st.active_has) rows it offered.0 state_is going.1 offered.2 later a h
+
   pub rows_refused : (e : SlateDBError) (result : Result DbIterator SlateDBError) → result ≡ Err e → Made middle after (λ reads. IsFault middle after e ⊎ IsBlamedFor sources middle.meaning reads None e) → unblamed e after.faults ≡ unblamed e before.faults → IsOpened policies query before after c n from.ops range order result
   rows_refused e result is made still = subst (IsOpened policies query before after c n from.ops range order) (sym is) (record {
     opened = λ above a. tt;
     checked = λ above os r. tt;
     later = tt;
+    hands = tt;
     undamaged = λ above a. opening_whole policies before middle after c st.unseen st.whole lefts.left range asked_here first last order n from.ops mine.fine above active st.active_has sources here plain e made a;
     cause = opening_refused middle.meaning c st.unseen st.whole lefts.left asked_here.among range order n from.ops (active ∷ reverse c.frozen) sources here policies query before middle after e refl first asked made;
     still = still;

@@ -95,21 +95,21 @@ run_stored m os runs i run layers within is are =
 
 -- ---- which rows are brought, and what damage is shown
 
-pub rows_of_run : (a b c : Reach) (asking : Asking) (hs ks : List SsTableHandle) (newer found all : List RowEntry) → ((h : SsTableHandle) → Contains ks h → Contains hs h) → Made a b (BringsRows a.meaning.decode asking hs newer found) →
-    Made b c (BringsRows b.meaning.decode asking ks found all) → Made a c (BringsRows a.meaning.decode asking hs newer all)
-rows_of_run a b c asking hs ks newer found all among (first, f, (some, behind, each)) (last, l, (more, is, others)) = (
+pub rows_of_run : (a b c : Reach) (asking : Asking) (upto : ℕ) (hs ks : List SsTableHandle) (newer found all : List RowEntry) → ((h : SsTableHandle) → Contains ks h → Contains hs h) → Made a b (BringsRows a.meaning.decode asking upto hs newer found) →
+    Made b c (BringsRows b.meaning.decode asking upto ks found all) → Made a c (BringsRows a.meaning.decode asking upto hs newer all)
+rows_of_run a b c asking upto hs ks newer found all among (first, f, (some, behind, each)) (last, l, (more, is, others)) = (
   first ++ last,
   call_both a b c first last f l,
   (
     some ++ more,
     is ∙ ap (λ (x : List RowEntry). x ++ more) behind ∙ append_assoc newer some more,
-    AllByRecursion_append (BringsRow a.meaning.decode asking hs (first ++ last)) some more
-        (AllByRecursion_weaken (BringsRow a.meaning.decode asking hs first) (BringsRow a.meaning.decode asking hs (first ++ last)) (λ r row. more_reads a.meaning.decode asking hs first last r row) some each)
-        (AllByRecursion_weaken (BringsRow a.meaning.decode asking ks last) (BringsRow a.meaning.decode asking hs (first ++ last)) (λ r row. by r row) more (subst (λ (m : Meaning). AllByRecursion (BringsRow m.decode asking ks last) more) f.meaning others)),
+    AllByRecursion_append (BringsRow a.meaning.decode asking upto hs (first ++ last)) some more
+        (AllByRecursion_weaken (BringsRow a.meaning.decode asking upto hs first) (BringsRow a.meaning.decode asking upto hs (first ++ last)) (λ r row. more_reads a.meaning.decode asking upto hs first last r row) some each)
+        (AllByRecursion_weaken (BringsRow a.meaning.decode asking upto ks last) (BringsRow a.meaning.decode asking upto hs (first ++ last)) (λ r row. by r row) more (subst (λ (m : Meaning). AllByRecursion (BringsRow m.decode asking upto ks last) more) f.meaning others)),
   ),
 )
   where
-    by : (r : RowEntry) → BringsRow a.meaning.decode asking ks last r → BringsRow a.meaning.decode asking hs (first ++ last) r
+    by : (r : RowEntry) → BringsRow a.meaning.decode asking upto ks last r → BringsRow a.meaning.decode asking upto hs (first ++ last) r
     by r x = record {
       table = x.table;
       among = among x.table x.among;
@@ -118,6 +118,8 @@ rows_of_run a b c asking hs ks newer found all among (first, f, (some, behind, e
       later = x.later;
       split = ap (λ (y : List Act). first ++ y) x.split ∙ sym (append_assoc first x.earlier (x.acts ++ x.later));
       row = x.row;
+      asked = x.asked;
+      within = x.within;
     }
 
 pub damage_of_run : {X : List Act → Type 0} (a b c : Reach) (asking : Asking) (hs ks : List SsTableHandle) (e : SlateDBError) → ((h : SsTableHandle) → Contains ks h → Contains hs h) → IsLater a.faults b.faults → Made a b X →

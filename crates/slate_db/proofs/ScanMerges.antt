@@ -9,6 +9,7 @@ use Rattle.slate_types.specs.declared.error.SlateDBError.TheVariants.{InvalidSeq
 use Rattle.slate_types.specs.declared.filter_policy.FilterContext.{FilterContext}
 use Rattle.slate_types.specs.declared.filter_policy.FilterQuery.{FilterQuery}
 use Rattle.slate_types.specs.declared.iter.IterationOrder.{IterationOrder}
+use Rattle.slate_types.specs.declared.types.KeyValue.{KeyValue}
 use Rattle.slate_types.specs.declared.types.RowEntry.{RowEntry}
 use Rattle.slate_types.specs.Fold.{operator_at}
 use Rattle.slate_types.specs.Iteration.{IsInOrder}
@@ -25,7 +26,7 @@ use Rattle.slate_mem.specs.Lookup.{newest_first}
 use Rattle.slate_merge.specs.declared.folding.Folding.{Folding}
 use Rattle.slate_merge.specs.declared.merge_iterator.MergeState.{MergeState}
 use Rattle.slate_merge.specs.declared.merge_iterator.MergeState.TheVariants.{Begun, New, Refused}
-use Rattle.slate_merge.specs.Folding.{NoneRises, folded}
+use Rattle.slate_merge.specs.Folding.{NoneRises, folded, is_open}
 use Rattle.slate_merge.specs.Folds.{Blames, BlamesNext, IsRise, MeetsOpen, MeetsRise}
 use Rattle.slate_merge.specs.Offers.{Comes, Rises}
 use Rattle.slate_merge.specs.MergeLaws.{merged_in_order}
@@ -35,6 +36,7 @@ use Rattle.slate_merge.specs.MergeStates.{IsFrontIn, IsMergeOf, WaitingAre, refu
 use Rattle.slate_merge.specs.OperatorLaws.{brought_weaker}
 use Rattle.slate_merge.specs.OperatorIterators.{IsFolding, IsGoing, IsOperable, Keeps, RefusesBy, Stays, StaysIn, rest_folding}
 use Rattle.slate_merge.specs.Peeking.{TakesAhead, with_ahead}
+use Rattle.slate_merge.proofs.Offerings.{offers_begun}
 use Rattle.slate_read.specs.declared.sorted_run.SortedRun.{SortedRun}
 use Rattle.slate_read.specs.ReadSources as read
 use Rattle.slate_read.specs.Showing.{ShowsByReads}
@@ -55,12 +57,12 @@ use Rattle.slate_db.specs.Readable.{IsAnswered, IsOwnRow, IsReadable}
 use Rattle.slate_db.specs.RangeShares.{HasUpto, LeavesSeen}
 use Rattle.slate_db.specs.ScanFilters.{AreRunsLeft, AreTablesThere, RunsAreLeft, ShowsFilters, scan_query}
 use Rattle.slate_db.specs.Scanned.{AreStoredRuns, own_rows}
-use Rattle.slate_db.specs.Scans.{AreForIn, FoldsAll, IsFor, IsOpeningError, IsOperableIn, IsReadAmong, IsReached, IsRefusedByScan, IsScanRefusal, IsScanned, IsShownByScan, IsSoundIn, IsSoundSource, IsWorldOf, Leaves, MergedSources, RefusesFold, RefusesIn, ScanRefuses, ScanSource, has_value, left_in, merge_offers, merge_refuses, merge_rows, order_of, source_refuses, source_rows}
+use Rattle.slate_db.specs.Scans.{AreForIn, FoldsAll, HandsIn, IsFor, IsHandedByScan, IsOpeningError, IsOperableIn, IsReadAmong, IsReached, IsRefusedByScan, IsScanRefusal, IsScanned, IsShownByScan, IsSoundIn, IsSoundSource, IsWorldOf, Leaves, MergedSources, RefusesFold, RefusesIn, ScanHands, ScanRefuses, ScanSource, has_value, left_in, merge_begins, merge_offers, merge_refuses, merge_rows, merge_seeks, merge_takes, order_of, source_refuses, source_rows}
 use Rattle.slate_db.specs.Sound.{AreBases}
 use Rattle.slate_db.specs.Whole.{IsWhole, Unseen}
 use Rattle.slate_db.proofs.Answered.{from_first, from_last}
 use Rattle.slate_db.proofs.Filters.{filtered_known}
-use Rattle.slate_db.proofs.Foldings.{bases_closed, closed_bases, going_refuses, refuses_going}
+use Rattle.slate_db.proofs.Foldings.{bases_closed, closed_bases, going_refuses, not_open, refuses_going}
 use Rattle.slate_db.proofs.Runs.{all_handles}
 use Rattle.slate_db.proofs.ScanBringings.{merge_sources, read_later, scanned_later, sources_scanned}
 use Rattle.slate_db.proofs.ScanRises.{merge_risen, sources_risen}
@@ -159,6 +161,13 @@ module _ (sources : List ScanSource) (order : IterationOrder) (merge : MergedSou
           inl (brought_weaker (λ r. merge_offers None merge m all (Comes r)) (SourcesBring sources m all) (λ r. merge_offers None merge m all (Rises r)) (SourcesRise sources m all) m at e
           (λ r c. merge_sources sources merge made.waits m all r c) (λ r c. merge_risen sources merge made.waits m all r c) brought)
 
+  -- nor does a beginning bring more than they do
+  pub opened_offers : (v : Merged) (m : Meaning) (reads : List Act) → v.ahead ≡ it.ahead → merge_begins it.iterator m reads v.iterator → (later : List Act) (r : RowEntry) → merge_offers v.ahead v.iterator m later (Comes r) → SourcesBring sources m (reads ++ later) r
+  opened_offers v m reads same begun later r k =
+      merge_sources sources merge made.waits m (reads ++ later) r
+      (subst (λ (u : Merged). merge_offers u.ahead u.iterator m (reads ++ later) (Comes r)) (sym is_fresh)
+      (offers_begun merge_begins merge_takes merge_seeks m it.iterator v.iterator reads begun it.ahead later (Comes r) (subst (λ (o : Option RowEntry). merge_offers o v.iterator m later (Comes r)) same k)))
+
   not_waiting : {Q : Type 0} (answer : Option RowEntry) (s : MergeState ScanSource) → WaitingAre sources s → IsFrontIn answer s → Q
   not_waiting answer (New waiting) is front = absurd front
   not_waiting answer (Begun heads) is front = absurd is
@@ -246,6 +255,9 @@ refused_later m c done reads at e r = record {
   ];
 }
 
+pub handed_later : (m : Meaning) (c : CoreModel) (done reads : List Act) (a : KeyValue) → IsHandedByScan m c reads a → IsHandedByScan m c (done ++ reads) a
+handed_later m c done reads a h = record { handles = h.handles; are = h.are; row = h.row; base = h.base; value = h.value; scanned = scanned_later m c h.handles done reads h.row h.scanned }
+
 -- left: of the runs of a core, what filters left
 module _ (m : Meaning) (c : CoreModel) (x : Unseen) (w : IsWhole c x) (left : List SortedRun) (among : (h : SsTableHandle) → Contains (handles_of left) h → Contains (handles_of x.runs) h) (range : BytesRange) (order : IterationOrder) (n : ℕ) (ops : Ops)
     (layers : List Rows) (sources : List ScanSource) (are : AreScanSources range order n ops layers (reverse left) sources) where
@@ -309,6 +321,21 @@ module _ (m : Meaning) (c : CoreModel) (x : Unseen) (w : IsWhole c x) (left : Li
       by : OwnRefusal range rows m later at e → IsRefusedByScan m c (reads ++ later) at e
       by (inl met) = of (met_anywhere rows range m later at e met) (brought later at e (folds (inr met)))
       by (inr r) = of r.0 (brought later at e (folds (inl r.1)))
+
+  -- what it hands out from then on where there is no operator
+  pub scan_hands : (owns : (k : List ℕ) → AllByRecursion (IsOwnRow c) (own_rows ops k)) → (there : (r : RowEntry) → Contains (flat_map (λ rows. rows) layers) r → Contains (newest_first (memory c)) r) → (rows : Merged) (it : DbIterator) (reads : List Act) → it.state ≡ Walking rows → FoldsAll rows →
+      ((later : List Act) (r : RowEntry) → merge_offers rows.ahead rows.iterator m later (Comes r) → SourcesBring sources m (reads ++ later) r) → (later : List Act) (a : KeyValue) → ScanHands it m later a → IsHandedByScan m c (reads ++ later) a
+  scan_hands owns there rows it reads state_is folds offered later a h = by (subst (λ (s : ScanState). HandsIn s m later a) state_is h)
+    where
+      by : HandsIn (Walking rows) m later a → IsHandedByScan m c (reads ++ later) a
+      by q = record {
+        handles = handles_of x.runs;
+        are = all_handles c.events x.runs w.tied.runs;
+        row = q.row;
+        base = not_open q.row (subst (λ (b : Option ℕ). is_open b q.row ≡ false) folds.1 q.closed);
+        value = q.value;
+        scanned = scanned_of (reads ++ later) q.row (sources_scanned m range order (reads ++ later) q.row c n ops layers left sources are owns (there q.row) (offered later q.row q.brought));
+      }
 
   -- before: the filters were asked
   pub opening_refused : (policies : List Policy) (query : Option FilterQuery) (before middle after : Reach) (e : SlateDBError) → middle.meaning ≡ m → OnlyReads before middle → Made before middle (λ _. Unit {0}) →

@@ -1,7 +1,7 @@
 -- What a call of a scan's iterator leaves, by what its sources leave.
 use Rattle.std.proofs.Common.{◌≡◌, ◌⊎◌, inl, inr, ℕ, Bool, true, false, ◌&&◌, List, [], ◌∷◌, ◌++◌, filter, drop, Option, None, refl, sym, ap, subst, ◌∙◌}
 use Rattle.std.specs.List.{AllByRecursion}
-use Rattle.std.specs.Prelude.{Result, Ok, Err, IfOk, IfErr, OnOk}
+use Rattle.std.specs.Prelude.{Result, Ok, Err, IfOk, IfErr, IfSome, OnOk}
 use Rattle.std.proofs.lemmas.Result.{IfErr-weaker, on_ok_weaker}
 use Rattle.std.specs.declared.ops.Bound.{Bound}
 use Rattle.std.specs.declared.ops.Bound.TheVariants.{Included, Excluded, Unbounded}
@@ -21,8 +21,10 @@ use Rattle.slate_types.proofs.IterationLaws.{drop_before_none}
 use Rattle.slate_types.proofs.KeyOrder.{le_lt_trans, lt_irreflexive, lt_le_trans, lt_trans, not_le, not_lt}
 use Rattle.slate_merge.specs.declared.folding.Folding.{Folding}
 use Rattle.slate_merge.specs.declared.operator_iterator.MergeOperatorIterator.{MergeOperatorIterator}
-use Rattle.slate_merge.specs.Folding.{NoneRises}
+use Rattle.slate_merge.specs.Folding.{NoneRises, is_open}
 use Rattle.slate_merge.specs.Kept.{Copies}
+use Rattle.slate_merge.specs.NoMoreRows.{NoMoreRows}
+use Rattle.slate_merge.specs.Offers.{Comes}
 use Rattle.slate_merge.specs.OperatorIterators.{IsGoing, IsOperable, refuses_folding, rest_folding, sound_folding}
 use Rattle.slate_merge.specs.Peeking.{with_ahead}
 use Rattle.slate_merge.proofs.MergeStateSteps.{kept_again}
@@ -30,7 +32,7 @@ use Rattle.slate_txn.specs.Alone.{first_left}
 use Rattle.slate_db.specs.declared.scan.DbIterator.{DbIterator}
 use Rattle.slate_db.specs.declared.scan.ScanState.{ScanState}
 use Rattle.slate_db.specs.declared.scan.ScanState.TheVariants.{Walking, Done, Refused}
-use Rattle.slate_db.specs.Scans.{AnswersAgain, AreForIn, FoldsAll, IsOperableIn, IsReached, IsSoundIn, IsSoundMerged, Leaves, MergedSources, RefusesFold, RefusesIn, SourcesRefuse, left_in, merge_offers, merge_refuses, merge_rows, order_of_merge}
+use Rattle.slate_db.specs.Scans.{AnswersAgain, AreForIn, FoldsAll, HandsIn, IsOperableIn, IsReached, IsSoundIn, IsSoundMerged, Leaves, MergedSources, RefusesFold, RefusesIn, ScanHands, SourcesRefuse, left_in, merge_offers, merge_refuses, merge_rows, order_of_merge}
 use Rattle.slate_db.specs.Values.{HasValues, has_value}
 use Rattle.slate_db.proofs.Foldings.{bases_closed, closed_bases, going_refuses, refuses_going, refuses_weaker}
 use Rattle.slate_db.proofs.Passing.{has_none}
@@ -205,6 +207,18 @@ later_walk r range a b x u v is goes h = on_both r goes h
     by : Goes u v → (reads : List Act) → NoMore (Folds u a.meaning) reads (Folds v a.meaning) → NoMore (RefusesIn range (Walking u) a.meaning) reads (RefusesIn range (Walking v) a.meaning)
     by g reads less later at e f = going_refuses (OwnRefusal range u a.meaning (reads ++ later) at) u e g.0 (own g reads less later at e (refuses_going (OwnRefusal range v a.meaning later at) v e g.1 f))
 
+pub hands_walk : {V : Type 0} (r : Result V SlateDBError) (a b : Reach) (x : ScanState) (u v : Merged) → x ≡ Walking u → OnOk r (Goes u v) →
+    OnOk r (Made a b (λ reads. NoMoreRows (merge_offers u.ahead u.iterator a.meaning) reads (merge_offers v.ahead v.iterator a.meaning))) → OnOk r (Made a b (λ reads. NoMoreRows (HandsIn x a.meaning) reads (HandsIn (Walking v) a.meaning)))
+hands_walk r a b x u v is goes h = on_both r goes h
+    (λ g k. subst (λ (s : ScanState). Made a b (λ reads. NoMoreRows (HandsIn s a.meaning) reads (HandsIn (Walking v) a.meaning))) (sym is) (k.0, k.1, λ later value q. by g k.0 k.2 later value q))
+  where
+    by : Goes u v → (reads : List Act) → NoMoreRows (merge_offers u.ahead u.iterator a.meaning) reads (merge_offers v.ahead v.iterator a.meaning) → NoMoreRows (HandsIn (Walking u) a.meaning) reads (HandsIn (Walking v) a.meaning)
+    by g reads less later value q = record { row = q.row; closed = subst (λ (f : Folding). is_open f.snapshot_barrier_seq q.row ≡ false) g.2 q.closed; value = q.value; brought = less later (Comes q.row) q.brought }
+
+pub bases_walk : (r : Result (Option KeyValue) SlateDBError) (a b : Reach) (x : ScanState) (u : Merged) → x ≡ Walking u → IfOk r (λ answer. Made a b (λ reads. IfSome answer (HandsIn (Walking u) a.meaning reads))) →
+    IfOk r (λ answer. Made a b (λ reads. IfSome answer (HandsIn x a.meaning reads)))
+bases_walk r a b x u is h = subst (λ (s : ScanState). IfOk r (λ answer. Made a b (λ reads. IfSome answer (HandsIn s a.meaning reads)))) (sym is) h
+
 pub cause_walk : {V : Type 0} (r : Result V SlateDBError) (range : BytesRange) (at : Option (List ℕ)) (a b : Reach) (x : ScanState) (u : Merged) → x ≡ Walking u → IsReached range at →
     IfErr r (λ e. Made a b (λ reads. IsFault a b e ⊎ Folds u a.meaning reads at e)) → IfErr r (λ e. Made a b (λ reads. IsFault a b e ⊎ RefusesIn range x a.meaning reads at e))
 cause_walk r range at a b x u is reached h = IfErr-weaker r _ _
@@ -308,6 +322,13 @@ start_later it after m none all later at e h = by it.order refl
     by : (o : IterationOrder) → it.order ≡ o → RefusesIn it.range it.state m later at e
     by Ascending is = subst (λ (d : DbIterator). RefusesIn d.range d.state m later at e) (none is) h
     by Descending is = absurd (subst (λ (d : DbIterator). RefusesIn d.range d.state m later at e) (all is) h)
+
+pub start_hands : (it after : DbIterator) (m : Meaning) → (it.order ≡ Ascending → after ≡ it) → (it.order ≡ Descending → after ≡ record it { state = Done }) → NoMoreRows (ScanHands it m) [] (ScanHands after m)
+start_hands it after m none all later a h = by it.order refl
+  where
+    by : (o : IterationOrder) → it.order ≡ o → ScanHands it m later a
+    by Ascending is = subst (λ (d : DbIterator). ScanHands d m later a) (none is) h
+    by Descending is = absurd (subst (λ (d : DbIterator). ScanHands d m later a) (all is) h)
 
 pub start_range : {Q : Type 0} (read : DbIterator → Q) (it after : DbIterator) → ((s : ScanState) → read (record it { state = s }) ≡ read it) → (it.order ≡ Ascending → after ≡ it) → (it.order ≡ Descending → after ≡ record it { state = Done }) → read after ≡ read it
 start_range read it after same none all = by it.order refl

@@ -6,6 +6,7 @@ use Rattle.std.specs.List.{AllByRecursion}
 use Rattle.std.proofs.lemmas.List.Elements.{All-contains, All-from_recursion, Contains-append_right, Contains-get_or}
 use Rattle.slate_types.specs.declared.error.SlateDBError.{SlateDBError}
 use Rattle.slate_types.specs.declared.error.SlateDBError.TheVariants.{ChecksumMismatch, CorruptTable, InvalidFilterBlock, InvalidRowFlags, InvalidVersion, MergeOperatorMissing, OutOfMemory}
+use Rattle.slate_types.specs.declared.filter_policy.PrefixTarget.TheVariants.{Point}
 use Rattle.slate_types.specs.declared.types.RowEntry.{RowEntry}
 use Rattle.slate_types.specs.declared.types.Ulid.{Ulid}
 use Rattle.slate_types.specs.Iteration.{Steps}
@@ -19,7 +20,7 @@ use Rattle.slate_block.specs.declared.block.Block.{Block}
 use Rattle.slate_block.specs.BlockWalks.{TakesRead}
 use Rattle.slate_block.specs.ReadingLaws.{EachIsAByte}
 use Rattle.slate_block.specs.Walks.{RowRead, are_named, block_reads, block_reads_v1, reads_v2}
-use Rattle.slate_mem.specs.Lookup.{Brings, IsCallback, is_merge_among}
+use Rattle.slate_mem.specs.Lookup.{Brings, IsCallback, IsRowUpTo, is_merge_among}
 use Rattle.slate_block.proofs.Versions.{known_or_not, not_first}
 use Rattle.slate_table.specs.declared.info.SsTableHandle.{SsTableHandle}
 use Rattle.slate_table.specs.Parts.{Encode}
@@ -234,13 +235,21 @@ passed_shown a b c asking h e later first (inr (inl last)) = inr (inl (
 ))
 passed_shown a b c asking h e later first (inr (inr u)) = inr (inr u)
 
+-- ---- rows of one key
+
+pub none_asked : (k : List ℕ) (n : ℕ) (rows : List RowEntry) → rows ≡ [] → AllByRecursion (IsRowUpTo k n) rows
+none_asked k n rows none = subst (AllByRecursion (IsRowUpTo k n)) (sym none) tt
+
+pub asked_on : (k : List ℕ) (n : ℕ) (found more all : List RowEntry) → AllByRecursion (IsRowUpTo k n) found → AllByRecursion (IsRowUpTo k n) more → all ≡ found ++ more → AllByRecursion (IsRowUpTo k n) all
+asked_on k n found more all first last is = subst (AllByRecursion (IsRowUpTo k n)) (sym is) (AllByRecursion_append (IsRowUpTo k n) found more first last)
+
 -- ---- several tables
 
 pub at_table : (hs : List SsTableHandle) (i : ℕ) (h : SsTableHandle) → i < length hs → h ≡ get_or hs i h → Contains hs h
 at_table hs i h within is = subst (Contains hs) (sym is) (Contains-get_or hs i h within)
 
-pub more_reads : (decode : Encode) (asking : Asking) (hs : List SsTableHandle) (reads more : List Act) (r : RowEntry) → BringsRow decode asking hs reads r → BringsRow decode asking hs (reads ++ more) r
-more_reads decode asking hs reads more r b = record {
+pub more_reads : (decode : Encode) (asking : Asking) (upto : ℕ) (hs : List SsTableHandle) (reads more : List Act) (r : RowEntry) → BringsRow decode asking upto hs reads r → BringsRow decode asking upto hs (reads ++ more) r
+more_reads decode asking upto hs reads more r b = record {
   table = b.table;
   among = b.among;
   earlier = b.earlier;
@@ -248,51 +257,62 @@ more_reads decode asking hs reads more r b = record {
   later = b.later ++ more;
   split = ap (λ (l : List Act). l ++ more) b.split ∙ append_assoc b.earlier (b.acts ++ b.later) more ∙ ap (λ (l : List Act). b.earlier ++ l) (append_assoc b.acts b.later more);
   row = b.row;
+  asked = b.asked;
+  within = b.within;
 }
 
-abbrev Found : Encode → Asking → List SsTableHandle → List RowEntry → List Act → RowEntry → Type 0
-Found decode asking hs newer reads r = Contains newer r ⊎ BringsRow decode asking hs reads r
+abbrev Found : Encode → Asking → ℕ → List SsTableHandle → List RowEntry → List Act → RowEntry → Type 0
+Found decode asking upto hs newer reads r = Contains newer r ⊎ BringsRow decode asking upto hs reads r
 
-pub newer_found : (decode : Encode) (asking : Asking) (hs : List SsTableHandle) (newer : List RowEntry) (reads : List Act) → AllByRecursion (λ r. Contains newer r ⊎ BringsRow decode asking hs reads r) newer
-newer_found decode asking hs newer reads = by newer [] refl
+pub newer_found : (decode : Encode) (asking : Asking) (upto : ℕ) (hs : List SsTableHandle) (newer : List RowEntry) (reads : List Act) → AllByRecursion (λ r. Contains newer r ⊎ BringsRow decode asking upto hs reads r) newer
+newer_found decode asking upto hs newer reads = by newer [] refl
   where
-    by : (rows before : List RowEntry) → newer ≡ before ++ rows → AllByRecursion (λ r. Contains newer r ⊎ BringsRow decode asking hs reads r) rows
+    by : (rows before : List RowEntry) → newer ≡ before ++ rows → AllByRecursion (λ r. Contains newer r ⊎ BringsRow decode asking upto hs reads r) rows
     by [] before is = tt
     by (r ∷ rs) before is = (inl (subst (λ (xs : List RowEntry). Contains xs r) (sym is) (contains_here before rs r)), by rs (before ++ (r ∷ [])) (is ∙ sym (append_assoc before (r ∷ []) rs)))
 
 -- each row that was found is a newer one, or was brought
-pub found_rows : (a b : Reach) (asking : Asking) (hs : List SsTableHandle) (newer all : List RowEntry) → Made a b (BringsRows a.meaning.decode asking hs newer all) → Made a b (λ reads. AllByRecursion (λ r. Contains newer r ⊎ BringsRow a.meaning.decode asking hs reads r) all)
-found_rows a b asking hs newer all (reads, call, (more, is, each)) = (
+pub found_rows : (a b : Reach) (asking : Asking) (upto : ℕ) (hs : List SsTableHandle) (newer all : List RowEntry) → Made a b (BringsRows a.meaning.decode asking upto hs newer all) → Made a b (λ reads. AllByRecursion (λ r. Contains newer r ⊎ BringsRow a.meaning.decode asking upto hs reads r) all)
+found_rows a b asking upto hs newer all (reads, call, (more, is, each)) = (
   reads,
   call,
-  subst (AllByRecursion (Found a.meaning.decode asking hs newer reads)) (sym is)
-      (AllByRecursion_append (Found a.meaning.decode asking hs newer reads) newer more (newer_found a.meaning.decode asking hs newer reads) (AllByRecursion_weaken (BringsRow a.meaning.decode asking hs reads) (Found a.meaning.decode asking hs newer reads) (λ r row. inr row) more each)),
+  subst (AllByRecursion (Found a.meaning.decode asking upto hs newer reads)) (sym is)
+      (AllByRecursion_append (Found a.meaning.decode asking upto hs newer reads) newer more (newer_found a.meaning.decode asking upto hs newer reads) (AllByRecursion_weaken (BringsRow a.meaning.decode asking upto hs reads) (Found a.meaning.decode asking upto hs newer reads) (λ r row. inr row) more each)),
 )
 
-pub no_rows : (a : Reach) (asking : Asking) (hs : List SsTableHandle) (newer : List RowEntry) → Made a a (BringsRows a.meaning.decode asking hs newer newer)
-no_rows a asking hs newer = ([], call_none a, ([], sym (append-nil newer), tt))
+pub no_rows : (a : Reach) (asking : Asking) (upto : ℕ) (hs : List SsTableHandle) (newer : List RowEntry) → Made a a (BringsRows a.meaning.decode asking upto hs newer newer)
+no_rows a asking upto hs newer = ([], call_none a, ([], sym (append-nil newer), tt))
 
-pub rows_on : (a b c : Reach) (asking : Asking) (hs : List SsTableHandle) (h : SsTableHandle) (newer found more all : List RowEntry) → Contains hs h → Made a b (BringsRows a.meaning.decode asking hs newer found) → Made b c (λ reads. AllByRecursion (HasRow b.meaning.decode asking h reads) more) →
-    all ≡ found ++ more → Made a c (BringsRows a.meaning.decode asking hs newer all)
-rows_on a b c asking hs h newer found more all among (first, f, (some, behind, each)) last is = (
+pub rows_on : (a b c : Reach) (asking : Asking) (k : List ℕ) (upto : ℕ) (hs : List SsTableHandle) (h : SsTableHandle) (newer found more all : List RowEntry) → Contains hs h → asking.query.target ≡ Point k → AllByRecursion (IsRowUpTo k upto) more → Made a b (BringsRows a.meaning.decode asking upto hs newer found) → Made b c (λ reads. AllByRecursion (HasRow b.meaning.decode asking h reads) more) →
+    all ≡ found ++ more → Made a c (BringsRows a.meaning.decode asking upto hs newer all)
+rows_on a b c asking k upto hs h newer found more all among point asked (first, f, (some, behind, each)) last is = (
   first ++ last.0,
   call_both a b c first last.0 f last.1,
   (
     some ++ more,
     is ∙ ap (λ (l : List RowEntry). l ++ more) behind ∙ append_assoc newer some more,
-    AllByRecursion_append (BringsRow a.meaning.decode asking hs (first ++ last.0)) some more
-        (AllByRecursion_weaken (BringsRow a.meaning.decode asking hs first) (BringsRow a.meaning.decode asking hs (first ++ last.0)) (λ r row. more_reads a.meaning.decode asking hs first last.0 r row) some each)
-        (AllByRecursion_weaken (HasRow a.meaning.decode asking h last.0) (BringsRow a.meaning.decode asking hs (first ++ last.0)) (λ r row. record {
-          table = h;
-          among = among;
-          earlier = first;
-          acts = last.0;
-          later = [];
-          split = ap (λ (l : List Act). first ++ l) (sym (append-nil last.0));
-          row = row;
-        }) more (subst (λ (m : Meaning). AllByRecursion (HasRow m.decode asking h last.0) more) f.meaning last.2)),
+    AllByRecursion_append (BringsRow a.meaning.decode asking upto hs (first ++ last.0)) some more
+        (AllByRecursion_weaken (BringsRow a.meaning.decode asking upto hs first) (BringsRow a.meaning.decode asking upto hs (first ++ last.0)) (λ r row. more_reads a.meaning.decode asking upto hs first last.0 r row) some each)
+        (brought_each more asked (subst (λ (m : Meaning). AllByRecursion (HasRow m.decode asking h last.0) more) f.meaning last.2)),
   ),
 )
+  where
+    brought : (r : RowEntry) → IsRowUpTo k upto r → HasRow a.meaning.decode asking h last.0 r → BringsRow a.meaning.decode asking upto hs (first ++ last.0) r
+    brought r is row = record {
+      table = h;
+      among = among;
+      earlier = first;
+      acts = last.0;
+      later = [];
+      split = ap (λ (l : List Act). first ++ l) (sym (append-nil last.0));
+      row = row;
+      asked = point ∙ ap Point (sym is.0);
+      within = is.1;
+    }
+
+    brought_each : (rows : List RowEntry) → AllByRecursion (IsRowUpTo k upto) rows → AllByRecursion (HasRow a.meaning.decode asking h last.0) rows → AllByRecursion (BringsRow a.meaning.decode asking upto hs (first ++ last.0)) rows
+    brought_each [] are rows = tt
+    brought_each (r ∷ rs) are rows = (brought r are.0 rows.0, brought_each rs are.1 rows.1)
 
 pub damage_on : {X : List Act → Type 0} (a b c : Reach) (asking : Asking) (hs : List SsTableHandle) (h : SsTableHandle) (e : SlateDBError) → Contains hs h → IsLater a.faults b.faults → Made a b X →
     IsFault b c e ⊎ Made b c (λ reads. Shows b.meaning.decode asking h reads e) ⊎ IsUnknown h.format_version e →
@@ -317,11 +337,11 @@ known_all (t ∷ ts) [] are = absurd are
 pub known_version : (ts : List (Ulid × List ℕ)) (hs : List SsTableHandle) (h : SsTableHandle) → AreHandles ts hs → Contains hs h → IsKnown h.format_version
 known_version ts hs h are among = All-contains (λ (x : SsTableHandle). IsKnown x.format_version) hs h (All-from_recursion _ hs (known_all ts hs are)) among
 
-pub journal_damage : (asking : Asking) (a b : Reach) (c : CoreModel) (hs : List SsTableHandle) (e : SlateDBError) → AreHandles (tables_of c.events) hs →
-    IsFault a b e ⊎ Made a b (λ reads. ShowsDamage a.meaning.decode asking hs reads e) ⊎ ((x : SsTableHandle) × Contains hs x × IsUnknown x.format_version e) → IsReadError asking a b c e
-journal_damage asking a b c hs e are (inl f) = inl f
-journal_damage asking a b c hs e are (inr (inl d)) = inr (d.0, d.1, record { handles = hs; are = are; refused = inr d.2 })
-journal_damage asking a b c hs e are (inr (inr (x, among, u))) = absurd (u.0 (known_version (tables_of c.events) hs x are among))
+pub journal_damage : (asking : Asking) (upto : ℕ) (a b : Reach) (c : CoreModel) (hs : List SsTableHandle) (e : SlateDBError) → AreHandles (tables_of c.events) hs →
+    IsFault a b e ⊎ Made a b (λ reads. ShowsDamage a.meaning.decode asking hs reads e) ⊎ ((x : SsTableHandle) × Contains hs x × IsUnknown x.format_version e) → IsReadError asking upto a b c e
+journal_damage asking upto a b c hs e are (inl f) = inl f
+journal_damage asking upto a b c hs e are (inr (inl d)) = inr (d.0, d.1, record { handles = hs; are = are; refused = inr d.2 })
+journal_damage asking upto a b c hs e are (inr (inr (x, among, u))) = absurd (u.0 (known_version (tables_of c.events) hs x are among))
 
 operand_among : (P : RowEntry → Type 0) (rows : List RowEntry) → AllByRecursion P rows → is_merge_among rows ≡ true → (r : RowEntry) × P r × (is_operand r ≡ true)
 operand_among P [] h is = cc
@@ -332,12 +352,12 @@ operand_among P (r ∷ rs) h is = by (is_operand r) refl (operand_among P rs h.1
     by false e next k = next k
 
 -- what a fold of the rows that were found is refused for
-pub fold_refused : (asking : Asking) (a b d : Reach) (c : CoreModel) (hs : List SsTableHandle) (near found : List RowEntry) (e : SlateDBError) → AreHandles (tables_of c.events) hs → ((r : RowEntry) → Contains near r → IsOwnAsked asking c r ⊎ IsMemoryAsked asking c r) → IsLater a.faults b.faults →
-    d.objects ≡ b.objects → d.meaning ≡ b.meaning → d.acts ≡ b.acts → Made a b (λ reads. AllByRecursion (λ r. Contains near r ⊎ BringsRow a.meaning.decode asking hs reads r) found) →
-    (e ≡ OutOfMemory) ⊎ ((e ≡ MergeOperatorMissing) × (b.meaning.combine ≡ None) × (is_merge_among found ≡ true)) ⊎ IsCallback b.faults.operator d.faults.operator e → IsReadError asking a d c e
-fold_refused asking a b d c hs near found e are is later objects meaning acts made (inl m) = inl (subst (IsCounted a.faults d.faults) (sym m) tt)
-fold_refused asking a b d c hs near found e are is later objects meaning acts made (inr (inl f)) =
-    let one = operand_among (λ (r : RowEntry). Contains near r ⊎ BringsRow a.meaning.decode asking hs made.0 r) found made.2 f.2 in
+pub fold_refused : (asking : Asking) (upto : ℕ) (a b d : Reach) (c : CoreModel) (hs : List SsTableHandle) (near found : List RowEntry) (e : SlateDBError) → AreHandles (tables_of c.events) hs → ((r : RowEntry) → Contains near r → IsOwnAsked asking c r ⊎ IsMemoryAsked asking upto c r) → IsLater a.faults b.faults →
+    d.objects ≡ b.objects → d.meaning ≡ b.meaning → d.acts ≡ b.acts → Made a b (λ reads. AllByRecursion (λ r. Contains near r ⊎ BringsRow a.meaning.decode asking upto hs reads r) found) →
+    (e ≡ OutOfMemory) ⊎ ((e ≡ MergeOperatorMissing) × (b.meaning.combine ≡ None) × (is_merge_among found ≡ true)) ⊎ IsCallback b.faults.operator d.faults.operator e → IsReadError asking upto a d c e
+fold_refused asking upto a b d c hs near found e are is later objects meaning acts made (inl m) = inl (subst (IsCounted a.faults d.faults) (sym m) tt)
+fold_refused asking upto a b d c hs near found e are is later objects meaning acts made (inr (inl f)) =
+    let one = operand_among (λ (r : RowEntry). Contains near r ⊎ BringsRow a.meaning.decode asking upto hs made.0 r) found made.2 f.2 in
     inr (
       made.0,
       subst (IsCall a d) (append-nil made.0) (call_both a b d made.0 [] made.1 (call_quiet b d objects meaning acts)),
@@ -348,14 +368,14 @@ fold_refused asking a b d c hs near found e are is later objects meaning acts ma
       },
     )
   where
-    near_is : (r : RowEntry) → IsOwnAsked asking c r ⊎ IsMemoryAsked asking c r → IsOwnAsked asking c r ⊎ IsMemoryAsked asking c r ⊎ BringsRow a.meaning.decode asking hs made.0 r
+    near_is : (r : RowEntry) → IsOwnAsked asking c r ⊎ IsMemoryAsked asking upto c r → IsOwnAsked asking c r ⊎ IsMemoryAsked asking upto c r ⊎ BringsRow a.meaning.decode asking upto hs made.0 r
     near_is r (inl o) = inl o
     near_is r (inr m) = inr (inl m)
 
-    by : (r : RowEntry) → Contains near r ⊎ BringsRow a.meaning.decode asking hs made.0 r → IsOwnAsked asking c r ⊎ IsMemoryAsked asking c r ⊎ BringsRow a.meaning.decode asking hs made.0 r
+    by : (r : RowEntry) → Contains near r ⊎ BringsRow a.meaning.decode asking upto hs made.0 r → IsOwnAsked asking c r ⊎ IsMemoryAsked asking upto c r ⊎ BringsRow a.meaning.decode asking upto hs made.0 r
     by r (inl m) = near_is r (is r m)
     by r (inr b) = inr (inr b)
-fold_refused asking a b d c hs near found e are is later objects meaning acts made (inr (inr k)) = inl (counted_earlier a.faults b.faults d.faults e later (callback_fault b.faults d.faults e k))
+fold_refused asking upto a b d c hs near found e are is later objects meaning acts made (inr (inr k)) = inl (counted_earlier a.faults b.faults d.faults e later (callback_fault b.faults d.faults e k))
 
 -- ---- the kinds of these errors
 
@@ -370,9 +390,9 @@ shown_kind : (decode : Encode) (asking : Asking) (h : SsTableHandle) (acts : Lis
 shown_kind decode asking h acts e (inl f) = unreadable_kind e f.0
 shown_kind decode asking h acts e (inr passed) = unreadable_kind e passed.meant.0
 
-pub refused_kind : (asking : Asking) (m : Meaning) (c : CoreModel) (reads : List Act) (e : SlateDBError) → IsRefusedBy asking m c reads e → IsTableError e
-refused_kind asking m c reads e r = by r.refused
+pub refused_kind : (asking : Asking) (upto : ℕ) (m : Meaning) (c : CoreModel) (reads : List Act) (e : SlateDBError) → IsRefusedBy asking upto m c reads e → IsTableError e
+refused_kind asking upto m c reads e r = by r.refused
   where
-    by : LacksOperator asking m c r.handles reads e ⊎ ShowsDamage m.decode asking r.handles reads e → IsTableError e
+    by : LacksOperator asking upto m c r.handles reads e ⊎ ShowsDamage m.decode asking r.handles reads e → IsTableError e
     by (inl lacks) = subst IsTableError (sym lacks.is) tt
     by (inr shows) = shown_kind m.decode asking shows.table shows.last e shows.shown

@@ -58,7 +58,7 @@ abbrev pub rows_under : Rules → CoreModel → List ℕ → ℕ → Rows → Ro
 rows_under r c k n own = key_rows r k (up_to n c.state.commits) ++ reverse own
 
 pub record IsSeen (by : Asking) (before after : Reach) (c : CoreModel) (k : List ℕ) (n : ℕ) (own : Rows) (result : Result (Option RowEntry) SlateDBError) : Type 0 where
-  pub read : IsRead by before after c (λ row. c.floor ≤ n → row ≡ fold_rows (combine_of before.meaning k) (rows_under (rules_of c.settings before.meaning) c k n own)) result
+  pub read : IsRead by n before after c (λ row. c.floor ≤ n → row ≡ fold_rows (combine_of before.meaning k) (rows_under (rules_of c.settings before.meaning) c k n own)) result
   pub asks : Asks by before after c
   pub finds : c.floor ≤ n → Finds by k (takes_flushed c.state (rows_under (rules_of c.settings before.meaning) c k n own)) before after c result
   pub missing : before.meaning.combine ≡ None → own ≢ [] → IfOk result (λ row. ⊥)
@@ -70,7 +70,7 @@ abbrev pub rows_of : Rules → CoreModel → List ℕ → Tx → Rows
 rows_of r c k t = key_rows r k (up_to t.begin c.state.commits) ++ map (own_row k) (kept t.ops k)
 
 pub record IsKeyRead {A : Type 0} (by : Asking) (before after : Reach) (c : CoreModel) (k : List ℕ) (t : Tx) (means : Combine → Rows → A → Type 0) (result : Result A SlateDBError) : Type 0 where
-  pub read : IsRead by before after c (means (combine_of before.meaning k) (rows_of (rules_of c.settings before.meaning) c k t)) result
+  pub read : IsRead by t.begin before after c (means (combine_of before.meaning k) (rows_of (rules_of c.settings before.meaning) c k t)) result
   pub asks : Asks by before after c
   pub finds : Finds by k (needs_tables (rules_of c.settings before.meaning) c.state t.begin t.ops k) before after c result
   pub missing : before.meaning.combine ≡ None → keeps_merge k t.ops ≡ true → IfOk result (λ a. ⊥)

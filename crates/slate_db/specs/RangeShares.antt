@@ -12,6 +12,7 @@ use Rattle.slate_types.specs.declared.bytes_range.BytesRange.{BytesRange}
 use Rattle.slate_types.specs.declared.error.SlateDBError.{SlateDBError}
 use Rattle.slate_types.specs.declared.filter_policy.FilterQuery.{FilterQuery}
 use Rattle.slate_types.specs.declared.iter.IterationOrder.{IterationOrder}
+use Rattle.slate_types.specs.declared.types.KeyValue.{KeyValue}
 use Rattle.slate_types.specs.declared.types.RowEntry.{RowEntry}
 use Rattle.slate_types.specs.Iteration.{RowList}
 use Rattle.slate_types.specs.Keys.{in_range}
@@ -32,7 +33,7 @@ use Rattle.slate_db.specs.Model.{CoreModel, Rows}
 use Rattle.slate_db.specs.OpenScans.{HasRows}
 use Rattle.slate_db.specs.Readable.{IsAnswered, IsReadable}
 use Rattle.slate_db.specs.Scanned.{HasOwn}
-use Rattle.slate_db.specs.Scans.{IsFor, IsOpeningError, IsRefusedByScan, IsWorldOf, Leaves, ScanRefuses}
+use Rattle.slate_db.specs.Scans.{IsFor, IsHandedByScan, IsOpeningError, IsRefusedByScan, IsWorldOf, Leaves, ScanHands, ScanRefuses}
 use Rattle.slate_db.specs.SharedRuns.{tables_in}
 use Rattle.slate_db.specs.Whole.{Unseen, IsWhole}
 
@@ -71,6 +72,7 @@ pub record IsOpened (policies : List Policy) (query : Option FilterQuery) (befor
   pub opened : c.floor ≤ n → (a : IsAnswered policies before after c) → IfOk result (LeavesSeen a.os before.meaning c n ops range order)
   pub checked : c.floor ≤ n → (os : Objects) → IsReadable policies before.meaning os c → IfOk result (λ it. OrSlips os before after (LeavesSeen os before.meaning c n ops range order it))
   pub later : IfOk result (λ it. IsFor before.meaning it × Made before after (λ reads. (later : List Act) (at : Option (List ℕ)) (e : SlateDBError) → ScanRefuses it before.meaning later at e → IsRefusedByScan before.meaning c (reads ++ later) at e))
+  pub hands : IfOk result (λ it. Made before after (λ reads. (later : List Act) (a : KeyValue) → ScanHands it before.meaning later a → IsHandedByScan before.meaning c (reads ++ later) a))
   pub undamaged : c.floor ≤ n → IsAnswered policies before after c → IfErr result (IsFault before after)
   pub cause : IfErr result (IsOpeningError policies query before after c)
   pub still : IsStill before.faults after.faults result

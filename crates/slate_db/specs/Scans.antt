@@ -10,6 +10,7 @@
 --     IsOperableIn state w      without an operator none of these is an operand; and none rises above the operand before it
 --     Leaves it w rows      in the world exactly these rows are left to be handed out
 --     ScanRefuses it m reads at e      what it may refuse for by the reads from now on, in a seek to a key, or in the other calls
+--     ScanHands it m reads a      what it may hand out by the reads from now on where there is no operator: what is seen of a row that calls of the merge may hand out, folded onto none
 --     IsReached range at      a seek is to no key before the range
 --     AreForIn range m state      by this meaning the sources that are left refuse for damage alone
 --     IsScanRefusal e      damage, want of an operator, or a row of a greater sequence than the operand before it
@@ -30,6 +31,7 @@
 --                                                                 such a row is an operand, and there is no operator; or there is one,
 --                                                                 and a row of one of these tables, which was read, has a greater
 --                                                                 sequence than an operand of its key: it names the two
+--     IsHandedByScan m c reads a      such a row of the core is no operand, and a is what is seen of it
 --     IsRefusedInScan policies m c reads e      so it is, or the reads of its opening show it of the filters that were asked
 --     IsOpeningError policies query before after c e, IsScanError policies before after c e      a fault that came in the call, or want of memory, or such a refusal by its reads: an opening meets no operand
 use Rattle.std.specs.Prelude.{◌≡◌, ◌≢◌, ◌⊎◌, ℕ, ◌<◌, true, List, [], filter, count_by, Contains, Option, Some, None, Result, Err, IsSome, slice_get}
@@ -39,11 +41,12 @@ use Rattle.slate_types.specs.declared.error.SlateDBError.{SlateDBError}
 use Rattle.slate_types.specs.declared.error.SlateDBError.TheVariants.{MergeOperatorMissing, OutOfMemory}
 use Rattle.slate_types.specs.declared.filter_policy.FilterQuery.{FilterQuery}
 use Rattle.slate_types.specs.declared.iter.IterationOrder.{IterationOrder}
+use Rattle.slate_types.specs.declared.types.KeyValue.{KeyValue}
 use Rattle.slate_types.specs.declared.types.RowEntry.{RowEntry}
 use Rattle.slate_types.specs.Keys.{in_range, is_past_start}
 use Rattle.slate_types.specs.Outside.{Act, Objects, IsFault, Meaning, Reach}
 use Rattle.slate_types.specs.Refusing.{IsDamage}
-use Rattle.slate_types.specs.Rows.{is_base}
+use Rattle.slate_types.specs.Rows.{is_base, key_value}
 use Rattle.slate_types.specs.World.{Kept, World, Made}
 use Rattle.slate_filter.specs.Policy.{Policy}
 use Rattle.slate_mem.specs.Lookup.{newest_first}
@@ -81,6 +84,7 @@ use Rattle.slate_db.specs.Meaning.{rules_of}
 use Rattle.slate_db.specs.Model.{CoreModel, memory}
 use Rattle.slate_db.specs.Readable.{IsOwnRow}
 use Rattle.slate_db.specs.ScanFilters.{ShowsFilters}
+use Rattle.slate_db.specs.Values.{IsUnfolded}
 pub use Rattle.slate_db.specs.Values.{has_value}
 
 pub record IsWorldOf (os : Objects) (m : Meaning) (w : World) : Type 0 where
@@ -204,6 +208,14 @@ RefusesIn range (Refused kept) m reads at e = (kept ≢ OutOfMemory) × (e ≡ k
 abbrev pub ScanRefuses : DbIterator → Meaning → List Act → Option (List ℕ) → SlateDBError → Type 0
 ScanRefuses it m reads at e = RefusesIn it.range it.state m reads at e
 
+abbrev pub HandsIn : ScanState → Meaning → List Act → KeyValue → Type 0
+HandsIn (Walking rows) m reads a = IsUnfolded rows.folding.snapshot_barrier_seq (λ r. merge_offers rows.ahead rows.iterator m reads (Comes r)) a
+HandsIn Done m reads a = ⊥
+HandsIn (Refused e) m reads a = ⊥
+
+abbrev pub ScanHands : DbIterator → Meaning → List Act → KeyValue → Type 0
+ScanHands it m reads a = HandsIn it.state m reads a
+
 abbrev pub IsFor : Meaning → DbIterator → Type 0
 IsFor m it = (reads : List Act) (at : Option (List ℕ)) (e : SlateDBError) → ScanRefuses it m reads at e → IsScanRefusal e
 
@@ -282,6 +294,14 @@ pub record IsRefusedByScan (m : Meaning) (c : CoreModel) (reads : List Act) (at 
   pub handles : List SsTableHandle
   pub are : AreHandles (tables_of c.events) handles
   pub refused : RefusesBrought (IsScanned m c handles reads) (IsReadAmong m handles reads) m at e ⊎ ShowsAmong m.decode handles reads e
+
+pub record IsHandedByScan (m : Meaning) (c : CoreModel) (reads : List Act) (a : KeyValue) : Type 0 where
+  pub handles : List SsTableHandle
+  pub are : AreHandles (tables_of c.events) handles
+  pub row : RowEntry
+  pub base : is_base row ≡ true
+  pub value : a ≡ key_value row
+  pub scanned : IsScanned m c handles reads row
 
 pub record IsShownByFilters (policies : List Policy) (query : Option FilterQuery) (m : Meaning) (c : CoreModel) (reads : List Act) (e : SlateDBError) : Type 0 where
   pub handles : List SsTableHandle

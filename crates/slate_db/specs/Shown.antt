@@ -16,8 +16,8 @@
 --     ShowsRead decode h acts e      one of these, and so the error
 --     RefusesFiltersRead decode by h acts e      the filters are refused
 --     Shows decode by h acts e      the filters show the error, or let the query through, and what is read then shows it
---     BringsRow decode by hs reads r      of some tables one has the row, by reads of its own
---     BringsRows decode by hs newer all reads      all are newer rows, and behind them such rows
+--     BringsRow decode by upto hs reads r      of some tables one has the row, by reads of its own, and it is of the key that is asked for, of a sequence up to that one
+--     BringsRows decode by upto hs newer all reads      all are newer rows, and behind them such rows
 --     ShowsDamage decode by hs reads e      of some tables one shows the error, by the last reads
 use Rattle.std.specs.Prelude.{◌≡◌, ◌⊎◌, ℕ, ◌≤◌, ◌<◌, true, false, List, [], ◌∷◌, ◌++◌, length, Contains, Option, Ok, Err}
 use Rattle.std.specs.List.{AllByRecursion}
@@ -25,6 +25,7 @@ use Rattle.slate_types.specs.declared.error.SlateDBError.{SlateDBError}
 use Rattle.slate_types.specs.declared.error.SlateDBError.TheVariants.{CorruptTable, ChecksumMismatch, InvalidFilterBlock, InvalidRowFlags}
 use Rattle.slate_types.specs.declared.types.RowEntry.{RowEntry}
 use Rattle.slate_types.specs.declared.filter_policy.FilterQuery.{FilterQuery}
+use Rattle.slate_types.specs.declared.filter_policy.PrefixTarget.TheVariants.{Point}
 use Rattle.slate_types.specs.Outside.{Act}
 use Rattle.slate_block.specs.declared.block.Block.{Block}
 use Rattle.slate_block.specs.ReadingLaws.{EachIsAByte}
@@ -135,7 +136,7 @@ Shows decode by h acts e =
 
 -- ---- of several tables
 
-pub record BringsRow (decode : Encode) (by : Asking) (hs : List SsTableHandle) (reads : List Act) (r : RowEntry) : Type 0 where
+pub record BringsRow (decode : Encode) (by : Asking) (upto : ℕ) (hs : List SsTableHandle) (reads : List Act) (r : RowEntry) : Type 0 where
   pub table : SsTableHandle
   pub among : Contains hs table
   pub earlier : List Act
@@ -143,9 +144,11 @@ pub record BringsRow (decode : Encode) (by : Asking) (hs : List SsTableHandle) (
   pub later : List Act
   pub split : reads ≡ earlier ++ (acts ++ later)
   pub row : HasRow decode by table acts r
+  pub asked : by.query.target ≡ Point r.key
+  pub within : r.seq ≤ upto
 
-abbrev pub BringsRows : Encode → Asking → List SsTableHandle → List RowEntry → List RowEntry → List Act → Type 0
-BringsRows decode by hs newer all reads = (more : List RowEntry) × (all ≡ newer ++ more) × AllByRecursion (BringsRow decode by hs reads) more
+abbrev pub BringsRows : Encode → Asking → ℕ → List SsTableHandle → List RowEntry → List RowEntry → List Act → Type 0
+BringsRows decode by upto hs newer all reads = (more : List RowEntry) × (all ≡ newer ++ more) × AllByRecursion (BringsRow decode by upto hs reads) more
 
 pub record ShowsDamage (decode : Encode) (by : Asking) (hs : List SsTableHandle) (reads : List Act) (e : SlateDBError) : Type 0 where
   pub table : SsTableHandle

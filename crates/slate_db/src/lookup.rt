@@ -26,7 +26,7 @@ ghost use Rattle.slate_db.specs.Answered.{AnswersFrom};
 ghost use Rattle.slate_db.specs.Asked.{AreBehindFilters, IsFiltersRead, IsReadOf};
 ghost use Rattle.slate_db.specs.Checked.{ChecksFrom};
 ghost use Rattle.slate_db.specs.Installs.{handles_of};
-ghost use Rattle.slate_mem.specs.Lookup.{newest_first};
+ghost use Rattle.slate_mem.specs.Lookup.{IsRowUpTo, newest_first};
 ghost use Rattle.slate_db.specs.Lookup.{AreFilteredAs, AreStoredAs, Extends, FindsBehind, IsStoredAs, IsUnknown};
 ghost use Rattle.slate_db.specs.Model.{Rows};
 ghost use Rattle.slate_db.specs.Shown.{Asking, IsRowOf, IsUnreadable, LetsThrough, RefusesFiltersRead, RefusesRow, HasRow, HasRowRead, Shows, ShowsRead, BringsRows, ShowsDamage};
@@ -85,6 +85,7 @@ fn newest_of_block(
 ) -> Result<Vec<RowEntry>, SlateDBError>
     ensures found { (rows : List RowEntry) → IsBlockOf block.body block.offsets.items version rows → IsInOrder IterationOrder.Ascending rows → IfOk result (λ found. found.items ≡ newest key.now max_seq rows) }
     ensures whole { (rows : List RowEntry) → IsBlockOf block.body block.offsets.items version rows → IsInOrder IterationOrder.Ascending rows → IfErr result (λ e. e ≡ SlateDBError.OutOfMemory) }
+    ensures asked { IfOk result (λ found. AllByRecursion (IsRowUpTo key.now max_seq) found.items) }
     ensures rows { IfOk result (λ found. AllByRecursion (IsRowOf version block) found.items) }
     ensures cause { IfErr result (λ e. (e ≡ SlateDBError.OutOfMemory) ⊎ (IsUnreadable e × RefusesRow version block e) ⊎ IsUnknown version e) }
 {
@@ -104,6 +105,7 @@ fn newest_from(
 ) -> Result<Vec<RowEntry>, SlateDBError>
     ensures found { (all : List RowEntry) → left (left_of rows.old) ≡ Ok all → (left_of rows.old).order ≡ IterationOrder.Ascending → IsInOrder IterationOrder.Ascending all → IfOk result (λ found. found.items ≡ newest key.now max_seq all) }
     ensures whole { (all : List RowEntry) → left (left_of rows.old) ≡ Ok all → IfErr result (λ e. e ≡ SlateDBError.OutOfMemory) }
+    ensures asked { IfOk result (λ found. AllByRecursion (IsRowUpTo key.now max_seq) found.items) }
     ensures rows { IfOk result (λ found. AllByRecursion (λ r. Contains (left_of rows.old).reads (Ok r)) found.items) }
     ensures cause { IfErr result (λ e. (e ≡ SlateDBError.OutOfMemory) ⊎ Refuses (left_of rows.old).reads e) }
 {
@@ -121,6 +123,7 @@ fn newest_of_blocks(
 ) -> Result<Vec<RowEntry>, SlateDBError>
     ensures found { (lists : List Rows) → AreBlocksOf version blocks.items lists → AllByRecursion (IsInOrder IterationOrder.Ascending) lists → IfOk result (λ found. found.items ≡ newest key.now max_seq (flat_map (λ rows. rows) lists)) }
     ensures whole { (lists : List Rows) → AreBlocksOf version blocks.items lists → AllByRecursion (IsInOrder IterationOrder.Ascending) lists → IfErr result (λ e. e ≡ SlateDBError.OutOfMemory) }
+    ensures asked { IfOk result (λ found. AllByRecursion (IsRowUpTo key.now max_seq) found.items) }
     ensures rows { IfOk result (λ found. AllByRecursion (λ r. (block : Block) × Contains blocks.items block × IsRowOf version block r) found.items) }
     ensures cause { IfErr result (λ e. (e ≡ SlateDBError.OutOfMemory) ⊎ ((block : Block) × Contains blocks.items block × IsUnreadable e × RefusesRow version block e) ⊎ IsUnknown version e) }
 {
@@ -200,6 +203,7 @@ fn newest_of_enclosing<S: Store, M: MergeOperator, T: BlockTransformer>(
 ) -> Result<Vec<RowEntry>, SlateDBError>
     ensures found { let reach = ⟦<EnvOf<S, M, T> as Outside>⟧.reach in (rows : Rows) (os : Objects) → IsStoredAs (reach env.old).meaning os table.now rows → AnswersFrom os (reach env.old) (reach env.new) → IfOk result (λ found. found.items ≡ newest key.now max_seq rows) }
     ensures whole { let reach = ⟦<EnvOf<S, M, T> as Outside>⟧.reach in (rows : Rows) (os : Objects) → IsStoredAs (reach env.old).meaning os table.now rows → AnswersFrom os (reach env.old) (reach env.new) → IfErr result (IsFault (reach env.old) (reach env.new)) }
+    ensures asked { IfOk result (λ found. AllByRecursion (IsRowUpTo key.now max_seq) found.items) }
     ensures rows { let reach = ⟦<EnvOf<S, M, T> as Outside>⟧.reach in IfOk result (λ found. Made (reach env.old) (reach env.new) (λ reads. AllByRecursion (HasRowRead (reach env.old).meaning.decode table.now reads) found.items)) }
     ensures cause { let reach = ⟦<EnvOf<S, M, T> as Outside>⟧.reach in IfErr result (λ e. IsFault (reach env.old) (reach env.new) e ⊎ Made (reach env.old) (reach env.new) (λ reads. ShowsRead (reach env.old).meaning.decode table.now reads e) ⊎ IsUnknown table.now.format_version e) }
     ensures alone { let reach = ⟦<EnvOf<S, M, T> as Outside>⟧.reach in Made (reach env.old) (reach env.new) (AllByRecursion (IsReadOf table.now)) }
@@ -239,6 +243,7 @@ fn newest_of_table<S: Store, M: MergeOperator, T: BlockTransformer>(
     requires { query.now.target ≡ PrefixTarget.Point key.now }
     ensures found { let reach = ⟦<EnvOf<S, M, T> as Outside>⟧.reach in (rows : Rows) (os : Objects) → IsStoredAs (reach env.old).meaning os table.now rows → AreFilteredAs (map (λ p. meaning p) policies.now) (reach env.old).meaning os (table.now ∷ []) → AnswersFrom os (reach env.old) (reach env.new) → IfOk result (λ found. found.items ≡ newest key.now max_seq rows) }
     ensures whole { let reach = ⟦<EnvOf<S, M, T> as Outside>⟧.reach in (rows : Rows) (os : Objects) → IsStoredAs (reach env.old).meaning os table.now rows → AreFilteredAs (map (λ p. meaning p) policies.now) (reach env.old).meaning os (table.now ∷ []) → AnswersFrom os (reach env.old) (reach env.new) → IfErr result (IsFault (reach env.old) (reach env.new)) }
+    ensures asked { IfOk result (λ found. AllByRecursion (IsRowUpTo key.now max_seq) found.items) }
     ensures rows { let reach = ⟦<EnvOf<S, M, T> as Outside>⟧.reach in
         let by : Asking = record { policies = map (λ p. meaning p) policies.now; query = query.now } in
         IfOk result (λ found. Made (reach env.old) (reach env.new) (λ reads. AllByRecursion (HasRow (reach env.old).meaning.decode by table.now reads) found.items)) }
@@ -305,7 +310,7 @@ fn newest_of_tables<S: Store, M: MergeOperator, T: BlockTransformer>(
     ensures extends { IfOk result (λ all. Extends newer.items all.items) }
     ensures rows { let reach = ⟦<EnvOf<S, M, T> as Outside>⟧.reach in
         let by : Asking = record { policies = map (λ p. meaning p) policies.now; query = query.now } in
-        IfOk result (λ all. Made (reach env.old) (reach env.new) (BringsRows (reach env.old).meaning.decode by tables.now newer.items all.items)) }
+        IfOk result (λ all. Made (reach env.old) (reach env.new) (BringsRows (reach env.old).meaning.decode by max_seq tables.now newer.items all.items)) }
     ensures cause { let reach = ⟦<EnvOf<S, M, T> as Outside>⟧.reach in
         let by : Asking = record { policies = map (λ p. meaning p) policies.now; query = query.now } in
         IfErr result (λ e. IsFault (reach env.old) (reach env.new) e ⊎ Made (reach env.old) (reach env.new) (λ reads. ShowsDamage (reach env.old).meaning.decode by tables.now reads e)
@@ -347,7 +352,7 @@ pub fn newest_of_runs<S: Store, M: MergeOperator, T: BlockTransformer>(
     ensures extends { IfOk result (λ all. Extends newer.items all.items) }
     ensures rows { let reach = ⟦<EnvOf<S, M, T> as Outside>⟧.reach in
         let by : Asking = record { policies = map (λ p. meaning p) policies.now; query = query.now } in
-        IfOk result (λ all. Made (reach env.old) (reach env.new) (BringsRows (reach env.old).meaning.decode by (handles_of runs.now) newer.items all.items)) }
+        IfOk result (λ all. Made (reach env.old) (reach env.new) (BringsRows (reach env.old).meaning.decode by max_seq (handles_of runs.now) newer.items all.items)) }
     ensures cause { let reach = ⟦<EnvOf<S, M, T> as Outside>⟧.reach in
         let by : Asking = record { policies = map (λ p. meaning p) policies.now; query = query.now } in
         IfErr result (λ e. IsFault (reach env.old) (reach env.new) e ⊎ Made (reach env.old) (reach env.new) (λ reads. ShowsDamage (reach env.old).meaning.decode by (handles_of runs.now) reads e)

@@ -1,5 +1,5 @@
 //! The rows of a scan.
-ghost use Rattle.std.specs.Prelude.{◌≡◌, ◌≢◌, ◌⊎◌, ℕ, List, None, Some, true, false, IfOk, IfErr, OnOk, drop};
+ghost use Rattle.std.specs.Prelude.{◌≡◌, ◌≢◌, ◌⊎◌, ℕ, List, None, Some, true, false, IfOk, IfErr, IfSome, OnOk, drop};
 ghost use Rattle.slate_types.specs.declared.bytes_range.BytesRange.{BytesRange};
 ghost use Rattle.slate_types.specs.declared.error.SlateDBError.{SlateDBError};
 ghost use Rattle.slate_types.specs.declared.iter.IterationOrder.{IterationOrder};
@@ -9,8 +9,9 @@ ghost use Rattle.slate_types.specs.Keys.{is_past_start};
 ghost use Rattle.slate_types.specs.Outside.{IsFault, IsStill, OnlyReads};
 ghost use Rattle.slate_types.specs.Refusing.{NoMore};
 ghost use Rattle.slate_types.specs.World.{World, Checks, Made, Sees};
+ghost use Rattle.slate_merge.specs.NoMoreRows.{NoMoreRows};
 ghost use Rattle.slate_txn.specs.Alone.{first_left};
-ghost use Rattle.slate_db.specs.Scans.{AnswersAgain, AreForIn, IsOperableIn, IsRefusedScan, IsSoundIn, IsUnrefused, Keeps, Leaves, RefusesIn, ScanRefuses, SourcesRefuse, left_in};
+ghost use Rattle.slate_db.specs.Scans.{AnswersAgain, AreForIn, HandsIn, IsOperableIn, IsRefusedScan, IsSoundIn, IsUnrefused, Keeps, Leaves, RefusesIn, ScanHands, ScanRefuses, SourcesRefuse, left_in};
 ghost use Rattle.slate_db.specs.Values.{HasValues};
 
 use crate::values::{next_value, seek_values};
@@ -51,6 +52,8 @@ fn next_in<S: Store, M: MergeOperator, T: BlockTransformer>(
     ensures checked { let reach = ⟦<EnvOf<S, M, T> as Outside>⟧.reach in (w : World) (order : IterationOrder) → IsSoundIn order state.old w → OnOk result (Checks w (reach env.old) (reach env.new)) }
     ensures sources { let reach = ⟦<EnvOf<S, M, T> as Outside>⟧.reach in (range : BytesRange) → OnOk result (Made (reach env.old) (reach env.new) (λ reads. NoMore (SourcesRefuse range state.old (reach env.old).meaning) reads (SourcesRefuse range state.new (reach env.old).meaning))) }
     ensures later { let reach = ⟦<EnvOf<S, M, T> as Outside>⟧.reach in (range : BytesRange) → OnOk result (Made (reach env.old) (reach env.new) (λ reads. NoMore (RefusesIn range state.old (reach env.old).meaning) reads (RefusesIn range state.new (reach env.old).meaning))) }
+    ensures bases { let reach = ⟦<EnvOf<S, M, T> as Outside>⟧.reach in (reach env.old).meaning.combine ≡ None → IfOk result (λ a. Made (reach env.old) (reach env.new) (λ reads. IfSome a (HandsIn state.old (reach env.old).meaning reads))) }
+    ensures hands { let reach = ⟦<EnvOf<S, M, T> as Outside>⟧.reach in OnOk result (Made (reach env.old) (reach env.new) (λ reads. NoMoreRows (HandsIn state.old (reach env.old).meaning) reads (HandsIn state.new (reach env.old).meaning))) }
     ensures cause { let reach = ⟦<EnvOf<S, M, T> as Outside>⟧.reach in (range : BytesRange) → IfErr result (λ e. Made (reach env.old) (reach env.new) (λ reads. IsFault (reach env.old) (reach env.new) e ⊎ RefusesIn range state.old (reach env.old).meaning reads None e)) }
     ensures reads { let reach = ⟦<EnvOf<S, M, T> as Outside>⟧.reach in OnlyReads (reach env.old) (reach env.new) }
     ensures still { let reach = ⟦<EnvOf<S, M, T> as Outside>⟧.reach in
@@ -81,6 +84,7 @@ fn seek_in<S: Store, M: MergeOperator, T: BlockTransformer>(
     ensures checked { let reach = ⟦<EnvOf<S, M, T> as Outside>⟧.reach in (w : World) (order : IterationOrder) → IsSoundIn order state.old w → OnOk result (Checks w (reach env.old) (reach env.new)) }
     ensures sources { let reach = ⟦<EnvOf<S, M, T> as Outside>⟧.reach in (range : BytesRange) → OnOk result (Made (reach env.old) (reach env.new) (λ reads. NoMore (SourcesRefuse range state.old (reach env.old).meaning) reads (SourcesRefuse range state.new (reach env.old).meaning))) }
     ensures later { let reach = ⟦<EnvOf<S, M, T> as Outside>⟧.reach in (range : BytesRange) → OnOk result (Made (reach env.old) (reach env.new) (λ reads. NoMore (RefusesIn range state.old (reach env.old).meaning) reads (RefusesIn range state.new (reach env.old).meaning))) }
+    ensures hands { let reach = ⟦<EnvOf<S, M, T> as Outside>⟧.reach in OnOk result (Made (reach env.old) (reach env.new) (λ reads. NoMoreRows (HandsIn state.old (reach env.old).meaning) reads (HandsIn state.new (reach env.old).meaning))) }
     ensures cause { let reach = ⟦<EnvOf<S, M, T> as Outside>⟧.reach in (range : BytesRange) → is_past_start range.start key.now ≡ true →
         IfErr result (λ e. Made (reach env.old) (reach env.new) (λ reads. IsFault (reach env.old) (reach env.new) e ⊎ RefusesIn range state.old (reach env.old).meaning reads (Some key.now) e)) }
     ensures reads { let reach = ⟦<EnvOf<S, M, T> as Outside>⟧.reach in OnlyReads (reach env.old) (reach env.new) }
@@ -121,8 +125,8 @@ impl DbIterator<'_> {
     /// The next row, or `None` at the end. Refuses by `StoreFault`, `BlockTransformError` and `Callback`, each only where its
     /// count of faults rose, by damage, only where reads since the opening show it, by `MergeOperatorMissing`, only where there
     /// is no operator and a row is an operand, by `InvalidSequenceOrder`, only where there is one and a row has a greater sequence
-    /// than an operand of its key, and by `OutOfMemory`. `Core::scan` says where these rows stand. What it was refused for it
-    /// answers again, without a read.
+    /// than an operand of its key, and by `OutOfMemory`. Where there is no operator it hands out a row as its sources have it, and
+    /// no operand. `Core::scan` says where these rows stand. What it was refused for it answers again, without a read.
     pub fn next<S: Store, M: MergeOperator, T: BlockTransformer>(
         &mut self,
         env: &mut Env<'_, S, M, T>,
@@ -133,6 +137,8 @@ impl DbIterator<'_> {
         ensures checked { let reach = ⟦<EnvOf<S, M, T> as Outside>⟧.reach in (w : World) (rows : List RowEntry) → Leaves self.old w rows → OnOk result (Checks w (reach env.old) (reach env.new)) }
         ensures later { let reach = ⟦<EnvOf<S, M, T> as Outside>⟧.reach in OnOk result (Made (reach env.old) (reach env.new) (λ reads. NoMore (ScanRefuses self.old (reach env.old).meaning) reads (ScanRefuses self.new (reach env.old).meaning))) }
         ensures cause { let reach = ⟦<EnvOf<S, M, T> as Outside>⟧.reach in IfErr result (λ e. Made (reach env.old) (reach env.new) (λ reads. IsFault (reach env.old) (reach env.new) e ⊎ ScanRefuses self.old (reach env.old).meaning reads None e)) }
+        ensures bases { let reach = ⟦<EnvOf<S, M, T> as Outside>⟧.reach in (reach env.old).meaning.combine ≡ None → IfOk result (λ a. Made (reach env.old) (reach env.new) (λ reads. IfSome a (ScanHands self.old (reach env.old).meaning reads))) }
+        ensures hands { let reach = ⟦<EnvOf<S, M, T> as Outside>⟧.reach in OnOk result (Made (reach env.old) (reach env.new) (λ reads. NoMoreRows (ScanHands self.old (reach env.old).meaning) reads (ScanHands self.new (reach env.old).meaning))) }
         ensures again { IsUnrefused self.old → IfErr result (λ e. Keeps e self.new) }
         ensures refused { (kept : SlateDBError) → IsRefusedScan kept self.old → AnswersAgain kept result × (self.new ≡ self.old) × (env.new ≡ env.old) }
         ensures range { self.new.range ≡ self.old.range }
@@ -163,6 +169,7 @@ impl DbIterator<'_> {
         ensures checked { let reach = ⟦<EnvOf<S, M, T> as Outside>⟧.reach in (w : World) (rows : List RowEntry) → Leaves self.old w rows → OnOk result (Checks w (reach env.old) (reach env.new)) }
         ensures later { let reach = ⟦<EnvOf<S, M, T> as Outside>⟧.reach in OnOk result (Made (reach env.old) (reach env.new) (λ reads. NoMore (ScanRefuses self.old (reach env.old).meaning) reads (ScanRefuses self.new (reach env.old).meaning))) }
         ensures cause { let reach = ⟦<EnvOf<S, M, T> as Outside>⟧.reach in IfErr result (λ e. Made (reach env.old) (reach env.new) (λ reads. IsFault (reach env.old) (reach env.new) e ⊎ ScanRefuses self.old (reach env.old).meaning reads (Some key.now) e)) }
+        ensures hands { let reach = ⟦<EnvOf<S, M, T> as Outside>⟧.reach in OnOk result (Made (reach env.old) (reach env.new) (λ reads. NoMoreRows (ScanHands self.old (reach env.old).meaning) reads (ScanHands self.new (reach env.old).meaning))) }
         ensures again { IsUnrefused self.old → IfErr result (λ e. Keeps e self.new) }
         ensures refused { (kept : SlateDBError) → IsRefusedScan kept self.old → AnswersAgain kept result × (self.new ≡ self.old) × (env.new ≡ env.old) }
         ensures range { self.new.range ≡ self.old.range }

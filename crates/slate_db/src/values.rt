@@ -1,5 +1,5 @@
 //! The rows of an iterator as a reader gets them.
-ghost use Rattle.std.specs.Prelude.{◌≡◌, ◌⊎◌, List, None, Some, IfOk, IfErr, OnOk, drop, if◌then◌else◌};
+ghost use Rattle.std.specs.Prelude.{◌≡◌, ◌⊎◌, List, None, Some, IfOk, IfErr, IfSome, OnOk, drop, if◌then◌else◌};
 ghost use Rattle.slate_types.specs.declared.bytes_range.BytesRange.{BytesRange};
 ghost use Rattle.slate_types.specs.declared.error.SlateDBError.{SlateDBError};
 ghost use Rattle.slate_types.specs.declared.types.RowEntry.{RowEntry};
@@ -8,10 +8,11 @@ ghost use Rattle.slate_types.specs.Outside.{IsFault, IsStill, OnlyReads};
 ghost use Rattle.slate_types.specs.Refusing.{IsDamage, NoMore};
 ghost use Rattle.slate_types.specs.Rows.{key_value};
 ghost use Rattle.slate_types.specs.World.{World, Checks, Made, Sees};
-ghost use Rattle.slate_merge.specs.Offers.{offers};
+ghost use Rattle.slate_merge.specs.NoMoreRows.{NoMoreRows};
+ghost use Rattle.slate_merge.specs.Offers.{Comes, offers};
 ghost use Rattle.slate_merge.specs.OperatorIterators.{IsGoing, IsOperable, refuses_folding, rest_folding, sound_folding};
 ghost use Rattle.slate_txn.specs.Alone.{first_left};
-ghost use Rattle.slate_db.specs.Values.{HasValues, has_value};
+ghost use Rattle.slate_db.specs.Values.{HasValues, IsUnfolded, has_value};
 
 use slate_merge::{MergeOperatorIterator, Operates};
 use slate_types::{KeyValue, RowEntry, RowEntryIterator, SlateDBError, ValueDeletable};
@@ -47,6 +48,8 @@ pub(crate) fn next_value<E: Operates, I: RowEntryIterator<E>>(
     ensures checked { (w : World) → sound_folding I.rest I.sound I.order rows.old w → OnOk result (Checks w (E.reach env.old) (E.reach env.new)) }
     ensures sources { OnOk result (Made (E.reach env.old) (E.reach env.new) (λ reads. NoMore (I.refuses rows.old.iterator (E.reach env.old).meaning) reads (I.refuses rows.new.iterator (E.reach env.old).meaning))) }
     ensures later { OnOk result (Made (E.reach env.old) (E.reach env.new) (λ reads. NoMore (refuses_folding I.refuses (offers I.begins I.takes I.seeks) rows.old (E.reach env.old).meaning) reads (refuses_folding I.refuses (offers I.begins I.takes I.seeks) rows.new (E.reach env.old).meaning))) }
+    ensures bases { (E.reach env.old).meaning.combine ≡ None → IfOk result (λ a. Made (E.reach env.old) (E.reach env.new) (λ reads. IfSome a (IsUnfolded rows.old.folding.snapshot_barrier_seq (λ r. offers I.begins I.takes I.seeks rows.old.ahead rows.old.iterator (E.reach env.old).meaning reads (Comes r))))) }
+    ensures offered { OnOk result (Made (E.reach env.old) (E.reach env.new) (λ reads. NoMoreRows (offers I.begins I.takes I.seeks rows.old.ahead rows.old.iterator (E.reach env.old).meaning) reads (offers I.begins I.takes I.seeks rows.new.ahead rows.new.iterator (E.reach env.old).meaning))) }
     ensures undamaged { (w : World) → Sees w (E.reach env.old) (E.reach env.new) → IsGoing rows.old → sound_folding I.rest I.sound I.order rows.old w → IsOperable I.rest rows.old w →
         IfErr result (λ e. IsFault (E.reach env.old) (E.reach env.new) e ⊎ Made (E.reach env.old) (E.reach env.new) (λ reads. I.refuses rows.old.iterator (E.reach env.old).meaning reads None e × ¬ IsDamage e)) }
     ensures cause { IfErr result (λ e. Made (E.reach env.old) (E.reach env.new) (λ reads. IsFault (E.reach env.old) (E.reach env.new) e ⊎ refuses_folding I.refuses (offers I.begins I.takes I.seeks) rows.old (E.reach env.old).meaning reads None e)) }
@@ -77,6 +80,7 @@ pub(crate) fn seek_values<E: Operates, I: RowEntryIterator<E>>(
     ensures checked { (w : World) → sound_folding I.rest I.sound I.order rows.old w → OnOk result (Checks w (E.reach env.old) (E.reach env.new)) }
     ensures sources { OnOk result (Made (E.reach env.old) (E.reach env.new) (λ reads. NoMore (I.refuses rows.old.iterator (E.reach env.old).meaning) reads (I.refuses rows.new.iterator (E.reach env.old).meaning))) }
     ensures later { OnOk result (Made (E.reach env.old) (E.reach env.new) (λ reads. NoMore (refuses_folding I.refuses (offers I.begins I.takes I.seeks) rows.old (E.reach env.old).meaning) reads (refuses_folding I.refuses (offers I.begins I.takes I.seeks) rows.new (E.reach env.old).meaning))) }
+    ensures offered { OnOk result (Made (E.reach env.old) (E.reach env.new) (λ reads. NoMoreRows (offers I.begins I.takes I.seeks rows.old.ahead rows.old.iterator (E.reach env.old).meaning) reads (offers I.begins I.takes I.seeks rows.new.ahead rows.new.iterator (E.reach env.old).meaning))) }
     ensures undamaged { (w : World) → Sees w (E.reach env.old) (E.reach env.new) → IsGoing rows.old → sound_folding I.rest I.sound I.order rows.old w →
         IfErr result (λ e. IsFault (E.reach env.old) (E.reach env.new) e ⊎ Made (E.reach env.old) (E.reach env.new) (λ reads. I.refuses rows.old.iterator (E.reach env.old).meaning reads (Some key.now) e × ¬ IsDamage e)) }
     ensures cause { IfErr result (λ e. Made (E.reach env.old) (E.reach env.new) (λ reads. IsFault (E.reach env.old) (E.reach env.new) e ⊎ refuses_folding I.refuses (offers I.begins I.takes I.seeks) rows.old (E.reach env.old).meaning reads (Some key.now) e)) }

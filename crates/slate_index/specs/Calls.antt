@@ -4,6 +4,7 @@
 --     Changes fs id new now c d n      d has one commit more, of this number: it changes the record to a value, or to none, from the value that it read
 --     IsLeft c d      d has at most one transaction more in its journal, which changed a record and ended without a commit
 --     HasLooked c d      the same of one that searched
+--     db_error e      the error of the database that a refusal tells, if it tells one
 --     IsDbError policies before after c e      the database refuses to begin, or to read, or has no sequence left; or a fault came in the call
 --     IsChangeError policies fs id new before after c e      so it is, or the value is refused, or there is none to delete
 --     Steps P fs id new m c d result      where what was read is checked, a change is that of the map of values, or is refused as there, or by the database; P holds of its refusal within the transaction
@@ -59,6 +60,10 @@ HasLooked c d = (d ≡ c) ⊎ ((tx : List ℕ) × HasEnded c tx Snapshot d)
 -- the greatest sequence of a commit
 abbrev pub greatest : ℕ
 greatest = 2 ^ 64 - 2
+
+abbrev pub db_error : IndexError → Option SlateDBError
+db_error (Db x) = Some x
+db_error _ = None
 
 pub data IsDbError (policies : List Policy) (before after : Reach) (c : CoreModel) (e : SlateDBError) : Type 0 where
   begins : IsBeginError c e → IsDbError policies before after c e

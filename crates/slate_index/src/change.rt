@@ -11,9 +11,10 @@ ghost use Rattle.slate_txn.specs.declared.event.TranscriptStep.TheVariants as st
 ghost use Rattle.slate_db.specs.Meaning.{segments_by};
 ghost use Rattle.slate_db.specs.Model.{CoreModel};
 ghost use Rattle.slate_db.specs.Opened.{HasTransaction};
+ghost use Rattle.slate_steps.specs.Reads.{IsStillBy};
 ghost use Rattle.slate_steps.specs.Steps.{IsWithin};
 ghost use Rattle.slate_index.specs.declared.error.IndexError.{IndexError};
-ghost use Rattle.slate_index.specs.Calls.{IsChangeCall};
+ghost use Rattle.slate_index.specs.Calls.{IsChangeCall, db_error};
 ghost use Rattle.slate_index.specs.Changes.{change_puts};
 ghost use Rattle.slate_index.specs.Commits.{change_ops, value_of};
 ghost use Rattle.slate_index.specs.Refusals.{IsFine, delete_refusal, put_refusal};
@@ -60,6 +61,7 @@ pub fn put_record<F: Fields, S: Store, M: MergeOperator, X: PrefixExtractor, T: 
         let policies = map (λ p. meaning (p.vtable, p.value)) laws.now.policies.items in
         let seg = segments_by X.lengths laws.now.segments in
         IsChangeCall policies seg (F.model fields.now) id.now (Some value.now) now (reach env.old) (reach env.new) core.old core.new result }
+    ensures counts { let reach = ⟦<EnvOf<S, M, T> as Outside>⟧.reach in IsStillBy db_error (reach env.old).faults (reach env.new).faults result }
     ensures first { (e : IndexError) → put_refusal (F.model fields.now) value.now ≡ Some e → (result ≡ Err e) ⊎ (result ≡ Err (IndexError.Db SlateDBError.OutOfMemory)) }
 {
     match test_value(fields, value) {
@@ -92,6 +94,7 @@ pub fn delete_record<
         let policies = map (λ p. meaning (p.vtable, p.value)) laws.now.policies.items in
         let seg = segments_by X.lengths laws.now.segments in
         IsChangeCall policies seg (F.model fields.now) id.now None now (reach env.old) (reach env.new) core.old core.new result }
+    ensures counts { let reach = ⟦<EnvOf<S, M, T> as Outside>⟧.reach in IsStillBy db_error (reach env.old).faults (reach env.new).faults result }
 {
     change(core, fields, id, None, now, env, laws)
 }
@@ -108,10 +111,11 @@ fn change<F: Fields, S: Store, M: MergeOperator, X: PrefixExtractor, T: BlockTra
 ) -> Result<u64, IndexError>
     requires whole { laws.now.segments ≡ None }
     requires accepted { IfSome (option_copied new) (λ v. put_refusal (F.model fields.now) v ≡ None) }
-    ensures { let reach = ⟦<EnvOf<S, M, T> as Outside>⟧.reach in
+    ensures change { let reach = ⟦<EnvOf<S, M, T> as Outside>⟧.reach in
         let policies = map (λ p. meaning (p.vtable, p.value)) laws.now.policies.items in
         let seg = segments_by X.lengths laws.now.segments in
         IsChangeCall policies seg (F.model fields.now) id.now (option_copied new.entry) now (reach env.old) (reach env.new) core.old core.new result }
+    ensures counts { let reach = ⟦<EnvOf<S, M, T> as Outside>⟧.reach in IsStillBy db_error (reach env.old).faults (reach env.new).faults result }
 {
     id.is_named();
     let tx = match begin(core, IsolationLevel::SerializableSnapshot) {
@@ -162,6 +166,7 @@ fn take_steps<F: Fields, S: Store, M: MergeOperator, X: PrefixExtractor, T: Bloc
         (c : CoreModel) → IsWithin c tx.now IsolationLevel.SerializableSnapshot [] core.old →
         IfErr result (IsStopped policies (reach env.old) (reach env.new) (F.model fields.now) id.now (option_copied new.entry) c tx.now core.new) }
     ensures open { HasTransaction core.new tx.now }
+    ensures counts { let reach = ⟦<EnvOf<S, M, T> as Outside>⟧.reach in IsStillBy db_error (reach env.old).faults (reach env.new).faults result }
     ensures reads { let reach = ⟦<EnvOf<S, M, T> as Outside>⟧.reach in OnlyReads (reach env.old) (reach env.new) }
 {
     let alloc = core.journal().alloc();

@@ -6,7 +6,7 @@ ghost use Rattle.slate_types.specs.declared.error.SlateDBError.{SlateDBError};
 ghost use Rattle.slate_types.specs.declared.iter.IterationOrder.{IterationOrder};
 ghost use Rattle.slate_types.specs.declared.types.RowEntry.{RowEntry};
 ghost use Rattle.slate_types.specs.Keys.{AreBytes, prefix_range};
-ghost use Rattle.slate_types.specs.Outside.{IsFault, Objects, OnlyReads, Reach};
+ghost use Rattle.slate_types.specs.Outside.{IsFault, IsStill, Objects, OnlyReads, Reach};
 ghost use Rattle.slate_filter.specs.Policy.{Policy};
 ghost use Rattle.slate_mem.specs.KeyTests.{Segments};
 ghost use Rattle.slate_txn.specs.declared.event.TranscriptStep.{TranscriptStep};
@@ -17,8 +17,9 @@ ghost use Rattle.slate_db.specs.Model.{CoreModel};
 ghost use Rattle.slate_db.specs.Opened.{HasTransaction};
 ghost use Rattle.slate_db.specs.Scans.{IsOpenScan, id_of};
 ghost use Rattle.slate_db.specs.Settled.{IsSettledIn};
-ghost use Rattle.slate_steps.specs.Reads.{IsChecked, IsReadError, IsReading, IsScanSince};
+ghost use Rattle.slate_steps.specs.Reads.{IsChecked, IsReadError, IsReading, IsScanSince, IsStillBy};
 ghost use Rattle.slate_steps.specs.Steps.{IsWithin, newest};
+ghost use Rattle.slate_index.specs.Calls.{db_error};
 ghost use Rattle.slate_index.specs.Entries.{entry_prefix};
 ghost use Rattle.slate_index.specs.Finds.{names_behind};
 ghost use Rattle.slate_index.specs.Looking.{HasWalked, IsLookup};
@@ -54,10 +55,11 @@ pub fn lookup<S: Store, M: MergeOperator, X: PrefixExtractor, T: BlockTransforme
 ) -> Result<Vec<Name>, IndexError>
     requires valid { IsValid laws.now.options }
     requires short { length field.now ≤ 1024 }
-    ensures { let reach = ⟦<EnvOf<S, M, T> as Outside>⟧.reach in
+    ensures lookup { let reach = ⟦<EnvOf<S, M, T> as Outside>⟧.reach in
         let policies = map (λ p. meaning (p.vtable, p.value)) laws.now.policies.items in
         let seg = segments_by X.lengths laws.now.segments in
         IsLookup policies seg number field.now (reach env.old) (reach env.new) core.old core.new result }
+    ensures counts { let reach = ⟦<EnvOf<S, M, T> as Outside>⟧.reach in IsStillBy db_error (reach env.old).faults (reach env.new).faults result }
 {
     are_bytes(field.as_slice());
     let tx = match begin(core, IsolationLevel::Snapshot) {
@@ -105,6 +107,7 @@ fn ids_in<S: Store, M: MergeOperator, X: PrefixExtractor, T: BlockTransformer>(
     ensures cause { let reach = ⟦<EnvOf<S, M, T> as Outside>⟧.reach in
         let policies = map (λ p. meaning (p.vtable, p.value)) laws.now.policies.items in
         IfErr result (IsReadError policies (reach env.old) (reach env.new) core.old) }
+    ensures counts { let reach = ⟦<EnvOf<S, M, T> as Outside>⟧.reach in IsStill (reach env.old).faults (reach env.new).faults result }
     ensures reads { let reach = ⟦<EnvOf<S, M, T> as Outside>⟧.reach in OnlyReads (reach env.old) (reach env.new) }
 {
     let alloc = core.journal().alloc();
@@ -143,6 +146,7 @@ fn ids_behind<S: Store, M: MergeOperator, X: PrefixExtractor, T: BlockTransforme
     ensures cause { let reach = ⟦<EnvOf<S, M, T> as Outside>⟧.reach in
         let policies = map (λ p. meaning (p.vtable, p.value)) laws.now.policies.items in
         IfErr result (IsReadError policies (reach env.old) (reach env.new) core.old) }
+    ensures counts { let reach = ⟦<EnvOf<S, M, T> as Outside>⟧.reach in IsStill (reach env.old).faults (reach env.new).faults result }
     ensures reads { let reach = ⟦<EnvOf<S, M, T> as Outside>⟧.reach in OnlyReads (reach env.old) (reach env.new) }
 {
     match keys_behind(alloc, core, tx, prefix, env, laws) {
@@ -176,6 +180,7 @@ fn keys_behind<S: Store, M: MergeOperator, X: PrefixExtractor, T: BlockTransform
     ensures cause { let reach = ⟦<EnvOf<S, M, T> as Outside>⟧.reach in
         let policies = map (λ p. meaning (p.vtable, p.value)) laws.now.policies.items in
         IfErr result (IsReadError policies (reach env.old) (reach env.new) core.old) }
+    ensures counts { let reach = ⟦<EnvOf<S, M, T> as Outside>⟧.reach in IsStill (reach env.old).faults (reach env.new).faults result }
     ensures reads { let reach = ⟦<EnvOf<S, M, T> as Outside>⟧.reach in OnlyReads (reach env.old) (reach env.new) }
 {
     let mut scan = match scan_prefix(alloc, core, tx, prefix, env, laws) {
@@ -204,6 +209,7 @@ fn keys_left<S: Store, M: MergeOperator, T: BlockTransformer>(
     ensures cause { let reach = ⟦<EnvOf<S, M, T> as Outside>⟧.reach in
         (c : CoreModel) (from : Reach) (policies : List Policy) → OnlyReads from (reach env.old) → IsScanSince from (reach env.old) c scan.old →
         IfErr result (IsReadError policies from (reach env.new) c) }
+    ensures counts { let reach = ⟦<EnvOf<S, M, T> as Outside>⟧.reach in IsStill (reach env.old).faults (reach env.new).faults result }
     ensures reads { let reach = ⟦<EnvOf<S, M, T> as Outside>⟧.reach in OnlyReads (reach env.old) (reach env.new) }
 {
     let mut keys = Vec::new(alloc);

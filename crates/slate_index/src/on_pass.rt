@@ -12,8 +12,10 @@ ghost use Rattle.slate_txn.specs.declared.event.TranscriptStep.TheVariants as st
 ghost use Rattle.slate_db.specs.Meaning.{segments_by};
 ghost use Rattle.slate_shared.specs.Given.{AreGiven};
 ghost use Rattle.slate_steps.specs.Attempts.{IsAttempt, IsVouchedThere};
+ghost use Rattle.slate_steps.specs.Reads.{IsStillBy};
 ghost use Rattle.slate_index.specs.declared.error.IndexError.{IndexError};
 ghost use Rattle.slate_index.specs.Attempting.{HasTakenThere, IsChangeAttempt, IsStoppedThere};
+ghost use Rattle.slate_index.specs.Calls.{db_error};
 ghost use Rattle.slate_index.specs.Changes.{change_puts};
 ghost use Rattle.slate_index.specs.Commits.{change_ops, value_of};
 ghost use Rattle.slate_index.specs.Refusals.{IsFine, delete_refusal, put_refusal};
@@ -72,6 +74,7 @@ pub fn put_record_shared<
     requires whole { laws.now.segments ≡ None }
     ensures change { let reach = ⟦<EnvOf<S, M, T> as Outside>⟧.reach in
         IsChangeAttempt P.options P.meaning P.policies (F.model fields.now) id.now (Some value.now) now (reach env.old) (reach env.new) pass.old pass.new result }
+    ensures counts { let reach = ⟦<EnvOf<S, M, T> as Outside>⟧.reach in IsStillBy db_error (reach env.old).faults (reach env.new).faults result }
     ensures first { let reach = ⟦<EnvOf<S, M, T> as Outside>⟧.reach in
         (e : IndexError) → put_refusal (F.model fields.now) value.now ≡ Some e →
         ((result ≡ Err e) ⊎ (result ≡ Err (IndexError.Db SlateDBError.OutOfMemory))) × (pass.new ≡ pass.old) × (reach env.new ≡ reach env.old) }
@@ -110,6 +113,7 @@ pub fn delete_record_shared<
     requires whole { laws.now.segments ≡ None }
     ensures change { let reach = ⟦<EnvOf<S, M, T> as Outside>⟧.reach in
         IsChangeAttempt P.options P.meaning P.policies (F.model fields.now) id.now None now (reach env.old) (reach env.new) pass.old pass.new result }
+    ensures counts { let reach = ⟦<EnvOf<S, M, T> as Outside>⟧.reach in IsStillBy db_error (reach env.old).faults (reach env.new).faults result }
 {
     change(rt, db, pass, fields, id, None, now, env, laws)
 }
@@ -139,8 +143,9 @@ fn change<
     requires laws { AreGiven P.options P.segments P.policies laws.now.options (segments_by X.lengths laws.now.segments) (map (λ p. (⟦<dyn FilterPolicy as FilterPolicy>⟧ p.vtable).meaning p.value) laws.now.policies.items) }
     requires whole { laws.now.segments ≡ None }
     requires accepted { IfSome (option_copied new) (λ v. put_refusal (F.model fields.now) v ≡ None) }
-    ensures { let reach = ⟦<EnvOf<S, M, T> as Outside>⟧.reach in
+    ensures change { let reach = ⟦<EnvOf<S, M, T> as Outside>⟧.reach in
         IsChangeAttempt P.options P.meaning P.policies (F.model fields.now) id.now (option_copied new.entry) now (reach env.old) (reach env.new) pass.old pass.new result }
+    ensures counts { let reach = ⟦<EnvOf<S, M, T> as Outside>⟧.reach in IsStillBy db_error (reach env.old).faults (reach env.new).faults result }
 {
     id.is_named();
     let mut txn = match begin(rt, db, pass, IsolationLevel::SerializableSnapshot) {
@@ -190,6 +195,7 @@ fn take_steps<
         (from : List Event) → IsAttempt P.options from IsolationLevel.SerializableSnapshot [] txn.old →
         IfErr result (IsStoppedThere P.options P.meaning P.policies (F.model fields.now) id.now (option_copied new.entry) from (reach env.old) (reach env.new) txn.new) }
     ensures table { txn.new.table ≡ txn.old.table }
+    ensures counts { let reach = ⟦<EnvOf<S, M, T> as Outside>⟧.reach in IsStillBy db_error (reach env.old).faults (reach env.new).faults result }
     ensures reads { let reach = ⟦<EnvOf<S, M, T> as Outside>⟧.reach in OnlyReads (reach env.old) (reach env.new) }
 {
     let alloc = *laws.policies.allocator();

@@ -2,9 +2,10 @@
 --     is_decided rows      of rows of a key, newest first, the last is no operand, so that no older row counts
 --     newest_first layers      the rows of layers of which the newest stands last, the newest layer first
 --     is_merge_among rows      one of the rows is an operand
+--     IsRowUpTo k n r      a row of the key, of a sequence up to n
 --     Brings step before found      each row that was found is one that steps of an iterator answered
 --     IsCallback before after e      a failure of the operator, whose count rose
-use Rattle.std.specs.Prelude.{ℕ, ◌-◌, Bool, false, List, length, Contains, flat_map, reverse, slice_get, Option, Some, None}
+use Rattle.std.specs.Prelude.{◌≡◌, ℕ, ◌-◌, ◌≤◌, Bool, false, List, length, Contains, flat_map, reverse, slice_get, Option, Some, None}
 use Rattle.std.specs.List.{AllByRecursion, list_any}
 use Rattle.slate_types.specs.declared.error.SlateDBError.{SlateDBError}
 use Rattle.slate_types.specs.declared.error.SlateDBError.TheVariants.{Callback}
@@ -25,6 +26,9 @@ newest_first layers = flat_map (λ rows. rows) (reverse layers)
 
 abbrev pub is_merge_among : List RowEntry → Bool
 is_merge_among rows = list_any is_operand rows
+
+abbrev pub IsRowUpTo : List ℕ → ℕ → RowEntry → Type 0
+IsRowUpTo k n r = (r.key ≡ k) × (r.seq ≤ n)
 
 -- step: what one call may answer, and what becomes of the iterator then
 abbrev pub Brings : {A : Type 0} → (A → Option RowEntry → A → Type 0) → A → List RowEntry → Type 0

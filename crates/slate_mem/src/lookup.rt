@@ -1,5 +1,6 @@
 //! The rows of a key, newest first, to the first that decides.
 ghost use Rattle.std.specs.Prelude.{◌≡◌, ◌⊎◌, true, false, List, [], ◌∷◌, ◌++◌, map, None, IfOk, IfErr, OnOk, IsOkUnless};
+ghost use Rattle.std.specs.List.{AllByRecursion};
 ghost use Rattle.slate_types.specs.declared.error.SlateDBError.{SlateDBError};
 ghost use Rattle.slate_types.specs.declared.iter.IterationOrder.{IterationOrder};
 ghost use Rattle.slate_types.specs.declared.types.RowEntry.{RowEntry};
@@ -8,7 +9,7 @@ ghost use Rattle.slate_types.specs.Outside.{Act, no_parts};
 ghost use Rattle.slate_types.specs.Rows.{is_operand};
 ghost use Rattle.slate_types.specs.World.{nothing};
 ghost use Rattle.slate_mem.specs.Table.{newest};
-ghost use Rattle.slate_mem.specs.Lookup.{is_decided, newest_first, Brings};
+ghost use Rattle.slate_mem.specs.Lookup.{is_decided, newest_first, Brings, IsRowUpTo};
 
 use crate::{ImmutableMemtable, MemTable};
 use bytes::Bytes;
@@ -77,6 +78,7 @@ pub fn newest_of_walk<I: RowEntryIterator<()>>(
     max_seq: u64,
 ) -> Result<Vec<RowEntry>, SlateDBError>
     ensures found { I.sound rows.old nothing → I.order rows.old ≡ IterationOrder.Ascending → NoneBefore IterationOrder.Ascending key.now (I.rest rows.old nothing) → IfOk result (λ found. found.items ≡ newest key.now max_seq (I.rest rows.old nothing)) }
+    ensures asked { IfOk result (λ found. AllByRecursion (IsRowUpTo key.now max_seq) found.items) }
     ensures brought { IfOk result (λ found. Brings (λ before answer after. (reads : List Act) × I.takes before no_parts reads answer after) rows.old found.items) }
     ensures cause { IfErr result (λ e. (e ≡ SlateDBError.OutOfMemory) ⊎ I.refuses rows.old no_parts [] None e) }
 {
@@ -98,6 +100,7 @@ fn take_row(
     max_seq: u64,
 ) -> Result<bool, AllocError>
     ensures row { OnOk result ((found.new.items ≡ found.old.items) ⊎ (found.new.items ≡ found.old.items ++ (row ∷ []))) }
+    ensures asked { OnOk result (AllByRecursion (IsRowUpTo key.now max_seq) found.old.items → AllByRecursion (IsRowUpTo key.now max_seq) found.new.items) }
     ensures goes_on { IfOk result (λ more. more ≡ true → (rows : List RowEntry) → found.old.items ++ newest key.now max_seq (row ∷ rows) ≡ found.new.items ++ newest key.now max_seq rows) }
     ensures ends { IfOk result (λ more. more ≡ false → (rows : List RowEntry) → NoneBefore IterationOrder.Ascending key.now (row ∷ rows) → IsInOrder IterationOrder.Ascending (row ∷ rows) → found.old.items ++ newest key.now max_seq (row ∷ rows) ≡ found.new.items) }
 {

@@ -1,5 +1,5 @@
 -- A call on a queue, by its steps and by how its transaction ended.
-use Rattle.std.proofs.Common.{◌≡◌, ◌≢◌, ◌⊎◌, inl, inr, ℕ, ◌+◌, ◌-◌, ◌^◌, ◌≤◌, ℤ, List, [], ◌∷◌, ◌++◌, length, Option, Some, None, Ok, Err, refl, sym, ap, subst, arith}
+use Rattle.std.proofs.Common.{◌≡◌, ◌≢◌, ◌⊎◌, inl, inr, ℕ, ◌+◌, ◌-◌, ◌^◌, ◌≤◌, ℤ, List, [], ◌∷◌, ◌++◌, ◌∙◌, length, Option, Some, None, Ok, Err, refl, sym, ap, subst, arith}
 use Rattle.std.specs.Prelude.{IsSome}
 use Rattle.slate_types.specs.declared.config.IsolationLevel.TheVariants.{SerializableSnapshot}
 use Rattle.slate_types.specs.declared.error.SlateDBError.{SlateDBError}
@@ -20,6 +20,7 @@ use Rattle.slate_db.specs.Load.{load, weight}
 use Rattle.slate_db.specs.Segmented.{IsSegmented}
 use Rattle.slate_db.specs.Settled.{IsSettled, IsSettledIn}
 use Rattle.slate_db.specs.Sound.{IsKept}
+use Rattle.slate_steps.specs.Reads.{unblamed_if}
 use Rattle.slate_steps.specs.Steps.{HasCommitted, HasEnded, IsBeginError, Sees, newest}
 use Rattle.slate_steps.proofs.StoreTruth.{checked_before, checked_in}
 use Rattle.slate_steps.proofs.Settling.{committed_kind, committed_settled, committed_vouched, committed_weight, ended_kind, ended_load, ended_settled, ended_vouched, ended_weight}
@@ -47,6 +48,10 @@ counts_in c id ts n now d h = subst (txn.Counts c.settings.start_seq) h.replays.
 
 pub ended_stands : (m : Meaning) (c d : CoreModel) (id : List ℕ) (q : Queue) → HasEnded c id SerializableSnapshot d → StandsIn m c q → StandsIn m d q
 ended_stands m c d id q h s = subst (λ (v : CoreModel). StandsIn m v q) (sym h.is) s
+
+-- a commit that reaches nothing outside passes over no failure
+pub still_behind : (o : Option SlateDBError) (before middle after : Reach) → after ≡ middle → middle.faults ≡ before.faults → unblamed_if o after.faults ≡ unblamed_if o before.faults
+still_behind o before middle after same counts = ap (λ (x : Reach). unblamed_if o x.faults) same ∙ ap (unblamed_if o) counts
 
 -- ---- what is kept
 

@@ -5,6 +5,7 @@
 --     IsAddOf payload id, IsClaimOf ms claim, IsFinishOf id lease      a commit adds this job under this id; claims so; finishes it under this lease
 --     Took policies before after c id means d      d is c in which a transaction was begun and took steps of which this is true; where what was read is checked, its answers are those of a reader at the newest sequence
 --     Stops takes policies before after c d      d is c in which a transaction was begun, took all these steps and ended without a commit; its answers are such
+--     db_error e      the error of the database that a refusal tells, if it tells one
 --     IsDbRefusal policies before after c id e      a fault or want of memory, where the core is settled; of several reads the last is refused so
 --     Attempts means stops policies before after c id d result      an attempt within a transaction: its steps, by its result
 --     StepRefuses, StepsAs      by the model's step: what an answer is, and why a call is refused
@@ -91,6 +92,10 @@ pub record Stops (takes : List TranscriptStep → Type 0) (policies : List Polic
 abbrev pub ClaimEnds : ℤ → ℕ → List Policy → Reach → Reach → CoreModel → CoreModel → Option Claim → Type 0
 ClaimEnds now ms policies before after c d None = Stops (FindsNone now) policies before after c d
 ClaimEnds now ms policies before after c d (Some claim) = Commits (IsClaimOf now ms claim) now c d
+
+abbrev pub db_error : QueueError → Option SlateDBError
+db_error (errors.Db error) = Some error
+db_error _ = None
 
 pub record IsDbRefusal (policies : List Policy) (before after : Reach) (c : CoreModel) (id : List ℕ) (e : QueueError) : Type 0 where
   pub error : SlateDBError

@@ -9,10 +9,11 @@ ghost use Rattle.slate_txn.specs.declared.event.TranscriptStep.{TranscriptStep};
 ghost use Rattle.slate_txn.specs.declared.event.TranscriptStep.TheVariants as steps;
 ghost use Rattle.slate_db.specs.Model.{CoreModel};
 ghost use Rattle.slate_db.specs.Opened.{HasTransaction};
+ghost use Rattle.slate_steps.specs.Reads.{IsStillBy};
 ghost use Rattle.slate_steps.specs.Steps.{IsWithin};
 ghost use Rattle.slate_queue.specs.declared.error.QueueError.{QueueError};
 ghost use Rattle.slate_queue.specs.CallSteps.{AddStops, Adds, Counts, counter_refusal, own_steps, value_of};
-ghost use Rattle.slate_queue.specs.Calls.{Attempts};
+ghost use Rattle.slate_queue.specs.Calls.{Attempts, db_error};
 ghost use Rattle.slate_queue.specs.Commits.{added, put_of};
 ghost use Rattle.slate_queue.specs.Jobs.{last_number, longest, new_job};
 ghost use Rattle.slate_queue.specs.Stored.{counter_in, job_bytes, job_key};
@@ -43,6 +44,7 @@ pub(crate) fn add_job<S: Store, M: MergeOperator, T: BlockTransformer, X: Prefix
         let policies = map (λ p. meaning (p.vtable, p.value)) laws.now.policies.items in
         (c : CoreModel) → IsWithin c id.now IsolationLevel.SerializableSnapshot [] core.old →
         Attempts (Adds payload.now) AddStops policies (reach env.old) (reach env.new) c id.now core.new result }
+    ensures counts { let reach = ⟦<EnvOf<S, M, T> as Outside>⟧.reach in IsStillBy db_error (reach env.old).faults (reach env.new).faults result }
     ensures reads { let reach = ⟦<EnvOf<S, M, T> as Outside>⟧.reach in OnlyReads (reach env.old) (reach env.new) }
 {
     let alloc = core.journal().alloc();
@@ -69,6 +71,7 @@ fn next_id<S: Store, M: MergeOperator, T: BlockTransformer, X: PrefixExtractor>(
         let policies = map (λ p. meaning (p.vtable, p.value)) laws.now.policies.items in
         (c : CoreModel) → IsWithin c id.now IsolationLevel.SerializableSnapshot [] core.old →
         Attempts Counts AddStops policies (reach env.old) (reach env.new) c id.now core.new result }
+    ensures counts { let reach = ⟦<EnvOf<S, M, T> as Outside>⟧.reach in IsStillBy db_error (reach env.old).faults (reach env.new).faults result }
     ensures reads { let reach = ⟦<EnvOf<S, M, T> as Outside>⟧.reach in OnlyReads (reach env.old) (reach env.new) }
 {
     match get(core, id, b"n", env, laws) {

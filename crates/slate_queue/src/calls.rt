@@ -1,8 +1,10 @@
-//! Calls on a queue in a core.
+//! Calls on a queue in a core. None passes over a failure: where one is answered no count of faults rose, and where one is refused none but
+//! that of the part whose fault it tells.
 ghost use Rattle.std.specs.Prelude.{◌≡◌, None, map};
 ghost use Rattle.slate_types.specs.Config.{IsValid};
 ghost use Rattle.slate_db.specs.Meaning.{segments_by};
-ghost use Rattle.slate_queue.specs.Calls.{AddRefuses, CallsAs, ClaimEnds, ClaimRefuses, Commits, FinishRefuses, IsAddOf, IsFinishOf, claim_answer};
+ghost use Rattle.slate_steps.specs.Reads.{IsStillBy};
+ghost use Rattle.slate_queue.specs.Calls.{AddRefuses, CallsAs, ClaimEnds, ClaimRefuses, Commits, FinishRefuses, IsAddOf, IsFinishOf, claim_answer, db_error};
 ghost use Rattle.slate_queue.specs.Jobs.{Answer, Call};
 
 use crate::adding::add_job;
@@ -40,6 +42,7 @@ pub fn add<S: Store, M: MergeOperator, T: BlockTransformer, X: PrefixExtractor>(
         CallsAs (λ id. Commits (IsAddOf payload.now id) now core.old core.new) Answer.Added (Call.Add payload.now)
         (AddRefuses payload.now policies (reach env.old) (reach env.new) core.old core.new)
         policies (segments_by X.lengths laws.now.segments) (reach env.old) (reach env.new) core.old core.new result }
+    ensures counts { let reach = ⟦<EnvOf<S, M, T> as Outside>⟧.reach in IsStillBy db_error (reach env.old).faults (reach env.new).faults result }
 {
     if payload.len() > LONGEST {
         return Err(QueueError::PayloadTooLong {
@@ -81,6 +84,7 @@ pub fn finish<S: Store, M: MergeOperator, T: BlockTransformer, X: PrefixExtracto
         CallsAs (λ done. Commits (IsFinishOf id lease) now core.old core.new) (λ done. Answer.Finished) (Call.Finish id lease)
         (FinishRefuses id lease policies (reach env.old) (reach env.new) core.old core.new)
         policies (segments_by X.lengths laws.now.segments) (reach env.old) (reach env.new) core.old core.new result }
+    ensures counts { let reach = ⟦<EnvOf<S, M, T> as Outside>⟧.reach in IsStillBy db_error (reach env.old).faults (reach env.new).faults result }
 {
     let txn = match begin(core, IsolationLevel::SerializableSnapshot) {
         Ok(txn) => txn,
@@ -117,6 +121,7 @@ pub fn claim<S: Store, M: MergeOperator, T: BlockTransformer, X: PrefixExtractor
         CallsAs (ClaimEnds now ms policies (reach env.old) (reach env.new) core.old core.new) claim_answer (Call.Claim now ms)
         (ClaimRefuses now policies (reach env.old) (reach env.new) core.old core.new)
         policies (segments_by X.lengths laws.now.segments) (reach env.old) (reach env.new) core.old core.new result }
+    ensures counts { let reach = ⟦<EnvOf<S, M, T> as Outside>⟧.reach in IsStillBy db_error (reach env.old).faults (reach env.new).faults result }
 {
     let id = match begin(core, IsolationLevel::SerializableSnapshot) {
         Ok(id) => id,

@@ -8,10 +8,11 @@ ghost use Rattle.slate_db.specs.Model.{CoreModel};
 ghost use Rattle.slate_db.specs.Opened.{HasTransaction};
 ghost use Rattle.slate_db.specs.Scans.{IsOpenScan, id_of, number_of};
 ghost use Rattle.slate_txn.specs.declared.event.TranscriptStep.{TranscriptStep};
+ghost use Rattle.slate_steps.specs.Reads.{IsStillBy};
 ghost use Rattle.slate_steps.specs.Steps.{IsWithin};
 ghost use Rattle.slate_queue.specs.declared.error.QueueError.{QueueError};
 ghost use Rattle.slate_queue.specs.CallSteps.{ClaimStops, HasLease, IsBadRow, MayClaim, own_steps};
-ghost use Rattle.slate_queue.specs.Calls.{Attempts};
+ghost use Rattle.slate_queue.specs.Calls.{Attempts, db_error};
 ghost use Rattle.slate_queue.specs.Commits.{put_of};
 ghost use Rattle.slate_queue.specs.Standing.{longest_value};
 ghost use Rattle.slate_queue.specs.Stored.{job_bytes, job_key};
@@ -68,6 +69,7 @@ pub(crate) fn claim_job<S: Store, M: MergeOperator, T: BlockTransformer, X: Pref
         let policies = map (λ p. meaning (p.vtable, p.value)) laws.now.policies.items in
         (c : CoreModel) → IsWithin c id.now IsolationLevel.SerializableSnapshot [] core.old →
         Attempts (MayClaim now ms) (ClaimStops now) policies (reach env.old) (reach env.new) c id.now core.new result }
+    ensures counts { let reach = ⟦<EnvOf<S, M, T> as Outside>⟧.reach in IsStillBy db_error (reach env.old).faults (reach env.new).faults result }
     ensures reads { let reach = ⟦<EnvOf<S, M, T> as Outside>⟧.reach in OnlyReads (reach env.old) (reach env.new) }
 {
     let alloc = core.journal().alloc();
@@ -98,6 +100,7 @@ fn find_free<S: Store, M: MergeOperator, T: BlockTransformer, X: PrefixExtractor
         let policies = map (λ p. meaning (p.vtable, p.value)) laws.now.policies.items in
         (c : CoreModel) → IsWithin c id.now IsolationLevel.SerializableSnapshot [] core.old →
         Attempts (MayFind now) (FindStops now) policies (reach env.old) (reach env.new) c id.now core.new result }
+    ensures counts { let reach = ⟦<EnvOf<S, M, T> as Outside>⟧.reach in IsStillBy db_error (reach env.old).faults (reach env.new).faults result }
     ensures reads { let reach = ⟦<EnvOf<S, M, T> as Outside>⟧.reach in OnlyReads (reach env.old) (reach env.new) }
 {
     let mut scan = match scan_prefix(alloc, core, id, b"j", env, laws) {
@@ -125,6 +128,7 @@ fn walk<S: Store, M: MergeOperator, T: BlockTransformer>(
         IfOk result (WalksTo now (reach env.old) (reach env.new) core.old core.new scan.old) }
     ensures stops { let reach = ⟦<EnvOf<S, M, T> as Outside>⟧.reach in
         IfErr result (WalkStops now (reach env.old) (reach env.new) core.old core.new scan.old) }
+    ensures counts { let reach = ⟦<EnvOf<S, M, T> as Outside>⟧.reach in IsStillBy db_error (reach env.old).faults (reach env.new).faults result }
     ensures reads { let reach = ⟦<EnvOf<S, M, T> as Outside>⟧.reach in OnlyReads (reach env.old) (reach env.new) }
 {
     for _ in 0..u64::MAX {
@@ -155,6 +159,7 @@ fn walk_on<S: Store, M: MergeOperator, T: BlockTransformer>(
         IfOk result (GoesTo now (reach env.old) (reach env.new) core.old core.new scan.old scan.new) }
     ensures stops { let reach = ⟦<EnvOf<S, M, T> as Outside>⟧.reach in
         IfErr result (StopsAt (reach env.old) (reach env.new) core.old core.new scan.old scan.new) }
+    ensures counts { let reach = ⟦<EnvOf<S, M, T> as Outside>⟧.reach in IsStillBy db_error (reach env.old).faults (reach env.new).faults result }
     ensures reads { let reach = ⟦<EnvOf<S, M, T> as Outside>⟧.reach in OnlyReads (reach env.old) (reach env.new) }
 {
     match next(core, scan, env) {

@@ -1,10 +1,13 @@
 //! Calls on a queue in a database that threads share, one attempt each. Two threads that claim one job conflict, and so do two that add:
 //! a caller tries again after `TransactionConflict`. A claim reads jobs only up to the one that it takes, and so doesn't conflict with an
-//! add.
+//! add. None passes over a failure: where one is answered no count of faults rose, and where one is refused none but that of the part
+//! whose fault it tells.
 ghost use Rattle.std.specs.Prelude.{◌≡◌, None, map};
 ghost use Rattle.slate_types.specs.Config.{IsValid};
 ghost use Rattle.slate_db.specs.Meaning.{segments_by};
 ghost use Rattle.slate_shared.specs.Given.{AreGiven};
+ghost use Rattle.slate_steps.specs.Reads.{IsStillBy};
+ghost use Rattle.slate_queue.specs.Calls.{db_error};
 ghost use Rattle.slate_queue.specs.OnPass.{AddsOn, ClaimsOn, FinishesOn};
 
 mod adding;
@@ -53,6 +56,7 @@ pub fn add_shared<
     requires plain { laws.now.segments ≡ None }
     ensures called { let reach = ⟦<EnvOf<S, M, T> as Outside>⟧.reach in
         AddsOn payload.now now P.options P.meaning P.policies (reach env.old) (reach env.new) pass.old pass.new result }
+    ensures counts { let reach = ⟦<EnvOf<S, M, T> as Outside>⟧.reach in IsStillBy db_error (reach env.old).faults (reach env.new).faults result }
     ensures same { (pass.new.table ≡ pass.old.table) × (pass.new.parts ≡ pass.old.parts) }
 {
     if payload.len() > LONGEST {
@@ -104,6 +108,7 @@ pub fn finish_shared<
     ensures called { let reach = ⟦<EnvOf<S, M, T> as Outside>⟧.reach in
         FinishesOn id lease now P.options P.meaning P.policies
         (reach env.old) (reach env.new) pass.old pass.new result }
+    ensures counts { let reach = ⟦<EnvOf<S, M, T> as Outside>⟧.reach in IsStillBy db_error (reach env.old).faults (reach env.new).faults result }
     ensures same { (pass.new.table ≡ pass.old.table) × (pass.new.parts ≡ pass.old.parts) }
 {
     let mut txn = match begin(rt, db, pass, IsolationLevel::SerializableSnapshot) {
@@ -150,6 +155,7 @@ pub fn claim_shared<
     requires plain { laws.now.segments ≡ None }
     ensures called { let reach = ⟦<EnvOf<S, M, T> as Outside>⟧.reach in
         ClaimsOn now ms P.options P.meaning P.policies (reach env.old) (reach env.new) pass.old pass.new result }
+    ensures counts { let reach = ⟦<EnvOf<S, M, T> as Outside>⟧.reach in IsStillBy db_error (reach env.old).faults (reach env.new).faults result }
     ensures same { (pass.new.table ≡ pass.old.table) × (pass.new.parts ≡ pass.old.parts) }
 {
     let mut txn = match begin(rt, db, pass, IsolationLevel::SerializableSnapshot) {

@@ -64,18 +64,18 @@ or_operator (Err x) before after e (inl outer) = inl outer
 or_operator (Err x) before after e (inr (inl limit)) = inr (inl limit)
 or_operator (Err x) before after e (inr (inr wants)) = inr (inr (subst IsTableError (sym wants) tt))
 
-pub limit_between : {V : Type 0} (result : Result V SlateDBError) (by : Asking) (before after : Reach) (e : SessionModel) → IfErr result (IsReadError by before after e.core) → IfErr result (λ x. IsFault before after x ⊎ IsLimit e x ⊎ IsTableError x)
-limit_between (Ok v) by before after e cause = tt
-limit_between (Err x) by before after e cause = either (get_cause by before after e.core x cause)
+pub limit_between : {V : Type 0} (result : Result V SlateDBError) (by : Asking) (upto : ℕ) (before after : Reach) (e : SessionModel) → IfErr result (IsReadError by upto before after e.core) → IfErr result (λ x. IsFault before after x ⊎ IsLimit e x ⊎ IsTableError x)
+limit_between (Ok v) by upto before after e cause = tt
+limit_between (Err x) by upto before after e cause = either (get_cause by upto before after e.core x cause)
   where
     either : IsFault before after x ⊎ IsTableError x → IsFault before after x ⊎ IsLimit e x ⊎ IsTableError x
     either (inl fault) = inl fault
     either (inr error) = inr (inr error)
 
 -- what isn't a fault of a read is shown by its reads
-pub shown_of : {V : Type 0} (result : Result V SlateDBError) (by : Asking) (before after : Reach) (e : SessionModel) → IfErr result (IsReadError by before after e.core) → IfErr result (λ x. IsTableError x → Made before after (λ reads. IsRefusedBy by before.meaning e.core reads x))
-shown_of (Ok v) by before after e cause = tt
-shown_of (Err x) by before after e cause = get_shown by before after e.core x cause
+pub shown_of : {V : Type 0} (result : Result V SlateDBError) (by : Asking) (upto : ℕ) (before after : Reach) (e : SessionModel) → IfErr result (IsReadError by upto before after e.core) → IfErr result (λ x. IsTableError x → Made before after (λ reads. IsRefusedBy by upto before.meaning e.core reads x))
+shown_of (Ok v) by upto before after e cause = tt
+shown_of (Err x) by upto before after e cause = get_shown by upto before after e.core x cause
 
 pub no_damage : {V : Type 0} (P : Type 0) (result : Result V SlateDBError) (before after : Counts) (e : SessionModel) → IfErr result (λ x. IsCounted before after x ⊎ IsLimit e x) → IfErr result (λ x. IsTableError x → P)
 no_damage P (Ok v) before after e cause = tt

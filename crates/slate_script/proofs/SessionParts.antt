@@ -11,7 +11,7 @@ use Rattle.slate_db.specs.Answered.{AnswersFrom}
 use Rattle.slate_db.specs.Checked.{ChecksFrom, OrSlips}
 use Rattle.slate_db.specs.Flushed.{IsFlushError, Layout, events_of_flush}
 use Rattle.slate_types.specs.World.{Made}
-use Rattle.slate_db.specs.Readable.{IsAnswered, IsReadable, IsReadError, IsRefusedBy}
+use Rattle.slate_db.specs.Readable.{IsAnswered, IsReadable, IsReadError, IsRefusedBy, reads_at}
 use Rattle.slate_db.specs.Model.{CoreModel, Rows}
 use Rattle.slate_db.specs.Shown.{Asking}
 use Rattle.slate_db.proofs.Shown.{refused_kind}
@@ -20,6 +20,7 @@ use Rattle.slate_script.proofs.Slips.{holds_as}
 use Rattle.slate_db.specs.Parts.{IsTableError}
 use Rattle.slate_db.specs.Log.{LIMIT}
 use Rattle.slate_script.specs.Session.{SessionModel, IsLimit, held_load}
+use Rattle.slate_script.specs.Told.{IsRefusedInGet, asking_for}
 
 two_at_most : (active : Rows) (layers : List Rows) → events_of_flush active layers ≤ 2
 two_at_most [] [] = omega arith
@@ -45,14 +46,20 @@ has_room n events txns more r seq e ok limit = let below : events < suc n = lt_o
     passed : suc n ≤ events → ⊥
     passed over = let clash : Ok seq ≡ Err e = sym ok ∙ limit (omega (arith, over)) in cc
 
-pub get_cause : (by : Asking) (before after : Reach) (c : CoreModel) (e : SlateDBError) → IsReadError by before after c e → IsFault before after e ⊎ IsTableError e
-get_cause by before after c e (inl fault) = inl fault
-get_cause by before after c e (inr made) = inr (refused_kind by before.meaning c made.0 e made.2)
+pub get_cause : (by : Asking) (upto : ℕ) (before after : Reach) (c : CoreModel) (e : SlateDBError) → IsReadError by upto before after c e → IsFault before after e ⊎ IsTableError e
+get_cause by upto before after c e (inl fault) = inl fault
+get_cause by upto before after c e (inr made) = inr (refused_kind by upto before.meaning c made.0 e made.2)
 
 -- what isn't a fault is shown
-pub get_shown : (by : Asking) (before after : Reach) (c : CoreModel) (e : SlateDBError) → IsReadError by before after c e → IsTableError e → Made before after (λ reads. IsRefusedBy by before.meaning c reads e)
-get_shown by before after c e (inl fault) error = absurd (not_damage {X = Unit {0}} before.faults after.faults e (inl fault) error)
-get_shown by before after c e (inr made) error = made
+pub get_shown : (by : Asking) (upto : ℕ) (before after : Reach) (c : CoreModel) (e : SlateDBError) → IsReadError by upto before after c e → IsTableError e → Made before after (λ reads. IsRefusedBy by upto before.meaning c reads e)
+get_shown by upto before after c e (inl fault) error = absurd (not_damage {X = Unit {0}} before.faults after.faults e (inl fault) error)
+get_shown by upto before after c e (inr made) error = made
+
+-- a get by one that the core has open is refused so
+pub get_refused_at : (policies : List Policy) (k id : List ℕ) (before after : Reach) (c : CoreModel) (e : SlateDBError) → IsReadError (asking_for policies k) (reads_at c.state id) before after c e →
+    IsFault before after e ⊎ Made before after (λ reads. IsRefusedInGet policies k before.meaning c reads e)
+get_refused_at policies k id before after c e (inl fault) = inl fault
+get_refused_at policies k id before after c e (inr made) = inr (made.0, made.1, (id, made.2))
 
 -- ---- what a session reads
 

@@ -5,6 +5,7 @@
 --     ArePut acts ts      each of the tables was put by one of the acts
 --     PutsTables old new before after      of two lists of tables the second has those of the first and more, which were put by the acts in between
 --     asking_for policies k      what the get of a line asks filters
+--     IsRefusedInGet policies k m c reads e      reads show the error, as those of a get by one that the core has open
 --     IsShownBy policies m c reads e      reads show the error, as those of a get do or as those of a scan
 --     IsRefusedAt policies line m c reads e      what a line is refused for by its reads: a get, a scan and a prefix; others are for none
 --     IsShown policies m before after e      of acts that a store tells the last ones are reads that show the error, by tables that were put before them
@@ -27,7 +28,7 @@ use Rattle.slate_db.specs.Answered.{AnswersAct}
 use Rattle.slate_db.specs.Installs.{root, tables_of}
 use Rattle.slate_db.specs.Meaning.{Meaning}
 use Rattle.slate_db.specs.Model.{CoreModel}
-use Rattle.slate_db.specs.Readable.{IsRefusedBy}
+use Rattle.slate_db.specs.Readable.{IsRefusedBy, reads_at}
 use Rattle.slate_db.specs.Scans.{IsRefusedInScan}
 use Rattle.slate_db.specs.Shown.{Asking}
 use Rattle.slate_db.specs.Sound.{IsKept}
@@ -56,11 +57,14 @@ PutsTables old new before after = (known : List Act) → before ≡ Some known �
 abbrev pub asking_for : List Policy → List ℕ → Asking
 asking_for policies k = record { policies = policies; query = point_query k None }
 
+abbrev pub IsRefusedInGet : List Policy → List ℕ → Meaning → CoreModel → List Act → SlateDBError → Type 0
+IsRefusedInGet policies k m c reads e = (id : List ℕ) × IsRefusedBy (asking_for policies k) (reads_at c.state id) m c reads e
+
 abbrev pub IsShownBy : List Policy → Meaning → CoreModel → List Act → SlateDBError → Type 0
-IsShownBy policies m c reads e = ((k : List ℕ) × IsRefusedBy (asking_for policies k) m c reads e) ⊎ IsRefusedInScan policies m c reads e
+IsShownBy policies m c reads e = ((k : List ℕ) × IsRefusedInGet policies k m c reads e) ⊎ IsRefusedInScan policies m c reads e
 
 abbrev pub IsRefusedAt : List Policy → Line → Meaning → CoreModel → List Act → SlateDBError → Type 0
-IsRefusedAt policies (lines.Get name k) m c reads e = IsRefusedBy (asking_for policies k) m c reads e
+IsRefusedAt policies (lines.Get name k) m c reads e = IsRefusedInGet policies k m c reads e
 IsRefusedAt policies (lines.Scan name order start end sts) m c reads e = IsRefusedInScan policies m c reads e
 IsRefusedAt policies (lines.Prefix name order p start end sts) m c reads e = IsRefusedInScan policies m c reads e
 IsRefusedAt policies line m c reads e = ⊥

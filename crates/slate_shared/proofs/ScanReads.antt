@@ -15,7 +15,7 @@ use Rattle.slate_types.specs.declared.types.KeyValue.{KeyValue}
 use Rattle.slate_types.specs.declared.types.RowEntry.{RowEntry}
 use Rattle.slate_types.specs.Iteration.{RowList, drop_before}
 use Rattle.slate_types.specs.Keys.{behind, in_range, is_refused, prefix_end, prefix_start, prefix_subrange, range_of}
-use Rattle.slate_types.specs.Outside.{IsCounted, IsFault, Meaning, Objects, Reach}
+use Rattle.slate_types.specs.Outside.{IsCounted, IsFault, Meaning, Objects, Reach, unblamed}
 use Rattle.slate_types.specs.World.{World}
 use Rattle.slate_types.proofs.Reaching.{reads_none}
 use Rattle.slate_filter.specs.Policy.{Policy}
@@ -75,6 +75,7 @@ module _ (o : Options) (m : Meaning) (policies : List Policy) (query : Option Fi
     vouched = λ k. subst (IsVouched rules (replay n.seen).commits) (sym (ap (λ (x : Opened). x.tx) h.same)) k;
     opened = by h.opened;
     reads = h.reads;
+    still = h.still;
   })
     where
       fault : IsAnsweredBy policies m n.seen old.tx.ops a b → ((no_rows e ≡ Err OutOfMemory) × quiet) ⊎ ((c : CoreModel) × IsCoreOf o m old n.seen c × IsOpened policies query a b c old.tx.begin old.tx.ops range order (Err e)) → IsFault a b e
@@ -103,6 +104,7 @@ module _ (o : Options) (m : Meaning) (policies : List Policy) (query : Option Fi
       vouched = λ k. subst (IsVouched rules (replay n.seen).commits) (sym tx) k;
       opened = by h.opened;
       reads = h.reads;
+      still = ap (unblamed OutOfMemory) h.still;
     }))
       where
         by : ((Ok it ≡ Err OutOfMemory) × quiet) ⊎ ((c : CoreModel) × IsCoreOf o m old n.seen c × IsOpened policies query a b c old.tx.begin old.tx.ops range order (Ok it)) →
@@ -142,6 +144,7 @@ module _ (o : Options) (m : Meaning) (policies : List Policy) (query : Option Fi
         vouched = λ k. subst (IsVouched rules (replay z.seen).commits) (sym new_tx) (scan_alone rules (replay z.seen).commits old.tx.begin old.tx.transcript order range k);
         opened = by h.opened;
         reads = h.reads;
+        still = h.still;
       }
         where
           leaves : (d : IsAnsweredBy policies m z.seen old.tx.ops a b) → ((Ok it ≡ Err OutOfMemory) × quiet) ⊎ ((c : CoreModel) × IsCoreOf o m old n.seen c × IsOpened policies query a b c old.tx.begin old.tx.ops range order (Ok it)) → LeavesIn d.os m x (rows_of_range o m z.seen old.tx order range)
@@ -268,4 +271,5 @@ scan_memory o m policies query range order t a quiet held e r is out = subst (Is
   vouched = λ h. h;
   opened = inl (refl, held);
   reads = reads_none a;
+  still = refl;
 })

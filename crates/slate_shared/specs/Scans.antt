@@ -15,7 +15,7 @@ use Rattle.slate_types.specs.declared.filter_policy.FilterQuery.{FilterQuery}
 use Rattle.slate_types.specs.declared.iter.IterationOrder.{IterationOrder}
 use Rattle.slate_types.specs.declared.types.KeyValue.{KeyValue}
 use Rattle.slate_types.specs.declared.types.RowEntry.{RowEntry}
-use Rattle.slate_types.specs.Outside.{OnlyReads, Reach, IsFault}
+use Rattle.slate_types.specs.Outside.{IsStill, OnlyReads, Reach, IsFault}
 use Rattle.slate_filter.specs.Policy.{Policy}
 use Rattle.slate_txn.specs.declared.event.Event.{Event}
 use Rattle.slate_txn.specs.declared.event.TranscriptStep.TheVariants as steps
@@ -61,6 +61,7 @@ pub record IsOpening (o : Options) (m : Meaning) (policies : List Policy) (query
   pub opened : ((result ≡ Err OutOfMemory) × quiet) ⊎ ((c : CoreModel) × IsCoreOf o m old new.seen c × IsOpened policies query before after c old.tx.begin old.tx.ops range order result)
   pub ranged : IfOk result (λ it. (it.range ≡ range) × (it.order ≡ order))
   pub reads : OnlyReads before after
+  pub still : IsStill before.faults after.faults result
 
 pub record IsScanOpened (o : Options) (m : Meaning) (policies : List Policy) (query : Option FilterQuery) (range : BytesRange) (order : IterationOrder) (old new : Opened) (before after : Reach) (quiet : Type 0) (result : Result TxnIterator SlateDBError) : Type 0 where
   pub noted : OnOk result (new ≡ record old { seen = new.seen; tx = noted_scan order range old.tx })
@@ -73,3 +74,4 @@ pub record IsScanOpened (o : Options) (m : Meaning) (policies : List Policy) (qu
   pub vouched : IsVouched (rules_of (settings_of o) m) (replay new.seen).commits old.tx → IsVouched (rules_of (settings_of o) m) (replay new.seen).commits new.tx
   pub opened : ((result ≡ Err OutOfMemory) × quiet) ⊎ ((c : CoreModel) × IsCoreOf o m old new.seen c × ((result ≡ Err OutOfMemory) ⊎ IsOpened policies query before after c old.tx.begin old.tx.ops range order (rows_in result)))
   pub reads : OnlyReads before after
+  pub still : IsStill before.faults after.faults result

@@ -13,7 +13,7 @@ use Rattle.slate_types.specs.declared.filter_policy.FilterQuery.{FilterQuery}
 use Rattle.slate_types.specs.declared.iter.IterationOrder.{IterationOrder}
 use Rattle.slate_types.specs.declared.types.KeyValue.{KeyValue}
 use Rattle.slate_types.specs.declared.types.RowEntry.{RowEntry}
-use Rattle.slate_types.specs.Outside.{IsCounted, IsFault, Objects, OnlyReads, Reach}
+use Rattle.slate_types.specs.Outside.{IsCounted, IsFault, IsStill, Objects, OnlyReads, Reach, unblamed_by}
 use Rattle.slate_types.specs.Refusing.{NoMore}
 use Rattle.slate_types.specs.World.{Checks, Made, Sees, Slips, World}
 use Rattle.slate_filter.specs.Policy.{Policy}
@@ -47,9 +47,11 @@ use Rattle.slate_db.specs.Meaning.{Meaning, rules_of}
 use Rattle.slate_db.specs.Model.{CoreModel}
 use Rattle.slate_db.specs.RangeShares.{IsOpened, LeavesSeen}
 use Rattle.slate_db.specs.Readable.{decides_own, keeps_merge}
+use Rattle.slate_db.specs.Readable as gets
 use Rattle.slate_db.specs.Scans.{IsScanOf, IsWorldOf, Leaves, LeavesIn, ScanRefuses, number_of, scan_of}
 use Rattle.slate_db.specs.Segmented.{recorded_by}
 use Rattle.slate_db.specs.Shown.{Asking}
+use Rattle.slate_db.proofs.Readers.{reads_open}
 use Rattle.slate_db.proofs.ScanWorlds.{sees_world, slips_of_world, world_holds}
 use Rattle.slate_db.proofs.UnderKeys.{plain_keeps}
 use Rattle.slate_shared.specs.Ended.{HasEnded}
@@ -138,7 +140,7 @@ module _ (o : Options) (m : Meaning) (policies : List Policy) (query : FilterQue
       read : (◌≡◌ {A = Result (Option KeyValue) SlateDBError} (Err e) (Err OutOfMemory) × (after ≡ before)) ⊎ ((c : CoreModel) × IsCoreOf o m old new.seen c × IsKeyRead (record { policies = policies; query = query }) before after c k old.tx IsShown (Err e)) →
           IsReadErrorOn o policies before after new.seen e
       read (inl nothing) = let out : e ≡ OutOfMemory = cc nothing.0 in inl (subst (IsCounted before.faults after.faults) (sym out) tt)
-      read (inr (c, core, r)) = inr (c, read_core o m before.meaning old new.seen c meant (attempt_plain o from level ts old h) core, of_get query r.read.cause)
+      read (inr (c, core, r)) = inr (c, read_core o m before.meaning old new.seen c meant (attempt_plain o from level ts old h) core, of_get old.id query (subst (λ (n : ℕ). gets.IsReadError (record { policies = policies; query = query }) n before after c e) (sym (reads_open c.state old.id old.tx core.open_there)) r.read.cause))
 
       by : (d : Bool) → decides_own k old.tx.ops ≡ d → IsReadErrorOn o policies before after new.seen e
       by true some = own ((g.decided some).1.cause)
@@ -480,6 +482,18 @@ Keeps t u = (u.table ≡ t.table) × (u.id ≡ t.id) × IsPrefix t.seen u.seen
 pub get_more : (o : Options) (m : Meaning) (by : Asking) (k : List ℕ) (t u : Opened) (before after : Reach) (r : Result (Option KeyValue) SlateDBError) → IsGet o m by k t u before after r → Keeps t u
 get_more o m by k t u before after (Ok a) g = (ap (λ (x : Opened). x.table) g.noted, ap (λ (x : Opened). x.id) g.noted, g.seen)
 get_more o m by k t u before after (Err e) g = (ap (λ (x : Opened). x.table) g.unnoted, ap (λ (x : Opened). x.id) g.unnoted, g.seen)
+
+-- no failure is passed over
+pub get_still : (o : Options) (m : Meaning) (by : Asking) (k : List ℕ) (t u : Opened) (before after : Reach) (r : Result (Option KeyValue) SlateDBError) → IsGet o m by k t u before after r → IsStill before.faults after.faults r
+get_still o m by k t u before after r g = at (decides_own k t.tx.ops) refl
+  where
+    at : (d : Bool) → decides_own k t.tx.ops ≡ d → IsStill before.faults after.faults r
+    at true some = (g.decided some).1.still
+    at false none = from (g.read none)
+      where
+        from : ((r ≡ Err OutOfMemory) × (after ≡ before)) ⊎ ((c : CoreModel) × IsCoreOf o m t u.seen c × IsKeyRead by before after c k t.tx IsShown r) → IsStill before.faults after.faults r
+        from (inl nothing) = ap (λ (x : Reach). unblamed_by r x.faults) nothing.1
+        from (inr (c, core, read)) = read.read.still
 
 pub scan_more : (o : Options) (m : Meaning) (policies : List Policy) (query : Option FilterQuery) (range : BytesRange) (order : IterationOrder) (t u : Opened) (before after : Reach) (quiet : Type 0) (r : Result TxnIterator SlateDBError) →
     IsScanOpened o m policies query range order t u before after quiet r → Keeps t u

@@ -103,10 +103,10 @@ get_checked (Ok a) policies g before after c d e id k level ts within vouched ch
     let answers : AnswersFrom s.os before after = answers_of s.os before after s.met (checks s.os (settled_readable policies before.meaning s.os d settled)) in
     vouched_sees c e id level (ts ++ (steps.Get k a ∷ [])) within before.meaning (vouched (true_answered policies before after s.os d settled answers) id (sees_vouched c d id level ts h before.meaning sees))
 
-pub get_error : {A : Type 0} (r : Result A SlateDBError) (policies : List Policy) (query : FilterQuery) (before after : Reach) (d : CoreModel) →
-    IfErr r (gets.IsReadError (record { policies = policies; query = query }) before after d) → IfErr r (IsReadError policies before after d)
-get_error (Ok a) policies query before after d h = tt
-get_error (Err e) policies query before after d h = of_get query h
+pub get_error : {A : Type 0} (r : Result A SlateDBError) (policies : List Policy) (id : List ℕ) (query : FilterQuery) (before after : Reach) (d : CoreModel) →
+    IfErr r (gets.IsReadError (record { policies = policies; query = query }) (gets.reads_at d.state id) before after d) → IfErr r (IsReadError policies before after d)
+get_error (Ok a) policies id query before after d h = tt
+get_error (Err e) policies id query before after d h = of_get id query h
 
 -- ---- an opening
 

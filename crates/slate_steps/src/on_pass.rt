@@ -7,7 +7,7 @@ ghost use Rattle.slate_types.specs.declared.error.SlateDBError.{SlateDBError};
 ghost use Rattle.slate_types.specs.declared.iter.IterationOrder.{IterationOrder};
 ghost use Rattle.slate_types.specs.declared.types.RowEntry.{RowEntry};
 ghost use Rattle.slate_types.specs.Keys.{prefix_range};
-ghost use Rattle.slate_types.specs.Outside.{IsFault, Objects, OnlyReads, Reach};
+ghost use Rattle.slate_types.specs.Outside.{IsFault, IsStill, Objects, OnlyReads, Reach};
 ghost use Rattle.slate_filter.specs.Policy.{Policy};
 ghost use Rattle.slate_mem.specs.declared.WriteOp.{WriteOp};
 ghost use Rattle.slate_mem.specs.BatchModel.{plain_put};
@@ -88,6 +88,7 @@ pub fn get<P: Parts, R: Wait, S: Store, M: MergeOperator, T: BlockTransformer, X
         (from : List Event) (level : IsolationLevel) (ts : List TranscriptStep) → IsAttempt P.options from level ts txn.old →
         IfErr result (IsReadErrorOn P.options P.policies (reach env.old) (reach env.new) txn.new.seen) }
     ensures more { (txn.new.table ≡ txn.old.table) × (txn.new.id ≡ txn.old.id) × IsPrefix txn.old.seen txn.new.seen }
+    ensures counts { let reach = ⟦<EnvOf<S, M, T> as Outside>⟧.reach in IsStill (reach env.old).faults (reach env.new).faults result }
     ensures reads { let reach = ⟦<EnvOf<S, M, T> as Outside>⟧.reach in OnlyReads (reach env.old) (reach env.new) }
 {
     txn.get_key_value(rt, db, key, env, laws)
@@ -174,6 +175,7 @@ pub fn scan_prefix<
         (from : List Event) (level : IsolationLevel) (ts : List TranscriptStep) → IsAttempt P.options from level ts txn.old →
         IfErr result (IsReadErrorOn P.options P.policies (reach env.old) (reach env.new) txn.new.seen) }
     ensures more { (txn.new.table ≡ txn.old.table) × (txn.new.id ≡ txn.old.id) × IsPrefix txn.old.seen txn.new.seen }
+    ensures counts { let reach = ⟦<EnvOf<S, M, T> as Outside>⟧.reach in IsStill (reach env.old).faults (reach env.new).faults result }
     ensures reads { let reach = ⟦<EnvOf<S, M, T> as Outside>⟧.reach in OnlyReads (reach env.old) (reach env.new) }
 {
     txn.scan_prefix(rt, db, prefix, &RangeFull, env, laws)
@@ -209,6 +211,7 @@ pub fn next<P: Parts, S: Store, M: MergeOperator, T: BlockTransformer>(
         IfErr result (IsReadErrorOn P.options policies from (reach env.new) seen) }
     ensures more { (txn.new.table ≡ txn.old.table) × (txn.new.id ≡ txn.old.id) × (txn.new.seen ≡ txn.old.seen) }
     ensures same { OnErr result (txn.new ≡ txn.old) }
+    ensures counts { let reach = ⟦<EnvOf<S, M, T> as Outside>⟧.reach in IsStill (reach env.old).faults (reach env.new).faults result }
     ensures reads { let reach = ⟦<EnvOf<S, M, T> as Outside>⟧.reach in OnlyReads (reach env.old) (reach env.new) }
 {
     txn.next(it, env)

@@ -6,7 +6,7 @@ ghost use Rattle.slate_types.specs.declared.error.SlateDBError.{SlateDBError};
 ghost use Rattle.slate_types.specs.declared.iter.IterationOrder.{IterationOrder};
 ghost use Rattle.slate_types.specs.declared.types.RowEntry.{RowEntry};
 ghost use Rattle.slate_types.specs.Keys.{prefix_range};
-ghost use Rattle.slate_types.specs.Outside.{IsFault, Objects, OnlyReads, Reach};
+ghost use Rattle.slate_types.specs.Outside.{IsFault, IsStill, Objects, OnlyReads, Reach};
 ghost use Rattle.slate_types.specs.Rows.{key_value};
 ghost use Rattle.slate_filter.specs.Policy.{Policy};
 ghost use Rattle.slate_mem.specs.KeyTests.{Segments};
@@ -57,6 +57,7 @@ pub fn rows_with_prefix<S: Store, M: MergeOperator, T: BlockTransformer, X: Pref
     ensures cause { let reach = ⟦<EnvOf<S, M, T> as Outside>⟧.reach in
         let policies = map (λ p. meaning (p.vtable, p.value)) laws.now.policies.items in
         IfErr result (IsReadError policies (reach env.old) (reach env.new) core.old) }
+    ensures counts { let reach = ⟦<EnvOf<S, M, T> as Outside>⟧.reach in IsStill (reach env.old).faults (reach env.new).faults result }
     ensures reads { let reach = ⟦<EnvOf<S, M, T> as Outside>⟧.reach in OnlyReads (reach env.old) (reach env.new) }
 {
     let mut scan = match scan_prefix(alloc, core, id, prefix, env, laws) {
@@ -85,6 +86,7 @@ fn rows_left<S: Store, M: MergeOperator, T: BlockTransformer>(
     ensures cause { let reach = ⟦<EnvOf<S, M, T> as Outside>⟧.reach in
         (c : CoreModel) (from : Reach) (policies : List Policy) → OnlyReads from (reach env.old) → IsScanSince from (reach env.old) c scan.old →
         IfErr result (IsReadError policies from (reach env.new) c) }
+    ensures counts { let reach = ⟦<EnvOf<S, M, T> as Outside>⟧.reach in IsStill (reach env.old).faults (reach env.new).faults result }
     ensures reads { let reach = ⟦<EnvOf<S, M, T> as Outside>⟧.reach in OnlyReads (reach env.old) (reach env.new) }
 {
     let mut rows = Vec::new(alloc);

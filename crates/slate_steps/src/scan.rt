@@ -6,7 +6,7 @@ ghost use Rattle.slate_types.specs.declared.error.SlateDBError.{SlateDBError};
 ghost use Rattle.slate_types.specs.declared.iter.IterationOrder.{IterationOrder};
 ghost use Rattle.slate_types.specs.declared.types.RowEntry.{RowEntry};
 ghost use Rattle.slate_types.specs.Keys.{prefix_range};
-ghost use Rattle.slate_types.specs.Outside.{IsFault, Objects, OnlyReads, Reach};
+ghost use Rattle.slate_types.specs.Outside.{IsFault, IsStill, Objects, OnlyReads, Reach};
 ghost use Rattle.slate_mem.specs.KeyTests.{Segments};
 ghost use Rattle.slate_filter.specs.Policy.{Policy};
 ghost use Rattle.slate_txn.specs.declared.event.TranscriptStep.{TranscriptStep};
@@ -75,6 +75,7 @@ pub fn scan_prefix<'a, S: Store, M: MergeOperator, T: BlockTransformer, X: Prefi
     ensures open { HasTransaction core.new id.now }
     ensures opened { IfOk result (IsOpenScan core.new) }
     ensures same { OnErr result (core.new ≡ core.old) }
+    ensures counts { let reach = ⟦<EnvOf<S, M, T> as Outside>⟧.reach in IsStill (reach env.old).faults (reach env.new).faults result }
     ensures reads { let reach = ⟦<EnvOf<S, M, T> as Outside>⟧.reach in OnlyReads (reach env.old) (reach env.new) }
 {
     let range = BytesRange::from_prefix(alloc, prefix)?;
@@ -116,6 +117,7 @@ pub fn next<S: Store, M: MergeOperator, T: BlockTransformer>(
     ensures open { HasTransaction core.old (id_of it.old) → HasTransaction core.new (id_of it.old) }
     ensures opened { IsOpenScan core.new it.new }
     ensures same { OnErr result (core.new ≡ core.old) }
+    ensures counts { let reach = ⟦<EnvOf<S, M, T> as Outside>⟧.reach in IsStill (reach env.old).faults (reach env.new).faults result }
     ensures reads { let reach = ⟦<EnvOf<S, M, T> as Outside>⟧.reach in OnlyReads (reach env.old) (reach env.new) }
 {
     core.next(it, env)

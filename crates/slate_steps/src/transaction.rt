@@ -2,7 +2,7 @@
 ghost use Rattle.std.specs.Prelude.{◌≡◌, ◌≢◌, ◌⊎◌, ℕ, ◌-◌, ◌^◌, ◌++◌, ◌∷◌, List, [], Option, Some, None, false, Err, OnOk, OnErr, IfOk, IfErr, IsOk, map, option_map};
 ghost use Rattle.slate_types.specs.declared.config.IsolationLevel.{IsolationLevel};
 ghost use Rattle.slate_types.specs.declared.error.SlateDBError.{SlateDBError};
-ghost use Rattle.slate_types.specs.Outside.{IsFault, OnlyReads};
+ghost use Rattle.slate_types.specs.Outside.{IsFault, IsStill, OnlyReads};
 ghost use Rattle.slate_mem.specs.declared.WriteOp.{WriteOp};
 ghost use Rattle.slate_mem.specs.BatchModel.{holds_merge, plain_put};
 ghost use Rattle.slate_mem.specs.KeyTests.{Segments};
@@ -75,6 +75,7 @@ pub fn get<S: Store, M: MergeOperator, T: BlockTransformer, X: PrefixExtractor>(
         IfErr result (IsReadError policies (reach env.old) (reach env.new) core.old) }
     ensures open { HasTransaction core.new id.now }
     ensures same { OnErr result (core.new ≡ core.old) }
+    ensures counts { let reach = ⟦<EnvOf<S, M, T> as Outside>⟧.reach in IsStill (reach env.old).faults (reach env.new).faults result }
     ensures reads { let reach = ⟦<EnvOf<S, M, T> as Outside>⟧.reach in OnlyReads (reach env.old) (reach env.new) }
 {
     core.get(id, key, &ReadOptions::default(), env, laws)

@@ -11,6 +11,7 @@
 --     IsLeft c d      what a refused order leaves: the core as it was, or a transaction that began and ended without a commit
 --     IsIn c id d      what a refused step leaves: the transaction with the steps before it
 --     IsDb P e, IsBad P e      a refusal of the database, or of a value at a key, of which P holds
+--     db_error e      the error of the database that a refusal tells, if it tells one
 --     IsBadAmount m c k      the value at the key isn't 8 bytes long
 --     IsGetCause policies before after c id k e, IsReadCause policies before after c id keys e      what a read of the key, or reads of the keys, are refused for
 --     IsGetTruth P m c k e, IsReadTruth P m c keys e      the same where what was read is checked: P holds of a refusal of the database, and a value is bad in the core's state
@@ -115,6 +116,10 @@ IsLeft c d = (d ≡ c) ⊎ ((id : List ℕ) × HasEnded c id SerializableSnapsho
 abbrev pub IsDb : (SlateDBError → Type 0) → StockError → Type 0
 IsDb P (Db x) = P x
 IsDb P e = ⊥
+
+abbrev pub db_error : StockError → Option SlateDBError
+db_error (Db x) = Some x
+db_error e = None
 
 abbrev pub IsBad : (List ℕ → Type 0) → StockError → Type 0
 IsBad P (BadAmount k) = P k

@@ -18,7 +18,7 @@ ghost use Rattle.slate_db.specs.Segmented.{IsSegmented};
 ghost use Rattle.slate_db.specs.SerialLaws.{IsVouchedCore};
 ghost use Rattle.slate_db.specs.Settled.{IsSettledIn};
 ghost use Rattle.slate_db.specs.Sound.{IsKept};
-ghost use Rattle.slate_steps.specs.Reads.{IsChecked, IsFaultSettled};
+ghost use Rattle.slate_steps.specs.Reads.{IsChecked, IsFaultSettled, IsStillBy};
 ghost use Rattle.slate_steps.specs.Steps.{HasEnded, IsWithin, Sees, newest};
 ghost use Rattle.slate_stock.specs.declared.error.StockError.{StockError};
 ghost use Rattle.slate_stock.specs.declared.order.Order.{Order};
@@ -26,7 +26,7 @@ ghost use Rattle.slate_stock.specs.Amounts.{Amounts};
 ghost use Rattle.slate_stock.specs.Commits.{HasNames, IsAmount, amount_put, own_puts};
 ghost use Rattle.slate_stock.specs.Journals.{IsOrders};
 ghost use Rattle.slate_stock.specs.Orders.{first_of, form_refusals, order_keys, order_moves, order_refusal, order_step};
-ghost use Rattle.slate_stock.specs.Running.{HasGot, HasOrdered, HasRead, HasTaken, HasTakenSome, IsDb, IsGetCause, IsGetTruth, IsIn, IsKey, IsLeft, IsOrderCause, IsOrderTruth, IsReadCause, IsReadTruth, IsTakeCause, IsTakeTruth, amounts_of};
+ghost use Rattle.slate_stock.specs.Running.{HasGot, HasOrdered, HasRead, HasTaken, HasTakenSome, IsDb, IsGetCause, IsGetTruth, IsIn, IsKey, IsLeft, IsOrderCause, IsOrderTruth, IsReadCause, IsReadTruth, IsTakeCause, IsTakeTruth, amounts_of, db_error};
 
 use crate::amount::stored;
 use crate::error::StockError;
@@ -52,7 +52,8 @@ use uuid::Uuid;
 /// what a read was refused for, `LimitReached` where the journal has no place for two events, or `SequenceExhausted` where no
 /// sequence is left. Over a store that holds what was put, for lawful parts, the answer is the order's on the amounts in the core's
 /// state, and `BadAmount` names a key whose value isn't 8 bytes long there; and so over one that tells its acts alone, and may lie, unless
-/// a section slipped through whose checksum fits.
+/// a section slipped through whose checksum fits. No failure of the store or of a part is passed over: each count of faults is as it was,
+/// but for that of the one whose fault `Db` holds.
 pub fn run_order_core<S: Store, M: MergeOperator, T: BlockTransformer, X: PrefixExtractor>(
     core: &mut Core,
     order: &Order,
@@ -91,6 +92,7 @@ pub fn run_order_core<S: Store, M: MergeOperator, T: BlockTransformer, X: Prefix
         IsKept m core.old → IsKept m core.new }
     ensures orders { IsOrders core.old.events → IsOrders core.new.events }
     ensures grows { (weight core.new ≤ weight core.old + 2) × (load core.new ≤ load core.old + 4) }
+    ensures counts { let reach = ⟦<EnvOf<S, M, T> as Outside>⟧.reach in IsStillBy db_error (reach env.old).faults (reach env.new).faults result }
     ensures reads { let reach = ⟦<EnvOf<S, M, T> as Outside>⟧.reach in OnlyReads (reach env.old) (reach env.new) }
 {
     order.has_names();
@@ -134,6 +136,7 @@ fn make_order<S: Store, M: MergeOperator, T: BlockTransformer, X: PrefixExtracto
         let m = (reach env.old).meaning in
         IsKept m core.old → IsKept m core.new }
     ensures segmented { let g = segments_by X.lengths laws.now.segments in IsSegmented g core.old → IsSegmented g core.new }
+    ensures counts { let reach = ⟦<EnvOf<S, M, T> as Outside>⟧.reach in IsStillBy db_error (reach env.old).faults (reach env.new).faults result }
     ensures reads { let reach = ⟦<EnvOf<S, M, T> as Outside>⟧.reach in OnlyReads (reach env.old) (reach env.new) }
 {
     match begin(core, IsolationLevel::SerializableSnapshot) {
@@ -175,6 +178,7 @@ fn order_within<S: Store, M: MergeOperator, T: BlockTransformer, X: PrefixExtrac
         (c : CoreModel) → IsWithin c id.now IsolationLevel.SerializableSnapshot [] core.old → IsKept m c → IsKept m core.new }
     ensures segmented { let g = segments_by X.lengths laws.now.segments in
         (c : CoreModel) → IsWithin c id.now IsolationLevel.SerializableSnapshot [] core.old → IsSegmented g c → IsSegmented g core.new }
+    ensures counts { let reach = ⟦<EnvOf<S, M, T> as Outside>⟧.reach in IsStillBy db_error (reach env.old).faults (reach env.new).faults result }
     ensures reads { let reach = ⟦<EnvOf<S, M, T> as Outside>⟧.reach in OnlyReads (reach env.old) (reach env.new) }
 {
     match take_order(alloc, core, id, order, keys, env, laws) {
@@ -210,6 +214,7 @@ fn end_order<S: Store, M: MergeOperator, T: BlockTransformer, X: PrefixExtractor
         (c : CoreModel) (ts : List TranscriptStep) → IsWithin c id.now IsolationLevel.SerializableSnapshot ts core.old → IsKept m c → IsKept m core.new }
     ensures segmented { let g = segments_by X.lengths laws.now.segments in
         (c : CoreModel) (ts : List TranscriptStep) → IsWithin c id.now IsolationLevel.SerializableSnapshot ts core.old → IsSegmented g c → IsSegmented g core.new }
+    ensures counts { let reach = ⟦<EnvOf<S, M, T> as Outside>⟧.reach in IsStillBy db_error (reach env.old).faults (reach env.new).faults result }
     ensures reads { let reach = ⟦<EnvOf<S, M, T> as Outside>⟧.reach in OnlyReads (reach env.old) (reach env.new) }
 {
     match commit(core, id, now, env, laws) {
@@ -245,6 +250,7 @@ fn take_order<S: Store, M: MergeOperator, T: BlockTransformer, X: PrefixExtracto
         (c : CoreModel) (g : Segments) → IsWithin c id.now IsolationLevel.SerializableSnapshot [] core.old → IsChecked policies g (reach env.old) (reach env.new) c →
         IfErr result (IsTakeTruth (IsFaultSettled policies (reach env.old) (reach env.new) c) (reach env.old).meaning c order.now) }
     ensures open { HasTransaction core.new id.now }
+    ensures counts { let reach = ⟦<EnvOf<S, M, T> as Outside>⟧.reach in IsStillBy db_error (reach env.old).faults (reach env.new).faults result }
     ensures reads { let reach = ⟦<EnvOf<S, M, T> as Outside>⟧.reach in OnlyReads (reach env.old) (reach env.new) }
 {
     match read_amounts(alloc, core, id, keys, env, laws) {
@@ -310,6 +316,7 @@ fn read_amounts<S: Store, M: MergeOperator, T: BlockTransformer, X: PrefixExtrac
         (c : CoreModel) (g : Segments) → IsWithin c id.now IsolationLevel.SerializableSnapshot [] core.old → IsChecked policies g (reach env.old) (reach env.new) c →
         IfErr result (IsReadTruth (IsFaultSettled policies (reach env.old) (reach env.new) c) (reach env.old).meaning c keys.now) }
     ensures open { HasTransaction core.new id.now }
+    ensures counts { let reach = ⟦<EnvOf<S, M, T> as Outside>⟧.reach in IsStillBy db_error (reach env.old).faults (reach env.new).faults result }
     ensures reads { let reach = ⟦<EnvOf<S, M, T> as Outside>⟧.reach in OnlyReads (reach env.old) (reach env.new) }
 {
     let mut amounts = Vec::new(alloc);
@@ -347,6 +354,7 @@ pub(crate) fn read_amount<S: Store, M: MergeOperator, T: BlockTransformer, X: Pr
         IsChecked policies g (reach env.old) (reach env.new) c → Sees (reach env.old).meaning c ts →
         IfErr result (IsGetTruth (IsFaultSettled policies (reach env.old) (reach env.new) c) (reach env.old).meaning c key.now) }
     ensures open { HasTransaction core.new id.now }
+    ensures counts { let reach = ⟦<EnvOf<S, M, T> as Outside>⟧.reach in IsStillBy db_error (reach env.old).faults (reach env.new).faults result }
     ensures reads { let reach = ⟦<EnvOf<S, M, T> as Outside>⟧.reach in OnlyReads (reach env.old) (reach env.new) }
 {
     match get(core, id, key.as_slice(), env, laws) {

@@ -13,13 +13,14 @@ ghost use Rattle.slate_txn.specs.Replay.{IsLegal};
 ghost use Rattle.slate_db.specs.Meaning.{segments_by};
 ghost use Rattle.slate_shared.specs.Given.{AreGiven};
 ghost use Rattle.slate_steps.specs.Attempts.{HasEndedBehind, IsAttempt, IsFaultOn, IsRefusedBehind, IsStoreChecked, IsVouchedThere, SeesOnly};
+ghost use Rattle.slate_steps.specs.Reads.{IsStillBy};
 ghost use Rattle.slate_stock.specs.declared.error.StockError.{StockError};
 ghost use Rattle.slate_stock.specs.declared.order.Order.{Order};
 ghost use Rattle.slate_stock.specs.Amounts.{Amounts};
 ghost use Rattle.slate_stock.specs.Attempting.{HasEndedOn, HasGotOn, HasOrderedOn, HasReadOn, HasSteppedOn, HasTakenOn, IsGetCauseOn, IsGetTruthOn, IsLeftOn, IsOpenFrom, IsOrderCauseOn, IsOrderTruthOn, IsReadsCauseOn, IsReadsTruthOn, IsTakeCauseOn, IsTakeTruthOn, OrdersGoOn};
 ghost use Rattle.slate_stock.specs.Commits.{HasNames, amount_put, own_puts};
 ghost use Rattle.slate_stock.specs.Orders.{first_of, form_refusals, order_keys, order_moves, order_refusal};
-ghost use Rattle.slate_stock.specs.Running.{IsDb, IsKey};
+ghost use Rattle.slate_stock.specs.Running.{IsDb, IsKey, db_error};
 
 use crate::amount::stored;
 use crate::error::StockError;
@@ -47,7 +48,8 @@ use std::sync::Wait;
 /// for two events, `TransactionConflict` with the greatest sequence that conflicts with this attempt, or `SequenceExhausted` where no
 /// sequence is left. Over a store that holds the journal's tables, for lawful parts, the answer is the order's on the amounts at the start
 /// of the attempt, and `BadAmount` names a key whose value isn't 8 bytes long there; and so over one that tells its acts alone, and may
-/// lie, unless a section slipped through whose checksum fits.
+/// lie, unless a section slipped through whose checksum fits. No failure of the store or of a part is passed over: each count of faults is
+/// as it was, but for that of the one whose fault `Db` holds.
 pub fn run_order<
     P: Parts,
     R: Wait,
@@ -83,6 +85,7 @@ pub fn run_order<
     ensures first { let reach = ⟦<EnvOf<S, M, T> as Outside>⟧.reach in
         (e : StockError) → first_of (form_refusals order.now) ≡ Some e → (result ≡ Err e) × (pass.new ≡ pass.old) × (reach env.new ≡ reach env.old) }
     ensures orders { OnOk result (OrdersGoOn pass.old pass.new) }
+    ensures counts { let reach = ⟦<EnvOf<S, M, T> as Outside>⟧.reach in IsStillBy db_error (reach env.old).faults (reach env.new).faults result }
     ensures reads { let reach = ⟦<EnvOf<S, M, T> as Outside>⟧.reach in OnlyReads (reach env.old) (reach env.new) }
 {
     order.has_names();
@@ -133,6 +136,7 @@ fn make_order<
     ensures refused { let reach = ⟦<EnvOf<S, M, T> as Outside>⟧.reach in
         IsStoreChecked P.policies P.meaning pass.new.seen (reach env.old) (reach env.new) →
         IfErr result (IsOrderTruthOn P.options P.meaning P.policies (reach env.old) (reach env.new) pass.old pass.new order.now) }
+    ensures counts { let reach = ⟦<EnvOf<S, M, T> as Outside>⟧.reach in IsStillBy db_error (reach env.old).faults (reach env.new).faults result }
     ensures reads { let reach = ⟦<EnvOf<S, M, T> as Outside>⟧.reach in OnlyReads (reach env.old) (reach env.new) }
 {
     match begin(rt, db, pass, IsolationLevel::SerializableSnapshot) {
@@ -181,6 +185,7 @@ fn order_within<
     ensures refused { let reach = ⟦<EnvOf<S, M, T> as Outside>⟧.reach in
         IsStoreChecked P.policies P.meaning pass.new.seen (reach env.old) (reach env.new) →
         IfErr result (IsOrderTruthOn P.options P.meaning P.policies (reach env.old) (reach env.new) pass.old pass.new order.now) }
+    ensures counts { let reach = ⟦<EnvOf<S, M, T> as Outside>⟧.reach in IsStillBy db_error (reach env.old).faults (reach env.new).faults result }
     ensures reads { let reach = ⟦<EnvOf<S, M, T> as Outside>⟧.reach in OnlyReads (reach env.old) (reach env.new) }
 {
     match take_order(alloc, rt, db, &mut txn, order, keys, env, laws) {
@@ -223,6 +228,7 @@ fn end_order<
     ensures legal { IsLegal P.options.start_seq pass.new.seen }
     ensures cause { let reach = ⟦<EnvOf<S, M, T> as Outside>⟧.reach in
         IfErr result (IsDb (λ x. IsFault (reach env.old) (reach env.new) x ⊎ IsRefusedBehind P.options txn pass.old pass.new x)) }
+    ensures counts { let reach = ⟦<EnvOf<S, M, T> as Outside>⟧.reach in IsStillBy db_error (reach env.old).faults (reach env.new).faults result }
     ensures reads { let reach = ⟦<EnvOf<S, M, T> as Outside>⟧.reach in OnlyReads (reach env.old) (reach env.new) }
 {
     match commit(rt, db, pass, txn, now, env, laws) {
@@ -269,6 +275,7 @@ fn take_order<
         IsVouchedThere P.options P.meaning txn.old → IsPrefix txn.new.seen es → IsLegal P.options.start_seq es →
         IfErr result (IsTakeTruthOn (IsFaultOn P.policies P.meaning txn.new.seen (reach env.old) (reach env.new)) P.options P.meaning es txn.new.tx.begin order.now) }
     ensures more { (txn.new.table ≡ txn.old.table) × IsPrefix txn.old.seen txn.new.seen }
+    ensures counts { let reach = ⟦<EnvOf<S, M, T> as Outside>⟧.reach in IsStillBy db_error (reach env.old).faults (reach env.new).faults result }
     ensures reads { let reach = ⟦<EnvOf<S, M, T> as Outside>⟧.reach in OnlyReads (reach env.old) (reach env.new) }
 {
     match read_amounts(alloc, rt, db, txn, keys, env, laws) {
@@ -345,6 +352,7 @@ fn read_amounts<
         IsVouchedThere P.options P.meaning txn.old → IsPrefix txn.new.seen es → IsLegal P.options.start_seq es →
         IfErr result (IsReadsTruthOn (IsFaultOn P.policies P.meaning txn.new.seen (reach env.old) (reach env.new)) P.options P.meaning es txn.new.tx.begin keys.now) }
     ensures more { (txn.new.table ≡ txn.old.table) × IsPrefix txn.old.seen txn.new.seen }
+    ensures counts { let reach = ⟦<EnvOf<S, M, T> as Outside>⟧.reach in IsStillBy db_error (reach env.old).faults (reach env.new).faults result }
     ensures reads { let reach = ⟦<EnvOf<S, M, T> as Outside>⟧.reach in OnlyReads (reach env.old) (reach env.new) }
 {
     let mut amounts = Vec::new(alloc);
@@ -393,6 +401,7 @@ fn read_amount<
         IsStoreChecked P.policies P.meaning txn.new.seen (reach env.old) (reach env.new) → IsVouchedThere P.options P.meaning txn.old → IsPrefix txn.new.seen es → IsLegal P.options.start_seq es →
         IfErr result (IsGetTruthOn (IsFaultOn P.policies P.meaning txn.new.seen (reach env.old) (reach env.new)) P.options P.meaning es txn.new.tx.begin key.now) }
     ensures more { (txn.new.table ≡ txn.old.table) × IsPrefix txn.old.seen txn.new.seen }
+    ensures counts { let reach = ⟦<EnvOf<S, M, T> as Outside>⟧.reach in IsStillBy db_error (reach env.old).faults (reach env.new).faults result }
     ensures reads { let reach = ⟦<EnvOf<S, M, T> as Outside>⟧.reach in OnlyReads (reach env.old) (reach env.new) }
 {
     match get(rt, db, txn, key.as_slice(), env, laws) {

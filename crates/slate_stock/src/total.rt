@@ -2,7 +2,7 @@
 ghost use Rattle.std.specs.Prelude.{◌≡◌, ◌+◌, List, [], IfErr, IfOk, OnErr, map};
 ghost use Rattle.slate_types.specs.Config.{IsValid};
 ghost use Rattle.slate_types.specs.declared.config.IsolationLevel.{IsolationLevel};
-ghost use Rattle.slate_types.specs.Outside.{IsFault, OnlyReads};
+ghost use Rattle.slate_types.specs.Outside.{IsFault, IsStill, OnlyReads};
 ghost use Rattle.slate_types.specs.Rows.{key_value};
 ghost use Rattle.slate_mem.specs.KeyTests.{Segments};
 ghost use Rattle.slate_txn.specs.declared.event.TranscriptStep.{TranscriptStep};
@@ -10,10 +10,10 @@ ghost use Rattle.slate_txn.specs.Alone.{own_of};
 ghost use Rattle.slate_db.specs.Model.{CoreModel};
 ghost use Rattle.slate_db.specs.Opened.{HasTransaction};
 ghost use Rattle.slate_db.specs.Settled.{IsSettledIn};
-ghost use Rattle.slate_steps.specs.Reads.{IsReadError};
+ghost use Rattle.slate_steps.specs.Reads.{IsReadError, IsStillBy};
 ghost use Rattle.slate_steps.specs.Steps.{IsWithin};
 ghost use Rattle.slate_stock.specs.Amounts.{amount_of, issued_key};
-ghost use Rattle.slate_stock.specs.Running.{HasGot, IsIn, IsLeft};
+ghost use Rattle.slate_stock.specs.Running.{HasGot, IsIn, IsLeft, db_error};
 ghost use Rattle.slate_stock.specs.Totals.{IsRowRefusal, IsSum, IsSumRefusal, IsTotal, IsTotalCause, IsTotalTruth, balance_rows, values_sum};
 
 use crate::amount::amount;
@@ -44,7 +44,8 @@ pub struct AssetTotal {
 /// What the balances of an asset add up to, and what was issued of it, read in one transaction that ends without a commit.
 ///
 /// Refuses by `BadAmount` of a value that isn't 8 bytes long, by `TooMuch` where the sum passes the greatest u64, and by `Db`, which holds
-/// `OutOfMemory`, what a read was refused for, or `LimitReached` where the journal has no place for two events. Nothing is left open.
+/// `OutOfMemory`, what a read was refused for, or `LimitReached` where the journal has no place for two events. Nothing is left open, and
+/// no failure of the store or of a part is passed over: each count of faults is as it was, but for that of the one whose fault `Db` holds.
 pub fn total<S: Store, M: MergeOperator, T: BlockTransformer, X: PrefixExtractor>(
     core: &mut Core,
     asset: &Name,
@@ -62,6 +63,7 @@ pub fn total<S: Store, M: MergeOperator, T: BlockTransformer, X: PrefixExtractor
         let policies = map (λ p. meaning (p.vtable, p.value)) laws.now.policies.items in
         IfErr result (IsTotalCause policies (reach env.old) (reach env.new) core.old) }
     ensures left { IsLeft core.old core.new }
+    ensures counts { let reach = ⟦<EnvOf<S, M, T> as Outside>⟧.reach in IsStillBy db_error (reach env.old).faults (reach env.new).faults result }
     ensures reads { let reach = ⟦<EnvOf<S, M, T> as Outside>⟧.reach in OnlyReads (reach env.old) (reach env.new) }
 {
     let alloc = core.journal().alloc();
@@ -96,6 +98,7 @@ fn total_within<S: Store, M: MergeOperator, T: BlockTransformer, X: PrefixExtrac
     ensures cause { let reach = ⟦<EnvOf<S, M, T> as Outside>⟧.reach in
         let policies = map (λ p. meaning (p.vtable, p.value)) laws.now.policies.items in
         (c : CoreModel) → IsWithin c id.now IsolationLevel.SerializableSnapshot [] core.old → IfErr result (IsTotalCause policies (reach env.old) (reach env.new) c) }
+    ensures counts { let reach = ⟦<EnvOf<S, M, T> as Outside>⟧.reach in IsStillBy db_error (reach env.old).faults (reach env.new).faults result }
     ensures reads { let reach = ⟦<EnvOf<S, M, T> as Outside>⟧.reach in OnlyReads (reach env.old) (reach env.new) }
 {
     match issued_within(alloc, core, id, asset, env, laws) {
@@ -128,6 +131,7 @@ fn issued_within<S: Store, M: MergeOperator, T: BlockTransformer, X: PrefixExtra
         let policies = map (λ p. meaning (p.vtable, p.value)) laws.now.policies.items in
         (c : CoreModel) → IsWithin c id.now IsolationLevel.SerializableSnapshot [] core.old → IfErr result (IsTotalCause policies (reach env.old) (reach env.new) c) }
     ensures open { HasTransaction core.new id.now }
+    ensures counts { let reach = ⟦<EnvOf<S, M, T> as Outside>⟧.reach in IsStillBy db_error (reach env.old).faults (reach env.new).faults result }
     ensures reads { let reach = ⟦<EnvOf<S, M, T> as Outside>⟧.reach in OnlyReads (reach env.old) (reach env.new) }
 {
     match issued_key(alloc, asset.as_slice()) {
@@ -163,6 +167,7 @@ fn sum_within<S: Store, M: MergeOperator, T: BlockTransformer, X: PrefixExtracto
     ensures cause { let reach = ⟦<EnvOf<S, M, T> as Outside>⟧.reach in
         let policies = map (λ p. meaning (p.vtable, p.value)) laws.now.policies.items in
         (c : CoreModel) (ts : List TranscriptStep) → IsWithin c id.now IsolationLevel.SerializableSnapshot ts core.old → IfErr result (IsTotalCause policies (reach env.old) (reach env.new) c) }
+    ensures counts { let reach = ⟦<EnvOf<S, M, T> as Outside>⟧.reach in IsStillBy db_error (reach env.old).faults (reach env.new).faults result }
     ensures reads { let reach = ⟦<EnvOf<S, M, T> as Outside>⟧.reach in OnlyReads (reach env.old) (reach env.new) }
 {
     match balances_within(alloc, core, id, asset, env, laws) {
@@ -198,6 +203,7 @@ fn balances_within<S: Store, M: MergeOperator, T: BlockTransformer, X: PrefixExt
     ensures cause { let reach = ⟦<EnvOf<S, M, T> as Outside>⟧.reach in
         let policies = map (λ p. meaning (p.vtable, p.value)) laws.now.policies.items in
         IfErr result (IsReadError policies (reach env.old) (reach env.new) core.old) }
+    ensures counts { let reach = ⟦<EnvOf<S, M, T> as Outside>⟧.reach in IsStill (reach env.old).faults (reach env.new).faults result }
     ensures reads { let reach = ⟦<EnvOf<S, M, T> as Outside>⟧.reach in OnlyReads (reach env.old) (reach env.new) }
 {
     match balance_head(alloc, asset.as_slice()) {

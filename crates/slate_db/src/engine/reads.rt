@@ -1,5 +1,5 @@
 //! The reads of a core: gets, and scans.
-ghost use Rattle.std.specs.Prelude.{◌≡◌, ℕ, ◌≢◌, ◌⊎◌, ◌+◌, ◌-◌, ◌≤◌, ◌<◌, ◌∷◌, List, [], ◌++◌, IfOk, IfErr, OnOk, OnErr, Err, IsSome, Option, None, Some, true, false, map, reverse, option_map, drop, nat_eq};
+ghost use Rattle.std.specs.Prelude.{◌≡◌, ℕ, ◌≢◌, ◌⊎◌, ◌+◌, ◌-◌, ◌≤◌, ◌<◌, ◌∷◌, List, [], ◌++◌, IfOk, IfErr, IfSome, OnOk, OnErr, Err, IsSome, Option, None, Some, true, false, map, reverse, option_map, drop, nat_eq};
 ghost use Rattle.std.specs.List.{AllByRecursion, starts_with};
 ghost use Rattle.slate_types.specs.Config.{IsValid};
 ghost use Rattle.slate_types.specs.declared.error.SlateDBError.{SlateDBError};
@@ -7,6 +7,7 @@ ghost use Rattle.slate_types.specs.declared.filter_policy.PrefixTarget.{PrefixTa
 ghost use Rattle.slate_table.specs.Filtered.{point_query};
 ghost use Rattle.slate_types.specs.Fold.{AreShort, Combine, IsLawful, KeepsShort, fold_rows, shown};
 ghost use Rattle.slate_types.specs.Rows.{is_operand, key_value};
+ghost use Rattle.slate_types.specs.declared.types.KeyValue.{KeyValue};
 ghost use Rattle.slate_types.specs.declared.types.RowEntry.{RowEntry};
 ghost use Rattle.slate_types.specs.Iteration.{drop_before};
 ghost use Rattle.slate_types.specs.Keys.{in_range, is_refused};
@@ -15,6 +16,7 @@ ghost use Rattle.slate_types.specs.Refusing.{NoMore};
 ghost use Rattle.slate_types.specs.World.{World, Checks, IsCall, Made, Sees};
 ghost use Rattle.slate_mem.specs.Lookup.{is_merge_among, newest_first};
 ghost use Rattle.slate_mem.specs.Table.{newest};
+ghost use Rattle.slate_merge.specs.NoMoreRows.{NoMoreRows};
 ghost use Rattle.slate_txn.specs.declared.event.TranscriptStep.TheVariants as steps;
 ghost use Rattle.slate_txn.specs.Alone.{first_left};
 ghost use Rattle.slate_txn.specs.Reads.{key_rows, rows_seen, up_to};
@@ -32,11 +34,11 @@ ghost use Rattle.slate_db.specs.Asked.{Asks, Finds, needs_tables, takes_flushed}
 ghost use Rattle.slate_db.specs.Checked.{OrSlips};
 ghost use Rattle.slate_db.specs.Meaning.{Meaning, combine_of, rules_in, rules_of};
 ghost use Rattle.slate_db.specs.Shown.{Asking};
-ghost use Rattle.slate_db.specs.Readable.{IsAnswered, IsOwnRow, IsOwnRead, IsRead, IsReadable, MeetsOperand, decides_own, keeps_merge};
+ghost use Rattle.slate_db.specs.Readable.{IsAnswered, IsOwnRow, IsOwnRead, IsRead, IsReadable, MeetsOperand, decides_own, keeps_merge, reads_at};
 ghost use Rattle.slate_db.specs.Model.{Rows, at, memory};
 ghost use Rattle.slate_db.specs.Sound.{IsKept};
 ghost use Rattle.slate_db.specs.ScanFilters.{scan_query};
-ghost use Rattle.slate_db.specs.Scans.{AnswersAgain, HasLeft, IsFor, IsOpenScan, IsOpeningError, IsRefusedByScan, IsRefusedScan, IsScanOf, IsUnrefused, IsWorldOf, Keeps, Leaves, LeavesIn, ScanRefuses, id_of, number_of, scan_of};
+ghost use Rattle.slate_db.specs.Scans.{AnswersAgain, HasLeft, IsFor, IsHandedByScan, IsOpenScan, IsOpeningError, IsRefusedByScan, IsRefusedScan, IsScanOf, IsUnrefused, IsWorldOf, Keeps, Leaves, LeavesIn, ScanHands, ScanRefuses, id_of, number_of, scan_of};
 ghost use Rattle.slate_read.specs.SstOptions.{CanFetch};
 ghost use Rattle.slate_db.specs.Opened.{StayOpen};
 ghost use Rattle.slate_db.specs.Vouched.{IsVouchedFor};
@@ -79,7 +81,7 @@ impl Core {
         ensures read { let reach = ⟦<EnvOf<S, M, T> as Outside>⟧.reach in
             let m = (reach env.old).meaning in
             let by : Asking = record { policies = map (λ p. meaning p) policies.now; query = query.now } in
-            IsRead by (reach env.old) (reach env.new) self.now (λ row. self.now.floor ≤ at → row ≡ fold_rows (combine_of m key.now) (key_rows (rules_of self.now.settings m) key.now (up_to at self.now.state.commits) ++ reverse own.items)) result }
+            IsRead by at (reach env.old) (reach env.new) self.now (λ row. self.now.floor ≤ at → row ≡ fold_rows (combine_of m key.now) (key_rows (rules_of self.now.settings m) key.now (up_to at self.now.state.commits) ++ reverse own.items)) result }
         ensures asks { let reach = ⟦<EnvOf<S, M, T> as Outside>⟧.reach in
             let by : Asking = record { policies = map (λ p. meaning p) policies.now; query = query.now } in
             Asks by (reach env.old) (reach env.new) self.now }
@@ -130,7 +132,7 @@ impl Core {
         ensures read { let reach = ⟦<EnvOf<S, M, T> as Outside>⟧.reach in
             let m = (reach env.old).meaning in
             let by : Asking = record { policies = map (λ p. meaning p) policies.now; query = query.now } in
-            (from : Reader) → reader self.now.state id.now ≡ Some from → IsRead by (reach env.old) (reach env.new) self.now (λ row. self.now.floor ≤ at → row ≡ fold_rows (combine_of m key.now) (key_rows (rules_of self.now.settings m) key.now (up_to at self.now.state.commits) ++ map (own_row key.now) (kept from.ops key.now))) result }
+            (from : Reader) → reader self.now.state id.now ≡ Some from → IsRead by at (reach env.old) (reach env.new) self.now (λ row. self.now.floor ≤ at → row ≡ fold_rows (combine_of m key.now) (key_rows (rules_of self.now.settings m) key.now (up_to at self.now.state.commits) ++ map (own_row key.now) (kept from.ops key.now))) result }
         ensures asks { let reach = ⟦<EnvOf<S, M, T> as Outside>⟧.reach in
             let by : Asking = record { policies = map (λ p. meaning p) policies.now; query = query.now } in
             Asks by (reach env.old) (reach env.new) self.now }
@@ -175,7 +177,7 @@ impl Core {
             let m = (reach env.old).meaning in
             let policies = map (λ p. meaning p) laws.now.policies.items in
             let by : Asking = record { policies = policies; query = point_query key.now context.now } in
-            (from : Reader) → reader self.now.state id.now ≡ Some from → IsRead by (reach env.old) (reach env.new) self.now (λ row. self.now.floor ≤ at → row ≡ fold_rows (combine_of m key.now) (key_rows (rules_of self.now.settings m) key.now (up_to at self.now.state.commits) ++ map (own_row key.now) (kept from.ops key.now))) result }
+            (from : Reader) → reader self.now.state id.now ≡ Some from → IsRead by at (reach env.old) (reach env.new) self.now (λ row. self.now.floor ≤ at → row ≡ fold_rows (combine_of m key.now) (key_rows (rules_of self.now.settings m) key.now (up_to at self.now.state.commits) ++ map (own_row key.now) (kept from.ops key.now))) result }
         ensures asks { let reach = ⟦<EnvOf<S, M, T> as Outside>⟧.reach in
             let by : Asking = record { policies = map (λ p. meaning p) laws.now.policies.items; query = point_query key.now context.now } in
             Asks by (reach env.old) (reach env.new) self.now }
@@ -210,8 +212,8 @@ impl Core {
     /// transaction's transcript; a snapshot has none.
     ///
     /// Refuses by `StoreFault`, `BlockTransformError` and `Callback`, each only where its count of faults rose; by
-    /// `MergeOperatorMissing`, only where there is no operator and an operand was found, which each own one is that is kept of the
-    /// key; by `ChecksumMismatch`, `CorruptTable`, `InvalidFilterBlock` or `InvalidRowFlags`, only where the last reads of this call
+    /// `MergeOperatorMissing`, only where there is no operator and an operand of the key was found, which each own one is that is
+    /// kept, and else one up to the reader's sequence, in memory or in a block that was read; by `ChecksumMismatch`, `CorruptTable`, `InvalidFilterBlock` or `InvalidRowFlags`, only where the last reads of this call
     /// show it, of a table that the journal names; and by `OutOfMemory`. Then nothing is recorded. Neither damage nor a missing
     /// operator is answered where the store holds the tables that the journal names, nor where its acts tell that each read of this
     /// call was answered by them. Where the acts tell otherwise, an Ok rests on a section that slipped through: of such a table, other
@@ -230,7 +232,7 @@ impl Core {
         ensures read { let reach = ⟦<EnvOf<S, M, T> as Outside>⟧.reach in
             let policies = map (λ p. meaning p) laws.now.policies.items in
             let by : Asking = record { policies = policies; query = point_query key.now options.now.filter_context } in
-            IsRead by (reach env.old) (reach env.new) self.old (λ a. (g : Segments) → step (rules_in self.old.settings (reach env.old).meaning g) self.old.state (lines.Get id.now key.now) ≡ (self.new.state, Found a)) result }
+            IsRead by (reads_at self.old.state id.now) (reach env.old) (reach env.new) self.old (λ a. (g : Segments) → step (rules_in self.old.settings (reach env.old).meaning g) self.old.state (lines.Get id.now key.now) ≡ (self.new.state, Found a)) result }
         ensures asks { let reach = ⟦<EnvOf<S, M, T> as Outside>⟧.reach in
             let by : Asking = record { policies = map (λ p. meaning p) laws.now.policies.items; query = point_query key.now options.now.filter_context } in
             Asks by (reach env.old) (reach env.new) self.old }
@@ -305,6 +307,9 @@ impl Core {
         ensures later { let reach = ⟦<EnvOf<S, M, T> as Outside>⟧.reach in
             let m = (reach env.old).meaning in
             IfOk result (λ it. IsFor m it × Made (reach env.old) (reach env.new) (λ reads. (later : List Act) (at : Option (List ℕ)) (e : SlateDBError) → ScanRefuses it m later at e → IsRefusedByScan m self.now (reads ++ later) at e)) }
+        ensures hands { let reach = ⟦<EnvOf<S, M, T> as Outside>⟧.reach in
+            let m = (reach env.old).meaning in
+            IfOk result (λ it. Made (reach env.old) (reach env.new) (λ reads. (later : List Act) (a : KeyValue) → ScanHands it m later a → IsHandedByScan m self.now (reads ++ later) a)) }
         ensures undamaged { let reach = ⟦<EnvOf<S, M, T> as Outside>⟧.reach in self.now.floor ≤ begin → IsAnswered (map (λ p. meaning p) policies.now) (reach env.old) (reach env.new) self.now → IfErr result (IsFault (reach env.old) (reach env.new)) }
         ensures cause { let reach = ⟦<EnvOf<S, M, T> as Outside>⟧.reach in IfErr result (IsOpeningError (map (λ p. meaning p) policies.now) (scan_query range how.prefix how.filter_context) (reach env.old) (reach env.new) self.now) }
         ensures range { IfOk result (λ it. it.range ≡ range) }
@@ -342,7 +347,8 @@ impl Core {
     /// Calls on the iterator refuse later by what the reads since show of such a table; and, but for seeks, by
     /// `MergeOperatorMissing`, only where there is no operator and a row is an operand, and by `InvalidSequenceOrder`, only where
     /// there is one and a row has a greater sequence than an operand of its key: it names the two sequences. Each of these rows is
-    /// of an open transaction's own, stood in memory at the opening, or stands in a block of such a table that was read since.
+    /// of an open transaction's own, stood in memory at the opening, or stands in a block of such a table that was read since. So is
+    /// each row that is handed out where there is no operator, and none of those is an operand.
     ///
     /// Where a store's acts tell that a read wasn't answered by the tables that the journal names, an Ok rests on a section that
     /// slipped through: of such a table, other than it stands there, with a checksum that fits.
@@ -375,6 +381,9 @@ impl Core {
         ensures later { let reach = ⟦<EnvOf<S, M, T> as Outside>⟧.reach in
             let m = (reach env.old).meaning in
             IfOk result (λ it. IsFor m (scan_of it) × Made (reach env.old) (reach env.new) (λ reads. (later : List Act) (at : Option (List ℕ)) (e : SlateDBError) → ScanRefuses (scan_of it) m later at e → IsRefusedByScan m self.old (reads ++ later) at e)) }
+        ensures hands { let reach = ⟦<EnvOf<S, M, T> as Outside>⟧.reach in
+            let m = (reach env.old).meaning in
+            IfOk result (λ it. Made (reach env.old) (reach env.new) (λ reads. (later : List Act) (a : KeyValue) → ScanHands (scan_of it) m later a → IsHandedByScan m self.old (reads ++ later) a)) }
         ensures invalid { is_refused range.start range.end ≡ true → (result ≡ Err SlateDBError.InvalidRange) × (self.new ≡ self.old) × (env.new ≡ env.old) }
         ensures undamaged { let reach = ⟦<EnvOf<S, M, T> as Outside>⟧.reach in is_refused range.start range.end ≡ false → IsAnswered (map (λ p. meaning p) laws.now.policies.items) (reach env.old) (reach env.new) self.old → IfErr result (IsFault (reach env.old) (reach env.new)) }
         ensures cause { let reach = ⟦<EnvOf<S, M, T> as Outside>⟧.reach in
@@ -424,6 +433,8 @@ impl Core {
         ensures checked { let reach = ⟦<EnvOf<S, M, T> as Outside>⟧.reach in (w : World) (rows : List RowEntry) → Leaves (scan_of it.old) w rows → OnOk result (Checks w (reach env.old) (reach env.new)) }
         ensures later { let reach = ⟦<EnvOf<S, M, T> as Outside>⟧.reach in OnOk result (Made (reach env.old) (reach env.new) (λ reads. NoMore (ScanRefuses (scan_of it.old) (reach env.old).meaning) reads (ScanRefuses (scan_of it.new) (reach env.old).meaning))) }
         ensures cause { let reach = ⟦<EnvOf<S, M, T> as Outside>⟧.reach in IfErr result (λ e. Made (reach env.old) (reach env.new) (λ reads. IsFault (reach env.old) (reach env.new) e ⊎ ScanRefuses (scan_of it.old) (reach env.old).meaning reads None e)) }
+        ensures bases { let reach = ⟦<EnvOf<S, M, T> as Outside>⟧.reach in (reach env.old).meaning.combine ≡ None → IfOk result (λ a. Made (reach env.old) (reach env.new) (λ reads. IfSome a (ScanHands (scan_of it.old) (reach env.old).meaning reads))) }
+        ensures hands { let reach = ⟦<EnvOf<S, M, T> as Outside>⟧.reach in OnOk result (Made (reach env.old) (reach env.new) (λ reads. NoMoreRows (ScanHands (scan_of it.old) (reach env.old).meaning) reads (ScanHands (scan_of it.new) (reach env.old).meaning))) }
         ensures again { IsUnrefused (scan_of it.old) → IfErr result (λ e. Keeps e (scan_of it.new)) }
         ensures refused { (kept : SlateDBError) → IsRefusedScan kept (scan_of it.old) → AnswersAgain kept result × (it.new ≡ it.old) × (env.new ≡ env.old) }
         ensures names { IsScanOf (id_of it.old) (number_of it.old) (scan_of it.old).order (scan_of it.old).range it.new }
@@ -471,6 +482,7 @@ impl Core {
         ensures checked { let reach = ⟦<EnvOf<S, M, T> as Outside>⟧.reach in (w : World) (rows : List RowEntry) → Leaves (scan_of it.old) w rows → OnOk result (Checks w (reach env.old) (reach env.new)) }
         ensures later { let reach = ⟦<EnvOf<S, M, T> as Outside>⟧.reach in OnOk result (Made (reach env.old) (reach env.new) (λ reads. NoMore (ScanRefuses (scan_of it.old) (reach env.old).meaning) reads (ScanRefuses (scan_of it.new) (reach env.old).meaning))) }
         ensures cause { let reach = ⟦<EnvOf<S, M, T> as Outside>⟧.reach in IfErr result (λ e. Made (reach env.old) (reach env.new) (λ reads. IsFault (reach env.old) (reach env.new) e ⊎ ScanRefuses (scan_of it.old) (reach env.old).meaning reads (Some key.now) e)) }
+        ensures hands { let reach = ⟦<EnvOf<S, M, T> as Outside>⟧.reach in OnOk result (Made (reach env.old) (reach env.new) (λ reads. NoMoreRows (ScanHands (scan_of it.old) (reach env.old).meaning) reads (ScanHands (scan_of it.new) (reach env.old).meaning))) }
         ensures again { IsUnrefused (scan_of it.old) → IfErr result (λ e. Keeps e (scan_of it.new)) }
         ensures refused { (kept : SlateDBError) → IsRefusedScan kept (scan_of it.old) → AnswersAgain kept result × (it.new ≡ it.old) × (env.new ≡ env.old) }
         ensures names { IsScanOf (id_of it.old) (number_of it.old) (scan_of it.old).order (scan_of it.old).range it.new }

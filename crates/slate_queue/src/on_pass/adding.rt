@@ -11,8 +11,10 @@ ghost use Rattle.slate_txn.specs.declared.event.TranscriptStep.TheVariants as st
 ghost use Rattle.slate_db.specs.Meaning.{segments_by};
 ghost use Rattle.slate_shared.specs.Given.{AreGiven};
 ghost use Rattle.slate_steps.specs.Attempts.{IsAttempt, IsVouchedThere};
+ghost use Rattle.slate_steps.specs.Reads.{IsStillBy};
 ghost use Rattle.slate_queue.specs.declared.error.QueueError.{QueueError};
 ghost use Rattle.slate_queue.specs.CallSteps.{AddStops, Adds, Counts, own_steps};
+ghost use Rattle.slate_queue.specs.Calls.{db_error};
 ghost use Rattle.slate_queue.specs.Commits.{added, put_of};
 ghost use Rattle.slate_queue.specs.Jobs.{longest, new_job};
 ghost use Rattle.slate_queue.specs.OnPass.{AttemptsOn};
@@ -55,6 +57,7 @@ pub(crate) fn add_job<
         (from : List Event) → IsAttempt P.options from IsolationLevel.SerializableSnapshot [] txn.old →
         AttemptsOn (Adds payload.now) AddStops P.options P.meaning P.policies from (reach env.old) (reach env.new) txn.new result }
     ensures table { txn.new.table ≡ txn.old.table }
+    ensures counts { let reach = ⟦<EnvOf<S, M, T> as Outside>⟧.reach in IsStillBy db_error (reach env.old).faults (reach env.new).faults result }
     ensures reads { let reach = ⟦<EnvOf<S, M, T> as Outside>⟧.reach in OnlyReads (reach env.old) (reach env.new) }
 {
     let alloc = *laws.policies.allocator();
@@ -83,6 +86,7 @@ fn next_id<P: Parts, R: Wait, S: Store, M: MergeOperator, T: BlockTransformer, X
         (from : List Event) → IsAttempt P.options from IsolationLevel.SerializableSnapshot [] txn.old →
         AttemptsOn Counts AddStops P.options P.meaning P.policies from (reach env.old) (reach env.new) txn.new result }
     ensures table { txn.new.table ≡ txn.old.table }
+    ensures counts { let reach = ⟦<EnvOf<S, M, T> as Outside>⟧.reach in IsStillBy db_error (reach env.old).faults (reach env.new).faults result }
     ensures reads { let reach = ⟦<EnvOf<S, M, T> as Outside>⟧.reach in OnlyReads (reach env.old) (reach env.new) }
 {
     match get(rt, db, txn, b"n", env, laws) {

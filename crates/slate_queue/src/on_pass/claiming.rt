@@ -9,8 +9,10 @@ ghost use Rattle.slate_txn.specs.declared.event.TranscriptStep.{TranscriptStep};
 ghost use Rattle.slate_db.specs.Meaning.{segments_by};
 ghost use Rattle.slate_shared.specs.Given.{AreGiven};
 ghost use Rattle.slate_steps.specs.Attempts.{IsAttempt, IsVouchedThere};
+ghost use Rattle.slate_steps.specs.Reads.{IsStillBy};
 ghost use Rattle.slate_queue.specs.declared.error.QueueError.{QueueError};
 ghost use Rattle.slate_queue.specs.CallSteps.{ClaimStops, MayClaim, own_steps};
+ghost use Rattle.slate_queue.specs.Calls.{db_error};
 ghost use Rattle.slate_queue.specs.Commits.{put_of};
 ghost use Rattle.slate_queue.specs.OnPass.{AttemptsOn};
 ghost use Rattle.slate_queue.specs.PassWalks.{HaltsOn, IsUnderWay, RaisesOn, WalkGoes, WalkHalts, WalksToOn};
@@ -61,6 +63,7 @@ pub(crate) fn claim_job<
         (from : List Event) → IsAttempt P.options from IsolationLevel.SerializableSnapshot [] txn.old →
         AttemptsOn (MayClaim now ms) (ClaimStops now) P.options P.meaning P.policies from (reach env.old) (reach env.new) txn.new result }
     ensures table { txn.new.table ≡ txn.old.table }
+    ensures counts { let reach = ⟦<EnvOf<S, M, T> as Outside>⟧.reach in IsStillBy db_error (reach env.old).faults (reach env.new).faults result }
     ensures reads { let reach = ⟦<EnvOf<S, M, T> as Outside>⟧.reach in OnlyReads (reach env.old) (reach env.new) }
 {
     let alloc = *laws.policies.allocator();
@@ -100,6 +103,7 @@ fn find_free<
         (from : List Event) → IsAttempt P.options from IsolationLevel.SerializableSnapshot [] txn.old →
         AttemptsOn (MayFind now) (FindStops now) P.options P.meaning P.policies from (reach env.old) (reach env.new) txn.new result }
     ensures table { txn.new.table ≡ txn.old.table }
+    ensures counts { let reach = ⟦<EnvOf<S, M, T> as Outside>⟧.reach in IsStillBy db_error (reach env.old).faults (reach env.new).faults result }
     ensures reads { let reach = ⟦<EnvOf<S, M, T> as Outside>⟧.reach in OnlyReads (reach env.old) (reach env.new) }
 {
     let mut scan = match scan_prefix(rt, db, txn, b"j", env, laws) {
@@ -125,6 +129,7 @@ fn walk<P: Parts, S: Store, M: MergeOperator, T: BlockTransformer>(
     ensures halts { let reach = ⟦<EnvOf<S, M, T> as Outside>⟧.reach in
         IfErr result (WalkHalts now P.options P.meaning (reach env.old) (reach env.new) txn.old txn.new scan.old) }
     ensures table { txn.new.table ≡ txn.old.table }
+    ensures counts { let reach = ⟦<EnvOf<S, M, T> as Outside>⟧.reach in IsStillBy db_error (reach env.old).faults (reach env.new).faults result }
     ensures reads { let reach = ⟦<EnvOf<S, M, T> as Outside>⟧.reach in OnlyReads (reach env.old) (reach env.new) }
 {
     for _ in 0..u64::MAX {
@@ -153,6 +158,7 @@ fn walk_on<P: Parts, S: Store, M: MergeOperator, T: BlockTransformer>(
     ensures halts { let reach = ⟦<EnvOf<S, M, T> as Outside>⟧.reach in
         IfErr result (HaltsOn P.options P.meaning (reach env.old) (reach env.new) txn.old txn.new scan.old scan.new) }
     ensures table { txn.new.table ≡ txn.old.table }
+    ensures counts { let reach = ⟦<EnvOf<S, M, T> as Outside>⟧.reach in IsStillBy db_error (reach env.old).faults (reach env.new).faults result }
     ensures reads { let reach = ⟦<EnvOf<S, M, T> as Outside>⟧.reach in OnlyReads (reach env.old) (reach env.new) }
 {
     match next(txn, scan, env) {

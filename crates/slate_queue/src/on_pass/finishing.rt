@@ -11,8 +11,10 @@ ghost use Rattle.slate_txn.specs.declared.event.TranscriptStep.TheVariants as st
 ghost use Rattle.slate_db.specs.Meaning.{segments_by};
 ghost use Rattle.slate_shared.specs.Given.{AreGiven};
 ghost use Rattle.slate_steps.specs.Attempts.{IsAttempt, IsVouchedThere};
+ghost use Rattle.slate_steps.specs.Reads.{IsStillBy};
 ghost use Rattle.slate_queue.specs.declared.error.QueueError.{QueueError};
 ghost use Rattle.slate_queue.specs.CallSteps.{FinishStops, Finishes};
+ghost use Rattle.slate_queue.specs.Calls.{db_error};
 ghost use Rattle.slate_queue.specs.OnPass.{AttemptsOn};
 
 use crate::error::QueueError;
@@ -50,6 +52,7 @@ pub(crate) fn finish_job<
         (from : List Event) → IsAttempt P.options from IsolationLevel.SerializableSnapshot [] txn.old →
         AttemptsOn (λ done. Finishes job lease) (FinishStops job lease) P.options P.meaning P.policies from (reach env.old) (reach env.new) txn.new result }
     ensures table { txn.new.table ≡ txn.old.table }
+    ensures counts { let reach = ⟦<EnvOf<S, M, T> as Outside>⟧.reach in IsStillBy db_error (reach env.old).faults (reach env.new).faults result }
     ensures reads { let reach = ⟦<EnvOf<S, M, T> as Outside>⟧.reach in OnlyReads (reach env.old) (reach env.new) }
 {
     let alloc = *laws.policies.allocator();

@@ -80,15 +80,15 @@ module _ (g : given.Over) (c : goal.After-fold_found g) (v : CoreModel) (own row
   abbrev asking : Asking
   asking = record { policies = policies g c; query = c.args.query.now }
 
-  near_among : (r : RowEntry) → Contains c.args.near.items r → IsOwnAsked asking v r ⊎ IsMemoryAsked asking v r
+  near_among : (r : RowEntry) → Contains c.args.near.items r → IsOwnAsked asking v r ⊎ IsMemoryAsked asking n v r
   near_among r among = by (Contains-append_cases own rows r (subst (λ (xs : List RowEntry). Contains xs r) near among))
     where
       keyed : Contains own r → r.key ≡ k
       keyed o = All-contains (λ (x : RowEntry). x.key ≡ k) own r (All-from_recursion _ own un.keys) o
 
-      by : Contains own r ⊎ Contains rows r → IsOwnAsked asking v r ⊎ IsMemoryAsked asking v r
+      by : Contains own r ⊎ Contains rows r → IsOwnAsked asking v r ⊎ IsMemoryAsked asking n v r
       by (inl o) = inl (All-contains (IsOwnRow v) own r (All-from_recursion _ own un.own) o, c.requires ∙ ap Point (sym (keyed o)))
-      by (inr found) = inr (k, n, c.requires, subst (λ (xs : List RowEntry). Contains xs r) st.rows found)
+      by (inr found) = inr (k, c.requires, subst (λ (xs : List RowEntry). Contains xs r) st.rows found)
 
   handles : AreHandles (tables_of v.events) (handles_of c.args.runs.now)
   handles = known_handles v k n rows c.args.runs.now st
@@ -122,11 +122,11 @@ module _ (g : given.Over) (c : goal.After-fold_found g) (v : CoreModel) (own row
       let asking : Asking = record { policies = policies g c; query = c.args.query.now } in
       let keys : AllByRecursion (λ r. r.key ≡ k) c.in_ok-found.found.items = twice (λ r. r.key ≡ k) c.in_ok-found.found.items (AllByRecursion_weaken (λ (r : RowEntry). (r.key ≡ k) × IsShort (operand r)) (λ (r : RowEntry). r.key ≡ k) (λ r h. h.0) (reverse c.in_ok-found.found.items) (folds above is).are) in
       let made = c.in_ok-found.ensures.rows in
-      let some = some_brought m asking (handles_of c.args.runs.now) made.0 k c.args.near.items c.in_ok-found.found.items
+      let some = some_brought m asking n (handles_of c.args.runs.now) made.0 k c.args.near.items c.in_ok-found.found.items
       (λ same. none_brought m v st.unseen k n own (sound is) st.whole (is.readable.kept.0 k) above un.own needs (sym (found_is is) ∙ same ∙ near_is)) keys made.2 in (
         made.0,
         made.1,
-        brought_key m asking is.os (tables_of v.events) (handles_of c.args.runs.now) (sound is).layers made.0 k some.0 handles is.readable.holds (stored is) (acts_answered is.os (before g c) (between g c) made.0 made.1 is.answers) some.1 some.2,
+        brought_key m asking n is.os (tables_of v.events) (handles_of c.args.runs.now) (sound is).layers made.0 k some.0 handles is.readable.holds (stored is) (acts_answered is.os (before g c) (between g c) made.0 made.1 is.answers) some.1 some.2,
       )
 
   -- what the rows that were found fold to
@@ -144,8 +144,8 @@ module _ (g : given.Over) (c : goal.After-fold_found g) (v : CoreModel) (own row
           undamaged = (λ is.
               let none : (between g c).meaning.combine ≡ None → is_merge_among c.in_ok-found.found.items ≡ false = λ lacks. found_bases (before g c).meaning v k n own c.in_ok-found.found.items (sound is).layers (same_combine ∙ lacks) is.readable.kept.0 is.readable.kept.2 ((sound is).bases (same_combine ∙ lacks)) un.own (found_is is) in
               IfErr-weaker c.fold_found.result _ _ (λ e h. fold_fault _ _ _ (is_merge_among c.in_ok-found.found.items) e tables.later none h) c.fold_found.ensures.cause);
-          cause = IfErr-weaker c.fold_found.result _ _ (λ e h. fold_refused _ (before g c) (between g c) (after g c) v (handles_of c.args.runs.now) c.args.near.items c.in_ok-found.found.items e handles near_among tables.later refl
-              (λ i. record (between g c).meaning { combine = c.fold_found.ensures.same i }) refl (found_rows _ _ _ (handles_of c.args.runs.now) c.args.near.items c.in_ok-found.found.items c.in_ok-found.ensures.rows) h) c.fold_found.ensures.cause;
+          cause = IfErr-weaker c.fold_found.result _ _ (λ e h. fold_refused _ n (before g c) (between g c) (after g c) v (handles_of c.args.runs.now) c.args.near.items c.in_ok-found.found.items e handles near_among tables.later refl
+              (λ i. record (between g c).meaning { combine = c.fold_found.ensures.same i }) refl (found_rows _ _ _ n (handles_of c.args.runs.now) c.args.near.items c.in_ok-found.found.items c.in_ok-found.ensures.rows) h) c.fold_found.ensures.cause;
           checked = (λ os is.
               let all : IsSound (before g c).meaning v = is.kept.1 is.lawful in
               checks_ok c.fold_found.result os (before g c) (after g c)
@@ -179,7 +179,7 @@ returns-in_err-found g c = λ v own rows near st un.
             let sound : IsSound m v = is.readable.kept.1 is.readable.lawful in
             rw (p.1, p.2) (c.in_err-found.ensures.whole sound.layers is.os (stored_as m v v st.unseen (handles_of c.args.runs.now) is.os sound.layers refl known st.whole is.readable.lawful sound.tables is.readable.holds)
             (filtered_known (map (λ p. (goal.FilterPolicy-dyn g (p.vtable, p.value)).meaning p.value) c.args.policies.now) m is.os (tables_of v.events) (handles_of c.args.runs.now) is.readable.lawful_policies is.readable.filtered handles is.readable.holds) is.answers));
-        cause = rw (p.1, p.2) (journal_damage _ _ _ v (handles_of c.args.runs.now) _ handles c.in_err-found.ensures.cause);
+        cause = rw (p.1, p.2) (journal_damage _ c.args.at _ _ v (handles_of c.args.runs.now) _ handles c.in_err-found.ensures.cause);
         checked = λ os is. checks_err c.from_residual.result os (reach_of g.S.Store g.M.MergeOperator g.T.BlockTransformer c.args.env.now) (reach_of g.S.Store g.M.MergeOperator g.T.BlockTransformer c.newest_of_runs.new.env) c.from_residual.ensures.0;
         reads = c.newest_of_runs.ensures.reads;
         still = rw (p.1, p.2) c.in_err-found.ensures.still;

@@ -21,6 +21,7 @@ returns-in_err-seek c =
       whole = (λ all is.
           let p = err_from_is_err_and c.from_residual.result c.from_residual.ensures.1 in
           rw (p.1, p.2) (seek_memory (left_of c.args.rows.now).reads all _ is c.in_err-seek.ensures.cause.2.0));
+      asked = IfOk-from_err c.from_residual.result _ c.from_residual.ensures.0;
       rows = IfOk-from_err c.from_residual.result _ c.from_residual.ensures.0;
       cause = rw (p.1, p.2) (seek_refuses (left_of c.args.rows.now).reads _ c.in_err-seek.ensures.cause.2.0);
     }
@@ -38,6 +39,7 @@ returns c =
           IfOk-weaker c.newest_of_walk.result _ _ (λ found h. h ∙ ap (newest c.args.key.now c.args.max_seq) sought ∙ dropped_same c.args.key.now c.args.max_seq all)
           (c.newest_of_walk.ensures.found (c.seek.ensures.still nothing sees_nothing sound) (c.seek.ensures.order ∙ o) (subst (NoneBefore Ascending c.args.key.now) (sym sought) (dropped_none c.args.key.now all order))));
       whole = λ all is. IfErr-weaker c.newest_of_walk.result _ _ (λ e h. walk_memory (left_of c.args.rows.now).reads all e is (fewer c e h)) c.newest_of_walk.ensures.cause;
+      asked = c.newest_of_walk.ensures.asked;
       rows = (let past = c.in_ok-seek.ensures.sought.2.0.0 in
           IfOk-weaker c.newest_of_walk.result _ _ (λ found h. brought_reads (λ (it : _). (left_of it).reads) c.seek.new.self (left_of c.args.rows.now).reads past.front found.items past.parts h) c.newest_of_walk.ensures.brought);
       cause = IfErr-weaker c.newest_of_walk.result _ _ (fewer c) c.newest_of_walk.ensures.cause;

@@ -18,6 +18,7 @@ returns-in_err-rows c =
           let read : block_rows c.args.version c.args.block.body c.args.block.offsets.items ≡ Ok rows = read_whole c.args.version c.args.block.body c.args.block.offsets.items rows (λ i. search rules) is known in
           let p = err_from_is_err_and c.from_residual.result c.from_residual.ensures.1 in
           rw (p.1, p.2) (only_memory c.args.version c.args.block.body c.args.block.offsets.items rows _ OutOfMemory (c.in_err-rows.ensures.cause known) read));
+      asked = IfOk-from_err c.from_residual.result _ c.from_residual.ensures.0;
       rows = IfOk-from_err c.from_residual.result _ c.from_residual.ensures.0;
       cause = rw (p.1, p.2) (begin_cause c.args.version c.args.block _ _ refl c.in_err-rows.ensures.cause c.in_err-rows.ensures.damage c.in_err-rows.ensures.version);
     }
@@ -34,6 +35,7 @@ returns c =
           let known = known_of c.args.version c.args.block.body c.args.block.offsets.items rows is in
           let read : block_rows c.args.version c.args.block.body c.args.block.offsets.items ≡ Ok rows = read_whole c.args.version c.args.block.body c.args.block.offsets.items rows (λ i. search rules) is known in
           c.newest_from-found.ensures.whole rows (c.in_ok-rows.ensures.rows rows read));
+      asked = c.newest_from-found.ensures.asked;
       rows = IfOk-weaker c.newest_from-found.result _ _ (λ found h. rows_read c.args.version c.args.block (left_of c.in_ok-rows.rows).reads found.items (λ i. search rules) read_is h) c.newest_from-found.ensures.rows;
       cause = IfErr-weaker c.newest_from-found.result _ _ (λ e h. walk_cause c.args.version c.args.block (left_of c.in_ok-rows.rows).reads e read_is h) c.newest_from-found.ensures.cause;
     }

@@ -8,7 +8,7 @@ use Rattle.slate_types.specs.Iteration.{IsInOrder}
 use Rattle.slate_table.specs.Finding.{AreBlocksOf}
 use Rattle.slate_mem.specs.Lookup.{is_decided}
 use Rattle.slate_db.specs.Model.{Rows}
-use Rattle.slate_db.proofs.Shown.{blocks_rows, next_block, among_blocks}
+use Rattle.slate_db.proofs.Shown.{asked_on, blocks_rows, next_block, among_blocks}
 use Rattle.slate_db.proofs.Walks.{Walked, walk_next, walk_goes_on, walk_ends, walk_decides}
 use Rattle.slate_db.proofs.lookup.newest_of_blocks.Goals as goal
 
@@ -23,6 +23,7 @@ returns-then-is_decided c =
           c.loop-block.invariant.open_still (c.in_ok-more.ensures.found x.rows x.is x.rising) c.in_ok-append.ensures.items in
           let decided : is_decided c.append.new.self.items ≡ true = search rules in
           walk_decides c.args.version (into_iter_items c.next.new.self) lists c.args.key.now c.args.max_seq c.append.new.self.items all decided);
+      asked = asked_on c.args.key.now c.args.max_seq c.loop-block.found.items c.in_ok-more.more.items c.append.new.self.items c.loop-block.invariant.asked c.in_ok-more.ensures.asked c.in_ok-append.ensures.items;
       rows =
           let split : into_iter_items c.loop-block.block-iterator ≡ c.in-Some.block ∷ into_iter_items c.next.new.self = search rules in
           blocks_rows c.args.version c.args.blocks.items c.in-Some.block c.loop-block.found.items c.in_ok-more.more.items c.append.new.self.items (next_block c.args.blocks.items c.in-Some.block _ _ split c.loop-block.invariant.rest).0 c.loop-block.invariant.rows c.in_ok-more.ensures.rows c.in_ok-append.ensures.items;
@@ -49,6 +50,7 @@ loop-block-preserved c =
       count = omega (arith, c.loop-block.invariant.count, fewer, size);
       open_still = search rules;
       rest = next.1;
+      asked = asked_on c.args.key.now c.args.max_seq c.loop-block.found.items c.in_ok-more.more.items c.append.new.self.items c.loop-block.invariant.asked c.in_ok-more.ensures.asked c.in_ok-append.ensures.items;
       rows = blocks_rows c.args.version c.args.blocks.items c.in-Some.block c.loop-block.found.items c.in_ok-more.more.items c.append.new.self.items next.0 c.loop-block.invariant.rows c.in_ok-more.ensures.rows c.in_ok-append.ensures.items;
       walked = walked_on c;
     }
@@ -60,6 +62,7 @@ returns c =
           let over : into_iter_len c.loop-block.block-iterator ≡ 0 = search rules in
           let none : into_iter_items c.loop-block.block-iterator ≡ [] = nil_from_length (into_iter_items c.loop-block.block-iterator) (sym c.loop-block.invariant.count ∙ over) in
           walk_ends c.args.version lists c.args.key.now c.args.max_seq c.loop-block.found.items (subst (λ bs. Walked c.args.version bs lists c.args.key.now c.args.max_seq c.loop-block.found.items) none (c.loop-block.invariant.walked lists are order)));
+      asked = c.loop-block.invariant.asked;
       rows = c.loop-block.invariant.rows;
       whole = λ lists are order. tt;
       cause = tt;
@@ -70,6 +73,9 @@ returns-in_err-more-clause-found c = λ lists are order. IfOk-from_err c.from_re
 
 pub returns-in_err-more-clause-rows : goal.returns-in_err-more-clause-rows
 returns-in_err-more-clause-rows c = IfOk-from_err c.from_residual.result _ c.from_residual.ensures.0
+
+pub returns-in_err-more-clause-asked : goal.returns-in_err-more-clause-asked
+returns-in_err-more-clause-asked c = IfOk-from_err c.from_residual.result _ c.from_residual.ensures.0
 
 pub returns-in_err-more-clause-cause : goal.returns-in_err-more-clause-cause
 returns-in_err-more-clause-cause c =
@@ -82,6 +88,7 @@ returns-in_err-append c =
     let p = err_from_is_err_and c.from_residual-in_err-append.result c.from_residual-in_err-append.ensures.1 in
     record {
       found = λ lists are order. IfOk-from_err c.from_residual-in_err-append.result _ c.from_residual-in_err-append.ensures.0;
+      asked = IfOk-from_err c.from_residual-in_err-append.result _ c.from_residual-in_err-append.ensures.0;
       rows = IfOk-from_err c.from_residual-in_err-append.result _ c.from_residual-in_err-append.ensures.0;
       whole = λ lists are order. let p = err_from_is_err_and c.from_residual-in_err-append.result c.from_residual-in_err-append.ensures.1 in rw (p.1, p.2) refl;
       cause = rw (p.1, p.2) (inl refl);

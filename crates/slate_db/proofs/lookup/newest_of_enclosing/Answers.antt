@@ -11,7 +11,7 @@ use Rattle.slate_db.proofs.Behind.{meanings, once_of, quietly, read_of, two_of}
 use Rattle.slate_db.proofs.Causes.{read_fault}
 use Rattle.slate_db.proofs.Checks.{checks_err, checks_ok}
 use Rattle.slate_db.proofs.Newest.{newest_same}
-use Rattle.slate_db.proofs.Shown.{blocks_refused, index_refused, no_rows_read, row_refused, table_rows}
+use Rattle.slate_db.proofs.Shown.{blocks_refused, index_refused, no_rows_read, none_asked, row_refused, table_rows}
 use Rattle.slate_db.proofs.TableChecks.{blocks_checked, index_checked}
 use Rattle.slate_db.proofs.Tables.{answered_by, blocks_whole, faults_earlier, index_whole, key_nowhere, key_read}
 use Rattle.slate_types.proofs.StillLaws.{told_still}
@@ -25,6 +25,7 @@ returns-in_err-index g c =
       whole = (λ rows os stored a.
           let p = err_from_is_err_and c.from_residual.result c.from_residual.ensures.1 in
           rw (p.1, p.2) (read_fault _ _ _ (index_whole _ _ _ _ c.args.table.now rows _ _ _ _ _ _ _ stored (answered_by stored a) c.in_err-index.ensures.cause)));
+      asked = IfOk-from_err c.from_residual.result _ c.from_residual.ensures.0;
       rows = IfOk-from_err c.from_residual.result _ c.from_residual.ensures.0;
       cause = rw (p.1, p.2) (index_refused _ _ c.args.table.now _ c.read_index.ensures.objects refl c.read_index.ensures.same_encoded c.read_index.ensures.same_decoded c.in_err-index.ensures.cause);
       alone = once_of _ _ c.args.table.now _ _ c.read_index.ensures.objects (meanings _ _ refl c.read_index.ensures.same_encoded c.read_index.ensures.same_decoded) c.in_err-index.ensures.once;
@@ -49,6 +50,7 @@ returns-then-covered g c =
           ∙ key_nowhere _ _ _ _ c.args.table.now rows (entries_of c.in_ok-index.index) c.args.key.now c.args.max_seq c.covering-covered.result.start c.covering-covered.result.end _ _ stored (answered_by stored a) c.covering-covered.ensures.order c.covering-covered.ensures.within c.covering-covered.ensures.each c.if-covered.true
           c.in_ok-index.ensures.found);
       whole = λ rows os stored a. tt;
+      asked = none_asked c.args.key.now c.args.max_seq c.new.result.items c.new.ensures.items;
       rows = no_rows_read _ _ c.args.table.now _ _ _ c.new.result.items c.read_index.ensures.objects (meanings _ _ refl c.read_index.ensures.same_encoded c.read_index.ensures.same_decoded) c.in_ok-index.ensures.found c.new.ensures.items;
       cause = tt;
       alone = read_of _ _ c.args.table.now _ _ _ c.read_index.ensures.objects (meanings _ _ refl c.read_index.ensures.same_encoded c.read_index.ensures.same_decoded) c.in_ok-index.ensures.found;
@@ -80,6 +82,7 @@ returns-in_err-blocks g c =
           rw (p.1, p.2) (read_fault _ _ _ (faults_earlier _ _ _ _ _ _ _ c.read_index.ensures.later c.read_index.ensures.later_transformer
           (blocks_whole encode decode now (Some os) (g.S.Store.objects c.args.env.now.store.now) (g.S.Store.objects c.read_index.new.store) c.args.table.now rows (entries_of c.in_ok-index.index)
           c.covering-covered.result.start c.covering-covered.result.end (g.S.Store.acts c.args.env.now.store.now) (g.S.Store.acts c.read_index.new.store) (g.S.Store.acts c.read_blocks.new.store) c.in_err-blocks.field-0.0 _ _ _ _ stored (answered_by stored (answering_first os _ _ _ _ first last a)) (answered_by stored (answering_last os _ _ _ _ _ c.read_index.ensures.objects first last a)) c.read_index.ensures.same_decoded c.covering-covered.ensures.order c.covering-covered.ensures.within c.in_ok-index.ensures.found c.in_err-blocks.ensures.cause))));
+      asked = IfOk-from_err c.from_residual-in_err-blocks.result _ c.from_residual-in_err-blocks.ensures.0;
       rows = IfOk-from_err c.from_residual-in_err-blocks.result _ c.from_residual-in_err-blocks.ensures.0;
       cause = rw (p.1, p.2) (blocks_refused _ _ c.args.table.now _ (entries_of c.in_ok-index.index) c.covering-covered.result.start c.covering-covered.result.end _ _ _ _ _ (record {
         first_objects = c.read_index.ensures.objects;
@@ -130,6 +133,7 @@ returns g c =
           c.args.key.now c.covering-covered.result.start c.covering-covered.result.end (g.S.Store.acts c.args.env.now.store.now) (g.S.Store.acts c.read_index.new.store) (g.S.Store.acts c.read_blocks.new.store) c.in_ok-blocks.blocks.items stored (answered_by stored (answering_first os _ _ _ _ first last a)) (answered_by stored (answering_last os _ _ _ _ _ c.read_index.ensures.objects first last a)) c.read_index.ensures.same_decoded
           c.covering-covered.ensures.order c.covering-covered.ensures.within c.covering-covered.ensures.each c.in_ok-blocks.ensures.count c.in_ok-index.ensures.found (c.in_ok-blocks.ensures.found c.if-covered.false) in
           IfErr-weaker c.newest_of_blocks.result _ _ (λ e h. subst (IsCounted _ _) (sym h) tt) (c.newest_of_blocks.ensures.whole key.0 key.1 key.2));
+      asked = c.newest_of_blocks.ensures.asked;
       rows = IfOk-weaker c.newest_of_blocks.result _ _ (λ found h. table_rows _ _ c.args.table.now _ (entries_of c.in_ok-index.index) c.covering-covered.result.start c.covering-covered.result.end _ _ c.in_ok-blocks.blocks.items found.items (record {
         first_objects = c.read_index.ensures.objects;
         last_objects = c.read_blocks.ensures.objects;

@@ -30,7 +30,7 @@ loop-at-init g c = record {
   reads = reads_none _;
   behind = behind_none _ (record { policies = map (λ p. (goal.FilterPolicy-dyn g (p.vtable, p.value)).meaning p.value) c.args.policies.now; query = c.args.query.now }) (handles_of c.args.runs.now);
   extends = extends_none c.args.newer.items;
-  rows = no_rows _ (record { policies = map (λ p. (goal.FilterPolicy-dyn g (p.vtable, p.value)).meaning p.value) c.args.policies.now; query = c.args.query.now }) (handles_of c.args.runs.now) c.args.newer.items;
+  rows = no_rows _ (record { policies = map (λ p. (goal.FilterPolicy-dyn g (p.vtable, p.value)).meaning p.value) c.args.policies.now; query = c.args.query.now }) c.args.max_seq (handles_of c.args.runs.now) c.args.newer.items;
   found = λ os filtered answers. none_found (reach_of g.S.Store g.M.MergeOperator g.T.BlockTransformer c.args.env.now).meaning os c.args.runs.now (length c.args.runs.now) c.args.key.now c.args.max_seq c.args.newer.items refl;
   still = refl;
 }
@@ -54,7 +54,7 @@ loop-at-preserved g c =
       reads = reads_then _ _ _ first last;
       behind = behind_more _ _ _ (record { policies = map (λ p. (goal.FilterPolicy-dyn g (p.vtable, p.value)).meaning p.value) c.args.policies.now; query = c.args.query.now }) (handles_of c.args.runs.now) c.as_slice.result.now (among c.args.runs.now (c.loop-at.at - 1) run c.as_slice.result.now below c.index-runs-at.is slice) c.loop-at.invariant.behind c.newest_of_tables.ensures.behind;
       extends = extends_both c.args.newer.items c.loop-at.found.items c.in_ok-found.found.items c.loop-at.invariant.extends c.in_ok-found.ensures.extends;
-      rows = rows_of_run _ _ _ (record { policies = map (λ p. (goal.FilterPolicy-dyn g (p.vtable, p.value)).meaning p.value) c.args.policies.now; query = c.args.query.now }) (handles_of c.args.runs.now) _ c.args.newer.items c.loop-at.found.items c.in_ok-found.found.items (among c.args.runs.now i run c.as_slice.result.now below c.index-runs-at.is slice) c.loop-at.invariant.rows c.in_ok-found.ensures.rows;
+      rows = rows_of_run _ _ _ (record { policies = map (λ p. (goal.FilterPolicy-dyn g (p.vtable, p.value)).meaning p.value) c.args.policies.now; query = c.args.query.now }) c.args.max_seq (handles_of c.args.runs.now) _ c.args.newer.items c.loop-at.found.items c.in_ok-found.found.items (among c.args.runs.now i run c.as_slice.result.now below c.index-runs-at.is slice) c.loop-at.invariant.rows c.in_ok-found.ensures.rows;
       found = λ os filtered answers. run_found m os c.args.runs.now i run c.args.key.now c.args.max_seq c.args.newer.items c.loop-at.found.items c.in_ok-found.found.items below c.index-runs-at.is
           (subst (λ (j : ℕ). FoundSoFar m os (drop j c.args.runs.now) c.args.key.now c.args.max_seq c.args.newer.items c.loop-at.found.items) next (c.loop-at.invariant.found os filtered (from_first os _ _ _ first last answers)))
           (λ layers are. c.in_ok-found.ensures.found layers os

@@ -24,7 +24,7 @@ invariant-loop-at g l =
       behind : Made before now (AreBehindFilters before.meaning.decode asking (handles_of l.runs));
       checked : (layers : List Rows) (os : Objects) → AreStoredAs before.meaning os (handles_of l.runs) layers → ChecksFrom os before now;
       extends : Extends l.initial.found.items l.found.items;
-      rows : Made before now (BringsRows before.meaning.decode asking (handles_of l.runs) l.initial.found.items l.found.items);
+      rows : Made before now (BringsRows before.meaning.decode asking l.max_seq (handles_of l.runs) l.initial.found.items l.found.items);
       found : (os : Objects) → AreFilteredAs asking.policies before.meaning os (handles_of l.runs) → AnswersFrom os before now → FoundSoFar before.meaning os (drop l.at l.runs) l.key l.max_seq l.initial.found.items l.found.items;
     }
 

@@ -24,7 +24,7 @@ loop-i-init g c = record {
   reads = reads_none _;
   behind = behind_none _ (record { policies = map (λ p. (goal.FilterPolicy-dyn g (p.vtable, p.value)).meaning p.value) c.args.policies.now; query = c.args.query.now }) c.args.tables.now;
   extends = extends_none c.args.newer.items;
-  rows = no_rows _ (record { policies = map (λ p. (goal.FilterPolicy-dyn g (p.vtable, p.value)).meaning p.value) c.args.policies.now; query = c.args.query.now }) c.args.tables.now c.args.newer.items;
+  rows = no_rows _ (record { policies = map (λ p. (goal.FilterPolicy-dyn g (p.vtable, p.value)).meaning p.value) c.args.policies.now; query = c.args.query.now }) c.args.max_seq c.args.tables.now c.args.newer.items;
   found = λ layers os are filtered answers own above operands h.
       behind_begin c.args.key.now c.args.max_seq own operands (length c.args.tables.now) above c.args.newer.items layers h
       (as_many _ _ _ c.args.tables.now layers are);
@@ -46,7 +46,7 @@ loop-i-preserved g c =
       reads = reads_then _ _ _ first last;
       behind = behind_one _ _ _ (record { policies = map (λ p. (goal.FilterPolicy-dyn g (p.vtable, p.value)).meaning p.value) c.args.policies.now; query = c.args.query.now }) c.args.tables.now c.index-tables-i.result (at_table c.args.tables.now (c.loop-i.i - 1) c.index-tables-i.result (omega (arith, c.loop-i-test.true, c.loop-i.invariant.within)) c.index-tables-i.is) c.loop-i.invariant.behind c.newest_of_table.ensures.behind;
       extends = extends_more c.args.newer.items c.loop-i.found.items c.in_ok-more.more.items c.append.new.self.items c.loop-i.invariant.extends c.in_ok-append.ensures.items;
-      rows = rows_on _ _ _ (record { policies = map (λ p. (goal.FilterPolicy-dyn g (p.vtable, p.value)).meaning p.value) c.args.policies.now; query = c.args.query.now }) c.args.tables.now c.index-tables-i.result c.args.newer.items c.loop-i.found.items c.in_ok-more.more.items c.append.new.self.items (at_table c.args.tables.now i c.index-tables-i.result (omega (arith, c.loop-i-test.true, c.loop-i.invariant.within)) c.index-tables-i.is) c.loop-i.invariant.rows c.in_ok-more.ensures.rows c.in_ok-append.ensures.items;
+      rows = rows_on _ _ _ (record { policies = map (λ p. (goal.FilterPolicy-dyn g (p.vtable, p.value)).meaning p.value) c.args.policies.now; query = c.args.query.now }) c.args.key.now c.args.max_seq c.args.tables.now c.index-tables-i.result c.args.newer.items c.loop-i.found.items c.in_ok-more.more.items c.append.new.self.items (at_table c.args.tables.now i c.index-tables-i.result (omega (arith, c.loop-i-test.true, c.loop-i.invariant.within)) c.index-tables-i.is) c.requires c.in_ok-more.ensures.asked c.loop-i.invariant.rows c.in_ok-more.ensures.rows c.in_ok-append.ensures.items;
       found = λ layers os are filtered answers own above operands h.
           let at = table_as _ _ os c.args.tables.now layers i c.index-tables-i.result first.meaning are (omega (arith, c.loop-i-test.true, c.loop-i.invariant.within)) c.index-tables-i.is in
           behind_step c.args.key.now c.args.max_seq own operands i above c.loop-i.found.items c.in_ok-more.more.items c.append.new.self.items at.rows layers at.here

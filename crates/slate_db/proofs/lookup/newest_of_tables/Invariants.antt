@@ -22,7 +22,7 @@ invariant-loop-i g l =
       behind : Made before now (AreBehindFilters before.meaning.decode asking l.tables);
       checked : (layers : List Rows) (os : Objects) → AreStoredAs before.meaning os l.tables layers → ChecksFrom os before now;
       extends : Extends l.initial.found.items l.found.items;
-      rows : Made before now (BringsRows before.meaning.decode asking l.tables l.initial.found.items l.found.items);
+      rows : Made before now (BringsRows before.meaning.decode asking l.max_seq l.tables l.initial.found.items l.found.items);
       found : (layers : List Rows) (os : Objects) → AreStoredAs before.meaning os l.tables layers → AreFilteredAs asking.policies before.meaning os l.tables → AnswersFrom os before now →
           FindsBehind l.key l.max_seq (drop l.i layers) l.initial.found.items l.found.items;
     }

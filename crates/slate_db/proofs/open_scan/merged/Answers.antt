@@ -4,7 +4,7 @@ use Rattle.slate_types.specs.declared.error.SlateDBError.TheVariants.{IteratorNo
 use Rattle.slate_types.specs.Outside.{Counts, unblamed}
 use Rattle.slate_store.specs.Reach.{reach_of}
 use Rattle.slate_db.specs.Scans.{MergedSources, merge_takes, source_refuses}
-use Rattle.slate_db.proofs.ScanMerges.{fresh_operable, fresh_rows, fresh_sound, fresh_waits, opened_brought, opened_folds, opened_later, opened_operable, opening_own, refusal_blamed}
+use Rattle.slate_db.proofs.ScanMerges.{fresh_operable, fresh_rows, fresh_sound, fresh_waits, opened_brought, opened_folds, opened_later, opened_offers, opened_operable, opening_own, refusal_blamed}
 use Rattle.slate_db.proofs.open_scan.merged.Goals as goal
 
 -- the counts by what is answered in place of a refusal
@@ -36,6 +36,7 @@ returns-in-Ok-init g c =
       checked = λ w can. e.checked w (fresh_sound sources order merge made it new w can);
       later = (e.sources.0, e.sources.1, opened_later sources order merge made it new v m e.sources.0 begun.1 e.ready e.sources.2);
       brought = (e.begun.0, e.begun.1, opened_brought sources order merge made it new v m e.begun.0 e.ready e.begun.2.1);
+      offered = (e.begun.0, e.begun.1, opened_offers sources order merge made it new v m e.begun.0 begun.3 begun.4);
       cause = tt;
       reads = e.reads;
       still = e.counts;

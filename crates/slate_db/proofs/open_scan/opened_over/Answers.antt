@@ -54,7 +54,7 @@ returns g c =
       opened = λ v id from st mine.
           sources_open policies (scan_query c.args.range c.args.how.prefix c.args.how.filter_context) before middle after v c.args.range c.args.at c.args.how.order
           c.args.active.now.rows (map (λ (t : MemTableModel). t.rows) c.args.frozen.now) c.args.runs.now c.args.own c.in_ok-sources.sources.items c.asked_sources.ensures.reads c.merged.ensures.reads c.in_ok-sources.ensures.made c.in_ok-sources.ensures.sources id from st mine
-          c.in_ok-rows.rows c.new.result made.state made.range made.order rows.going rows.sound rows.rows rows.operable rows.checked rows.later rows.brought (rows.still ∙ c.in_ok-sources.ensures.still);
+          c.in_ok-rows.rows c.new.result made.state made.range made.order rows.going rows.sound rows.rows rows.operable rows.checked rows.later rows.brought rows.offered (rows.still ∙ c.in_ok-sources.ensures.still);
       range = made.range;
       order = made.order;
       reads = reads_then before middle after c.asked_sources.ensures.reads c.merged.ensures.reads;

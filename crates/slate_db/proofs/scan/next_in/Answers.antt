@@ -5,7 +5,7 @@ use Rattle.slate_types.proofs.Reaching.{reads_none}
 use Rattle.slate_store.specs.Reach.{reach_of}
 use Rattle.slate_db.specs.declared.scan.ScanState.{ScanState}
 use Rattle.slate_db.specs.Scans.{IsOperableIn}
-use Rattle.slate_db.proofs.ScanStates.{cause_walk, checked_walk, later_walk, next_walk, none_left, operable_in, operable_walk, sound_walk, sources_walk, undamaged_walk}
+use Rattle.slate_db.proofs.ScanStates.{bases_walk, cause_walk, checked_walk, hands_walk, later_walk, next_walk, none_left, operable_in, operable_walk, sound_walk, sources_walk, undamaged_walk}
 use Rattle.slate_db.proofs.scan.next_in.Goals as goal
 
 pub returns-in-Walking : goal.returns-in-Walking
@@ -27,6 +27,8 @@ returns-in-Walking g c =
       checked = λ w order sound. checked_walk r order w a b x u (Checks w a b) is (n.checked w) sound;
       sources = λ range. sources_walk r range a b x u v is n.sources;
       later = λ range. later_walk r range a b x u v is n.going n.later;
+      bases = λ none. bases_walk r a b x u is (n.bases none);
+      hands = hands_walk r a b x u v is n.going n.offered;
       cause = λ range. cause_walk r range None a b x u is tt n.cause;
       reads = n.reads;
       still = n.counts;
@@ -40,6 +42,8 @@ returns-in-Done g c = record {
   checked = λ w order sound. checks_none w _;
   sources = λ range. ([], call_none _, λ later at e h. h);
   later = λ range. ([], call_none _, λ later at e h. h);
+  bases = λ none. ([], call_none _, tt);
+  hands = ([], call_none _, λ later a h. h);
   cause = λ range. tt;
   reads = reads_none _;
   still = refl;

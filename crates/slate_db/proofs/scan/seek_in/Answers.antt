@@ -3,7 +3,7 @@ use Rattle.slate_types.specs.World.{Checks}
 use Rattle.slate_types.proofs.Calls.{call_none, checks_none}
 use Rattle.slate_types.proofs.Reaching.{reads_none}
 use Rattle.slate_store.specs.Reach.{reach_of}
-use Rattle.slate_db.proofs.ScanStates.{cause_walk, checked_walk, later_walk, none_sought, operable_walk, seek_walk, sound_walk, sources_walk, undamaged_walk}
+use Rattle.slate_db.proofs.ScanStates.{cause_walk, checked_walk, hands_walk, later_walk, none_sought, operable_walk, seek_walk, sound_walk, sources_walk, undamaged_walk}
 use Rattle.slate_db.proofs.scan.seek_in.Goals as goal
 
 pub returns-in-Walking : goal.returns-in-Walking
@@ -26,6 +26,7 @@ returns-in-Walking g c =
       checked = λ w order sound. checked_walk r order w a b x u (Checks w a b) is (n.checked w) sound;
       sources = λ range. sources_walk r range a b x u v is n.sources;
       later = λ range. later_walk r range a b x u v is n.going n.later;
+      hands = hands_walk r a b x u v is n.going n.offered;
       cause = λ range past. cause_walk r range (Some key) a b x u is past n.cause;
       reads = n.reads;
       still = n.counts;
@@ -39,6 +40,7 @@ returns-in-Done g c = record {
   checked = λ w order sound. checks_none w _;
   sources = λ range. ([], call_none _, λ later at e h. h);
   later = λ range. ([], call_none _, λ later at e h. h);
+  hands = ([], call_none _, λ later a h. h);
   cause = λ range past. tt;
   reads = reads_none _;
   still = refl;

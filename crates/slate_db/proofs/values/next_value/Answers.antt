@@ -1,13 +1,15 @@
-use Rattle.std.proofs.Common.{◌∙◌, None, Some, refl, sym, ap}
+use Rattle.std.proofs.Common.{◌∙◌, [], None, Some, refl, sym, ap}
 use Rattle.std.proofs.lemmas.Result.{err_from_is_err_and, IfOk-from_err}
 use Rattle.slate_types.specs.declared.types.KeyValue.{KeyValue}
 use Rattle.slate_types.specs.Rows.{key_value}
 use Rattle.slate_types.specs.Steps.{Step}
+use Rattle.slate_types.proofs.Calls.{call_none}
 use Rattle.slate_types.proofs.Reaching.{reads_none, reads_then}
 use Rattle.slate_merge.specs.Offers.{offers}
 use Rattle.slate_merge.specs.OperatorIterators.{IsOperable, Takes, refuses_folding, rest_folding, sound_folding}
 use Rattle.slate_db.specs.Values.{has_value}
 use Rattle.slate_db.proofs.Foldings.{whole_going}
+use Rattle.slate_db.proofs.HandedRows.{Offered, handed, offered_both, taken_less}
 use Rattle.slate_db.proofs.Passing.{first, last, no_value, passed_fails, passed_none, passed_on, passed_undamaged, some_value, step_checked, step_keeps, step_later, step_none, step_some, step_still}
 use Rattle.slate_types.specs.Outside.{unblamed}
 use Rattle.slate_db.proofs.values.next_value.Goals as goal
@@ -16,6 +18,7 @@ pub loop-row-init : goal.loop-row-init
 loop-row-init g c = record {
   passed = passed_none _ _ _ _ _ _;
   sources = passed_none _ _ _ _ _ _;
+  offered = ([], call_none _, λ later o k. k);
   goes = λ h. h;
   went = λ h. h;
   folding = refl;
@@ -34,6 +37,7 @@ loop-row-preserved g c =
     record {
       passed = passed_on _ _ _ _ (λ x m reads answer y. Takes it.takes x m reads answer y) _ _ _ _ _ _ i.passed c.in-Some.row (record { rows = n.rows; still = n.still; checked = n.checked; taken = n.taken }) n.operable none;
       sources = passed_on _ _ _ _ (λ x m reads answer y. Unit {0}) _ _ _ _ _ _ i.sources c.in-Some.row (record { rows = n.rows; still = n.still; checked = n.checked; taken = (n.sources.0, n.sources.1, (tt, n.sources.2)) }) n.operable none;
+      offered = offered_both (Offered it.begins it.takes it.seeks) _ _ _ c.args.rows.now c.loop-row.rows c.next_row.new.self i.offered (n.taken.0, n.taken.1, taken_less it.begins it.takes it.seeks c.loop-row.rows c.next_row.new.self (g.E.Outside.reach c.loop-row.env).meaning n.taken.0 (Some c.in-Some.row) n.taken.2.0);
       goes = λ h. t.1;
       went = λ h. i.went t.0;
       folding = t.2 ∙ i.folding;
@@ -57,6 +61,8 @@ returns-in_err-row g c =
       checked = λ w h. IfOk-from_err c.from_residual.result _ c.from_residual.ensures.0;
       sources = IfOk-from_err c.from_residual.result _ c.from_residual.ensures.0;
       later = IfOk-from_err c.from_residual.result _ c.from_residual.ensures.0;
+      bases = λ none. IfOk-from_err c.from_residual.result _ c.from_residual.ensures.0;
+      offered = IfOk-from_err c.from_residual.result _ c.from_residual.ensures.0;
       undamaged = (λ w sees going h k.
           let now = last _ _ _ _ _ _ _ _ _ c.next_row.new.self i.sources n.cause.0 n.cause.1 w sees in
           let then = first _ _ _ _ _ _ _ _ _ c.next_row.new.self i.sources n.cause.0 n.cause.1 w sees in
@@ -88,6 +94,8 @@ returns-in-Some-value_of g c =
       checked = step_checked _ _ _ _ (λ x m reads answer y. Takes it.takes x m reads answer y) _ _ _ _ _ _ i.passed (Some row) s;
       sources = step_later _ _ _ _ (λ x m reads answer y. Unit {0}) _ _ _ _ _ _ i.sources (Some row) u;
       later = step_later _ _ _ _ (λ x m reads answer y. Takes it.takes x m reads answer y) _ _ _ _ _ _ i.passed (Some row) s;
+      bases = λ none. handed it.begins it.takes it.seeks _ _ _ c.args.rows.now c.loop-row.rows c.next_row.new.self row c.in-Some-value_of.value i.offered i.folding (n.taken.0, n.taken.1, n.taken.2.0) v.1 none;
+      offered = offered_both (Offered it.begins it.takes it.seeks) _ _ _ c.args.rows.now c.loop-row.rows c.next_row.new.self i.offered (n.taken.0, n.taken.1, taken_less it.begins it.takes it.seeks c.loop-row.rows c.next_row.new.self (g.E.Outside.reach c.loop-row.env).meaning n.taken.0 (Some row) n.taken.2.0);
       undamaged = λ w sees going h k. tt;
       cause = tt;
       order = n.order ∙ i.order;
@@ -111,6 +119,8 @@ returns g c =
       checked = step_checked _ _ _ _ (λ x m reads answer y. Takes it.takes x m reads answer y) _ _ _ _ _ _ i.passed None s;
       sources = step_later _ _ _ _ (λ x m reads answer y. Unit {0}) _ _ _ _ _ _ i.sources None u;
       later = step_later _ _ _ _ (λ x m reads answer y. Takes it.takes x m reads answer y) _ _ _ _ _ _ i.passed None s;
+      bases = λ none. (let o = offered_both (Offered it.begins it.takes it.seeks) _ _ _ c.args.rows.now c.loop-row.rows c.next_row.new.self i.offered (n.taken.0, n.taken.1, taken_less it.begins it.takes it.seeks c.loop-row.rows c.next_row.new.self (g.E.Outside.reach c.loop-row.env).meaning n.taken.0 None n.taken.2.0) in (o.0, o.1, tt));
+      offered = offered_both (Offered it.begins it.takes it.seeks) _ _ _ c.args.rows.now c.loop-row.rows c.next_row.new.self i.offered (n.taken.0, n.taken.1, taken_less it.begins it.takes it.seeks c.loop-row.rows c.next_row.new.self (g.E.Outside.reach c.loop-row.env).meaning n.taken.0 None n.taken.2.0);
       undamaged = λ w sees going h k. tt;
       cause = tt;
       order = n.order ∙ i.order;

@@ -1,7 +1,10 @@
 use Rattle.std.proofs.Common.{◌≡◌}
 use Rattle.slate_types.specs.Outside.{OnlyReads}
+use Rattle.slate_types.specs.World.{Made}
+use Rattle.slate_merge.specs.NoMoreRows.{NoMoreRows}
 use Rattle.slate_merge.specs.Offers.{offers}
 use Rattle.slate_merge.specs.OperatorIterators.{IsGoing, IsOperable, bound_folding, refuses_folding, rest_folding, sound_folding}
+use Rattle.slate_db.proofs.HandedRows.{Offered}
 use Rattle.slate_db.proofs.Passing.{Passed}
 use Rattle.slate_db.proofs.values.next_value.Given as goal
 
@@ -13,6 +16,7 @@ invariant-loop-row g l =
     record {
       passed : Passed (rest_folding i.rest) (sound_folding i.rest i.sound i.order) (refuses_folding i.refuses (offers i.begins i.takes i.seeks)) (IsOperable i.rest) a b l.initial.rows l.rows;
       sources : Passed (rest_folding i.rest) (sound_folding i.rest i.sound i.order) (λ it. i.refuses it.iterator) (IsOperable i.rest) a b l.initial.rows l.rows;
+      offered : Made a b (λ reads. NoMoreRows (Offered i.begins i.takes i.seeks l.initial.rows a.meaning) reads (Offered i.begins i.takes i.seeks l.rows a.meaning));
       goes : IsGoing l.initial.rows → IsGoing l.rows;
       went : IsGoing l.rows → IsGoing l.initial.rows;
       folding : l.rows.folding ≡ l.initial.rows.folding;

@@ -4,6 +4,7 @@ use Rattle.slate_merge.specs.Offers.{offers}
 use Rattle.slate_merge.specs.OperatorIterators.{rest_folding}
 use Rattle.slate_merge.specs.OperatorLaws.{folding_rises}
 use Rattle.slate_db.proofs.Foldings.{seek_undamaged}
+use Rattle.slate_db.proofs.HandedRows.{sought_less}
 use Rattle.slate_db.proofs.Passing.{has_sought}
 use Rattle.slate_db.proofs.values.seek_values.Goals as goal
 
@@ -27,3 +28,8 @@ returns-clause-undamaged g c = λ w sees going sound.
 
 pub returns-clause-later : goal.returns-clause-later
 returns-clause-later g c = on_ok_weaker c.seek.result (λ made. (made.0, made.1, made.2.1)) c.seek.ensures.sought
+
+pub returns-clause-offered : goal.returns-clause-offered
+returns-clause-offered g c =
+    let i = g.I.RowEntryIterator in
+    on_ok_weaker c.seek.result (λ made. (made.0, made.1, sought_less i.begins i.takes i.seeks c.args.rows.now c.seek.new.self (g.E.Outside.reach c.args.env.now).meaning made.0 c.args.key.now made.2.0)) c.seek.ensures.sought

@@ -1,6 +1,7 @@
-use Rattle.std.proofs.Common.{◌≡◌, ◌+◌, ◌<◌, ◌^◌, Some, arith, map, option_copied, w64}
+use Rattle.std.proofs.Common.{◌≡◌, ◌∙◌, ◌+◌, ◌<◌, ◌^◌, Some, ap, arith, map, option_copied, refl, w64}
 use Rattle.std.proofs.lemmas.Int.{to_z-of_z}
 use Rattle.slate_types.specs.declared.config.IsolationLevel.TheVariants.{SerializableSnapshot}
+use Rattle.slate_types.specs.Outside.{unblamed}
 use Rattle.slate_store.specs.Reach.{reach_of}
 use Rattle.slate_db.specs.Meaning.{segments_by}
 use Rattle.slate_steps.specs.Steps.{HasCommitted, newest}
@@ -13,7 +14,10 @@ pub returns-in-Err : goal.returns-in-Err
 returns-in-Err g c =
     let before = reach_of g.S.Store g.M.MergeOperator g.T.BlockTransformer c.args.env.now in
     let policies = map (λ p. (goal.FilterPolicy-dyn g (p.vtable, p.value)).meaning p.value) c.args.laws.now.policies.items in
-    none_begun policies (segments_by g.X.PrefixExtractor.lengths c.args.laws.now.segments) (g.F.Fields.model c.args.fields.now) c.args.id.now (option_copied c.args.new) c.args.now before c.args.core.now c.begin.new.core c.in-Err.error c.in-Err.ensures.same c.in-Err.ensures.cause
+    record {
+      change = none_begun policies (segments_by g.X.PrefixExtractor.lengths c.args.laws.now.segments) (g.F.Fields.model c.args.fields.now) c.args.id.now (option_copied c.args.new) c.args.now before c.args.core.now c.begin.new.core c.in-Err.error c.in-Err.ensures.same c.in-Err.ensures.cause;
+      counts = refl;
+    }
 
 pub unreachable-requires : goal.unreachable-requires
 unreachable-requires g c =
@@ -38,9 +42,12 @@ returns-in-Ok-Some g c =
     (rw c.in-Ok-Some.field-0-is at (c.in-Ok-Some.ensures.committed core SerializableSnapshot ts taken.within)) in
     let next : c.in-Ok-Some.seq ≡ newest core + 1 = committed.next.0 in
     let small : c.in-Ok-Some.seq < 2 ^ 64 = c.is_number.ensures in
-    has_changed policies seg fs id new c.args.now before mid after core c.take_steps.new.core c.commit.new.core c.in-Ok.tx c.in-Ok-Some.seq (g.met.F.Fields.few c.args.fields.now) c.is_named.ensures taken committed c.take_steps.ensures.reads c.commit.ensures.reads
-    (c.commit.ensures.kept core SerializableSnapshot ts taken.within) (c.commit.ensures.segmented core SerializableSnapshot ts taken.within)
-    (room_below greatest (newest core) (omega (arith, next, small)) (λ full. never_full c.commit.result _ c.in-Ok-Some.is (c.commit.ensures.exhausted core SerializableSnapshot ts taken.within (puts_some fs id taken.answer new) full)))
+    record {
+      change = has_changed policies seg fs id new c.args.now before mid after core c.take_steps.new.core c.commit.new.core c.in-Ok.tx c.in-Ok-Some.seq (g.met.F.Fields.few c.args.fields.now) c.is_named.ensures taken committed c.take_steps.ensures.reads c.commit.ensures.reads
+          (c.commit.ensures.kept core SerializableSnapshot ts taken.within) (c.commit.ensures.segmented core SerializableSnapshot ts taken.within)
+          (room_below greatest (newest core) (omega (arith, next, small)) (λ full. never_full c.commit.result _ c.in-Ok-Some.is (c.commit.ensures.exhausted core SerializableSnapshot ts taken.within (puts_some fs id taken.answer new) full)));
+      counts = ap (λ e. (reach_of g.S.Store g.M.MergeOperator g.T.BlockTransformer e).faults) (c.commit.ensures.still core SerializableSnapshot ts taken.within (merges_none fs id taken.answer new)) ∙ c.in-Ok-take_steps.ensures.counts;
+    }
 
 pub returns-in-Err-commit : goal.returns-in-Err-commit
 returns-in-Err-commit g c =
@@ -55,9 +62,12 @@ returns-in-Err-commit g c =
     let core = c.args.core.now in
     let taken = taken_upto policies before mid after fs id new core c.take_steps.new.core c.in-Ok.tx c.take_steps.ensures.reads c.commit.ensures.reads (c.in-Ok-take_steps.ensures.taken core c.in-Ok.ensures.within) in
     let ts = change_steps fs id taken.answer new in
-    not_committed policies seg fs id new c.args.now before mid after core c.take_steps.new.core c.commit.new.core c.in-Ok.tx c.in-Err-commit.error (within_counts core c.take_steps.new.core c.in-Ok.tx SerializableSnapshot ts taken.within) taken
-    (c.in-Err-commit.ensures.ended core SerializableSnapshot ts taken.within) c.take_steps.ensures.reads c.commit.ensures.reads
-    (c.in-Err-commit.ensures.cause core SerializableSnapshot ts taken.within c.requires.whole (merges_none fs id taken.answer new))
+    record {
+      change = not_committed policies seg fs id new c.args.now before mid after core c.take_steps.new.core c.commit.new.core c.in-Ok.tx c.in-Err-commit.error (within_counts core c.take_steps.new.core c.in-Ok.tx SerializableSnapshot ts taken.within) taken
+          (c.in-Err-commit.ensures.ended core SerializableSnapshot ts taken.within) c.take_steps.ensures.reads c.commit.ensures.reads
+          (c.in-Err-commit.ensures.cause core SerializableSnapshot ts taken.within c.requires.whole (merges_none fs id taken.answer new));
+      counts = ap (unblamed c.in-Err-commit.error) (ap (λ e. (reach_of g.S.Store g.M.MergeOperator g.T.BlockTransformer e).faults) (c.commit.ensures.still core SerializableSnapshot ts taken.within (merges_none fs id taken.answer new)) ∙ c.in-Ok-take_steps.ensures.counts);
+    }
 
 pub returns-in-Err-take_steps : goal.returns-in-Err-take_steps
 returns-in-Err-take_steps g c =
@@ -70,4 +80,7 @@ returns-in-Err-take_steps g c =
     let new = option_copied c.args.new in
     let core = c.args.core.now in
     let stopped = c.in-Err-take_steps.ensures.stopped core c.in-Ok.ensures.within in
-    rolled_back policies seg fs id new c.args.now before mid mid core c.take_steps.new.core c.rollback.new.core c.in-Ok.tx c.in-Err-take_steps.error stopped (c.rollback.ensures.ended core SerializableSnapshot stopped.steps stopped.within) c.take_steps.ensures.reads
+    record {
+      change = rolled_back policies seg fs id new c.args.now before mid mid core c.take_steps.new.core c.rollback.new.core c.in-Ok.tx c.in-Err-take_steps.error stopped (c.rollback.ensures.ended core SerializableSnapshot stopped.steps stopped.within) c.take_steps.ensures.reads;
+      counts = c.in-Err-take_steps.ensures.counts;
+    }

@@ -1,10 +1,12 @@
-use Rattle.std.proofs.Common.{◌≡◌, ◌∙◌, ◌∷◌, [], List, ℕ, map, option_copied, subst}
+use Rattle.std.proofs.Common.{◌≡◌, ◌∙◌, ◌∷◌, [], List, ℕ, ap, map, option_copied, subst}
 use Rattle.slate_types.specs.declared.config.IsolationLevel.TheVariants.{SerializableSnapshot}
 use Rattle.slate_types.proofs.Exits.{on_ok_both}
 use Rattle.slate_store.specs.Reach.{reach_of}
 use Rattle.slate_txn.specs.declared.event.TranscriptStep.TheVariants as steps
+use Rattle.slate_steps.specs.Reads.{told_in, unblamed_if}
 use Rattle.slate_steps.specs.Steps.{IsWithin, Sees}
 use Rattle.slate_steps.proofs.Reading.{if_err_map}
+use Rattle.slate_index.specs.Calls.{db_error}
 use Rattle.slate_index.specs.Entries.{record_key}
 use Rattle.slate_index.proofs.Operating.{values_pass}
 use Rattle.slate_index.proofs.Stepping.{all_taken, change_stopped, key_stopped, read_stopped}
@@ -56,3 +58,9 @@ returns-in-Err-found-clause-stopped g c = λ d h.
     let policies = map (λ p. (goal.FilterPolicy-dyn g (p.vtable, p.value)).meaning p.value) c.args.laws.now.policies.items in
     read_stopped policies before after (g.F.Fields.model c.args.fields.now) c.args.id.now (option_copied c.args.new) d c.args.tx.now c.get-found.new.core c.args.core.now c.in-Err-found.error h c.in-Err-found.ensures.same c.in-Err-found.ensures.cause
     (λ seg settled. c.in-Err-found.ensures.undamaged d SerializableSnapshot [] seg h settled)
+
+pub returns-in-Ok-found-clause-counts : goal.returns-in-Ok-found-clause-counts
+returns-in-Ok-found-clause-counts g c = ap (unblamed_if (told_in db_error c.take_change.result)) c.in-Ok-found.ensures.counts
+
+pub returns-in-Err-found-clause-counts : goal.returns-in-Err-found-clause-counts
+returns-in-Err-found-clause-counts g c = c.in-Err-found.ensures.counts

@@ -1,4 +1,5 @@
 use Rattle.std.proofs.Common.{◌∙◌, ap}
+use Rattle.slate_types.specs.Outside.{unblamed_by}
 use Rattle.slate_store.specs.Reach.{reach_of}
 use Rattle.slate_steps.proofs.Reading.{if_ok_map}
 use Rattle.slate_index.specs.Finds.{names_behind}
@@ -20,3 +21,6 @@ returns-in-Ok-clause-cause g c = unless_read c.names_behind.result _ _ _ _ c.nam
 
 pub returns-in-Err-clause-undamaged : goal.returns-in-Err-clause-undamaged
 returns-in-Err-clause-undamaged g c = λ d level ts seg h settled. c.in-Err.ensures.undamaged d level ts seg h settled
+
+pub returns-in-Ok-clause-counts : goal.returns-in-Ok-clause-counts
+returns-in-Ok-clause-counts g c = ap (unblamed_by c.names_behind.result) c.in-Ok.ensures.counts

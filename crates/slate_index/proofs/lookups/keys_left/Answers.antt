@@ -1,4 +1,5 @@
-use Rattle.std.proofs.Common.{◌≡◌, ◌∙◌, ◌+◌, ◌∷◌, ◌++◌, [], inl, List, Some, ap, arith, length, length-append, subst, sym, ℕ}
+use Rattle.std.proofs.Common.{◌≡◌, ◌∙◌, ◌+◌, ◌∷◌, ◌++◌, [], inl, List, Some, ap, arith, length, length-append, refl, subst, sym, ℕ}
+use Rattle.slate_types.specs.Outside.{unblamed}
 use Rattle.slate_types.proofs.Reaching.{fault_earlier, reads_then}
 use Rattle.slate_store.specs.Reach.{reach_of}
 use Rattle.slate_index.specs.Looking.{IsWalking}
@@ -11,6 +12,7 @@ loop-init g c =
     record {
       walking = subst (IsWalking before before c.args.core.now c.args.core.now c.args.scan.now c.args.scan.now) (sym c.new-keys.ensures.items) (walking_none before c.args.core.now c.args.scan.now c.requires);
       counted = ap length c.new-keys.ensures.items;
+      counts = refl;
     }
 
 pub loop-preserved : goal.loop-preserved
@@ -35,10 +37,14 @@ loop-preserved g c =
       walking = subst (IsWalking before after c.args.core.now c.next.new.core c.args.scan.now c.next.new.it) (sym pushed)
           (walking_on before now after c.args.core.now c.loop.core c.next.new.core c.args.scan.now c.loop.scan c.next.new.it keys c.loop.invariant.walking c.in-Ok-Some.row row);
       counted = omega (arith, c.loop.invariant.counted, grown);
+      counts = c.in-Ok-Some.ensures.counts ∙ c.loop.invariant.counts;
     }
 
 pub returns-in-Err-push-clause-reads : goal.returns-in-Err-push-clause-reads
 returns-in-Err-push-clause-reads g c = reads_then _ _ _ c.loop.invariant.walking.reads c.next.ensures.reads
+
+pub returns-in-Err-push-clause-counts : goal.returns-in-Err-push-clause-counts
+returns-in-Err-push-clause-counts g c = ap (unblamed _) (c.in-Ok-Some.ensures.counts ∙ c.loop.invariant.counts)
 
 pub returns-in-Ok-None-clause-found : goal.returns-in-Ok-None-clause-found
 returns-in-Ok-None-clause-found g c =
@@ -59,6 +65,9 @@ returns-in-Ok-None-clause-found g c =
 pub returns-in-Ok-None-clause-reads : goal.returns-in-Ok-None-clause-reads
 returns-in-Ok-None-clause-reads g c = reads_then _ _ _ c.loop.invariant.walking.reads c.next.ensures.reads
 
+pub returns-in-Ok-None-clause-counts : goal.returns-in-Ok-None-clause-counts
+returns-in-Ok-None-clause-counts g c = c.in-Ok-None.ensures.counts ∙ c.loop.invariant.counts
+
 pub returns-in-Err-clause-undamaged : goal.returns-in-Err-clause-undamaged
 returns-in-Err-clause-undamaged g c = λ d ts os rows told h.
     let before = reach_of g.S.Store g.M.MergeOperator g.T.BlockTransformer c.args.env.now in
@@ -76,3 +85,6 @@ returns-in-Err-clause-cause g c = λ d from policies only since.
 
 pub returns-in-Err-clause-reads : goal.returns-in-Err-clause-reads
 returns-in-Err-clause-reads g c = reads_then _ _ _ c.loop.invariant.walking.reads c.next.ensures.reads
+
+pub returns-in-Err-clause-counts : goal.returns-in-Err-clause-counts
+returns-in-Err-clause-counts g c = c.in-Err.ensures.counts ∙ ap (unblamed c.in-Err.error) c.loop.invariant.counts

@@ -10,4 +10,5 @@ invariant-loop g l =
     record {
       walking : IsWalking before now l.initial.core l.core l.initial.scan l.scan l.keys.items;
       counted : length l.keys.items ≡ l.counter;
+      counts : now.faults ≡ before.faults;
     }

@@ -1,4 +1,4 @@
-use Rattle.std.proofs.Common.{[], arith, map, subst}
+use Rattle.std.proofs.Common.{[], arith, map, refl, subst}
 use Rattle.slate_types.specs.declared.config.IsolationLevel.TheVariants.{Snapshot}
 use Rattle.slate_types.specs.Keys.{AreBytes}
 use Rattle.slate_store.specs.Reach.{reach_of}
@@ -16,7 +16,10 @@ pub returns-in-Err : goal.returns-in-Err
 returns-in-Err g c =
     let before = reach_of g.S.Store g.M.MergeOperator g.T.BlockTransformer c.args.env.now in
     let policies = map (λ p. (goal.FilterPolicy-dyn g (p.vtable, p.value)).meaning p.value) c.args.laws.now.policies.items in
-    not_looked policies (segments_by g.X.PrefixExtractor.lengths c.args.laws.now.segments) c.args.number c.args.field.now before c.args.core.now c.begin.new.core c.in-Err.error c.in-Err.ensures.same c.in-Err.ensures.cause
+    record {
+      lookup = not_looked policies (segments_by g.X.PrefixExtractor.lengths c.args.laws.now.segments) c.args.number c.args.field.now before c.args.core.now c.begin.new.core c.in-Err.error c.in-Err.ensures.same c.in-Err.ensures.cause;
+      counts = refl;
+    }
 
 pub returns-in-Ok-ids : goal.returns-in-Ok-ids
 returns-in-Ok-ids g c =
@@ -25,8 +28,11 @@ returns-in-Ok-ids g c =
     let policies = map (λ p. (goal.FilterPolicy-dyn g (p.vtable, p.value)).meaning p.value) c.args.laws.now.policies.items in
     let core = c.args.core.now in
     let s = c.ids_in-ids.ensures.still core Snapshot [] c.in-Ok.ensures.within in
-    search_done policies (segments_by g.X.PrefixExtractor.lengths c.args.laws.now.segments) c.args.number c.args.field.now before after core c.begin.new.core c.rollback.new.core c.in-Ok.tx c.in-Ok.ensures.within (c.rollback.ensures.ended core Snapshot s.0 s.1) c.ids_in-ids.ensures.reads c.in-Ok-ids.ids
-    (omega arith) c.requires.short (subst AreBytes c.as_slice.ensures c.are_bytes.ensures) (λ seg store. c.in-Ok-ids.ensures.found core Snapshot [] seg c.in-Ok.ensures.within store)
+    record {
+      lookup = search_done policies (segments_by g.X.PrefixExtractor.lengths c.args.laws.now.segments) c.args.number c.args.field.now before after core c.begin.new.core c.rollback.new.core c.in-Ok.tx c.in-Ok.ensures.within (c.rollback.ensures.ended core Snapshot s.0 s.1) c.ids_in-ids.ensures.reads c.in-Ok-ids.ids
+          (omega arith) c.requires.short (subst AreBytes c.as_slice.ensures c.are_bytes.ensures) (λ seg store. c.in-Ok-ids.ensures.found core Snapshot [] seg c.in-Ok.ensures.within store);
+      counts = c.in-Ok-ids.ensures.counts;
+    }
 
 pub returns-in-Err-ids : goal.returns-in-Err-ids
 returns-in-Err-ids g c =
@@ -35,5 +41,8 @@ returns-in-Err-ids g c =
     let policies = map (λ p. (goal.FilterPolicy-dyn g (p.vtable, p.value)).meaning p.value) c.args.laws.now.policies.items in
     let core = c.args.core.now in
     let s = c.ids_in-ids.ensures.still core Snapshot [] c.in-Ok.ensures.within in
-    search_refused policies (segments_by g.X.PrefixExtractor.lengths c.args.laws.now.segments) c.args.number c.args.field.now before after core c.begin.new.core c.rollback.new.core c.in-Ok.tx c.in-Ok.ensures.within (c.rollback.ensures.ended core Snapshot s.0 s.1) c.ids_in-ids.ensures.reads c.in-Err-ids.error
-    c.in-Err-ids.ensures.cause (λ seg settled. c.in-Err-ids.ensures.undamaged core Snapshot [] seg c.in-Ok.ensures.within settled)
+    record {
+      lookup = search_refused policies (segments_by g.X.PrefixExtractor.lengths c.args.laws.now.segments) c.args.number c.args.field.now before after core c.begin.new.core c.rollback.new.core c.in-Ok.tx c.in-Ok.ensures.within (c.rollback.ensures.ended core Snapshot s.0 s.1) c.ids_in-ids.ensures.reads c.in-Err-ids.error
+          c.in-Err-ids.ensures.cause (λ seg settled. c.in-Err-ids.ensures.undamaged core Snapshot [] seg c.in-Ok.ensures.within settled);
+      counts = c.in-Err-ids.ensures.counts;
+    }

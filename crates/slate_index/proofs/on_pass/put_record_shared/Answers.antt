@@ -17,7 +17,7 @@ returns-in-Ok-clause-change g c =
     let after = reach_of g.S.Store g.M.MergeOperator g.T.BlockTransformer c.change.new.env in
     let fs = g.F.Fields.model c.args.fields.now in
     subst (λ (now : ℤ). IsChangeAttempt g.P.Parts.options g.P.Parts.meaning g.P.Parts.policies fs c.args.id.now (Some c.args.value.now) now before after c.args.pass.now c.change.new.pass c.change.result)
-    (to_z-of_z w64 c.args.now c.ranges.now) c.change.ensures
+    (to_z-of_z w64 c.args.now c.ranges.now) c.change.ensures.change
 
 pub returns-in-Err-clause-first : goal.returns-in-Err-clause-first
 returns-in-Err-clause-first g c = λ e is. (first_there c.in-Err.error e _ (c.in-Err.ensures.first e is), refl, refl)

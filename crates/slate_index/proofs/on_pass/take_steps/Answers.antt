@@ -1,10 +1,12 @@
-use Rattle.std.proofs.Common.{◌≡◌, ◌∙◌, ◌∷◌, [], List, ℕ, option_copied, subst}
+use Rattle.std.proofs.Common.{◌≡◌, ◌∙◌, ◌∷◌, [], List, ℕ, ap, option_copied, subst}
 use Rattle.slate_types.specs.declared.config.IsolationLevel.TheVariants.{SerializableSnapshot}
 use Rattle.slate_types.proofs.Exits.{on_ok_both}
 use Rattle.slate_store.specs.Reach.{reach_of}
 use Rattle.slate_txn.specs.declared.event.TranscriptStep.TheVariants as steps
 use Rattle.slate_steps.specs.Attempts.{IsAttempt, IsStoreChecked}
+use Rattle.slate_steps.specs.Reads.{told_in, unblamed_if}
 use Rattle.slate_steps.proofs.Reading.{if_err_map}
+use Rattle.slate_index.specs.Calls.{db_error}
 use Rattle.slate_index.specs.Entries.{record_key}
 use Rattle.slate_index.proofs.Attempted.{all_there, change_there, key_there, read_there, vouched_none}
 use Rattle.slate_index.proofs.Operating.{values_pass}
@@ -58,3 +60,9 @@ returns-in-Err-found-clause-stopped g c = λ from h.
     let after = reach_of g.S.Store g.M.MergeOperator g.T.BlockTransformer c.get-found.new.env in
     read_there g.P.Parts.options g.P.Parts.meaning g.P.Parts.policies (g.F.Fields.model c.args.fields.now) c.args.id.now (option_copied c.args.new) from before after c.get-found.new.txn c.in-Err-found.error
     (c.in-Err-found.ensures.refused from SerializableSnapshot [] h) (c.in-Err-found.ensures.cause from SerializableSnapshot [] h) (c.in-Err-found.ensures.undamaged from SerializableSnapshot [] h)
+
+pub returns-in-Ok-found-clause-counts : goal.returns-in-Ok-found-clause-counts
+returns-in-Ok-found-clause-counts g c = ap (unblamed_if (told_in db_error c.take_change.result)) c.in-Ok-found.ensures.counts
+
+pub returns-in-Err-found-clause-counts : goal.returns-in-Err-found-clause-counts
+returns-in-Err-found-clause-counts g c = c.in-Err-found.ensures.counts

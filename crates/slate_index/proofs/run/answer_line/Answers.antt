@@ -41,5 +41,5 @@ returns-in-Find g c =
     let core = c.args.core.now in
     search_answers policies fs before after core c.lookup-ids.new.core c.args.line c.searched.result c.in-Find.number c.in-Find.field c.lookup-ids.result (λ r. ap (stepped fs r) c.in-Find.is) c.journal.ensures.legal
     (subst (IsOwn fs) c.in-Find.is c.requires.own).0
-    (subst (λ s. IsLookup policies (segments_by g.X.PrefixExtractor.lengths s) c.in-Find.number c.in-Find.field before after core c.lookup-ids.new.core c.lookup-ids.result) c.requires.whole c.lookup-ids.ensures)
+    (subst (λ s. IsLookup policies (segments_by g.X.PrefixExtractor.lengths s) c.in-Find.number c.in-Find.field before after core c.lookup-ids.new.core c.lookup-ids.result) c.requires.whole c.lookup-ids.ensures.lookup)
     c.searched.ensures.found c.searched.ensures.refused c.searched.ensures.cause

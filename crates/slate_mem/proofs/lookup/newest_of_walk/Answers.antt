@@ -8,6 +8,7 @@ use Rattle.slate_types.specs.Outside.{no_parts}
 use Rattle.slate_types.specs.World.{nothing}
 use Rattle.slate_types.proofs.Calls.{sees_nothing}
 use Rattle.slate_mem.proofs.MemoryCalls.{cause_before, cause_here, fewer_here}
+use Rattle.slate_mem.specs.Lookup.{IsRowUpTo}
 use Rattle.slate_mem.specs.Table.{newest}
 use Rattle.slate_mem.proofs.WalkLaws.{takes}
 use Rattle.slate_mem.proofs.Brought.{brought_more, brings}
@@ -30,9 +31,16 @@ loop-found-init g c = record {
   order = refl;
   fewer = λ e r. r;
   none = λ s n. n;
+  asked = subst (AllByRecursion (IsRowUpTo c.args.key.now c.args.max_seq)) (sym c.new-found.ensures.items) tt;
   brought = ([], refl, subst (AllByRecursion (Contains [])) (sym c.new-found.ensures.items) tt);
   found = λ s o n. ap (λ xs. xs ++ newest c.args.key.now c.args.max_seq (g.I.RowEntryIterator.rest c.args.rows.now nothing)) (sym c.new-found.ensures.items);
 }
+
+pub returns-then-not-goes_on-clause-asked : goal.returns-then-not-goes_on-clause-asked
+returns-then-not-goes_on-clause-asked g c = c.in_ok-goes_on.ensures.asked c.loop-found.invariant.asked
+
+pub returns-clause-asked : goal.returns-clause-asked
+returns-clause-asked g c = c.loop-found.invariant.asked
 
 pub returns-then-not-goes_on-clause-brought : goal.returns-then-not-goes_on-clause-brought
 returns-then-not-goes_on-clause-brought g c =
@@ -51,6 +59,7 @@ loop-found-preserved g c =
       order = c.next.ensures.order ∙ was.order;
       fewer = λ e r. was.fewer e (fewer_here (λ reads. g.I.RowEntryIterator.takes c.loop-found.rows no_parts reads (Some c.in-Some.row) c.next.new.self) (g.I.RowEntryIterator.refuses c.loop-found.rows no_parts) (g.I.RowEntryIterator.refuses c.next.new.self no_parts) e (rw c.in-Some.is at c.in_ok-row.ensures.taken) r);
       none = λ s n. (subst (NoneBefore Ascending c.args.key.now) (takes _ _ c.in-Some.row _ c.in-Some.is (c.in_ok-row.ensures.rows nothing sees_nothing (was.sound s))) (was.none s n)).1;
+      asked = c.in_ok-goes_on.ensures.asked was.asked;
       brought = let made = rw c.in-Some.is at c.in_ok-row.ensures.taken in brought_more g.I.RowEntryIterator.takes c.args.rows.now c.loop-found.rows c.next.new.self c.in-Some.row c.loop-found.found.items _ was.brought made.0 made.2.0 c.in_ok-goes_on.ensures.row;
       found = λ s o n.
           was.found s o n
@@ -64,6 +73,9 @@ returns-in_err-row-clause-found g c = λ s o n. IfOk-from_err c.from_residual.re
 pub returns-in_err-row-clause-brought : goal.returns-in_err-row-clause-brought
 returns-in_err-row-clause-brought g c = IfOk-from_err c.from_residual.result _ c.from_residual.ensures.0
 
+pub returns-in_err-row-clause-asked : goal.returns-in_err-row-clause-asked
+returns-in_err-row-clause-asked g c = IfOk-from_err c.from_residual.result _ c.from_residual.ensures.0
+
 pub returns-in_err-row-clause-cause : goal.returns-in_err-row-clause-cause
 returns-in_err-row-clause-cause g c =
     let p = err_from_is_err_and c.from_residual.result c.from_residual.ensures.1 in
@@ -76,6 +88,7 @@ pub returns-in_err-goes_on : goal.returns-in_err-goes_on
 returns-in_err-goes_on g c =
     record {
       found = λ s o n. IfOk-from_err c.from_residual-in_err-goes_on.result _ c.from_residual-in_err-goes_on.ensures.0;
+      asked = IfOk-from_err c.from_residual-in_err-goes_on.result _ c.from_residual-in_err-goes_on.ensures.0;
       brought = IfOk-from_err c.from_residual-in_err-goes_on.result _ c.from_residual-in_err-goes_on.ensures.0;
       cause = err_exit c.from_residual-in_err-goes_on.result _ c.from_residual-in_err-goes_on.ensures.1 _ (inl refl);
     }

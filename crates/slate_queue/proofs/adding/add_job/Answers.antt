@@ -1,6 +1,8 @@
-use Rattle.std.proofs.Common.{map}
+use Rattle.std.proofs.Common.{ap, map}
 use Rattle.slate_types.specs.declared.config.IsolationLevel.TheVariants.{SerializableSnapshot}
 use Rattle.slate_store.specs.Reach.{reach_of}
+use Rattle.slate_steps.specs.Reads.{unblamed_if}
+use Rattle.slate_queue.specs.Calls.{db_error}
 use Rattle.slate_queue.proofs.Attempting.{add_part, add_refused, add_taken}
 use Rattle.slate_queue.proofs.adding.add_job.Goals as goal
 
@@ -13,6 +15,7 @@ returns-in-Ok-put_job g c =
       «open» = c.put_job.ensures.«open»;
       attempt = λ k within. add_taken policies before after k c.args.id.now c.args.payload.now c.next_id.new.core c.put_job.new.core c.in-Ok.new (c.in-Ok.ensures.attempt k within)
           (λ ts w. c.in-Ok-put_job.ensures.taken k SerializableSnapshot ts w);
+      counts = c.in-Ok.ensures.counts;
       reads = c.next_id.ensures.reads;
     }
 
@@ -25,6 +28,7 @@ returns-in-Err-put_job g c =
       «open» = c.put_job.ensures.«open»;
       attempt = λ k within. add_part policies before after k c.args.id.now c.args.payload.now c.next_id.new.core c.put_job.new.core c.in-Ok.new c.in-Err-put_job.error (c.in-Ok.ensures.attempt k within)
           c.in-Err-put_job.ensures.cause (λ ts w. c.in-Err-put_job.ensures.part k SerializableSnapshot ts w);
+      counts = ap (unblamed_if (db_error c.in-Err-put_job.error)) c.in-Ok.ensures.counts;
       reads = c.next_id.ensures.reads;
     }
 
@@ -36,5 +40,6 @@ returns-in-Err g c =
     record {
       «open» = c.next_id.ensures.«open»;
       attempt = λ k within. add_refused policies before after k c.args.id.now c.args.payload.now c.next_id.new.core c.in-Err.error (c.in-Err.ensures.attempt k within);
+      counts = c.in-Err.ensures.counts;
       reads = c.next_id.ensures.reads;
     }

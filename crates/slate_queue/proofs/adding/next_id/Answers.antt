@@ -1,7 +1,9 @@
-use Rattle.std.proofs.Common.{[], map}
+use Rattle.std.proofs.Common.{[], ap, map}
 use Rattle.slate_types.specs.declared.config.IsolationLevel.TheVariants.{SerializableSnapshot}
 use Rattle.slate_store.specs.Reach.{reach_of}
+use Rattle.slate_steps.specs.Reads.{told_in, unblamed_if}
 use Rattle.slate_queue.specs.CallSteps.{AddStops, Counts}
+use Rattle.slate_queue.specs.Calls.{db_error}
 use Rattle.slate_queue.proofs.Attempting.{counted, read_refused}
 use Rattle.slate_queue.proofs.adding.next_id.Goals as goal
 
@@ -14,6 +16,7 @@ returns-in-Ok g c =
       «open» = c.get.ensures.«open»;
       attempt = λ k within. counted policies before after k c.args.id.now c.get.new.core c.in-Ok.answer c.id_behind.result
           (c.in-Ok.ensures.within k SerializableSnapshot [] within) (λ s store. c.in-Ok.ensures.checked k SerializableSnapshot [] s within store tt) c.id_behind.ensures.id c.id_behind.ensures.refused;
+      counts = ap (unblamed_if (told_in db_error c.id_behind.result)) c.in-Ok.ensures.counts;
       reads = c.get.ensures.reads;
     }
 
@@ -26,5 +29,6 @@ returns-in-Err g c =
       «open» = c.get.ensures.«open»;
       attempt = λ k within. read_refused policies before after k c.args.id.now Counts AddStops c.args.core.now c.get.new.core c.in-Err.error within c.in-Err.ensures.same
           (λ s settled. c.in-Err.ensures.undamaged k SerializableSnapshot [] s within settled) c.in-Err.ensures.cause;
+      counts = c.in-Err.ensures.counts;
       reads = c.get.ensures.reads;
     }

@@ -1,6 +1,8 @@
-use Rattle.std.proofs.Common.{map, w64}
+use Rattle.std.proofs.Common.{ap, map, w64}
 use Rattle.std.proofs.lemmas.Int.{to_z-of_z}
 use Rattle.slate_store.specs.Reach.{reach_of}
+use Rattle.slate_steps.specs.Reads.{unblamed_if}
+use Rattle.slate_queue.specs.Calls.{db_error}
 use Rattle.slate_queue.proofs.Finding.{claimed, finds_at, none_claimed, not_found, not_raised, raises_at}
 use Rattle.slate_queue.proofs.claiming.claim_job.Goals as goal
 
@@ -12,6 +14,7 @@ returns-in-Ok g c =
     record {
       «open» = c.raise.ensures.«open»;
       attempt = λ k within. claimed c.args.now c.args.ms policies before after k c.find_free.new.core c.args.id.now c.raise.new.core c.in-Ok-Some.found c.in-Ok.claim (finds_at policies before after k c.find_free.new.core c.args.id.now _ c.args.now _ (to_z-of_z w64 c.args.now c.ranges.now) ((rw c.in-Ok-Some.field-0-is at c.in-Ok-Some.ensures.attempt) k within)) (raises_at _ c.args.now c.args.ms c.in-Ok-Some.found c.find_free.new.core c.raise.new.core c.args.id.now c.in-Ok.claim (to_z-of_z w64 c.args.now c.ranges.now) c.in-Ok.ensures.raises);
+      counts = c.in-Ok-Some.ensures.counts;
       reads = c.find_free.ensures.reads;
     }
 
@@ -23,6 +26,7 @@ returns-in-Err-raise g c =
     record {
       «open» = c.raise.ensures.«open»;
       attempt = λ k within. not_raised c.args.now c.args.ms policies before after k c.find_free.new.core c.args.id.now c.raise.new.core c.in-Ok-Some.found c.in-Err-raise.error (finds_at policies before after k c.find_free.new.core c.args.id.now _ c.args.now _ (to_z-of_z w64 c.args.now c.ranges.now) ((rw c.in-Ok-Some.field-0-is at c.in-Ok-Some.ensures.attempt) k within)) c.in-Err-raise.ensures.same c.in-Err-raise.ensures.stops;
+      counts = ap (unblamed_if (db_error c.in-Err-raise.error)) c.in-Ok-Some.ensures.counts;
       reads = c.find_free.ensures.reads;
     }
 
@@ -34,6 +38,7 @@ returns-in-Ok-None g c =
     record {
       «open» = c.find_free.ensures.«open»;
       attempt = λ k within. none_claimed c.args.now c.args.ms policies before after k c.find_free.new.core c.args.id.now (finds_at policies before after k c.find_free.new.core c.args.id.now _ c.args.now _ (to_z-of_z w64 c.args.now c.ranges.now) ((rw c.in-Ok-None.field-0-is at c.in-Ok-None.ensures.attempt) k within));
+      counts = c.in-Ok-None.ensures.counts;
       reads = c.find_free.ensures.reads;
     }
 
@@ -45,5 +50,6 @@ returns-in-Err g c =
     record {
       «open» = c.find_free.ensures.«open»;
       attempt = λ k within. not_found c.args.now c.args.ms policies before after k c.find_free.new.core c.args.id.now c.in-Err.error (finds_at policies before after k c.find_free.new.core c.args.id.now _ c.args.now _ (to_z-of_z w64 c.args.now c.ranges.now) (c.in-Err.ensures.attempt k within));
+      counts = c.in-Err.ensures.counts;
       reads = c.find_free.ensures.reads;
     }

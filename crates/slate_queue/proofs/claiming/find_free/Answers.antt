@@ -1,4 +1,4 @@
-use Rattle.std.proofs.Common.{[], map, subst, sym, w64}
+use Rattle.std.proofs.Common.{[], ◌∙◌, ap, map, subst, sym, w64}
 use Rattle.std.proofs.lemmas.Int.{to_z-of_z}
 use Rattle.slate_types.specs.declared.config.IsolationLevel.TheVariants.{SerializableSnapshot}
 use Rattle.slate_types.specs.declared.iter.IterationOrder.TheVariants.{Ascending}
@@ -8,7 +8,9 @@ use Rattle.slate_txn.specs.Reads.{rows_seen}
 use Rattle.slate_types.proofs.Reaching.{reads_then}
 use Rattle.slate_db.specs.Meaning.{rules_of}
 use Rattle.slate_db.specs.Opened.{HasTransaction}
+use Rattle.slate_steps.specs.Reads.{told_in, unblamed_if}
 use Rattle.slate_steps.specs.Steps.{newest}
+use Rattle.slate_queue.specs.Calls.{db_error}
 use Rattle.slate_queue.specs.Stored.{jobs_prefix}
 use Rattle.slate_queue.specs.Walks.{FindStops, MayFind}
 use Rattle.slate_queue.proofs.Attempting.{read_refused}
@@ -31,6 +33,7 @@ returns-in-Err g c =
       «open» = c.scan_prefix.ensures.«open»;
       attempt = λ k within. read_refused policies before after k c.args.id.now (MayFind c.args.now) (FindStops c.args.now) c.args.core.now c.scan_prefix.new.core c.in-Err.error within c.in-Err.ensures.same
           (λ s settled. c.in-Err.ensures.undamaged k SerializableSnapshot [] s within settled) c.in-Err.ensures.cause;
+      counts = c.in-Err.ensures.counts;
       reads = c.scan_prefix.ensures.reads;
     }
 
@@ -57,5 +60,6 @@ returns g c =
           c.walk-found.result
           (walks_at _ c.args.now middle after c.scan_prefix.new.core c.walk-found.new.core c.in-Ok.scan c.walk-found.result (to_z-of_z w64 c.args.now c.ranges.now) c.walk-found.ensures.to)
           (halts_at _ c.args.now middle after c.scan_prefix.new.core c.walk-found.new.core c.in-Ok.scan c.walk-found.result (to_z-of_z w64 c.args.now c.ranges.now) c.walk-found.ensures.stops);
+      counts = c.walk-found.ensures.counts ∙ ap (unblamed_if (told_in db_error c.walk-found.result)) c.in-Ok.ensures.counts;
       reads = reads_then before middle after c.scan_prefix.ensures.reads c.walk-found.ensures.reads;
     }

@@ -1,4 +1,4 @@
-use Rattle.std.proofs.Common.{List}
+use Rattle.std.proofs.Common.{◌≡◌, List}
 use Rattle.std.specs.List.{AllByRecursion}
 use Rattle.slate_types.specs.declared.types.KeyValue.{KeyValue}
 use Rattle.slate_store.specs.Reach.{reach_of}
@@ -17,4 +17,5 @@ invariant-loop g l =
       open_scan : IsOpenScan l.core l.scan;
       open_there : HasTransaction l.core (id_of l.initial.scan);
       walk : (passed : List KeyValue) × AllByRecursion (IsPassed l.now) passed × Walked before now l.initial.core l.core l.initial.scan l.scan (nexts passed);
+      counts : now.faults ≡ before.faults;
     }

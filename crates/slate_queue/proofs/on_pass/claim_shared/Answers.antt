@@ -1,9 +1,10 @@
-use Rattle.std.proofs.Common.{◌∙◌, ap, w64}
+use Rattle.std.proofs.Common.{◌∙◌, Some, None, ap, refl, w64}
 use Rattle.std.proofs.lemmas.Int.{to_z-of_z}
 use Rattle.slate_types.specs.declared.config.IsolationLevel.TheVariants.{SerializableSnapshot}
 use Rattle.slate_types.specs.Outside.{IsFault}
 use Rattle.slate_store.specs.Reach.{reach_of}
 use Rattle.slate_shared.specs.Passes.{PassModel}
+use Rattle.slate_queue.proofs.CallLaws.{still_behind}
 use Rattle.slate_queue.proofs.PassCalls.{claim_answered_on, claim_none_on, claim_not_begun_on, claim_stopped_on, claim_uncommitted_on, committed_from, ended_from, leaves_from, pass_committed, pass_ended, pass_left, pass_unbegun, refused_from}
 use Rattle.slate_queue.proofs.PassFinding.{claims_on_at}
 use Rattle.slate_queue.proofs.on_pass.claim_shared.Goals as goal
@@ -23,7 +24,7 @@ returns-in-Err g c =
     let o = g.P.Parts.options in
     let m = g.P.Parts.meaning in
     let old = c.args.pass.now in
-    record { called = claim_not_begun_on c.args.now c.args.ms o m g.P.Parts.policies old c.begin.new.pass before c.in-Err.error c.in-Err.ensures.unbegun; same = pass_unbegun old c.begin.new.pass c.in-Err.error c.in-Err.ensures.unbegun }
+    record { called = claim_not_begun_on c.args.now c.args.ms o m g.P.Parts.policies old c.begin.new.pass before c.in-Err.error c.in-Err.ensures.unbegun; counts = refl; same = pass_unbegun old c.begin.new.pass c.in-Err.error c.in-Err.ensures.unbegun }
 
 pub returns-in-Err-claim_job : goal.returns-in-Err-claim_job
 returns-in-Err-claim_job g c =
@@ -36,6 +37,7 @@ returns-in-Err-claim_job g c =
     let ended = ended_from c.claim_job.new.txn old c.begin.new.pass c.rollback-in-Err-claim_job.new.pass c.in-Ok.ensures.same c.rollback-in-Err-claim_job.ensures.ended in
     record {
       called = claim_stopped_on c.args.now c.args.ms o m g.P.Parts.policies old c.rollback-in-Err-claim_job.new.pass before middle c.claim_job.new.txn c.in-Err-claim_job.error c.claim_job.ensures.reads h ended c.rollback-in-Err-claim_job.ensures.known c.rollback-in-Err-claim_job.ensures.legal c.rollback-in-Err-claim_job.ensures.vouched;
+      counts = c.in-Err-claim_job.ensures.counts;
       same = pass_ended c.claim_job.new.txn old c.rollback-in-Err-claim_job.new.pass ended;
     }
 
@@ -50,6 +52,7 @@ returns-in-Ok-None g c =
     let ended = ended_from c.claim_job.new.txn old c.begin.new.pass c.rollback.new.pass c.in-Ok.ensures.same c.rollback.ensures.ended in
     record {
       called = claim_none_on c.args.now c.args.ms o m g.P.Parts.policies old c.rollback.new.pass before middle c.claim_job.new.txn c.claim_job.ensures.reads h ended c.rollback.ensures.known c.rollback.ensures.legal c.rollback.ensures.vouched;
+      counts = c.in-Ok-None.ensures.counts;
       same = pass_ended c.claim_job.new.txn old c.rollback.new.pass ended;
     }
 
@@ -66,6 +69,7 @@ returns-in-Err-commit g c =
     record {
       called = claim_uncommitted_on c.args.now c.args.ms o m g.P.Parts.policies old c.commit.new.pass before middle after c.claim_job.new.txn c.in-Ok-Some.claim c.in-Err-commit.error c.claim_job.ensures.reads c.commit.ensures.reads h left c.commit.ensures.known c.commit.ensures.legal c.commit.ensures.vouched
           (refused_from o c.claim_job.new.txn (IsFault middle after c.in-Err-commit.error) c.in-Err-commit.error old c.begin.new.pass c.commit.new.pass c.in-Ok.ensures.same (c.in-Err-commit.ensures.cause old.seen SerializableSnapshot h.done.steps h.done.attempt c.requires.plain));
+      counts = still_behind (Some c.in-Err-commit.error) before middle after (ap (λ e. reach_of g.S.Store g.M.MergeOperator g.T.BlockTransformer e) (c.commit.ensures.still old.seen SerializableSnapshot h.done.steps h.done.attempt)) c.in-Ok-Some.ensures.counts;
       same = pass_left o old c.commit.new.pass left;
     }
 
@@ -82,5 +86,6 @@ returns-in-Ok-commit g c =
     record {
       called = claim_answered_on c.args.now c.args.ms o m g.P.Parts.policies old c.commit.new.pass before middle after c.claim_job.new.txn c.in-Ok-Some.claim c.in-Ok-commit.field-0 _ (to_z-of_z w64 c.args.now c.ranges.now) c.ranges.now c.ranges.ms.fits c.claim_job.ensures.reads c.commit.ensures.reads h
           committed c.commit.ensures.known c.commit.ensures.legal c.commit.ensures.vouched;
+      counts = still_behind None before middle after (ap (λ e. reach_of g.S.Store g.M.MergeOperator g.T.BlockTransformer e) (c.commit.ensures.still old.seen SerializableSnapshot h.done.steps h.done.attempt)) c.in-Ok-Some.ensures.counts;
       same = pass_committed o c.claim_job.new.txn c.in-Ok-commit.field-0 _ old c.commit.new.pass committed;
     }

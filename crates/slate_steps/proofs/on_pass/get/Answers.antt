@@ -1,7 +1,7 @@
 use Rattle.std.proofs.Common.{None, sym}
 use Rattle.slate_store.specs.Reach.{reach_of}
 use Rattle.slate_table.specs.Filtered.{point_query}
-use Rattle.slate_steps.proofs.OnPass.{get_attempt, get_cause, get_checked, get_more, get_refused, get_undamaged, get_vouched_there}
+use Rattle.slate_steps.proofs.OnPass.{get_attempt, get_cause, get_checked, get_more, get_refused, get_still, get_undamaged, get_vouched_there}
 use Rattle.slate_steps.proofs.on_pass.get.Goals as goal
 
 pub returns : goal.returns
@@ -26,5 +26,6 @@ returns g c =
       undamaged = λ from level ts h s. get_undamaged o m ps q k t u before after r read from level ts h s;
       cause = λ from level ts h. get_cause o m ps q k t u before after r read from level ts h (sym c.requires.meaning);
       more = get_more o m (record { policies = ps; query = q }) k t u before after r read;
+      counts = get_still o m (record { policies = ps; query = q }) k t u before after r read;
       reads = read.reads;
     }

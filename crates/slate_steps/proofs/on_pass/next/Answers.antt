@@ -26,5 +26,6 @@ returns g c =
       cause = λ from policies seen only h. next_cause_on r o policies from before after seen x only h step.cause;
       more = next_more t u (number_of x) r noted c.next.ensures.same;
       same = c.next.ensures.same;
+      counts = step.still;
       reads = step.reads;
     }

@@ -34,5 +34,6 @@ returns g c =
       since = λ from level ts h. scan_since o m ps q range Ascending t u before after quiet r opened from level ts h (sym c.requires.meaning);
       cause = λ from level ts h. scan_cause o m ps q range Ascending t u before after quiet r opened from level ts h (sym c.requires.meaning);
       more = scan_more o m ps q range Ascending t u before after quiet r opened;
+      counts = opened.still;
       reads = opened.reads;
     }

@@ -1,4 +1,5 @@
-use Rattle.std.proofs.Common.{◌≡◌, ◌∙◌, ◌+◌, ◌∷◌, ◌++◌, [], List, Some, ap, arith, length, length-append, subst, sym, ℕ}
+use Rattle.std.proofs.Common.{◌≡◌, ◌∙◌, ◌+◌, ◌∷◌, ◌++◌, [], List, Some, ap, arith, length, length-append, refl, subst, sym, ℕ}
+use Rattle.slate_types.specs.Outside.{unblamed}
 use Rattle.slate_types.proofs.Reaching.{fault_earlier, reads_then}
 use Rattle.slate_store.specs.Reach.{reach_of}
 use Rattle.slate_steps.specs.Walks.{IsRowWalk}
@@ -11,6 +12,7 @@ loop-init g c =
     record {
       walking = subst (IsRowWalk before before c.args.core.now c.args.core.now c.args.scan.now c.args.scan.now) (sym c.new-rows.ensures.items) (walking_none before c.args.core.now c.args.scan.now c.requires);
       counted = ap length c.new-rows.ensures.items;
+      counts = refl;
     }
 
 pub loop-preserved : goal.loop-preserved
@@ -34,6 +36,7 @@ loop-preserved g c =
       walking = subst (IsRowWalk before after c.args.core.now c.next.new.core c.args.scan.now c.next.new.it) (sym c.in-Ok.ensures.items)
           (walking_on before now after c.args.core.now c.loop.core c.next.new.core c.args.scan.now c.loop.scan c.next.new.it rows c.loop.invariant.walking c.in-Ok-Some.row row);
       counted = omega (arith, c.loop.invariant.counted, grown);
+      counts = c.in-Ok-Some.ensures.counts ∙ c.loop.invariant.counts;
     }
 
 pub returns-in-Err-push-clause-reads : goal.returns-in-Err-push-clause-reads
@@ -75,3 +78,12 @@ returns-in-Err-clause-cause g c = λ d from policies only since.
 
 pub returns-in-Err-clause-reads : goal.returns-in-Err-clause-reads
 returns-in-Err-clause-reads g c = reads_then _ _ _ c.loop.invariant.walking.reads c.next.ensures.reads
+
+pub returns-in-Ok-None-clause-counts : goal.returns-in-Ok-None-clause-counts
+returns-in-Ok-None-clause-counts g c = c.in-Ok-None.ensures.counts ∙ c.loop.invariant.counts
+
+pub returns-in-Err-clause-counts : goal.returns-in-Err-clause-counts
+returns-in-Err-clause-counts g c = c.in-Err.ensures.counts ∙ ap (unblamed c.in-Err.error) c.loop.invariant.counts
+
+pub returns-in-Err-push-clause-counts : goal.returns-in-Err-push-clause-counts
+returns-in-Err-push-clause-counts g c = ap (unblamed _) (c.in-Ok-Some.ensures.counts ∙ c.loop.invariant.counts)

@@ -10,4 +10,5 @@ invariant-loop g l =
     record {
       walking : IsRowWalk before now l.initial.core l.core l.initial.scan l.scan l.rows.items;
       counted : length l.rows.items ≡ l.counter;
+      counts : now.faults ≡ before.faults;
     }

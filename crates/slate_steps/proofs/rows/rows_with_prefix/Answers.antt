@@ -1,6 +1,7 @@
-use Rattle.std.proofs.Common.{◌∷◌, ◌++◌, [], map}
+use Rattle.std.proofs.Common.{◌∙◌, ◌∷◌, ◌++◌, [], ap, map}
 use Rattle.slate_types.specs.declared.iter.IterationOrder.TheVariants.{Ascending}
 use Rattle.slate_types.specs.Keys.{prefix_range}
+use Rattle.slate_types.specs.Outside.{unblamed_by}
 use Rattle.slate_types.proofs.Reaching.{fault_earlier, reads_then}
 use Rattle.slate_store.specs.Reach.{reach_of}
 use Rattle.slate_txn.specs.declared.event.TranscriptStep.TheVariants as steps
@@ -51,3 +52,6 @@ returns-clause-cause g c =
 
 pub returns-clause-reads : goal.returns-clause-reads
 returns-clause-reads g c = reads_then _ _ _ c.scan_prefix.ensures.reads c.rows_left-rows.ensures.reads
+
+pub returns-clause-counts : goal.returns-clause-counts
+returns-clause-counts g c = c.rows_left-rows.ensures.counts ∙ ap (unblamed_by c.rows_left-rows.result) c.in-Ok.ensures.counts

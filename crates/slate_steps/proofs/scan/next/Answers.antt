@@ -26,3 +26,6 @@ returns-clause-cause g c = λ d from policies only since. next_error c.next.resu
 
 pub returns-clause-open : goal.returns-clause-open
 returns-clause-open g c = λ here. (c.next.ensures.stay (id_of c.args.it.now)).transaction here
+
+pub returns-clause-counts : goal.returns-clause-counts
+returns-clause-counts g c = c.next.ensures.still

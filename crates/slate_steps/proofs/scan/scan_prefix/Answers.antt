@@ -68,3 +68,6 @@ returns-clause-cause g c =
 
 pub returns-clause-open : goal.returns-clause-open
 returns-clause-open g c = (c.scan.ensures.stay c.args.id.now).transaction c.requires.open
+
+pub returns-clause-counts : goal.returns-clause-counts
+returns-clause-counts g c = c.scan.ensures.still

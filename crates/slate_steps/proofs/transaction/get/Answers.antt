@@ -29,7 +29,10 @@ pub returns-clause-undamaged : goal.returns-clause-undamaged
 returns-clause-undamaged g c = λ d level ts seg h settled. c.get.ensures.read.undamaged (answered_within _ seg _ _ d c.args.core.now c.args.id.now level ts h settled)
 
 pub returns-clause-cause : goal.returns-clause-cause
-returns-clause-cause g c = get_error c.get.result _ _ _ _ c.args.core.now c.get.ensures.read.cause
+returns-clause-cause g c = get_error c.get.result _ c.args.id.now _ _ _ c.args.core.now c.get.ensures.read.cause
 
 pub returns-clause-open : goal.returns-clause-open
 returns-clause-open g c = (c.get.ensures.stay c.args.id.now).transaction c.requires
+
+pub returns-clause-counts : goal.returns-clause-counts
+returns-clause-counts g c = c.get.ensures.read.still

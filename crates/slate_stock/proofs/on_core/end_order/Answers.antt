@@ -1,6 +1,8 @@
-use Rattle.std.proofs.Common.{w64}
+use Rattle.std.proofs.Common.{ap, w64}
 use Rattle.std.proofs.lemmas.Int.{to_z-of_z}
 use Rattle.slate_types.specs.declared.config.IsolationLevel.TheVariants.{SerializableSnapshot}
+use Rattle.slate_types.specs.Outside.{unblamed}
+use Rattle.slate_store.specs.Reach.{reach_of}
 use Rattle.slate_stock.proofs.CoreLaws.{taken_plain, taken_some}
 use Rattle.slate_stock.proofs.EndLaws.{committed_at, has_ordered, never_full, some_committed}
 use Rattle.slate_stock.proofs.on_core.end_order.Goals as goal
@@ -37,3 +39,15 @@ returns-in-Err-clause-kept g c = λ d ts h kept. c.in-Err.ensures.kept d Seriali
 
 pub returns-in-Err-clause-segmented : goal.returns-in-Err-clause-segmented
 returns-in-Err-clause-segmented g c = λ d ts h segmented. c.in-Err.ensures.segmented d SerializableSnapshot ts h segmented
+
+pub returns-in-Ok-Some-clause-counts : goal.returns-in-Ok-Some-clause-counts
+returns-in-Ok-Some-clause-counts g c =
+    let t = c.requires.taken in
+    ap (λ e. (reach_of g.S.Store g.M.MergeOperator g.T.BlockTransformer e).faults)
+    (c.commit.ensures.still t.core SerializableSnapshot t.is.taken t.is.within (taken_plain t.policies t.before t.after t.core c.args.id.now t.order c.args.core.now t.is))
+
+pub returns-in-Err-clause-counts : goal.returns-in-Err-clause-counts
+returns-in-Err-clause-counts g c =
+    let t = c.requires.taken in
+    ap (λ e. unblamed c.in-Err.error (reach_of g.S.Store g.M.MergeOperator g.T.BlockTransformer e).faults)
+    (c.commit.ensures.still t.core SerializableSnapshot t.is.taken t.is.within (taken_plain t.policies t.before t.after t.core c.args.id.now t.order c.args.core.now t.is))

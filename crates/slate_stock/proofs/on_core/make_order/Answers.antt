@@ -1,4 +1,4 @@
-use Rattle.std.proofs.Common.{inl, inr, map, subst, sym, w64}
+use Rattle.std.proofs.Common.{inl, inr, map, refl, subst, sym, w64}
 use Rattle.std.proofs.lemmas.Int.{to_z-of_z}
 use Rattle.slate_types.proofs.Exits.{on_err_weaker}
 use Rattle.slate_store.specs.Reach.{reach_of}
@@ -54,3 +54,9 @@ returns-in-Err-clause-kept g c = λ kept.
 
 pub returns-in-Err-clause-segmented : goal.returns-in-Err-clause-segmented
 returns-in-Err-clause-segmented g c = λ segmented. subst (λ (v : CoreModel). IsSegmented (segments_by g.X.PrefixExtractor.lengths c.args.laws.now.segments) v) (sym c.in-Err.ensures.same) segmented
+
+pub returns-in-Ok-clause-counts : goal.returns-in-Ok-clause-counts
+returns-in-Ok-clause-counts g c = c.order_within.ensures.counts
+
+pub returns-in-Err-clause-counts : goal.returns-in-Err-clause-counts
+returns-in-Err-clause-counts g c = refl

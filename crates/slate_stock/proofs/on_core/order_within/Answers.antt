@@ -1,4 +1,4 @@
-use Rattle.std.proofs.Common.{[], map, subst, w64}
+use Rattle.std.proofs.Common.{[], ◌∙◌, ap, map, subst, w64}
 use Rattle.std.proofs.lemmas.Int.{to_z-of_z}
 use Rattle.slate_types.specs.declared.config.IsolationLevel.TheVariants.{SerializableSnapshot}
 use Rattle.slate_types.proofs.Reaching.{fault_earlier, reads_then}
@@ -8,7 +8,8 @@ use Rattle.slate_steps.proofs.Reading.{if_err_map}
 use Rattle.slate_steps.proofs.Settling.{ended_segmented}
 use Rattle.slate_steps.proofs.StoreTruth.{checked_before}
 use Rattle.slate_steps.proofs.Taking.{within_open}
-use Rattle.slate_steps.specs.Reads.{IsFaultSettled}
+use Rattle.slate_steps.specs.Reads.{IsFaultSettled, told_in, unblamed_if}
+use Rattle.slate_stock.specs.Running.{db_error}
 use Rattle.slate_stock.proofs.EndLaws.{end_cause, end_truth, ordered_at, take_cause, take_truth, taken_fits, taken_upto}
 use Rattle.slate_stock.proofs.on_core.order_within.Goals as goal
 
@@ -84,3 +85,9 @@ returns-in-Err-clause-kept g c = λ d h kept. let left = c.in-Err.ensures.left d
 
 pub returns-in-Err-clause-segmented : goal.returns-in-Err-clause-segmented
 returns-in-Err-clause-segmented g c = λ d h segmented. let left = c.in-Err.ensures.left d h in ended_segmented _ d _ c.args.id.now SerializableSnapshot (c.rollback.ensures.ended d SerializableSnapshot left.0 left.1) segmented
+
+pub returns-in-Ok-clause-counts : goal.returns-in-Ok-clause-counts
+returns-in-Ok-clause-counts g c = c.end_order.ensures.counts ∙ ap (unblamed_if (told_in db_error c.end_order.result)) c.in-Ok.ensures.counts
+
+pub returns-in-Err-clause-counts : goal.returns-in-Err-clause-counts
+returns-in-Err-clause-counts g c = c.in-Err.ensures.counts

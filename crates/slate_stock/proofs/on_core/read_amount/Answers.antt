@@ -1,11 +1,12 @@
-use Rattle.std.proofs.Common.{◌++◌, ◌∷◌, [], ℕ, List, inl, inr, map, subst, sym}
+use Rattle.std.proofs.Common.{◌++◌, ◌∷◌, [], ℕ, List, ap, inl, inr, map, subst, sym}
 use Rattle.slate_types.specs.declared.config.IsolationLevel.TheVariants.{SerializableSnapshot}
 use Rattle.slate_types.proofs.Exits.{on_err}
 use Rattle.slate_txn.specs.declared.event.TranscriptStep.TheVariants as steps
 use Rattle.slate_steps.specs.Steps.{IsWithin, Sees}
 use Rattle.slate_steps.proofs.Reading.{if_err_map, if_ok_map}
 use Rattle.slate_store.specs.Reach.{reach_of}
-use Rattle.slate_steps.specs.Reads.{IsFaultSettled}
+use Rattle.slate_steps.specs.Reads.{IsFaultSettled, told_in, unblamed_if}
+use Rattle.slate_stock.specs.Running.{db_error}
 use Rattle.slate_stock.proofs.CauseLaws.{found_cause, found_truth, one_fault}
 use Rattle.slate_stock.proofs.on_core.read_amount.Goals as goal
 
@@ -41,3 +42,9 @@ returns-in-Err-clause-cause g c = λ d ts h. inl (inr (one_fault _ _ _ d c.args.
 
 pub returns-in-Err-clause-truth : goal.returns-in-Err-clause-truth
 returns-in-Err-clause-truth g c = λ d ts seg h none store sees. inl (λ s settled. c.in-Err.ensures.undamaged d SerializableSnapshot ts s h settled)
+
+pub returns-in-Ok-clause-counts : goal.returns-in-Ok-clause-counts
+returns-in-Ok-clause-counts g c = ap (unblamed_if (told_in db_error c.amount_found-amount.result)) c.in-Ok.ensures.counts
+
+pub returns-in-Err-clause-counts : goal.returns-in-Err-clause-counts
+returns-in-Err-clause-counts g c = c.in-Err.ensures.counts

@@ -1,9 +1,11 @@
-use Rattle.std.proofs.Common.{◌≡◌, ◌+◌, [], ◌∷◌, ◌++◌, length, length-append, ap, arith, map, subst, sym}
+use Rattle.std.proofs.Common.{◌≡◌, ◌+◌, [], ◌∷◌, ◌++◌, ◌∙◌, ap, arith, length, length-append, map, refl, subst, sym}
+use Rattle.slate_types.specs.Outside.{unblamed}
 use Rattle.slate_types.proofs.Reaching.{reads_none, reads_then}
 use Rattle.slate_store.specs.Reach.{reach_of}
-use Rattle.slate_steps.specs.Reads.{IsFaultSettled}
+use Rattle.slate_steps.specs.Reads.{IsFaultSettled, unblamed_if}
 use Rattle.slate_steps.specs.Steps.{Sees}
 use Rattle.slate_steps.proofs.StoreTruth.{checked_before, checked_behind}
+use Rattle.slate_stock.specs.Running.{db_error}
 use Rattle.slate_stock.proofs.CauseLaws.{cause_more, truth_more, wanting_truth}
 use Rattle.slate_stock.proofs.CoreLaws.{all_read, read_first, read_more}
 use Rattle.slate_stock.proofs.StepLaws.{gets_own}
@@ -12,6 +14,7 @@ use Rattle.slate_stock.proofs.on_core.read_amounts.Goals as goal
 pub loop-key-init : goal.loop-key-init
 loop-key-init g c = record {
   open_there = c.requires.open;
+  counts = refl;
   reads = reads_none _;
   read = λ d h. read_first _ _ _ d c.args.core.now c.args.id.now c.new-amounts.result.items c.new-amounts.ensures.items h;
   long = ap length c.new-amounts.ensures.items;
@@ -23,6 +26,7 @@ loop-key-preserved g c =
     let grown : length (c.loop-key.amounts.items ++ (c.in-Ok.amount ∷ [])) ≡ length c.loop-key.amounts.items + 1 = length-append c.loop-key.amounts.items (c.in-Ok.amount ∷ []) in
     record {
       open_there = c.read_amount.ensures.open;
+      counts = c.in-Ok.ensures.counts ∙ i.counts;
       reads = reads_then _ _ _ i.reads c.read_amount.ensures.reads;
       read = λ d h.
           let old = i.read d h in
@@ -67,3 +71,12 @@ returns-in-Err-clause-reads g c = reads_then _ _ _ c.loop-key.invariant.reads c.
 
 pub returns-clause-read : goal.returns-clause-read
 returns-clause-read g c = λ d h. all_read _ _ _ d c.loop-key.core c.args.id.now c.args.keys.now c.loop-key.key-index c.loop-key.amounts.items (omega arith) (c.loop-key.invariant.read d h)
+
+pub returns-in-Err-push-clause-counts : goal.returns-in-Err-push-clause-counts
+returns-in-Err-push-clause-counts g c = ap (unblamed c.from.result) (c.in-Ok.ensures.counts ∙ c.loop-key.invariant.counts)
+
+pub returns-in-Err-clause-counts : goal.returns-in-Err-clause-counts
+returns-in-Err-clause-counts g c = c.in-Err.ensures.counts ∙ ap (unblamed_if (db_error c.in-Err.error)) c.loop-key.invariant.counts
+
+pub returns-clause-counts : goal.returns-clause-counts
+returns-clause-counts g c = c.loop-key.invariant.counts

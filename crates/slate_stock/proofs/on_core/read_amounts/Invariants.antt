@@ -15,6 +15,7 @@ invariant-loop-key g l =
     let now = reach_of g.S.Store g.M.MergeOperator g.T.BlockTransformer l.env in
     record {
       open_there : HasTransaction l.core l.id;
+      counts : now.faults ≡ before.faults;
       reads : OnlyReads before now;
       read : (c : CoreModel) → IsWithin c l.id SerializableSnapshot [] l.initial.core → HasRead policies before now c l.id (take l.key-index l.keys) l.amounts.items l.core;
       long : length l.amounts.items ≡ l.key-index;

@@ -1,4 +1,4 @@
-use Rattle.std.proofs.Common.{ℕ, List, inl, inr, map, sym, w64}
+use Rattle.std.proofs.Common.{ℕ, List, inl, inr, map, refl, sym, w64}
 use Rattle.std.proofs.lemmas.Int.{to_z-of_z}
 use Rattle.slate_store.specs.Reach.{reach_of}
 use Rattle.slate_types.proofs.Exits.{err_exit}
@@ -54,3 +54,12 @@ returns-clause-grows g c =
     let after = reach_of g.S.Store g.M.MergeOperator g.T.BlockTransformer c.make_order-made.new.env in
     let policies = map (λ p. (goal.FilterPolicy-dyn g (p.vtable, p.value)).meaning p.value) c.args.laws.now.policies.items in
     call_grows policies before after c.args.core.now c.make_order-made.new.core c.args.order.now _ c.make_order-made.result c.make_order-made.ensures.committed c.make_order-made.ensures.left
+
+pub returns-in-Some-clause-counts : goal.returns-in-Some-clause-counts
+returns-in-Some-clause-counts g c = refl
+
+pub returns-in_err-keys-clause-counts : goal.returns-in_err-keys-clause-counts
+returns-in_err-keys-clause-counts g c = refl
+
+pub returns-clause-counts : goal.returns-clause-counts
+returns-clause-counts g c = c.make_order-made.ensures.counts

@@ -1,9 +1,9 @@
 use Rattle.std.proofs.Common.{◌≡◌, ◌∙◌, ℕ, List, ap, inl, length, map, subst}
 use Rattle.slate_store.specs.Reach.{reach_of}
 use Rattle.slate_steps.proofs.Reading.{if_err_map, on_ok_map}
-use Rattle.slate_steps.specs.Reads.{IsFaultSettled}
+use Rattle.slate_steps.specs.Reads.{IsFaultSettled, told_in, unblamed_if}
 use Rattle.slate_stock.specs.Orders.{order_keys}
-use Rattle.slate_stock.specs.Running.{IsReadCause, IsReadTruth, amounts_of}
+use Rattle.slate_stock.specs.Running.{IsReadCause, IsReadTruth, amounts_of, db_error}
 use Rattle.slate_stock.proofs.CoreLaws.{has_taken, read_there}
 use Rattle.slate_stock.proofs.EndLaws.{put_cause, put_truth}
 use Rattle.slate_stock.proofs.MapLaws.{known, known_is}
@@ -55,3 +55,9 @@ returns-in-Err-clause-truth g c = λ d seg h store.
     let after = reach_of g.S.Store g.M.MergeOperator g.T.BlockTransformer c.read_amounts.new.env in
     let policies = map (λ p. (goal.FilterPolicy-dyn g (p.vtable, p.value)).meaning p.value) c.args.laws.now.policies.items in
     inl (subst (λ (ks : List (List ℕ)). IsReadTruth (IsFaultSettled policies before after d) before.meaning d ks c.in-Err.error) c.requires.keys (c.in-Err.ensures.truth d seg h store))
+
+pub returns-in-Ok-clause-counts : goal.returns-in-Ok-clause-counts
+returns-in-Ok-clause-counts g c = ap (unblamed_if (told_in db_error c.put_order-done.result)) c.in-Ok.ensures.counts
+
+pub returns-in-Err-clause-counts : goal.returns-in-Err-clause-counts
+returns-in-Err-clause-counts g c = c.in-Err.ensures.counts

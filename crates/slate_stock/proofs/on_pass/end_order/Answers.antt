@@ -1,6 +1,8 @@
-use Rattle.std.proofs.Common.{w64}
+use Rattle.std.proofs.Common.{ap, w64}
 use Rattle.std.proofs.lemmas.Int.{to_z-of_z}
 use Rattle.slate_types.specs.declared.config.IsolationLevel.TheVariants.{SerializableSnapshot}
+use Rattle.slate_types.specs.Outside.{unblamed}
+use Rattle.slate_store.specs.Reach.{reach_of}
 use Rattle.slate_stock.proofs.AttemptLaws.{committed_then, never_none, ordered_on, stepped_by}
 use Rattle.slate_stock.proofs.on_pass.end_order.Goals as goal
 
@@ -23,3 +25,9 @@ returns-in-Ok-Some-clause-stepped g c = λ order h v.
 
 pub returns-in-Err-clause-cause : goal.returns-in-Err-clause-cause
 returns-in-Err-clause-cause g c = let t = c.requires.taken in c.in-Err.ensures.cause _ SerializableSnapshot t.1.taken t.1.within c.requires.segments
+
+pub returns-in-Ok-Some-clause-counts : goal.returns-in-Ok-Some-clause-counts
+returns-in-Ok-Some-clause-counts g c = let t = c.requires.taken in ap (λ e. (reach_of g.S.Store g.M.MergeOperator g.T.BlockTransformer e).faults) (c.commit.ensures.still _ SerializableSnapshot t.1.taken t.1.within)
+
+pub returns-in-Err-clause-counts : goal.returns-in-Err-clause-counts
+returns-in-Err-clause-counts g c = let t = c.requires.taken in ap (λ e. unblamed c.in-Err.error (reach_of g.S.Store g.M.MergeOperator g.T.BlockTransformer e).faults) (c.commit.ensures.still _ SerializableSnapshot t.1.taken t.1.within)

@@ -1,4 +1,4 @@
-use Rattle.std.proofs.Common.{[], ◌∙◌, ap, inl, inr, subst, sym, w64}
+use Rattle.std.proofs.Common.{[], ◌∙◌, ap, inl, inr, refl, subst, sym, w64}
 use Rattle.std.specs.Prelude.{IfErr, IfOk, OnErr}
 use Rattle.std.proofs.lemmas.Int.{to_z-of_z}
 use Rattle.slate_types.specs.declared.config.IsolationLevel.TheVariants.{SerializableSnapshot}
@@ -57,3 +57,9 @@ returns-in-Err-clause-cause g c = begin_cause_on g.P.Parts.options _ _ _ c.args.
 
 pub returns-in-Err-clause-refused : goal.returns-in-Err-clause-refused
 returns-in-Err-clause-refused g c = λ holds. begin_truth_on g.P.Parts.options _ g.P.Parts.policies _ _ c.args.pass.now c.begin.new.pass c.args.order.now c.in-Err.error c.in-Err.ensures.unbegun
+
+pub returns-in-Ok-clause-counts : goal.returns-in-Ok-clause-counts
+returns-in-Ok-clause-counts g c = c.order_within.ensures.counts
+
+pub returns-in-Err-clause-counts : goal.returns-in-Err-clause-counts
+returns-in-Err-clause-counts g c = refl

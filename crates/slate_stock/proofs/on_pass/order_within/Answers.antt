@@ -1,4 +1,4 @@
-use Rattle.std.proofs.Common.{◌∙◌, w64}
+use Rattle.std.proofs.Common.{◌∙◌, ap, w64}
 use Rattle.std.proofs.lemmas.Int.{to_z-of_z}
 use Rattle.slate_types.proofs.Exits.{on_err_weaker}
 use Rattle.slate_types.proofs.Reaching.{reads_none, reads_then}
@@ -6,7 +6,9 @@ use Rattle.slate_store.specs.Reach.{reach_of}
 use Rattle.slate_steps.proofs.Reading.{if_err_map}
 use Rattle.slate_steps.specs.Attempts.{IsVouchedThere}
 use Rattle.slate_steps.proofs.StoreTruth.{checked_earlier}
+use Rattle.slate_steps.specs.Reads.{told_in, unblamed_if}
 use Rattle.slate_stock.specs.Attempting.{HasTakenOn}
+use Rattle.slate_stock.specs.Running.{db_error}
 use Rattle.slate_stock.proofs.AttemptCauses.{end_cause_on, end_truth_on, take_cause_on, take_truth_on}
 use Rattle.slate_stock.proofs.AttemptLaws.{fits_start, ordered_then, stepped_then}
 use Rattle.slate_stock.proofs.on_pass.order_within.Goals as goal
@@ -87,3 +89,9 @@ returns-in-Err-clause-refused g c = λ holds.
     take_truth_on o m g.P.Parts.policies before after c.args.pass.now new c.args.order.now t c.in-Err.error c.take_order.ensures.reads (c.in-Err.ensures.left c.args.pass.now.seen c.requires.begun) c.rollback.ensures.known c.rollback.ensures.legal
     (c.in-Err.ensures.truth c.args.pass.now.seen new.seen c.requires.begun
     (checked_earlier g.P.Parts.policies m t.seen new.seen before after after c.rollback.ensures.known c.take_order.ensures.reads (reads_none after) holds) c.requires.vouched c.rollback.ensures.known c.rollback.ensures.legal)
+
+pub returns-in-Ok-clause-counts : goal.returns-in-Ok-clause-counts
+returns-in-Ok-clause-counts g c = c.end_order.ensures.counts ∙ ap (unblamed_if (told_in db_error c.end_order.result)) c.in-Ok.ensures.counts
+
+pub returns-in-Err-clause-counts : goal.returns-in-Err-clause-counts
+returns-in-Err-clause-counts g c = c.in-Err.ensures.counts

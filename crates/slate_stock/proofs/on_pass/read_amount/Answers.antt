@@ -1,10 +1,12 @@
-use Rattle.std.proofs.Common.{◌++◌, ◌∷◌, [], ℕ, List, inl, subst}
+use Rattle.std.proofs.Common.{◌++◌, ◌∷◌, [], ℕ, List, ap, inl, subst}
 use Rattle.slate_types.specs.declared.config.IsolationLevel.TheVariants.{SerializableSnapshot}
 use Rattle.slate_types.proofs.Exits.{on_err, on_ok}
 use Rattle.slate_store.specs.Reach.{reach_of}
 use Rattle.slate_txn.specs.declared.event.TranscriptStep.TheVariants as steps
 use Rattle.slate_steps.specs.Attempts.{IsAttempt, IsFaultOn}
 use Rattle.slate_steps.proofs.Reading.{if_err_map, if_ok_map}
+use Rattle.slate_steps.specs.Reads.{told_in, unblamed_if}
+use Rattle.slate_stock.specs.Running.{db_error}
 use Rattle.slate_stock.proofs.AttemptCauses.{found_cause_on, found_truth_on}
 use Rattle.slate_stock.proofs.on_pass.read_amount.Goals as goal
 
@@ -49,3 +51,9 @@ returns-in-Err-clause-truth g c = λ from es ts h none holds v later legal. inl 
 
 pub returns-in-Err-clause-more : goal.returns-in-Err-clause-more
 returns-in-Err-clause-more g c = (c.get.ensures.more.0, c.get.ensures.more.2)
+
+pub returns-in-Ok-clause-counts : goal.returns-in-Ok-clause-counts
+returns-in-Ok-clause-counts g c = ap (unblamed_if (told_in db_error c.amount_found-amount.result)) c.in-Ok.ensures.counts
+
+pub returns-in-Err-clause-counts : goal.returns-in-Err-clause-counts
+returns-in-Err-clause-counts g c = c.in-Err.ensures.counts

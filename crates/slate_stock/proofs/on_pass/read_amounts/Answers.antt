@@ -1,9 +1,12 @@
-use Rattle.std.proofs.Common.{◌≡◌, ◌∙◌, ◌+◌, [], ◌∷◌, ◌++◌, length, length-append, ap, arith, refl}
+use Rattle.std.proofs.Common.{◌≡◌, ◌∙◌, ◌+◌, [], ◌∷◌, ◌++◌, ap, arith, length, length-append, refl}
+use Rattle.slate_types.specs.Outside.{unblamed}
 use Rattle.slate_types.proofs.Reaching.{reads_none, reads_then}
 use Rattle.slate_store.specs.Reach.{reach_of}
 use Rattle.slate_shared.proofs.Lists.{prefix_self, prefix_trans}
 use Rattle.slate_steps.proofs.StoreTruth.{checked_earlier, checked_later}
 use Rattle.slate_steps.specs.Attempts.{IsFaultOn}
+use Rattle.slate_steps.specs.Reads.{unblamed_if}
+use Rattle.slate_stock.specs.Running.{db_error}
 use Rattle.slate_stock.proofs.AttemptCauses.{reads_cause_on, reads_truth_on, wanting_cause_on, wanting_truth_on}
 use Rattle.slate_stock.proofs.AttemptLaws.{first_read, more_read, whole_read}
 use Rattle.slate_stock.proofs.StepLaws.{gets_own}
@@ -13,6 +16,7 @@ pub loop-key-init : goal.loop-key-init
 loop-key-init g c = record {
   table = refl;
   begins = prefix_self c.args.txn.now.seen;
+  counts = refl;
   reads = reads_none _;
   read = λ from h. first_read g.P.Parts.options from c.new-amounts.result.items c.args.txn.now c.new-amounts.ensures.items h;
   long = ap length c.new-amounts.ensures.items;
@@ -38,6 +42,7 @@ loop-key-preserved g c =
     record {
       table = c.read_amount.ensures.more.0 ∙ i.table;
       begins = prefix_trans _ _ _ i.begins later;
+      counts = c.in-Ok.ensures.counts ∙ i.counts;
       reads = reads_then _ _ _ i.reads c.read_amount.ensures.reads;
       read = λ from h.
           let old = i.read from h in
@@ -104,3 +109,12 @@ returns-clause-sees g c = λ from h holds v. c.loop-key.invariant.sees from h ho
 
 pub returns-clause-more : goal.returns-clause-more
 returns-clause-more g c = (c.loop-key.invariant.table, c.loop-key.invariant.begins)
+
+pub returns-in-Err-push-clause-counts : goal.returns-in-Err-push-clause-counts
+returns-in-Err-push-clause-counts g c = ap (unblamed c.from.result) (c.in-Ok.ensures.counts ∙ c.loop-key.invariant.counts)
+
+pub returns-in-Err-clause-counts : goal.returns-in-Err-clause-counts
+returns-in-Err-clause-counts g c = c.in-Err.ensures.counts ∙ ap (unblamed_if (db_error c.in-Err.error)) c.loop-key.invariant.counts
+
+pub returns-clause-counts : goal.returns-clause-counts
+returns-clause-counts g c = c.loop-key.invariant.counts

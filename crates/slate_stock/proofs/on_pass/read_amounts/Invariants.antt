@@ -17,6 +17,7 @@ invariant-loop-key g l =
     record {
       table : l.txn.table ≡ l.initial.txn.table;
       begins : IsPrefix l.initial.txn.seen l.txn.seen;
+      counts : now.faults ≡ before.faults;
       reads : OnlyReads before now;
       read : (from : List Event) → IsAttempt o from SerializableSnapshot [] l.initial.txn → HasReadOn o from (take l.key-index l.keys) l.amounts.items l.txn;
       long : length l.amounts.items ≡ l.key-index;

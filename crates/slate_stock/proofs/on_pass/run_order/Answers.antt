@@ -47,3 +47,12 @@ returns-clause-orders g c =
 
 pub returns-clause-same : goal.returns-clause-same
 returns-clause-same g c = same_then g.P.Parts.options c.args.order.now _ c.args.pass.now c.make_order-made.new.pass c.make_order-made.result c.make_order-made.ensures.committed c.make_order-made.ensures.only
+
+pub returns-in-Some-clause-counts : goal.returns-in-Some-clause-counts
+returns-in-Some-clause-counts g c = refl
+
+pub returns-in_err-keys-clause-counts : goal.returns-in_err-keys-clause-counts
+returns-in_err-keys-clause-counts g c = refl
+
+pub returns-clause-counts : goal.returns-clause-counts
+returns-clause-counts g c = c.make_order-made.ensures.counts

@@ -4,8 +4,10 @@ use Rattle.slate_types.proofs.Exits.{on_ok}
 use Rattle.slate_store.specs.Reach.{reach_of}
 use Rattle.slate_steps.specs.Attempts.{IsFaultOn, IsStoreChecked}
 use Rattle.slate_steps.proofs.Reading.{if_err_map, on_ok_map}
+use Rattle.slate_steps.specs.Reads.{told_in, unblamed_if}
 use Rattle.slate_stock.specs.Attempting.{IsReadsCauseOn, IsReadsTruthOn, amounts_since}
 use Rattle.slate_stock.specs.Orders.{order_keys}
+use Rattle.slate_stock.specs.Running.{db_error}
 use Rattle.slate_stock.proofs.AttemptCauses.{put_cause_on, put_truth_on}
 use Rattle.slate_stock.proofs.AttemptLaws.{read_since, taken_on}
 use Rattle.slate_stock.proofs.MapLaws.{known, known_is}
@@ -70,3 +72,9 @@ returns-in-Err-clause-truth g c = λ from es h holds v later legal.
     let before = reach_of g.S.Store g.M.MergeOperator g.T.BlockTransformer c.args.env.now in
     let after = reach_of g.S.Store g.M.MergeOperator g.T.BlockTransformer c.read_amounts.new.env in
     inl (subst (λ (ks : List (List ℕ)). IsReadsTruthOn (IsFaultOn g.P.Parts.policies g.P.Parts.meaning c.read_amounts.new.txn.seen before after) g.P.Parts.options g.P.Parts.meaning es c.read_amounts.new.txn.tx.begin ks c.in-Err.error) c.requires.keys (c.in-Err.ensures.truth from es h holds v later legal))
+
+pub returns-in-Ok-clause-counts : goal.returns-in-Ok-clause-counts
+returns-in-Ok-clause-counts g c = ap (unblamed_if (told_in db_error c.put_order-done.result)) c.in-Ok.ensures.counts
+
+pub returns-in-Err-clause-counts : goal.returns-in-Err-clause-counts
+returns-in-Err-clause-counts g c = c.in-Err.ensures.counts

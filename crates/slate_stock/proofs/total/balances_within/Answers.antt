@@ -1,4 +1,4 @@
-use Rattle.std.proofs.Common.{◌∙◌, ◌++◌, [], ap, inl, map, subst, sym}
+use Rattle.std.proofs.Common.{◌∙◌, ◌++◌, [], ap, inl, map, refl, subst, sym}
 use Rattle.slate_types.specs.declared.config.IsolationLevel.TheVariants.{SerializableSnapshot}
 use Rattle.slate_types.specs.Outside.{IsFault}
 use Rattle.slate_store.specs.Reach.{reach_of}
@@ -32,3 +32,9 @@ pub returns-in-Err-clause-cause : goal.returns-in-Err-clause-cause
 returns-in-Err-clause-cause g c =
     let before = reach_of g.S.Store g.M.MergeOperator g.T.BlockTransformer c.args.env.now in
     of_scan (inl (subst (IsFault before before) (sym c.from.ensures) tt))
+
+pub returns-in-Ok-clause-counts : goal.returns-in-Ok-clause-counts
+returns-in-Ok-clause-counts g c = c.rows_with_prefix-rows.ensures.counts
+
+pub returns-in-Err-clause-counts : goal.returns-in-Err-clause-counts
+returns-in-Err-clause-counts g c = refl

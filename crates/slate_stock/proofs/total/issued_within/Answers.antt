@@ -48,3 +48,9 @@ returns-in-Err-clause-cause g c = λ d h.
     let before = reach_of g.S.Store g.M.MergeOperator g.T.BlockTransformer c.args.env.now in
     let policies = map (λ p. (goal.FilterPolicy-dyn g (p.vtable, p.value)).meaning p.value) c.args.laws.now.policies.items in
     memory_cause policies before before d c.args.asset.now _ (ap Db c.from.ensures)
+
+pub returns-in-Ok-clause-counts : goal.returns-in-Ok-clause-counts
+returns-in-Ok-clause-counts g c = c.read_amount-issued.ensures.counts
+
+pub returns-in-Err-clause-counts : goal.returns-in-Err-clause-counts
+returns-in-Err-clause-counts g c = refl

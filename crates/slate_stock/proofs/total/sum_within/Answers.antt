@@ -1,6 +1,8 @@
 use Rattle.std.proofs.Common.{◌∙◌, [], ap, map}
 use Rattle.slate_store.specs.Reach.{reach_of}
 use Rattle.slate_steps.proofs.Reading.{if_err_map, if_ok_map}
+use Rattle.slate_steps.specs.Reads.{told_in, unblamed_if}
+use Rattle.slate_stock.specs.Running.{db_error}
 use Rattle.slate_stock.specs.Totals.{values_sum}
 use Rattle.slate_stock.proofs.TotalLaws.{scan_cause, scan_truth, sum_cause, sum_truth}
 use Rattle.slate_stock.proofs.total.sum_within.Goals as goal
@@ -41,3 +43,9 @@ returns-in-Err-clause-cause g c = λ d ts h.
     let after = reach_of g.S.Store g.M.MergeOperator g.T.BlockTransformer c.balances_within.new.env in
     let policies = map (λ p. (goal.FilterPolicy-dyn g (p.vtable, p.value)).meaning p.value) c.args.laws.now.policies.items in
     scan_cause policies before after d c.args.asset.now c.args.core.now c.args.id.now ts c.in-Err.error h c.in-Err.ensures.cause
+
+pub returns-in-Ok-clause-counts : goal.returns-in-Ok-clause-counts
+returns-in-Ok-clause-counts g c = ap (unblamed_if (told_in db_error c.sum_of-sum.result)) c.in-Ok.ensures.counts
+
+pub returns-in-Err-clause-counts : goal.returns-in-Err-clause-counts
+returns-in-Err-clause-counts g c = c.in-Err.ensures.counts

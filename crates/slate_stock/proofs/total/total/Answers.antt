@@ -1,4 +1,4 @@
-use Rattle.std.proofs.Common.{[], inl, inr, map}
+use Rattle.std.proofs.Common.{[], inl, inr, map, refl}
 use Rattle.slate_types.specs.declared.config.IsolationLevel.TheVariants.{SerializableSnapshot}
 use Rattle.slate_store.specs.Reach.{reach_of}
 use Rattle.slate_steps.proofs.Taking.{within_open}
@@ -36,3 +36,9 @@ returns-in-Err-clause-cause g c =
 
 pub returns-in-Err-clause-left : goal.returns-in-Err-clause-left
 returns-in-Err-clause-left g c = inl c.in-Err.ensures.same
+
+pub returns-in-Ok-clause-counts : goal.returns-in-Ok-clause-counts
+returns-in-Ok-clause-counts g c = c.total_within-total.ensures.counts
+
+pub returns-in-Err-clause-counts : goal.returns-in-Err-clause-counts
+returns-in-Err-clause-counts g c = refl

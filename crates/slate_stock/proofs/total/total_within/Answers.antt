@@ -1,6 +1,8 @@
-use Rattle.std.proofs.Common.{[], map, refl}
+use Rattle.std.proofs.Common.{[], ◌∙◌, ap, map, refl}
 use Rattle.slate_types.proofs.Reaching.{reads_then}
 use Rattle.slate_store.specs.Reach.{reach_of}
+use Rattle.slate_steps.specs.Reads.{unblamed_if}
+use Rattle.slate_stock.specs.Running.{db_error}
 use Rattle.slate_stock.proofs.CauseLaws.{settled_as}
 use Rattle.slate_stock.proofs.TotalLaws.{got_there, sum_is_there, total_cause_since, total_truth_since}
 use Rattle.slate_stock.proofs.total.total_within.Goals as goal
@@ -54,3 +56,12 @@ returns-in-Err-clause-refused g c = λ d seg h settled. c.in-Err.ensures.refused
 
 pub returns-in-Err-clause-cause : goal.returns-in-Err-clause-cause
 returns-in-Err-clause-cause g c = λ d h. c.in-Err.ensures.cause d h
+
+pub returns-in-Ok-sum_within-clause-counts : goal.returns-in-Ok-sum_within-clause-counts
+returns-in-Ok-sum_within-clause-counts g c = c.in-Ok-sum_within.ensures.counts ∙ c.in-Ok.ensures.counts
+
+pub returns-in-Err-sum_within-clause-counts : goal.returns-in-Err-sum_within-clause-counts
+returns-in-Err-sum_within-clause-counts g c = c.in-Err-sum_within.ensures.counts ∙ ap (unblamed_if (db_error c.in-Err-sum_within.error)) c.in-Ok.ensures.counts
+
+pub returns-in-Err-clause-counts : goal.returns-in-Err-clause-counts
+returns-in-Err-clause-counts g c = c.in-Err.ensures.counts

@@ -41,7 +41,7 @@ returns g c =
     let after : Reach = reach_of g.S.Store g.M.MergeOperator g.T.BlockTransformer c.seen_by.new.env in
     let query : FilterQuery = point_query c.args.key.now c.args.context.now in
     record {
-      read = λ from found. asked_so (λ p. (goal.FilterPolicy-dyn g (p.vtable, p.value)).meaning p.value) c.as_slice.result.now c.args.laws.now.policies.items c.in_ok-query.query query before after c.args.self.now _ c.seen_by.result
+      read = λ from found. asked_so (λ p. (goal.FilterPolicy-dyn g (p.vtable, p.value)).meaning p.value) c.as_slice.result.now c.args.laws.now.policies.items c.in_ok-query.query query c.args.at before after c.args.self.now _ c.seen_by.result
           c.as_slice.ensures.value c.in_ok-query.ensures.query (c.seen_by.ensures.read from found);
       asks = asks_so (λ p. (goal.FilterPolicy-dyn g (p.vtable, p.value)).meaning p.value) c.as_slice.result.now c.args.laws.now.policies.items c.in_ok-query.query query before after c.args.self.now
           c.as_slice.ensures.value c.in_ok-query.ensures.query c.seen_by.ensures.asks;

@@ -34,7 +34,7 @@ use Rattle.slate_db.proofs.Checks.{checks_err}
 use Rattle.slate_db.proofs.Notes.{step_get}
 use Rattle.slate_db.proofs.Opened.{stay_noted, stay_same}
 use Rattle.slate_db.proofs.Operands.{own_updated}
-use Rattle.slate_db.proofs.Readers.{floor_at, own_at, start_at, vouched_get}
+use Rattle.slate_db.proofs.Readers.{floor_at, own_at, reads_there, start_at, vouched_get}
 use Rattle.slate_db.proofs.Wholes.{after_note, whole_note}
 use Rattle.slate_db.proofs.Keeps.{kept_event}
 use Rattle.slate_db.proofs.engine.Core.get.Goals as goal
@@ -78,7 +78,7 @@ pub returns-in-Err : goal.returns-in-Err
 returns-in-Err g c =
     record {
       noted = tt;
-      read = record { answer = λ is. tt; undamaged = (c.in-Err.ensures.read (open_is _ c.requires).value (open_is _ c.requires).is).undamaged; cause = subst (λ (k : List ℕ). IsReadError (record { policies = map (λ p. (goal.FilterPolicy-dyn g (p.vtable, p.value)).meaning p.value) c.args.laws.now.policies.items; query = point_query k c.args.options.now.filter_context }) (reach_of g.S.Store g.M.MergeOperator g.T.BlockTransformer c.args.env.now) (reach_of g.S.Store g.M.MergeOperator g.T.BlockTransformer c.asked.new.env) c.args.self.now c.in-Err.error) c.in_ok-key.ensures (c.in-Err.ensures.read (open_is _ c.requires).value (open_is _ c.requires).is).cause; checked = λ os is. tt; reads = (c.asked.ensures.read (open_is _ c.requires).value (open_is _ c.requires).is).reads; still = (c.in-Err.ensures.read (open_is _ c.requires).value (open_is _ c.requires).is).still };
+      read = record { answer = λ is. tt; undamaged = (c.in-Err.ensures.read (open_is _ c.requires).value (open_is _ c.requires).is).undamaged; cause = subst (λ (x : List ℕ × ℕ). IsReadError (record { policies = map (λ p. (goal.FilterPolicy-dyn g (p.vtable, p.value)).meaning p.value) c.args.laws.now.policies.items; query = point_query x.0 c.args.options.now.filter_context }) x.1 (reach_of g.S.Store g.M.MergeOperator g.T.BlockTransformer c.args.env.now) (reach_of g.S.Store g.M.MergeOperator g.T.BlockTransformer c.asked.new.env) c.args.self.now c.in-Err.error) (λ i. (c.in_ok-key.ensures i, reads_there c.args.self.now.state c.args.id.now c.in-Some.at c.in-Some.ensures i)) (c.in-Err.ensures.read (open_is _ c.requires).value (open_is _ c.requires).is).cause; checked = λ os is. tt; reads = (c.asked.ensures.read (open_is _ c.requires).value (open_is _ c.requires).is).reads; still = (c.in-Err.ensures.read (open_is _ c.requires).value (open_is _ c.requires).is).still };
       asks = subst (λ (k : List ℕ). Asks (record { policies = map (λ p. (goal.FilterPolicy-dyn g (p.vtable, p.value)).meaning p.value) c.args.laws.now.policies.items; query = point_query k c.args.options.now.filter_context }) (reach_of g.S.Store g.M.MergeOperator g.T.BlockTransformer c.args.env.now) (reach_of g.S.Store g.M.MergeOperator g.T.BlockTransformer c.asked.new.env) c.args.self.now) c.in_ok-key.ensures c.asked.ensures.asks;
       finds = λ from found is needs. tt;
       own = λ t op found one replaces.

@@ -43,6 +43,8 @@ returns-in-Err g c =
       checked = λ w rows h. tt;
       later = tt;
       cause = n.cause;
+      bases = λ none. tt;
+      hands = tt;
       again = n.again;
       refused = λ kept was. let r = n.refused kept was in (r.0, ap (λ (d : DbIterator). record c.args.it.now { rows = d }) r.1, r.2);
       names = record { named = refl; number = refl; ordered = n.order; ranged = n.range };
@@ -69,6 +71,8 @@ returns-in-Err-note_next g c =
       checked = λ w rows h. tt;
       later = tt;
       cause = (n.later.0, n.later.1, inl (subst (IsCounted _ _) (sym (r.same ∙ c.from.ensures)) tt));
+      bases = λ none. tt;
+      hands = tt;
       again = λ unrefused. rw r.same r.again;
       refused = λ kept was. answered_once c.in-Ok.answer kept (n.refused kept was).0;
       names = record { named = refl; number = refl; ordered = r.order ∙ n.order; ranged = r.range ∙ n.range };
@@ -108,6 +112,8 @@ returns g c =
       checked = n.checked;
       later = n.later;
       cause = tt;
+      bases = n.bases;
+      hands = n.hands;
       again = λ unrefused. tt;
       refused = λ kept was. answered_once c.in-Ok.answer kept (n.refused kept was).0;
       names = record { named = refl; number = refl; ordered = n.order; ranged = n.range };

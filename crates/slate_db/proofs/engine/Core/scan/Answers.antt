@@ -53,6 +53,7 @@ returns-then-leaves_none g c = record {
   checked = λ from found os r. tt;
   left = λ from found. tt;
   later = tt;
+  hands = tt;
   invalid = λ is. (refl, refl, refl);
   undamaged = λ fits. let never : true ≡ false = sym c.if-leaves_none.true ∙ c.leaves_none.ensures ∙ fits in absurd cc;
   cause = λ fits. let never : true ≡ false = sym c.if-leaves_none.true ∙ c.leaves_none.ensures ∙ fits in absurd cc;
@@ -77,6 +78,7 @@ returns-in_err-how g c =
       checked = λ from found os r. IfOk-from_err c.from_residual.result _ c.from_residual.ensures.0;
       left = λ from found. IfOk-from_err c.from_residual.result _ c.from_residual.ensures.0;
       later = IfOk-from_err c.from_residual.result _ c.from_residual.ensures.0;
+      hands = IfOk-from_err c.from_residual.result _ c.from_residual.ensures.0;
       invalid = λ is. let never : true ≡ false = sym is ∙ sym c.leaves_none.ensures ∙ c.if-leaves_none.false in absurd cc;
       undamaged = λ fits a. err_exit c.from_residual.result _ c.from_residual.ensures.1 _ (subst (IsFault (reach_of g.S.Store g.M.MergeOperator g.T.BlockTransformer c.args.env.now) (reach_of g.S.Store g.M.MergeOperator g.T.BlockTransformer c.args.env.now)) (sym c.in_err-how.ensures.cause) tt);
       cause = λ fits. err_exit c.from_residual.result _ c.from_residual.ensures.1 _ (inl (subst (IsFault (reach_of g.S.Store g.M.MergeOperator g.T.BlockTransformer c.args.env.now) (reach_of g.S.Store g.M.MergeOperator g.T.BlockTransformer c.args.env.now)) (sym c.in_err-how.ensures.cause) tt));
@@ -105,6 +107,7 @@ returns-in_err-rows g c =
       checked = λ from found os r. IfOk-from_err c.from_residual-in_err-rows.result _ c.from_residual-in_err-rows.ensures.0;
       left = λ from found. IfOk-from_err c.from_residual-in_err-rows.result _ c.from_residual-in_err-rows.ensures.0;
       later = IfOk-from_err c.from_residual-in_err-rows.result _ c.from_residual-in_err-rows.ensures.0;
+      hands = IfOk-from_err c.from_residual-in_err-rows.result _ c.from_residual-in_err-rows.ensures.0;
       invalid = λ is. let never : true ≡ false = sym is ∙ sym c.leaves_none.ensures ∙ c.if-leaves_none.false in absurd cc;
       undamaged = λ fits a. err_exit c.from_residual-in_err-rows.result _ c.from_residual-in_err-rows.ensures.1 _
           (answered_as (λ p. (goal.FilterPolicy-dyn g (p.vtable, p.value)).meaning p.value) c.as_slice.result.now c.args.laws.now.policies.items c.as_slice.ensures.value (reach_of g.S.Store g.M.MergeOperator g.T.BlockTransformer c.args.env.now) (reach_of g.S.Store g.M.MergeOperator g.T.BlockTransformer c.opened.new.env) c.args.self.now (λ os. IsFault (reach_of g.S.Store g.M.MergeOperator g.T.BlockTransformer c.args.env.now) (reach_of g.S.Store g.M.MergeOperator g.T.BlockTransformer c.opened.new.env) c.in_err-rows.field-0.0) (λ b. c.in_err-rows.ensures.undamaged above b) a);
@@ -132,6 +135,7 @@ returns-in-Err g c = record {
   checked = λ from found os r. tt;
   left = λ from found. tt;
   later = tt;
+  hands = tt;
   invalid = λ is. let never : true ≡ false = sym is ∙ sym c.leaves_none.ensures ∙ c.if-leaves_none.false in absurd cc;
   undamaged = λ fits a. subst (IsCounted _ _) (sym c.from.ensures) tt;
   cause = λ fits. inl (subst (IsCounted _ _) (sym c.from.ensures) tt);
@@ -203,6 +207,7 @@ returns g c =
           (λ u at. scan_left m old id order range from c.in-Ok.scan found (number_is g c from found) (own_at s old c.self.view_is id c.self.invariant) u at
           ∙ ap (λ (o : IterationOrder). Some (o, rows_seen (rules_of old.settings m) old.state.commits from.at from.ops order range)) (sym (e.order ∙ how)));
       later = e.later;
+      hands = e.hands;
       invalid = λ is. let never : true ≡ false = sym is ∙ sym c.leaves_none.ensures ∙ c.if-leaves_none.false in absurd cc;
       undamaged = λ fits a. tt;
       cause = λ fits. tt;

@@ -79,9 +79,9 @@ returns-then-is_decided g c =
             answer = λ is. IfOk-weaker c.fold_found.result _ _ (λ row h above. h ∙ own_decided k from.ops own rows (combine_of before.meaning k) older decided)
                 (c.fold_found.ensures.row k (is.readable.lawful.operator k) (is.readable.lawful.short k) (own_pairs k own (own_keys k from.ops own rows) (own_short k from.ops own rows (own_fine_of (view_of c.self.inside).state c.args.id.now from there c.own_rows.ensures.fine))));
             undamaged = λ is. IfErr-weaker c.fold_found.result _ _ (λ e h. fold_fault before.faults before.faults after.faults (is_merge_among own) e (later_none before.faults) (λ lacks. no_merge_among own (own_bases_of c.args.self.now own (is.readable.kept.2 lacks) owns)) h) c.fold_found.ensures.cause;
-            cause = IfErr-weaker c.fold_found.result _ _ (λ e h. fold_refused _ before before after c.args.self.now (handles_of c.self.inside.layers.runs) own own e handles
+            cause = IfErr-weaker c.fold_found.result _ _ (λ e h. fold_refused _ c.args.at before before after c.args.self.now (handles_of c.self.inside.layers.runs) own own e handles
                 (λ r among. inl (All-contains (IsOwnRow c.args.self.now) own r (All-from_recursion _ own owns) among, c.requires.query ∙ ap Point (sym (All-contains (λ (x : RowEntry). x.key ≡ k) own r (All-from_recursion _ own (own_keys k from.ops own rows)) among)))) (later_none before.faults) refl
-                (λ i. record before.meaning { combine = c.fold_found.ensures.same i }) refl ([], call_none before, newer_found before.meaning.decode _ (handles_of c.self.inside.layers.runs) own []) h) c.fold_found.ensures.cause;
+                (λ i. record before.meaning { combine = c.fold_found.ensures.same i }) refl ([], call_none before, newer_found before.meaning.decode _ c.args.at (handles_of c.self.inside.layers.runs) own []) h) c.fold_found.ensures.cause;
             checked = λ os is. checks_ok c.fold_found.result os before after (checks_quiet os before after refl);
             reads = reads_of before after refl c.fold_found.ensures.same refl refl (adds_none before.acts) (record { store = omega arith; operator = c.fold_found.ensures.later; transformer = omega arith }) refl;
             still = asked_still before.faults after.faults c.fold_found.result refl c.fold_found.ensures.still refl;

@@ -5,7 +5,7 @@ use Rattle.slate_types.specs.Keys.{is_past_start}
 use Rattle.slate_types.proofs.Calls.{call_none, checks_none}
 use Rattle.slate_types.proofs.Reaching.{reads_none}
 use Rattle.slate_store.specs.Reach.{reach_of}
-use Rattle.slate_db.proofs.ScanStates.{kept_answer, never_sound, refused_again, seek_leaves, start_later, start_leaves, start_range, values_of}
+use Rattle.slate_db.proofs.ScanStates.{kept_answer, never_sound, refused_again, seek_leaves, start_hands, start_later, start_leaves, start_range, values_of}
 use Rattle.slate_db.proofs.scan.DbIterator.seek.Goals as goal
 
 pub returns-in-Refused : goal.returns-in-Refused
@@ -18,6 +18,7 @@ returns-in-Refused g c =
       undamaged = λ w rows h sees. never_sound it.order w it.state c.in-Refused.kept is h.sound;
       checked = λ w rows h. tt;
       later = tt;
+      hands = tt;
       cause = refused_again it.range (Some c.args.key.now) (reach_of g.S.Store g.M.MergeOperator g.T.BlockTransformer c.args.env.now) it.state c.in-Refused.kept c.copy_of.result is copies;
       again = λ unrefused. absurd (unrefused c.in-Refused.kept is);
       refused = λ kept was. (kept_answer _ it.state c.in-Refused.kept kept c.copy_of.result refl is copies was, refl, refl);
@@ -38,6 +39,7 @@ returns-then-not-is_past_start g c =
       undamaged = λ w rows h sees. tt;
       checked = λ w rows h. checks_none w _;
       later = ([], call_none _, start_later it after _ s.none s.all);
+      hands = ([], call_none _, start_hands it after _ s.none s.all);
       cause = tt;
       again = λ unrefused. tt;
       refused = λ kept was. absurd (c.in_default.not-Refused kept was);
@@ -61,6 +63,7 @@ returns-in-Ok g c =
       undamaged = λ w rows h sees. tt;
       checked = λ w rows h. n.checked w it.order h.sound;
       later = n.later it.range;
+      hands = n.hands;
       cause = tt;
       again = λ unrefused. tt;
       refused = λ kept was. absurd (c.in_default.not-Refused kept was);
@@ -81,6 +84,7 @@ returns-in-Err g c =
       undamaged = λ w rows h sees. rw r.same (n.undamaged w it.range it.order past sees h.sound h.meant);
       checked = λ w rows h. tt;
       later = tt;
+      hands = tt;
       cause = rw r.same (n.cause it.range past);
       again = λ unrefused. rw r.same r.again;
       refused = λ kept was. absurd (c.in_default.not-Refused kept was);

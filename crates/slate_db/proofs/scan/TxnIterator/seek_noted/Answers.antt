@@ -15,6 +15,8 @@ returns-in-Err g c =
         checked = λ w rows h. tt;
         later = tt;
         cause = n.cause;
+        bases = λ none. tt;
+        hands = tt;
         again = n.again;
         refused = λ kept was. let r = n.refused kept was in (r.0, ap (λ (d : DbIterator). record c.args.self.now { rows = d }) r.1, r.2);
         names = record { named = refl; number = refl; ordered = n.order; ranged = n.range };
@@ -36,6 +38,8 @@ returns-in-Err-note_seek g c =
         checked = λ w rows h. tt;
         later = tt;
         cause = (n.later.0, n.later.1, inl (subst (IsCounted _ _) (sym (r.same ∙ c.from.ensures)) tt));
+        bases = λ none. tt;
+        hands = tt;
         again = λ unrefused. rw r.same r.again;
         refused = λ kept was. answered_once tt kept (n.refused kept was).0;
         names = record { named = refl; number = refl; ordered = r.order ∙ n.order; ranged = r.range ∙ n.range };
@@ -56,6 +60,8 @@ returns g c =
         checked = n.checked;
         later = n.later;
         cause = tt;
+        bases = λ none. (n.hands.0, n.hands.1, tt);
+        hands = n.hands;
         again = λ unrefused. tt;
         refused = λ kept was. answered_once tt kept (n.refused kept was).0;
         names = record { named = refl; number = refl; ordered = n.order; ranged = n.range };

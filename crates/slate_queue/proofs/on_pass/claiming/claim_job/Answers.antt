@@ -1,6 +1,8 @@
-use Rattle.std.proofs.Common.{◌∙◌, w64}
+use Rattle.std.proofs.Common.{◌∙◌, ap, w64}
 use Rattle.std.proofs.lemmas.Int.{to_z-of_z}
 use Rattle.slate_store.specs.Reach.{reach_of}
+use Rattle.slate_steps.specs.Reads.{unblamed_if}
+use Rattle.slate_queue.specs.Calls.{db_error}
 use Rattle.slate_queue.proofs.PassFinding.{claimed_on, finds_on_at, none_claimed_on, not_found_on, not_raised_on, raises_on_at}
 use Rattle.slate_queue.proofs.on_pass.claiming.claim_job.Goals as goal
 
@@ -16,6 +18,7 @@ returns-in-Ok g c =
           (finds_on_at o m policies from before after c.find_free.new.txn _ c.args.now _ (to_z-of_z w64 c.args.now c.ranges.now) ((rw c.in-Ok-Some.field-0-is at c.in-Ok-Some.ensures.attempt) from h))
           (raises_on_at _ c.args.now c.args.ms o m c.in-Ok-Some.found c.find_free.new.txn c.raise.new.txn c.in-Ok.claim (to_z-of_z w64 c.args.now c.ranges.now) c.in-Ok.ensures.raises);
       table = c.raise.ensures.table ∙ c.find_free.ensures.table;
+      counts = c.in-Ok-Some.ensures.counts;
       reads = c.find_free.ensures.reads;
     }
 
@@ -30,6 +33,7 @@ returns-in-Err-raise g c =
       attempt = λ from h. not_raised_on c.args.now c.args.ms o m policies from before after c.find_free.new.txn c.raise.new.txn c.in-Ok-Some.found c.in-Err-raise.error
           (finds_on_at o m policies from before after c.find_free.new.txn _ c.args.now _ (to_z-of_z w64 c.args.now c.ranges.now) ((rw c.in-Ok-Some.field-0-is at c.in-Ok-Some.ensures.attempt) from h)) c.in-Err-raise.ensures.same c.in-Err-raise.ensures.stops;
       table = c.raise.ensures.table ∙ c.find_free.ensures.table;
+      counts = ap (unblamed_if (db_error c.in-Err-raise.error)) c.in-Ok-Some.ensures.counts;
       reads = c.find_free.ensures.reads;
     }
 
@@ -43,6 +47,7 @@ returns-in-Ok-None g c =
     record {
       attempt = λ from h. none_claimed_on c.args.now c.args.ms o m policies from before after c.find_free.new.txn (finds_on_at o m policies from before after c.find_free.new.txn _ c.args.now _ (to_z-of_z w64 c.args.now c.ranges.now) ((rw c.in-Ok-None.field-0-is at c.in-Ok-None.ensures.attempt) from h));
       table = c.find_free.ensures.table;
+      counts = c.in-Ok-None.ensures.counts;
       reads = c.find_free.ensures.reads;
     }
 
@@ -56,6 +61,7 @@ returns-in-Err g c =
     record {
       attempt = λ from h. not_found_on c.args.now c.args.ms o m policies from before after c.find_free.new.txn c.in-Err.error (finds_on_at o m policies from before after c.find_free.new.txn _ c.args.now _ (to_z-of_z w64 c.args.now c.ranges.now) (c.in-Err.ensures.attempt from h));
       table = c.find_free.ensures.table;
+      counts = c.in-Err.ensures.counts;
       reads = c.find_free.ensures.reads;
     }
 

@@ -1,4 +1,4 @@
-use Rattle.std.proofs.Common.{[], ◌∙◌, w64}
+use Rattle.std.proofs.Common.{[], ◌∙◌, ap, w64}
 use Rattle.std.proofs.lemmas.Int.{to_z-of_z}
 use Rattle.slate_types.specs.declared.config.IsolationLevel.TheVariants.{SerializableSnapshot}
 use Rattle.slate_types.specs.declared.iter.IterationOrder.TheVariants.{Ascending}
@@ -6,6 +6,8 @@ use Rattle.slate_types.specs.Keys.{prefix_range}
 use Rattle.slate_store.specs.Reach.{reach_of}
 use Rattle.slate_types.proofs.Reaching.{reads_then}
 use Rattle.slate_shared.specs.Scans.{rows_of_range}
+use Rattle.slate_steps.specs.Reads.{told_in, unblamed_if}
+use Rattle.slate_queue.specs.Calls.{db_error}
 use Rattle.slate_queue.specs.Stored.{jobs_prefix}
 use Rattle.slate_queue.specs.Walks.{FindStops, MayFind}
 use Rattle.slate_queue.proofs.PassFinding.{found_on, opened_walks}
@@ -27,6 +29,7 @@ returns-in-Err g c =
       attempt = λ from h. refused_on g.P.Parts.options g.P.Parts.meaning g.P.Parts.policies from before after (MayFind c.args.now) (FindStops c.args.now) c.scan_prefix.new.txn c.in-Err.error
           (c.in-Err.ensures.refused from SerializableSnapshot [] h) (λ s. c.in-Err.ensures.undamaged from SerializableSnapshot [] h s) (c.in-Err.ensures.cause from SerializableSnapshot [] h);
       table = c.scan_prefix.ensures.more.0;
+      counts = c.in-Err.ensures.counts;
       reads = c.scan_prefix.ensures.reads;
     }
 
@@ -53,5 +56,6 @@ returns g c =
           (walks_on_at o m _ c.args.now middle after c.scan_prefix.new.txn c.walk-found.new.txn c.in-Ok.scan c.walk-found.result (to_z-of_z w64 c.args.now c.ranges.now) c.walk-found.ensures.to)
           (halts_on_at o m _ c.args.now middle after c.scan_prefix.new.txn c.walk-found.new.txn c.in-Ok.scan c.walk-found.result (to_z-of_z w64 c.args.now c.ranges.now) c.walk-found.ensures.halts);
       table = c.walk-found.ensures.table ∙ c.scan_prefix.ensures.more.0;
+      counts = c.walk-found.ensures.counts ∙ ap (unblamed_if (told_in db_error c.walk-found.result)) c.in-Ok.ensures.counts;
       reads = reads_then before middle after c.scan_prefix.ensures.reads c.walk-found.ensures.reads;
     }

@@ -1,11 +1,15 @@
-use Rattle.std.proofs.Common.{[], ◌∷◌, ◌++◌, ◌∙◌, None, of_z, refl, to_z, w64}
+use Rattle.std.proofs.Common.{[], ◌∷◌, ◌++◌, ◌∙◌, None, ap, of_z, refl, to_z, w64}
 use Rattle.std.proofs.lemmas.Int.{to_z-of_z}
+use Rattle.slate_types.specs.declared.error.SlateDBError.TheVariants.{OutOfMemory}
+use Rattle.slate_types.specs.Outside.{unblamed}
 use Rattle.slate_types.proofs.Reaching.{reads_then}
 use Rattle.slate_store.specs.Reach.{reach_of}
 use Rattle.slate_txn.specs.declared.event.TranscriptStep.TheVariants as steps
+use Rattle.slate_steps.specs.Reads.{unblamed_if}
 use Rattle.slate_queue.specs.declared.claiming.Step.TheVariants as step
 use Rattle.slate_queue.specs.Commits.{IsPassed}
 use Rattle.slate_queue.specs.CallSteps.{nexts}
+use Rattle.slate_queue.specs.Calls.{db_error}
 use Rattle.slate_queue.proofs.PassWalkLaws.{goes_on_at, halts_then, passes_then_on, stays_on, takes_then_on, too_many_on, walks_then_on}
 use Rattle.slate_queue.proofs.WalkLaws.{all_more}
 use Rattle.slate_queue.proofs.WalkSteps.{passed_at}
@@ -14,7 +18,7 @@ use Rattle.slate_queue.proofs.on_pass.claiming.walk.Goals as goal
 pub loop-init : goal.loop-init
 loop-init g c =
     let before = reach_of g.S.Store g.M.MergeOperator g.T.BlockTransformer c.args.env.now in
-    record { walking = c.requires.walking; walk = ([], tt, stays_on g.P.Parts.options g.P.Parts.meaning before c.args.txn.now c.args.scan.now); table = refl }
+    record { walking = c.requires.walking; walk = ([], tt, stays_on g.P.Parts.options g.P.Parts.meaning before c.args.txn.now c.args.scan.now); table = refl; counts = refl }
 
 pub loop-preserved : goal.loop-preserved
 loop-preserved g c =
@@ -31,6 +35,7 @@ loop-preserved g c =
         passes_then_on g.P.Parts.options g.P.Parts.meaning before now after c.args.txn.now c.loop.txn c.walk_on.new.txn c.args.scan.now c.loop.scan c.walk_on.new.scan walk.0 more.0 walk.2 more.2,
       );
       table = c.walk_on.ensures.table ∙ c.loop.invariant.table;
+      counts = c.in-Ok-Passed.ensures.counts ∙ c.loop.invariant.counts;
     }
 
 pub returns-in-Ok-Free : goal.returns-in-Ok-Free
@@ -44,6 +49,7 @@ returns-in-Ok-Free g c =
       to = (walk.0, passed_at _ c.args.now walk.0 (to_z-of_z w64 c.args.now c.ranges.now) walk.1, more.0, takes_then_on g.P.Parts.options g.P.Parts.meaning before now after c.args.txn.now c.loop.txn c.walk_on.new.txn c.args.scan.now c.loop.scan c.walk_on.new.scan walk.0 c.in-Ok-Free.found.row walk.2 more.1);
       halts = tt;
       table = c.walk_on.ensures.table ∙ c.loop.invariant.table;
+      counts = c.in-Ok-Free.ensures.counts ∙ c.loop.invariant.counts;
       reads = reads_then before now after walk.2.reads c.walk_on.ensures.reads;
     }
 
@@ -58,6 +64,7 @@ returns-in-Ok-End g c =
       to = (walk.0, passed_at _ c.args.now walk.0 (to_z-of_z w64 c.args.now c.ranges.now) walk.1, walks_then_on g.P.Parts.options g.P.Parts.meaning before now after c.args.txn.now c.loop.txn c.walk_on.new.txn c.args.scan.now c.loop.scan (nexts walk.0) (steps.Next 0 None ∷ []) walk.2 more.reads more.walks);
       halts = tt;
       table = c.walk_on.ensures.table ∙ c.loop.invariant.table;
+      counts = c.in-Ok-End.ensures.counts ∙ c.loop.invariant.counts;
       reads = reads_then before now after walk.2.reads c.walk_on.ensures.reads;
     }
 
@@ -71,6 +78,7 @@ returns-in-Err g c =
       to = tt;
       halts = halts_then g.P.Parts.options g.P.Parts.meaning c.args.now before now after c.args.txn.now c.loop.txn c.walk_on.new.txn c.args.scan.now c.loop.scan c.walk_on.new.scan walk.0 c.in-Err.error (passed_at _ c.args.now walk.0 (to_z-of_z w64 c.args.now c.ranges.now) walk.1) walk.2 c.in-Err.ensures.halts;
       table = c.walk_on.ensures.table ∙ c.loop.invariant.table;
+      counts = c.in-Err.ensures.counts ∙ ap (unblamed_if (db_error c.in-Err.error)) c.loop.invariant.counts;
       reads = reads_then before now after walk.2.reads c.walk_on.ensures.reads;
     }
 
@@ -83,5 +91,6 @@ returns g c =
       to = tt;
       halts = too_many_on g.P.Parts.options g.P.Parts.meaning c.args.now before now c.args.txn.now c.loop.txn c.args.scan.now c.loop.scan walk.0 walk.2;
       table = c.loop.invariant.table;
+      counts = ap (unblamed OutOfMemory) c.loop.invariant.counts;
       reads = walk.2.reads;
     }

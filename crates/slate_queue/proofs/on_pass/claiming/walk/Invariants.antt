@@ -15,4 +15,5 @@ invariant-loop g l =
       walking : IsUnderWay g.P.Parts.options l.txn l.scan;
       walk : (passed : List KeyValue) × AllByRecursion (IsPassed l.now) passed × WalkedOn g.P.Parts.options g.P.Parts.meaning before now l.initial.txn l.txn l.initial.scan l.scan (nexts passed);
       table : l.txn.table ≡ l.initial.txn.table;
+      counts : now.faults ≡ before.faults;
     }

@@ -1,7 +1,9 @@
-use Rattle.std.proofs.Common.{[], ◌∙◌}
+use Rattle.std.proofs.Common.{[], ◌∙◌, ap}
 use Rattle.slate_types.specs.declared.config.IsolationLevel.TheVariants.{SerializableSnapshot}
 use Rattle.slate_store.specs.Reach.{reach_of}
+use Rattle.slate_steps.specs.Reads.{told_in, unblamed_if}
 use Rattle.slate_queue.specs.CallSteps.{FinishStops, Finishes}
+use Rattle.slate_queue.specs.Calls.{db_error}
 use Rattle.slate_queue.proofs.PassSteps.{finish_deleted_on, finish_refused_on, refused_on}
 use Rattle.slate_queue.proofs.PassTruths.{begun_vouched}
 use Rattle.slate_queue.proofs.on_pass.finishing.finish_job.Goals as goal
@@ -14,6 +16,7 @@ returns-in-Err g c =
       attempt = λ from h. refused_on g.P.Parts.options g.P.Parts.meaning g.P.Parts.policies from before after {T = Unit} (λ done. Finishes c.args.job c.args.lease) (FinishStops c.args.job c.args.lease) c.get.new.txn c.in-Err.error
           (c.in-Err.ensures.refused from SerializableSnapshot [] h) (λ s. c.in-Err.ensures.undamaged from SerializableSnapshot [] h s) (c.in-Err.ensures.cause from SerializableSnapshot [] h);
       table = c.get.ensures.more.0;
+      counts = c.in-Err.ensures.counts;
       reads = c.get.ensures.reads;
     }
 
@@ -26,6 +29,7 @@ returns-in-Err-tested g c =
           (c.in-Ok.ensures.within from SerializableSnapshot [] h)
           (λ s. c.in-Ok.ensures.checked from SerializableSnapshot [] h s (begun_vouched g.P.Parts.options g.P.Parts.meaning from SerializableSnapshot c.args.txn.now h)) c.in-Err-tested.ensures.refused;
       table = c.get.ensures.more.0;
+      counts = ap (unblamed_if (db_error c.in-Err-tested.error)) c.in-Ok.ensures.counts;
       reads = c.get.ensures.reads;
     }
 
@@ -39,5 +43,6 @@ returns-in-Ok-tested g c =
           (λ s. c.in-Ok.ensures.checked from SerializableSnapshot [] h s (begun_vouched g.P.Parts.options g.P.Parts.meaning from SerializableSnapshot c.args.txn.now h)) c.in-Ok-tested.ensures.claimed
           (c.delete_job.ensures.taken from SerializableSnapshot _ (c.in-Ok.ensures.within from SerializableSnapshot [] h)) c.delete_job.ensures.sees c.delete_job.ensures.more.1 c.delete_job.ensures.same c.delete_job.ensures.cause;
       table = c.delete_job.ensures.more.0 ∙ c.get.ensures.more.0;
+      counts = ap (unblamed_if (told_in db_error c.delete_job.result)) c.in-Ok.ensures.counts;
       reads = c.get.ensures.reads;
     }

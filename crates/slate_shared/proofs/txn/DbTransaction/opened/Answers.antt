@@ -36,6 +36,7 @@ returns-in_err-own g c =
       opened = inl (p.1 ∙ ap (λ e. Err e) (p.2 ∙ c.in_err-own.ensures.cause), refl);
       ranged = IfOk-from_err c.from_residual.result _ c.from_residual.ensures.0;
       reads = reads_none _;
+      still = refl;
     }
 
 pub returns-in_err-how : goal.returns-in_err-how
@@ -48,6 +49,7 @@ returns-in_err-how g c =
       opened = inl (p.1 ∙ ap (λ e. Err e) (p.2 ∙ c.in_err-how.ensures.cause), refl);
       ranged = IfOk-from_err c.from_residual-in_err-how.result _ c.from_residual-in_err-how.ensures.0;
       reads = reads_none _;
+      still = refl;
     }
 
 pub returns-in_err-share : goal.returns-in_err-share
@@ -60,6 +62,7 @@ returns-in_err-share g c =
       opened = inl (p.1 ∙ ap (λ e. Err e) (p.2 ∙ c.in_err-share.ensures.cause), refl);
       ranged = IfOk-from_err c.from_residual-in_err-share.result _ c.from_residual-in_err-share.ensures.0;
       reads = reads_none _;
+      still = refl;
     }
 
 pub returns : goal.returns
@@ -90,4 +93,5 @@ returns g c =
       );
       ranged = ranged_as c.opened.result range c.in_ok-how.how.order c.args.options.now.order how.order c.opened.ensures.range c.opened.ensures.order;
       reads = c.opened.ensures.reads;
+      still = c.opened.ensures.still;
     }
