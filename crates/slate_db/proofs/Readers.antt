@@ -22,7 +22,7 @@ use Rattle.slate_db.specs.declared.engine.Core.TheInside.{Inside}
 use Rattle.slate_db.specs.Log.{AreFine}
 use Rattle.slate_db.specs.Meaning.{Meaning, rules_of}
 use Rattle.slate_db.specs.Model.{CoreModel}
-use Rattle.slate_db.specs.Readable.{IsOwnRow, reads_at}
+use Rattle.slate_db.specs.Readable.{IsOwnRow, reader_at}
 use Rattle.slate_db.specs.Scanned.{HasOwn}
 use Rattle.slate_db.specs.View.{view_of, IsWholeInside}
 use Rattle.slate_db.specs.Vouched.{IsVouchedFor}
@@ -64,10 +64,10 @@ start_shown s id is = by (find_named id s.txns) (find_named id s.snapshots) is
     by None (Some n) is = refl
     by (Some t) p is = cc
 
-pub reads_there : (s : State) (id : List ℕ) (n : ℕ) → Some n ≡ option_map (λ (from : Reader). from.at) (reader s id) → n ≡ reads_at s id
+pub reads_there : (s : State) (id : List ℕ) (n : ℕ) → Some n ≡ option_map (λ (from : Reader). from.at) (reader s id) → n ≡ reader_at s id
 reads_there s id n is = ap (λ (o : Option ℕ). unwrap_or o 0) is
 
-pub reads_open : (s : State) (id : List ℕ) (t : Tx) → find_named id s.txns ≡ Some t → reads_at s id ≡ t.begin
+pub reads_open : (s : State) (id : List ℕ) (t : Tx) → find_named id s.txns ≡ Some t → reader_at s id ≡ t.begin
 reads_open s id t is = ap (λ (o : Option Tx). unwrap_or (option_map (λ (from : Reader). from.at) (reader_or_snapshot o (find_named id s.snapshots))) 0) is
 
 module _ (s : Inside) (v : CoreModel) (is : view_of s ≡ v) (id : List ℕ) (from : Reader) (found : reader v.state id ≡ Some from) where

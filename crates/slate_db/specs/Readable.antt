@@ -8,7 +8,7 @@
 --     LacksOperator by upto m c hs reads e      there is no operator, and an operand was found, among own operations, in memory or by the reads
 --     IsRefusedBy by upto m c reads e      the reads show so of the tables that the journal names
 --     IsReadError by upto before after c e      a fault that came in the call, or want of memory, or such a refusal by its reads
---     reads_at s id      the sequence that an open transaction or an open snapshot reads at
+--     reader_at s id      the sequence that an open transaction or an open snapshot reads at
 --     IsRead by upto before after c means result      what a call answers that reads at a sequence: what it means, when it is refused, what an Ok rests on, and what it leaves
 --     IsOwnRead before after means result      the same of one that reads no more than an own operation: nothing is reached, and only memory refuses
 --     decides_own k ops      own operations of the key decide what is read there, so that no store is asked
@@ -90,8 +90,8 @@ pub record IsRefusedBy (by : Asking) (upto : ℕ) (m : Meaning) (c : CoreModel) 
 abbrev pub IsReadError : Asking → ℕ → Reach → Reach → CoreModel → SlateDBError → Type 0
 IsReadError by upto before after c e = IsFault before after e ⊎ Made before after (λ reads. IsRefusedBy by upto before.meaning c reads e)
 
-abbrev pub reads_at : State → List ℕ → ℕ
-reads_at s id = unwrap_or (option_map (λ from. from.at) (reader s id)) 0
+abbrev pub reader_at : State → List ℕ → ℕ
+reader_at s id = unwrap_or (option_map (λ from. from.at) (reader s id)) 0
 
 -- means: what an answer means, where each read was answered so
 pub record IsRead {A : Type 0} (by : Asking) (upto : ℕ) (before after : Reach) (c : CoreModel) (means : A → Type 0) (result : Result A SlateDBError) : Type 0 where

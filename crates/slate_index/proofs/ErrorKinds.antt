@@ -7,7 +7,7 @@ use Rattle.slate_filter.specs.Policy.{Policy}
 use Rattle.slate_store.specs.Run.{IsProgramError}
 use Rattle.slate_db.specs.Model.{CoreModel}
 use Rattle.slate_db.specs.Parts.{IsTableError}
-use Rattle.slate_db.specs.Readable.{reads_at}
+use Rattle.slate_db.specs.Readable.{reader_at}
 use Rattle.slate_db.proofs.RowDamage.{in_scan_kind}
 use Rattle.slate_db.proofs.Shown.{refused_kind}
 use Rattle.slate_steps.specs.Reads.{IsReadError, of_get, of_scan}
@@ -99,6 +99,6 @@ table_ends errors.OutOfMemory h = absurd h
 
 pub read_ends : (policies : List Policy) (before after : Reach) (c : CoreModel) (e : SlateDBError) → IsReadError policies before after c e → Ends e
 read_ends policies before after c e (of_get id query (inl fault)) = fault_ends before.faults after.faults e fault
-read_ends policies before after c e (of_get id query (inr made)) = table_ends e (refused_kind (record { policies = policies; query = query }) (reads_at c.state id) before.meaning c made.0 e made.2)
+read_ends policies before after c e (of_get id query (inr made)) = table_ends e (refused_kind (record { policies = policies; query = query }) (reader_at c.state id) before.meaning c made.0 e made.2)
 read_ends policies before after c e (of_scan (inl fault)) = fault_ends before.faults after.faults e fault
 read_ends policies before after c e (of_scan (inr made)) = table_ends e (in_scan_kind policies before.meaning c made.0 e made.2)

@@ -19,7 +19,7 @@ use Rattle.slate_db.specs.Load.{weight}
 use Rattle.slate_db.specs.Log.{LIMIT}
 use Rattle.slate_db.specs.Meaning.{segments_by}
 use Rattle.slate_db.specs.Model.{CoreModel}
-use Rattle.slate_db.specs.Readable.{reads_at}
+use Rattle.slate_db.specs.Readable.{reader_at}
 use Rattle.slate_db.specs.Parts.{IsTableError}
 use Rattle.slate_db.specs.SerialLaws.{IsVouchedCore}
 use Rattle.slate_db.proofs.RowDamage.{in_scan_kind}
@@ -99,7 +99,7 @@ table_program _ h = absurd h
 
 read_program : (policies : List Policy) (a b : Reach) (c : CoreModel) (x : SlateDBError) → IsReadError policies a b c x → IsProgramError x
 read_program policies a b c x (IsReadError.of_get id query (inl fault)) = counted_program a.faults b.faults x fault
-read_program policies a b c x (IsReadError.of_get id query (inr made)) = table_program x (refused_kind (record { policies = policies; query = query }) (reads_at c.state id) a.meaning c made.0 x made.2)
+read_program policies a b c x (IsReadError.of_get id query (inr made)) = table_program x (refused_kind (record { policies = policies; query = query }) (reader_at c.state id) a.meaning c made.0 x made.2)
 read_program policies a b c x (IsReadError.of_scan (inl fault)) = counted_program a.faults b.faults x fault
 read_program policies a b c x (IsReadError.of_scan (inr made)) = table_program x (in_scan_kind policies a.meaning c made.0 x made.2)
 

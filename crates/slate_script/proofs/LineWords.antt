@@ -14,7 +14,7 @@ use Rattle.slate_db.specs.Answered.{AddsActs}
 use Rattle.slate_db.specs.Checked.{OrSlips}
 use Rattle.slate_db.specs.Flushed.{Layout}
 use Rattle.slate_db.specs.Parts.{IsTableError}
-use Rattle.slate_db.specs.Readable.{reads_at}
+use Rattle.slate_db.specs.Readable.{reader_at}
 use Rattle.slate_db.specs.Sound.{IsKept}
 use Rattle.slate_db.specs.Settled.{IsSettled, IsSettledIn}
 use Rattle.slate_db.proofs.Settled.{settled_answered, settled_readable, true_answered}
@@ -92,7 +92,7 @@ read_cause : (policies : List Policy) (line : Line) (result : Result Answer Slat
     IfErr result (λ x. IsFault before after x ⊎ IsLimit e x ⊎ IsTableError x)
 read_cause policies line (Ok v) before after e cause = tt
 read_cause policies (lines.Get name key) (Err x) before after e (inl fault) = inl fault
-read_cause policies (lines.Get name key) (Err x) before after e (inr made) = limit_between {V = Answer} (Err x) (asking_for policies key) (reads_at e.core.state made.2.0) before after e (inr (made.0, made.1, made.2.1))
+read_cause policies (lines.Get name key) (Err x) before after e (inr made) = limit_between {V = Answer} (Err x) (asking_for policies key) (reader_at e.core.state made.2.0) before after e (inr (made.0, made.1, made.2.1))
 read_cause policies (lines.Scan name order start end sts) (Err x) before after e cause = scan_limit {V = Answer} policies (Err x) before after e cause
 read_cause policies (lines.Prefix name order p start end sts) (Err x) before after e cause = scan_limit {V = Answer} policies (Err x) before after e cause
 read_cause policies line (Err x) before after e (inl fault) = inl fault

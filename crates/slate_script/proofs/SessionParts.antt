@@ -11,7 +11,7 @@ use Rattle.slate_db.specs.Answered.{AnswersFrom}
 use Rattle.slate_db.specs.Checked.{ChecksFrom, OrSlips}
 use Rattle.slate_db.specs.Flushed.{IsFlushError, Layout, events_of_flush}
 use Rattle.slate_types.specs.World.{Made}
-use Rattle.slate_db.specs.Readable.{IsAnswered, IsReadable, IsReadError, IsRefusedBy, reads_at}
+use Rattle.slate_db.specs.Readable.{IsAnswered, IsReadable, IsReadError, IsRefusedBy, reader_at}
 use Rattle.slate_db.specs.Model.{CoreModel, Rows}
 use Rattle.slate_db.specs.Shown.{Asking}
 use Rattle.slate_db.proofs.Shown.{refused_kind}
@@ -56,7 +56,7 @@ get_shown by upto before after c e (inl fault) error = absurd (not_damage {X = U
 get_shown by upto before after c e (inr made) error = made
 
 -- a get by one that the core has open is refused so
-pub get_refused_at : (policies : List Policy) (k id : List ℕ) (before after : Reach) (c : CoreModel) (e : SlateDBError) → IsReadError (asking_for policies k) (reads_at c.state id) before after c e →
+pub get_refused_at : (policies : List Policy) (k id : List ℕ) (before after : Reach) (c : CoreModel) (e : SlateDBError) → IsReadError (asking_for policies k) (reader_at c.state id) before after c e →
     IsFault before after e ⊎ Made before after (λ reads. IsRefusedInGet policies k before.meaning c reads e)
 get_refused_at policies k id before after c e (inl fault) = inl fault
 get_refused_at policies k id before after c e (inr made) = inr (made.0, made.1, (id, made.2))

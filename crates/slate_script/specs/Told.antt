@@ -28,7 +28,7 @@ use Rattle.slate_db.specs.Answered.{AnswersAct}
 use Rattle.slate_db.specs.Installs.{root, tables_of}
 use Rattle.slate_db.specs.Meaning.{Meaning}
 use Rattle.slate_db.specs.Model.{CoreModel}
-use Rattle.slate_db.specs.Readable.{IsRefusedBy, reads_at}
+use Rattle.slate_db.specs.Readable.{IsRefusedBy, reader_at}
 use Rattle.slate_db.specs.Scans.{IsRefusedInScan}
 use Rattle.slate_db.specs.Shown.{Asking}
 use Rattle.slate_db.specs.Sound.{IsKept}
@@ -58,7 +58,7 @@ abbrev pub asking_for : List Policy → List ℕ → Asking
 asking_for policies k = record { policies = policies; query = point_query k None }
 
 abbrev pub IsRefusedInGet : List Policy → List ℕ → Meaning → CoreModel → List Act → SlateDBError → Type 0
-IsRefusedInGet policies k m c reads e = (id : List ℕ) × IsRefusedBy (asking_for policies k) (reads_at c.state id) m c reads e
+IsRefusedInGet policies k m c reads e = (id : List ℕ) × IsRefusedBy (asking_for policies k) (reader_at c.state id) m c reads e
 
 abbrev pub IsShownBy : List Policy → Meaning → CoreModel → List Act → SlateDBError → Type 0
 IsShownBy policies m c reads e = ((k : List ℕ) × IsRefusedInGet policies k m c reads e) ⊎ IsRefusedInScan policies m c reads e

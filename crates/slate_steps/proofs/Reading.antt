@@ -104,7 +104,7 @@ get_checked (Ok a) policies g before after c d e id k level ts within vouched ch
     vouched_sees c e id level (ts ++ (steps.Get k a ∷ [])) within before.meaning (vouched (true_answered policies before after s.os d settled answers) id (sees_vouched c d id level ts h before.meaning sees))
 
 pub get_error : {A : Type 0} (r : Result A SlateDBError) (policies : List Policy) (id : List ℕ) (query : FilterQuery) (before after : Reach) (d : CoreModel) →
-    IfErr r (gets.IsReadError (record { policies = policies; query = query }) (gets.reads_at d.state id) before after d) → IfErr r (IsReadError policies before after d)
+    IfErr r (gets.IsReadError (record { policies = policies; query = query }) (gets.reader_at d.state id) before after d) → IfErr r (IsReadError policies before after d)
 get_error (Ok a) policies id query before after d h = tt
 get_error (Err e) policies id query before after d h = of_get id query h
 

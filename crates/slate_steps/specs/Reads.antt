@@ -45,7 +45,7 @@ abbrev pub IsStillBy : {A E : Type 0} → (E → Option SlateDBError) → Counts
 IsStillBy told before after result = unblamed_if (told_in told result) after ≡ unblamed_if (told_in told result) before
 
 pub data IsReadError (policies : List Policy) (before after : Reach) (c : CoreModel) (e : SlateDBError) : Type 0 where
-  of_get : (id : List ℕ) (query : FilterQuery) → gets.IsReadError (record { policies = policies; query = query }) (gets.reads_at c.state id) before after c e → IsReadError policies before after c e
+  of_get : (id : List ℕ) (query : FilterQuery) → gets.IsReadError (record { policies = policies; query = query }) (gets.reader_at c.state id) before after c e → IsReadError policies before after c e
   of_scan : IsScanError policies before after c e → IsReadError policies before after c e
 
 -- core: as it was read; from, upto: what the refused read reached

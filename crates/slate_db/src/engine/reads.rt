@@ -34,7 +34,7 @@ ghost use Rattle.slate_db.specs.Asked.{Asks, Finds, needs_tables, takes_flushed}
 ghost use Rattle.slate_db.specs.Checked.{OrSlips};
 ghost use Rattle.slate_db.specs.Meaning.{Meaning, combine_of, rules_in, rules_of};
 ghost use Rattle.slate_db.specs.Shown.{Asking};
-ghost use Rattle.slate_db.specs.Readable.{IsAnswered, IsOwnRow, IsOwnRead, IsRead, IsReadable, MeetsOperand, decides_own, keeps_merge, reads_at};
+ghost use Rattle.slate_db.specs.Readable.{IsAnswered, IsOwnRow, IsOwnRead, IsRead, IsReadable, MeetsOperand, decides_own, keeps_merge, reader_at};
 ghost use Rattle.slate_db.specs.Model.{Rows, at, memory};
 ghost use Rattle.slate_db.specs.Sound.{IsKept};
 ghost use Rattle.slate_db.specs.ScanFilters.{scan_query};
@@ -232,7 +232,7 @@ impl Core {
         ensures read { let reach = ⟦<EnvOf<S, M, T> as Outside>⟧.reach in
             let policies = map (λ p. meaning p) laws.now.policies.items in
             let by : Asking = record { policies = policies; query = point_query key.now options.now.filter_context } in
-            IsRead by (reads_at self.old.state id.now) (reach env.old) (reach env.new) self.old (λ a. (g : Segments) → step (rules_in self.old.settings (reach env.old).meaning g) self.old.state (lines.Get id.now key.now) ≡ (self.new.state, Found a)) result }
+            IsRead by (reader_at self.old.state id.now) (reach env.old) (reach env.new) self.old (λ a. (g : Segments) → step (rules_in self.old.settings (reach env.old).meaning g) self.old.state (lines.Get id.now key.now) ≡ (self.new.state, Found a)) result }
         ensures asks { let reach = ⟦<EnvOf<S, M, T> as Outside>⟧.reach in
             let by : Asking = record { policies = map (λ p. meaning p) laws.now.policies.items; query = point_query key.now options.now.filter_context } in
             Asks by (reach env.old) (reach env.new) self.old }

@@ -14,7 +14,7 @@ use Rattle.slate_db.specs.Asked.{Asks}
 use Rattle.slate_db.specs.Installs.{runs_of}
 use Rattle.slate_db.specs.Meaning.{Meaning, rules_in}
 use Rattle.slate_db.specs.Model.{CoreModel}
-use Rattle.slate_db.specs.Readable.{IsAnswered, IsReadable, IsReadError, reads_at}
+use Rattle.slate_db.specs.Readable.{IsAnswered, IsReadable, IsReadError, reader_at}
 use Rattle.slate_language.specs.declared.reply.Answer.{Answer}
 use Rattle.slate_language.specs.declared.reply.Answer.TheVariants as answers
 use Rattle.slate_script.specs.Session.{SessionModel, StepsAs, Grows, NamesStand, StoresNothing, reader_id}
@@ -121,8 +121,8 @@ returns-in_err-row g c =
             let new = reach_of g.S.Store g.M.MergeOperator g.T.BlockTransformer c.get-read.new.env in
             let p = err_from_is_err_and c.from_residual.result c.from_residual.ensures.1 in
             rw (p.1, p.2) (get_refused_at policies c.args.key c.in-Some.id old new c.args.self.now.core c.in_err-row.field-0.0
-            (subst (λ (v : SessionModel). IsReadError (asking_for policies c.args.key) (reads_at v.core.state c.in-Some.id) old new v.core c.in_err-row.field-0.0) c.self.view_is
-            (subst (λ (k : List ℕ). IsReadError (asking_for policies k) (reads_at c.self.inside.core.state c.in-Some.id) old new c.self.inside.core c.in_err-row.field-0.0) c.as_slice.ensures c.in_err-row.ensures.read.cause))));
+            (subst (λ (v : SessionModel). IsReadError (asking_for policies c.args.key) (reader_at v.core.state c.in-Some.id) old new v.core c.in_err-row.field-0.0) c.self.view_is
+            (subst (λ (k : List ℕ). IsReadError (asking_for policies k) (reader_at c.self.inside.core.state c.in-Some.id) old new c.self.inside.core c.in_err-row.field-0.0) c.as_slice.ensures c.in_err-row.ensures.read.cause))));
         undamaged = (λ is.
             let old = reach_of g.S.Store g.M.MergeOperator g.T.BlockTransformer c.args.env.now in
             let new = reach_of g.S.Store g.M.MergeOperator g.T.BlockTransformer c.get-read.new.env in
