@@ -5,7 +5,7 @@ ghost use mathlib.Core.List.{IsPrefix};
 ghost use Rattle.slate_types.specs.Config.{IsValid};
 ghost use Rattle.slate_types.specs.declared.error.SlateDBError.{SlateDBError};
 ghost use Rattle.slate_types.specs.declared.types.Ulid.{Ulid};
-ghost use Rattle.slate_types.specs.Outside.{IsFault, Objects, Puts};
+ghost use Rattle.slate_types.specs.Outside.{IsFault, IsStill, Objects, Puts};
 ghost use Rattle.slate_filter.specs.Laws.{AreValidNames};
 ghost use Rattle.slate_txn.specs.declared.event.Event.{Event};
 ghost use Rattle.slate_txn.specs.declared.event.Event.TheVariants.{Freeze, Install};
@@ -50,7 +50,8 @@ impl<P: Parts> Pass<P> {
     /// place for an event, or where a table would pass a limit; and by `OutOfMemory`. Then the rows are in memory as before, or
     /// frozen, and the store's objects are as they were, or have some first of the tables, which no event names. Either way a store
     /// that tells its objects keeps each table that it held of what the journal names, and takes nothing but tables of the rows that
-    /// waited.
+    /// waited. No failure of the store or of a part is passed over: each count of faults is as it was, but for that of the one whose
+    /// fault is answered.
     pub fn flush<R: Wait, S: Store, M: MergeOperator, T: BlockTransformer, X: PrefixExtractor>(
         &mut self,
         rt: &R,
@@ -78,6 +79,7 @@ impl<P: Parts> Pass<P> {
             let layout = layout_of laws.now.options (map (λ p. (⟦<dyn FilterPolicy as FilterPolicy>⟧ p.vtable).meaning p.value) laws.now.policies.items) (segments_by X.lengths laws.now.segments) in
             IfErr result (λ e. IsFault (reach env.old) (reach env.new) e ⊎ ((before : List Event) × IsPrefix self.old.seen before × IsPrefix before self.new.seen × IsOverLimit (settings_of P.options) P.meaning layout before e)) }
         ensures puts { let reach = ⟦<EnvOf<S, M, T> as Outside>⟧.reach in Puts (reach env.old) (reach env.new) }
+        ensures still { let reach = ⟦<EnvOf<S, M, T> as Outside>⟧.reach in IsStill (reach env.old).faults (reach env.new).faults result }
     {
         let top = &db.board.shared;
         let (last, errand) = depart(rt, top, &mut self.seat)?;
@@ -193,6 +195,7 @@ fn carry_out<
         ⊎ ((e ≡ SlateDBError.LimitReached LIMIT) × IsFull 1 place.new.me.0.seen)
         ⊎ HasTableTooLarge (settings_of P.options) P.meaning layout journal e) }
     ensures puts { let reach = ⟦<EnvOf<S, M, T> as Outside>⟧.reach in Puts (reach env.old) (reach env.new) }
+    ensures still { let reach = ⟦<EnvOf<S, M, T> as Outside>⟧.reach in IsStill (reach env.old).faults (reach env.new).faults result }
 {
     let Errand {
         number,

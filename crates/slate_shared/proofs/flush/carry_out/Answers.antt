@@ -1,4 +1,5 @@
 use Rattle.std.proofs.Common.{List, map, ℕ, refl, ap, ◌∙◌}
+use Rattle.slate_types.specs.Outside.{unblamed_by}
 use Rattle.slate_store.specs.Reach.{reach_of}
 use Rattle.slate_mem.specs.Table.{MemTableModel}
 use Rattle.slate_txn.specs.declared.event.Event.{Event}
@@ -69,6 +70,9 @@ returns-in-Ok-clause-cause g c = λ journal has.
     let v = c.args.place.now.me.0 in
     let w = c.land.new.place.me.0 in
     lands_cause v.seen landed.0 c.in-Ok.tables v.flight v.own w.seen w.own landed.1 c.land.result (reach_of g.S.Store g.M.MergeOperator g.T.BlockTransformer c.args.env.now) (reach_of g.S.Store g.M.MergeOperator g.T.BlockTransformer c.stored.new.env) _ landed.2
+
+pub returns-in-Ok-clause-still : goal.returns-in-Ok-clause-still
+returns-in-Ok-clause-still g c = ap (unblamed_by c.land.result) c.in-Ok.ensures.still
 
 -- ---- they weren't
 
