@@ -7,7 +7,7 @@ use Rattle.slate_types.specs.declared.error.SlateDBError.TheVariants.{MergeOpera
 use Rattle.slate_types.specs.declared.types.KeyValue.{KeyValue}
 use Rattle.slate_types.specs.declared.types.RowEntry.{RowEntry}
 use Rattle.slate_types.specs.Fold.{Combine, IsLawful, KeepsShort, fold_rows}
-use Rattle.slate_types.specs.Outside.{Act, IsCounted, IsFault, Reach}
+use Rattle.slate_types.specs.Outside.{Act, IsCounted, IsFault, IsStill, Reach, unblamed_by}
 use Rattle.slate_types.specs.declared.types.Ulid.{Ulid}
 use Rattle.slate_types.specs.Rows.{hide_tombstone, key_value}
 use Rattle.slate_types.specs.World.{IsCall, Made}
@@ -31,7 +31,7 @@ use Rattle.slate_db.specs.Readable.{AreFiltered, IsAnswered, IsReadable, decides
 use Rattle.slate_db.specs.Shown.{Asking}
 use Rattle.slate_db.proofs.UnderKeys.{decided_fold, own_on, own_unnoted, plain_keeps, read_on, read_refused, read_unnoted}
 use Rattle.slate_db.proofs.Vouches.{get_vouched}
-use Rattle.slate_shared.specs.KeyReads.{IsAnsweredBy, IsCoreOf, NeedsStored, got, seen_by}
+use Rattle.slate_shared.specs.KeyReads.{IsAnsweredBy, IsCoreOf, IsGet, NeedsStored, got, seen_by}
 use Rattle.slate_shared.specs.Passes.{Opened}
 
 -- what is seen of a row
@@ -200,3 +200,16 @@ module _ (t n z : Opened) (k : List ℕ) (row : Option RowEntry) (grown : n ≡ 
 pub refused_on : (o : Options) (m : Meaning) (t : Opened) (seen : List Event) (by : Asking) (a b : Reach) (k : List ℕ) (e : SlateDBError) → Read o m t seen by a b k IsFolded (Err e) → Read o m t seen by a b k IsShown (Err e)
 refused_on o m t seen by a b k e (inl nothing) = let out : e ≡ OutOfMemory = cc nothing.0 in inl (ap (λ (d : SlateDBError). Err d) out, nothing.1)
 refused_on o m t seen by a b k e (inr (c, core, r)) = inr (c, core, read_refused by a b c k t.tx IsFolded IsShown e r)
+
+-- ---- no failure is passed over
+
+pub get_still : (o : Options) (m : Meaning) (by : Asking) (k : List ℕ) (t u : Opened) (before after : Reach) (r : Result (Option KeyValue) SlateDBError) → IsGet o m by k t u before after r → IsStill before.faults after.faults r
+get_still o m by k t u before after r g = at (decides_own k t.tx.ops) refl
+  where
+    at : (d : Bool) → decides_own k t.tx.ops ≡ d → IsStill before.faults after.faults r
+    at true some = (g.decided some).1.still
+    at false none = from (g.read none)
+      where
+        from : ((r ≡ Err OutOfMemory) × (after ≡ before)) ⊎ ((c : CoreModel) × IsCoreOf o m t u.seen c × IsKeyRead by before after c k t.tx IsShown r) → IsStill before.faults after.faults r
+        from (inl nothing) = ap (λ (x : Reach). unblamed_by r x.faults) nothing.1
+        from (inr (c, core, read)) = read.read.still

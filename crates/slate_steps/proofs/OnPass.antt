@@ -13,7 +13,7 @@ use Rattle.slate_types.specs.declared.filter_policy.FilterQuery.{FilterQuery}
 use Rattle.slate_types.specs.declared.iter.IterationOrder.{IterationOrder}
 use Rattle.slate_types.specs.declared.types.KeyValue.{KeyValue}
 use Rattle.slate_types.specs.declared.types.RowEntry.{RowEntry}
-use Rattle.slate_types.specs.Outside.{IsCounted, IsFault, IsStill, Objects, OnlyReads, Reach, unblamed_by}
+use Rattle.slate_types.specs.Outside.{IsCounted, IsFault, Objects, OnlyReads, Reach}
 use Rattle.slate_types.specs.Refusing.{NoMore}
 use Rattle.slate_types.specs.World.{Checks, Made, Sees, Slips, World}
 use Rattle.slate_filter.specs.Policy.{Policy}
@@ -41,7 +41,7 @@ use Rattle.slate_db.specs.Answered.{AnswersFrom}
 use Rattle.slate_db.specs.BatchTests.{IsTestRefusal}
 use Rattle.slate_db.specs.Checked.{ChecksFrom, SlipsFrom}
 use Rattle.slate_db.specs.Committed.{IsFull, IsNextOf}
-use Rattle.slate_db.specs.KeyShares.{IsKeyRead, IsOwnAnswer, IsShown}
+use Rattle.slate_db.specs.KeyShares.{IsKeyRead, IsShown}
 use Rattle.slate_db.specs.Log.{LIMIT}
 use Rattle.slate_db.specs.Meaning.{Meaning, rules_of}
 use Rattle.slate_db.specs.Model.{CoreModel}
@@ -482,18 +482,6 @@ Keeps t u = (u.table ≡ t.table) × (u.id ≡ t.id) × IsPrefix t.seen u.seen
 pub get_more : (o : Options) (m : Meaning) (by : Asking) (k : List ℕ) (t u : Opened) (before after : Reach) (r : Result (Option KeyValue) SlateDBError) → IsGet o m by k t u before after r → Keeps t u
 get_more o m by k t u before after (Ok a) g = (ap (λ (x : Opened). x.table) g.noted, ap (λ (x : Opened). x.id) g.noted, g.seen)
 get_more o m by k t u before after (Err e) g = (ap (λ (x : Opened). x.table) g.unnoted, ap (λ (x : Opened). x.id) g.unnoted, g.seen)
-
--- no failure is passed over
-pub get_still : (o : Options) (m : Meaning) (by : Asking) (k : List ℕ) (t u : Opened) (before after : Reach) (r : Result (Option KeyValue) SlateDBError) → IsGet o m by k t u before after r → IsStill before.faults after.faults r
-get_still o m by k t u before after r g = at (decides_own k t.tx.ops) refl
-  where
-    at : (d : Bool) → decides_own k t.tx.ops ≡ d → IsStill before.faults after.faults r
-    at true some = (g.decided some).1.still
-    at false none = from (g.read none)
-      where
-        from : ((r ≡ Err OutOfMemory) × (after ≡ before)) ⊎ ((c : CoreModel) × IsCoreOf o m t u.seen c × IsKeyRead by before after c k t.tx IsShown r) → IsStill before.faults after.faults r
-        from (inl nothing) = ap (λ (x : Reach). unblamed_by r x.faults) nothing.1
-        from (inr (c, core, read)) = read.read.still
 
 pub scan_more : (o : Options) (m : Meaning) (policies : List Policy) (query : Option FilterQuery) (range : BytesRange) (order : IterationOrder) (t u : Opened) (before after : Reach) (quiet : Type 0) (r : Result TxnIterator SlateDBError) →
     IsScanOpened o m policies query range order t u before after quiet r → Keeps t u

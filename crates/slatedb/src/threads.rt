@@ -1,6 +1,6 @@
 //! A database that threads share: a service of two threads, and one thread with one pass.
 ghost use Rattle.std.specs.Prelude.{◌≡◌, ℕ, [], None, List, Some, IfOk, OnOk};
-ghost use Rattle.slate_types.specs.Outside.{Objects, OnlyReads, no_parts};
+ghost use Rattle.slate_types.specs.Outside.{IsStill, Objects, OnlyReads, no_parts};
 ghost use Rattle.slate_mem.specs.BatchModel.{no_ops, plain_put, with_op};
 ghost use Rattle.slate_txn.specs.declared.event.Event.{Event};
 ghost use Rattle.slate_shared.specs.Given.{ArePlain};
@@ -262,6 +262,7 @@ pub fn write_and_read<R: Wait, S: Store>(
     ensures stored { let reach = ⟦<EnvOf<S, NoOperator, NoTransformer> as Outside>⟧.reach in
         (os : Objects) → (reach env.old).objects ≡ Some os →
         OnOk result (TakesFirstPut key.now value.now (reach env.old).objects (reach env.new).objects) }
+    ensures still { let reach = ⟦<EnvOf<S, NoOperator, NoTransformer> as Outside>⟧.reach in IsStill (reach env.old).faults (reach env.new).faults result }
 {
     let laws = Plain::laws(alloc);
     let (db, mut pass) = Database::<Plain>::new(alloc, &laws.options)?;
@@ -297,6 +298,7 @@ fn store_and_read<R: Wait, S: Store>(
         (value : List ℕ) (journal : List Event) (os : Objects) →
         batch ≡ with_op no_ops key.now (plain_put value) → IsAllOwn pass.new journal →
         (reach env.old).objects ≡ Some os → OnOk result (TakesFirstPut key.now value (reach env.old).objects (reach env.new).objects) }
+    ensures still { let reach = ⟦<EnvOf<S, NoOperator, NoTransformer> as Outside>⟧.reach in IsStill (reach env.old).faults (reach env.new).faults result }
 {
     pass.write(rt, db, batch, 0, env, laws)?;
     pass.flush(rt, db, env, laws)?;
@@ -321,6 +323,7 @@ fn read_once<R: Wait, S: Store>(
     ensures read { let reach = ⟦<EnvOf<S, NoOperator, NoTransformer> as Outside>⟧.reach in
         IfOk result (IsReadBy key.now pass.old pass.new (reach env.old) (reach env.new)) }
     ensures reads { let reach = ⟦<EnvOf<S, NoOperator, NoTransformer> as Outside>⟧.reach in OnlyReads (reach env.old) (reach env.new) }
+    ensures still { let reach = ⟦<EnvOf<S, NoOperator, NoTransformer> as Outside>⟧.reach in IsStill (reach env.old).faults (reach env.new).faults result }
 {
     let mut txn = pass.begin(rt, db, IsolationLevel::Snapshot)?;
     let found = txn.get_key_value(rt, db, key, env, laws);

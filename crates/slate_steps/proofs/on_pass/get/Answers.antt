@@ -1,7 +1,8 @@
 use Rattle.std.proofs.Common.{None, sym}
 use Rattle.slate_store.specs.Reach.{reach_of}
 use Rattle.slate_table.specs.Filtered.{point_query}
-use Rattle.slate_steps.proofs.OnPass.{get_attempt, get_cause, get_checked, get_more, get_refused, get_still, get_undamaged, get_vouched_there}
+use Rattle.slate_shared.proofs.Gets.{get_still}
+use Rattle.slate_steps.proofs.OnPass.{get_attempt, get_cause, get_checked, get_more, get_refused, get_undamaged, get_vouched_there}
 use Rattle.slate_steps.proofs.on_pass.get.Goals as goal
 
 pub returns : goal.returns

@@ -25,3 +25,6 @@ returns-clause-stored g c = λ value journal os batch all told.
     (taken_on _ _ c.args.batch c.args.pass.now q s c.read_once.new.pass c.write.result _ _ _ c.in_ok-flush.field-0 c.args.key.now value journal
     c.requires.unused.0 c.requires.unused.1 batch c.write.ensures.written c.flush.ensures.seen own all c.read_once.ensures.own os (c.write.ensures.reads.objects ∙ told)
     c.read_once.result c.read_once.ensures.read c.in_ok-write.field-0 c.in_ok-write.was c.in_ok-flush.ensures.newest c.in_ok-flush.ensures.through refl)
+
+pub returns-clause-still : goal.returns-clause-still
+returns-clause-still g c = c.read_once.ensures.still ∙ ap (unblamed_by c.read_once.result) (c.in_ok-flush.ensures.still ∙ written)

@@ -11,4 +11,5 @@ returns g c =
     record {
       found = λ os told. c.store_and_read-found.ensures.found c.args.value.now c.close-core.result.events os batch all told;
       stored = λ os told. c.store_and_read-found.ensures.stored c.args.value.now c.close-core.result.events os batch all told;
+      still = c.store_and_read-found.ensures.still;
     }
