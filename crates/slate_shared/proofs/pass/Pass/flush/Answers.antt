@@ -37,6 +37,9 @@ returns-in_err-last-clause-refused g c =
 pub returns-in_err-last-clause-left : goal.returns-in_err-last-clause-left
 returns-in_err-last-clause-left g c = let p = err_from_is_err_and c.from_residual.result c.from_residual.ensures.1 in rw (p.1) (inl refl)
 
+pub returns-in_err-last-clause-still : goal.returns-in_err-last-clause-still
+returns-in_err-last-clause-still g c = refl
+
 -- ---- nothing waited
 
 pub returns-in-None-clause-seen : goal.returns-in-None-clause-seen
@@ -48,6 +51,9 @@ pub returns-in-None-clause-newest : goal.returns-in-None-clause-newest
 returns-in-None-clause-newest g c =
     let off = c.in_ok-last.ensures.off in
     rw (← c.self.view_is) (off.0, off.1, prefix_either off.0 c.depart.new.place.me.0.seen Freeze off.2.event, off.2.newest)
+
+pub returns-in-None-clause-still : goal.returns-in-None-clause-still
+returns-in-None-clause-still g c = refl
 
 -- ---- it set off
 
