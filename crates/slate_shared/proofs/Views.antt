@@ -209,7 +209,7 @@ pub scan_memory : (o : Options) (m : Meaning) (t : Opened) (seen : List Event) (
 scan_memory o m t seen a c policies query range order r out = subst (IsViewScan o m policies query t seen c range order a a) (sym out) (record {
   leaves = λ d. tt;
   undamaged = λ d. tt;
-  opened = record { opened = λ above d. tt; checked = λ above os d. tt; later = tt; undamaged = λ above d. tt; cause = inl tt; still = refl };
+  opened = record { opened = λ above d. tt; checked = λ above os d. tt; later = tt; hands = tt; undamaged = λ above d. tt; cause = inl tt; still = refl };
 })
 
 -- the rows of no operations
