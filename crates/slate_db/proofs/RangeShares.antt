@@ -30,7 +30,7 @@ use Rattle.slate_db.specs.Model.{CoreModel, Rows, memory}
 use Rattle.slate_db.specs.OpenScans.{AreScanSources, CanOpen, FoldsRefuse, IsBlamedFor, LeftSources, SourcesBring, folded_rows, merged_rows}
 use Rattle.slate_db.specs.RangeShares.{HasUpto, IsOpened, IsPart, IsReaderOf, LeavesSeen, StandsIn}
 use Rattle.slate_db.specs.Readable.{IsAnswered, IsReadable}
-use Rattle.slate_db.specs.ScanFilters.{AreLeft, AreRunsLeft, AreTablesThere, FailsAsking, RunsAreLeft, ShowsFilters}
+use Rattle.slate_db.specs.ScanFilters.{AreLeft, AreLetIn, AreRunsLeft, AreTablesThere, FailsAsking, RunsAreLeft, ShowsFilters}
 use Rattle.slate_db.specs.Scanned.{AreStoredRuns, own_rows}
 use Rattle.slate_db.specs.Scans.{FoldsAll, IsFor, IsHandedByScan, IsOpeningError, IsOperableIn, IsRefusedByScan, ScanHands, ScanRefuses, ScanSource, merge_offers, merge_refuses, merge_rows}
 use Rattle.slate_db.specs.SharedRuns.{tables_in}
@@ -38,6 +38,7 @@ use Rattle.slate_db.specs.Sound.{AreBases}
 use Rattle.slate_db.proofs.RangeRows.{has_part}
 use Rattle.slate_db.proofs.Readers.{own_of_reader}
 use Rattle.slate_db.proofs.ScanBringings.{layers_turned}
+use Rattle.slate_db.proofs.ScanFilters.{let_in_before}
 use Rattle.slate_db.proofs.ScanMerges.{OpensScan, asking_refused, handed_later, opening_refused, opening_whole, refused_later, runs_filtered, runs_there, scan_hands, scan_is_for, scan_opened, scan_refused}
 use Rattle.slate_db.proofs.ScanReaders.{plain_reader}
 use Rattle.slate_db.proofs.ScanStates.{Folds, IsSound, Merged}
@@ -70,9 +71,10 @@ same_left range (r ∷ runs) (t ∷ copies) [] left same h = absurd h
 same_left range [] (t ∷ copies) groups left same h = cc
 same_left range (r ∷ runs) [] groups left same h = cc
 
-left_of_runs : (policies : List Policy) (before after : Reach) (range : BytesRange) (runs copies left : List SortedRun) → tables_in copies ≡ tables_in runs → RunsAreLeft policies before after range copies left → RunsAreLeft policies before after range runs left
-left_of_runs policies before after range runs copies left same h = record {
+left_of_runs : (policies : List Policy) (query : Option FilterQuery) (before after : Reach) (range : BytesRange) (runs copies left : List SortedRun) → tables_in copies ≡ tables_in runs → RunsAreLeft policies query before after range copies left → RunsAreLeft policies query before after range runs left
+left_of_runs policies query before after range runs copies left same h = record {
   among = λ t k. subst (λ (hs : List SsTableHandle). Contains hs t) (same_handles copies runs same) (h.among t k);
+  let_in = h.let_in;
   others = λ groups os stored filtered answers.
       same_left range copies runs groups left same
       (h.others groups os (same_stored before.meaning os runs copies groups (sym same) stored) (subst (AreFilteredAs policies before.meaning os) (sym (same_handles copies runs same)) filtered) answers);
@@ -112,13 +114,20 @@ asking_opens policies query before after c range n active frozen runs id from or
 
 -- filters were asked to the middle, and the sources that they left are opened from there on
 module _ (policies : List Policy) (query : Option FilterQuery) (before middle after : Reach) (c : CoreModel) (range : BytesRange) (n : ℕ) (order : IterationOrder) (active : Rows) (frozen : List Rows) (runs : List SortedRun) (own : RowList) (sources : List ScanSource)
-    (first : OnlyReads before middle) (last : OnlyReads middle after) (asked : Made before middle (λ _. Unit {0})) (lefts : LeftSources policies before middle range order n own active frozen runs sources) (id : List ℕ) (from : Reader)
+    (first : OnlyReads before middle) (last : OnlyReads middle after) (lefts : LeftSources policies query before middle range order n own active frozen runs sources) (id : List ℕ) (from : Reader)
     (st : StandsIn c range n active frozen runs) (mine : IsReaderOf c id from range order own) where
   here : AreScanSources range order n from.ops (active ∷ reverse c.frozen) (reverse lefts.left) sources
   here = subst (λ (ls : List Rows). AreScanSources range order n from.ops (active ∷ reverse ls) (reverse lefts.left) sources) st.frozen_are (lefts.are from.ops mine.own_are)
 
-  asked_here : RunsAreLeft policies before middle range st.unseen.runs lefts.left
-  asked_here = left_of_runs policies before middle range st.unseen.runs runs lefts.left st.tables lefts.asked
+  asked_here : RunsAreLeft policies query before middle range st.unseen.runs lefts.left
+  asked_here = left_of_runs policies query before middle range st.unseen.runs runs lefts.left st.tables lefts.asked
+
+  abbrev asked : Made before middle (λ reads. AreLetIn before.meaning.decode policies query (handles_of lefts.left) reads)
+  asked = lefts.asked.let_in
+
+  -- by the reads of the whole opening
+  let_in : (reads : List Act) → AreLetIn middle.meaning.decode policies query (handles_of lefts.left) (asked.0 ++ reads)
+  let_in reads = let_in_before middle.meaning.decode policies query (handles_of lefts.left) asked.0 reads (subst (λ (k : Meaning). AreLetIn k.decode policies query (handles_of lefts.left) asked.0) (sym first.meaning) asked.2)
 
   plain : (os : Objects) → IsReadable policies middle.meaning os c → middle.meaning.combine ≡ None → holds_merge from.ops ≡ false
   plain os r = plain_reader middle.meaning c id from mine.open_there r.kept.2
@@ -142,18 +151,18 @@ module _ (policies : List Policy) (query : Option FilterQuery) (before middle af
         asked.0 ++ brought.0,
         call_both before middle after asked.0 brought.0 asked.1 brought.1,
         λ later at e h.
-            subst (λ (reads : List Act). IsRefusedByScan before.meaning c reads at e) (sym (append_assoc asked.0 brought.0 later))
-            (refused_later before.meaning c asked.0 (brought.0 ++ later) at e
-            (subst (λ (k : Meaning). IsRefusedByScan k c (brought.0 ++ later) at e) first.meaning (by later at e (subst (λ (k : Meaning). ScanRefuses it k later at e) (sym first.meaning) h)))),
+            subst (λ (reads : List Act). IsRefusedByScan policies query before.meaning c (asked.0 ++ brought.0) reads at e) (sym (append_assoc asked.0 brought.0 later))
+            (refused_later policies query before.meaning c (asked.0 ++ brought.0) asked.0 (brought.0 ++ later) at e
+            (subst (λ (k : Meaning). IsRefusedByScan policies query k c (asked.0 ++ brought.0) (brought.0 ++ later) at e) first.meaning (by later at e (subst (λ (k : Meaning). ScanRefuses it k later at e) (sym first.meaning) h)))),
       ),
     );
     hands = (
       asked.0 ++ offered.0,
       call_both before middle after asked.0 offered.0 asked.1 offered.1,
       λ later a h.
-          subst (λ (reads : List Act). IsHandedByScan before.meaning c reads a) (sym (append_assoc asked.0 offered.0 later))
-          (handed_later before.meaning c asked.0 (offered.0 ++ later) a
-          (subst (λ (k : Meaning). IsHandedByScan k c (offered.0 ++ later) a) first.meaning (handed later a (subst (λ (k : Meaning). ScanHands it k later a) (sym first.meaning) h)))),
+          subst (λ (reads : List Act). IsHandedByScan policies query before.meaning c (asked.0 ++ offered.0) reads a) (sym (append_assoc asked.0 offered.0 later))
+          (handed_later policies query before.meaning c (asked.0 ++ offered.0) asked.0 (offered.0 ++ later) a
+          (subst (λ (k : Meaning). IsHandedByScan policies query k c (asked.0 ++ offered.0) (offered.0 ++ later) a) first.meaning (handed later a (subst (λ (k : Meaning). ScanHands it k later a) (sym first.meaning) h)))),
     );
     undamaged = λ above a. tt;
     cause = tt;
@@ -161,16 +170,16 @@ module _ (policies : List Policy) (query : Option FilterQuery) (before middle af
   }
     where
       opens : c.floor ≤ n → OpensScan policies before after c n from.ops range order it
-      opens above = scan_opened policies before middle after c st.unseen st.whole lefts.left range asked_here first last order n from.ops mine.fine above active st.active_has sources here plain rows it state_is range_is order_is going sound rest op checks blamed.0 blamed.1 blamed.2
+      opens above = scan_opened policies query before middle after c st.unseen st.whole lefts.left range asked_here first last order n from.ops mine.fine above active st.active_has sources here plain rows it state_is range_is order_is going sound rest op checks blamed.0 blamed.1 blamed.2
 
-      by : (later : List Act) (at : Option (List ℕ)) (e : SlateDBError) → ScanRefuses it middle.meaning later at e → IsRefusedByScan middle.meaning c (brought.0 ++ later) at e
+      by : (later : List Act) (at : Option (List ℕ)) (e : SlateDBError) → ScanRefuses it middle.meaning later at e → IsRefusedByScan policies query middle.meaning c (asked.0 ++ brought.0) (brought.0 ++ later) at e
       by later at e h =
-          scan_refused middle.meaning c st.unseen st.whole lefts.left asked_here.among range order n from.ops (active ∷ reverse c.frozen) sources here
+          scan_refused middle.meaning c st.unseen st.whole lefts.left asked_here.among range order n from.ops (active ∷ reverse c.frozen) sources here policies query (asked.0 ++ brought.0) (let_in brought.0)
           (λ k. own_of_reader c id from k (own_rows from.ops k) mine.open_there refl) (layers_there c range n active st.active_has) rows it brought.0 state_is range_is going.0 brought.2 later at e h
 
-      handed : (later : List Act) (a : KeyValue) → ScanHands it middle.meaning later a → IsHandedByScan middle.meaning c (offered.0 ++ later) a
+      handed : (later : List Act) (a : KeyValue) → ScanHands it middle.meaning later a → IsHandedByScan policies query middle.meaning c (asked.0 ++ offered.0) (offered.0 ++ later) a
       handed later a h =
-          scan_hands middle.meaning c st.unseen st.whole lefts.left asked_here.among range order n from.ops (active ∷ reverse c.frozen) sources here
+          scan_hands middle.meaning c st.unseen st.whole lefts.left asked_here.among range order n from.ops (active ∷ reverse c.frozen) sources here policies query (asked.0 ++ offered.0) (let_in offered.0)
           (λ k. own_of_reader c id from k (own_rows from.ops k) mine.open_there refl) (layers_there c range n active st.active_has) rows it offered.0 state_is going.1 offered.2 later a h
 
   pub rows_refused : (e : SlateDBError) (result : Result DbIterator SlateDBError) → result ≡ Err e → Made middle after (λ reads. IsFault middle after e ⊎ IsBlamedFor sources middle.meaning reads None e) → unblamed e after.faults ≡ unblamed e before.faults → IsOpened policies query before after c n from.ops range order result
@@ -179,7 +188,7 @@ module _ (policies : List Policy) (query : Option FilterQuery) (before middle af
     checked = λ above os r. tt;
     later = tt;
     hands = tt;
-    undamaged = λ above a. opening_whole policies before middle after c st.unseen st.whole lefts.left range asked_here first last order n from.ops mine.fine above active st.active_has sources here plain e made a;
+    undamaged = λ above a. opening_whole policies query before middle after c st.unseen st.whole lefts.left range asked_here first last order n from.ops mine.fine above active st.active_has sources here plain e made a;
     cause = opening_refused middle.meaning c st.unseen st.whole lefts.left asked_here.among range order n from.ops (active ∷ reverse c.frozen) sources here policies query before middle after e refl first asked made;
     still = still;
   })

@@ -25,7 +25,7 @@ use Rattle.slate_read.specs.TableWalk.{RefusesRows}
 use Rattle.slate_db.specs.Installs.{AreHandles, tables_of}
 use Rattle.slate_db.specs.Model.{CoreModel}
 use Rattle.slate_db.specs.Parts.{IsTableError}
-use Rattle.slate_db.specs.Scans.{IsOpeningError, IsRefusedByScan, IsRefusedInScan, IsReadAmong, IsScanError, IsScanned, ShowsAmong}
+use Rattle.slate_db.specs.Scans.{AreScanTables, IsOpeningError, IsRefusedByScan, IsRefusedByTables, IsRefusedInScan, IsReadAmong, IsScanError, IsScanned, ShowsAmong}
 use Rattle.slate_db.specs.Shown.{IsUnreadable}
 use Rattle.slate_db.proofs.Damaged.{block_damage, block_unreadable, bound, in_block, index_unreadable, number_damage, passes}
 use Rattle.slate_db.proofs.Shown.{known_version, unreadable_kind}
@@ -144,21 +144,28 @@ rise_kind (InvalidSequenceOrder current next) h = tt
 rise_kind e h = absurd h
 
 -- what a scan is refused for is an error of a table, or of an operand
-pub scan_kind : (m : Meaning) (c : CoreModel) (acts : List Act) (at : Option (List ℕ)) (e : SlateDBError) → IsRefusedByScan m c acts at e → IsTableError e
+pub scan_kind : (m : Meaning) (c : CoreModel) (acts : List Act) (at : Option (List ℕ)) (e : SlateDBError) → IsRefusedByTables m c acts at e → IsTableError e
 scan_kind m c acts at e r = by r.refused
   where
-    by : RefusesBrought (IsScanned m c r.handles acts) (IsReadAmong m r.handles acts) m at e ⊎ ShowsAmong m.decode r.handles acts e → IsTableError e
+    by : RefusesBrought (IsScanned m c r.left acts) (IsReadAmong m r.left acts) m at e ⊎ ShowsAmong m.decode r.left acts e → IsTableError e
     by (inl (inl operand)) = subst IsTableError (sym operand.refuses.1) tt
     by (inl (inr rise)) = rise_kind e rise.refuses.2
-    by (inr (h, among, shows)) = unreadable_kind e (shown_unreadable m.decode h acts e (known_version (tables_of c.events) r.handles h r.are among) shows)
+    by (inr (h, there, shows)) = unreadable_kind e (shown_unreadable m.decode h acts e (known_version (tables_of c.events) r.tables.handles h r.tables.are (r.tables.among h there)) shows)
 
 -- so it is with its opening
 pub in_scan_kind : (policies : List Policy) (m : Meaning) (c : CoreModel) (acts : List Act) (e : SlateDBError) → IsRefusedInScan policies m c acts e → IsTableError e
 in_scan_kind policies m c acts e (inl (at, refused)) = scan_kind m c acts at e refused
 in_scan_kind policies m c acts e (inr (query, filters)) = unreadable_kind e filters.shown.kind
 
+-- tables that were let in are some that the journal names
+unasked : {policies : List Policy} {query : Option FilterQuery} {m : Meaning} {c : CoreModel} {opening : List Act} (left : List SsTableHandle) → AreScanTables policies query m c opening left → AreScanTables [] None m c [] left
+unasked left t = record { handles = t.handles; are = t.are; among = t.among; asked = λ h there query is. cc }
+
+pub by_tables : {policies : List Policy} {query : Option FilterQuery} (m : Meaning) (c : CoreModel) (opening reads : List Act) (at : Option (List ℕ)) (e : SlateDBError) → IsRefusedByScan policies query m c opening reads at e → IsRefusedByTables m c reads at e
+by_tables m c opening reads at e r = record { left = r.left; tables = unasked r.left r.tables; refused = r.refused }
+
 -- and an opening's is one of a scan
 pub opening_scan : {policies : List Policy} {query : Option FilterQuery} (before after : Reach) (c : CoreModel) (e : SlateDBError) → IsOpeningError policies query before after c e → IsScanError policies before after c e
 opening_scan before after c e (inl fault) = inl fault
-opening_scan before after c e (inr (reads, call, inl s)) = inr (reads, call, inl (None, record { handles = s.handles; are = s.are; refused = inr s.shown }))
+opening_scan before after c e (inr (reads, call, inl s)) = inr (reads, call, inl (None, record { left = s.left; tables = unasked s.left s.tables; refused = inr s.shown }))
 opening_scan {policies} {query} before after c e (inr (reads, call, inr f)) = inr (reads, call, inr (query, f))

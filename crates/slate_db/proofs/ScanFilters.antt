@@ -4,7 +4,8 @@ use Rattle.std.proofs.Common.{◌≡◌, ℕ, zero, suc, ◌+◌, ◌<◌, ◌�
 use Rattle.std.specs.Prelude.{Contains, IfErr, IfOk}
 use Rattle.std.proofs.lemmas.Grind.{flat_map-append}
 use Rattle.std.proofs.lemmas.List.{drop_all}
-use Rattle.std.proofs.lemmas.List.Elements.{All-contains, All-from_recursion, Contains-append_cases, Contains-append_right}
+use Rattle.std.proofs.lemmas.List.Elements.{All-contains, All-from_recursion, Contains-append_cases, Contains-append_left, Contains-append_right}
+use Rattle.std.proofs.lemmas.Option.{same_Some}
 use Rattle.slate_types.specs.declared.bytes_range.BytesRange.{BytesRange}
 use Rattle.slate_types.specs.declared.error.SlateDBError.{SlateDBError}
 use Rattle.slate_types.specs.declared.error.SlateDBError.TheVariants.{OutOfMemory}
@@ -21,15 +22,17 @@ use Rattle.slate_read.specs.declared.sorted_run.SortedRun.{SortedRun}
 use Rattle.slate_table.specs.declared.info.SsTableHandle.{SsTableHandle}
 use Rattle.slate_table.specs.Filtered.{IsAsked, RefusesQuery}
 use Rattle.slate_table.specs.InfoReading.{seen_info}
+use Rattle.slate_table.specs.Parts.{Encode}
 use Rattle.slate_table.specs.Paths.{path_of}
 use Rattle.slate_db.specs.Answered.{AnswersFrom}
+use Rattle.slate_db.specs.Asked.{IsLetThrough}
 use Rattle.slate_db.specs.Checked.{ChecksFrom}
 use Rattle.slate_db.specs.Installs.{handles_of, root}
 use Rattle.slate_db.specs.Lookup.{AreFilteredAs, AreStoredAs, IsStoredAs}
 use Rattle.slate_db.specs.Model.{Rows}
-use Rattle.slate_db.specs.ScanFilters.{AddsLeft, AddsRun, AreLeft, AreRunsLeft, AreTablesThere, FailsAsking, ShowsFilters, TablesAreLeft}
+use Rattle.slate_db.specs.ScanFilters.{AddsLeft, AddsRun, AreLeft, AreLetIn, AreRunsLeft, AreTablesThere, FailsAsking, IsLetIn, ShowsFilters, TablesAreLeft}
 use Rattle.slate_db.specs.Scanned.{AreStoredRuns}
-use Rattle.slate_db.specs.Shown.{Asking, IsUnreadable, RefusesFiltersRead, filters_act}
+use Rattle.slate_db.specs.Shown.{Asking, IsUnreadable, LetsThrough, RefusesFiltersRead, filters_act}
 use Rattle.slate_db.proofs.Answered.{from_first, from_last}
 use Rattle.slate_db.proofs.Checks.{checks_both}
 use Rattle.slate_db.proofs.Causes.{store_fault, transform_fault}
@@ -101,9 +104,16 @@ left_refused asking h a c (Err e) range known matches = record {
       },
     )
 
-pub left_made : (asking : Asking) (h : SsTableHandle) (a c : Reach) (r : Result Bool SlateDBError) → IsAsking asking h a c r → IfOk r (λ _. Made a c (λ _. Unit {0}))
-left_made asking h a c (Err e) known = tt
-left_made asking h a c (Ok passes) known = let made = asked_passes asking h a c (Ok passes) known in (made.0, made.1, tt)
+-- acts that let a query through have what they asked
+through : (decode : Encode) (asking : Asking) (h : SsTableHandle) (reads : List Act) → LetsThrough decode asking h reads → IsLetThrough decode asking h reads
+through decode asking h reads (inl (unasked, none)) asks = let clash : true ≡ false = sym asks ∙ unasked in cc
+through decode asking h reads (inr (asked, (given, one, says))) asks = (given, subst (λ (l : List Act). Contains l (filters_act h given)) (sym one) (0, omega arith, refl), says)
+
+pub left_let_in : (asking : Asking) (h : SsTableHandle) (a c : Reach) (r : Result Bool SlateDBError) → IsAsking asking h a c r → IfOk r (λ passes. Made a c (λ reads. passes ≡ true → IsLetIn a.meaning.decode asking.policies (Some asking.query) h reads))
+left_let_in asking h a c (Err e) known = tt
+left_let_in asking h a c (Ok passes) known =
+    let made = asked_passes asking h a c (Ok passes) known in
+    (made.0, made.1, λ yes query is. subst (λ (q : FilterQuery). IsLetThrough a.meaning.decode (record { policies = asking.policies; query = q }) h made.0) (same_Some asking.query query is) (through a.meaning.decode asking h made.0 (made.2 yes)))
 
 -- ---- what filters show of some tables they show of more
 
@@ -121,8 +131,21 @@ shows_more hs ks done reads e among s = record {
   refuses = s.refuses;
 }
 
-pub made_both : (a b c : Reach) → Made a b (λ _. Unit {0}) → Made b c (λ _. Unit {0}) → Made a c (λ _. Unit {0})
-made_both a b c f l = (f.0 ++ l.0, call_both a b c f.0 l.0 f.1 l.1, tt)
+-- what reads let in they let in among others
+in_first : (decode : Encode) (policies : List Policy) (query : Option FilterQuery) (h : SsTableHandle) (first last : List Act) → IsLetIn decode policies query h first → IsLetIn decode policies query h (first ++ last)
+in_first decode policies query h first last lets asked is asks = let l = lets asked is asks in (l.0, Contains-append_left first last (filters_act h l.0) l.1, l.2)
+
+in_last : (decode : Encode) (policies : List Policy) (query : Option FilterQuery) (h : SsTableHandle) (first last : List Act) → IsLetIn decode policies query h last → IsLetIn decode policies query h (first ++ last)
+in_last decode policies query h first last lets asked is asks = let l = lets asked is asks in (l.0, Contains-append_right first last (filters_act h l.0) l.1, l.2)
+
+pub let_in_before : (decode : Encode) (policies : List Policy) (query : Option FilterQuery) (hs : List SsTableHandle) (first last : List Act) → AreLetIn decode policies query hs first → AreLetIn decode policies query hs (first ++ last)
+let_in_before decode policies query hs first last are h there = in_first decode policies query h first last (are h there)
+
+pub let_in_none : (decode : Encode) (policies : List Policy) (query : Option FilterQuery) (left : List SsTableHandle) (reads : List Act) → left ≡ [] → AreLetIn decode policies query left reads
+let_in_none decode policies query left reads none h there = by (subst (λ (l : List SsTableHandle). Contains l h) none there)
+  where
+    by : Contains [] h → IsLetIn decode policies query h reads
+    by (k, lt, at) = absurd (omega (arith, lt))
 
 -- behind a call that asked others
 pub fails_more : (policies : List Policy) (query : Option FilterQuery) (a b c : Reach) (hs ks : List SsTableHandle) (e : SlateDBError) → ((h : SsTableHandle) → Contains hs h → Contains ks h) → Made a b (λ _. Unit {0}) → OnlyReads a b → OnlyReads b c →
@@ -166,9 +189,9 @@ SoFar policies a b range hs i left =
 pub so_far_none : (policies : List Policy) (a : Reach) (range : BytesRange) (hs left : List SsTableHandle) → left ≡ [] → SoFar policies a a range hs 0 left
 so_far_none policies a range hs left none later layers os stored filtered answers h = subst (λ (l : List SsTableHandle). AreLeft range hs layers (l ++ later)) (sym none) h
 
-pub so_far_more : (policies : List Policy) (a b c : Reach) (range : BytesRange) (hs : List SsTableHandle) (i : ℕ) (h : SsTableHandle) (left next : List SsTableHandle) → OnlyReads a b → OnlyReads b c → i < length hs → h ≡ get_or hs i h →
-    SoFar policies a b range hs i left → AddsLeft policies b c range h left next → SoFar policies a c range hs (i + 1) next
-so_far_more policies a b c range hs i h left next first last within is before adds later layers os stored filtered answers rest =
+pub so_far_more : (policies : List Policy) (query : Option FilterQuery) (a b c : Reach) (range : BytesRange) (hs : List SsTableHandle) (i : ℕ) (h : SsTableHandle) (left next : List SsTableHandle) → OnlyReads a b → OnlyReads b c → i < length hs → h ≡ get_or hs i h →
+    SoFar policies a b range hs i left → AddsLeft policies query b c range h left next → SoFar policies a c range hs (i + 1) next
+so_far_more policies query a b c range hs i h left next first last within is before adds later layers os stored filtered answers rest =
     subst (λ (l : List SsTableHandle). AreLeft range hs layers (l ++ later)) (sym adds.are) (by adds.kept refl)
   where
     here : (drop i hs ≡ h ∷ drop (i + 1) hs) × Contains hs h
@@ -235,6 +258,22 @@ among_none hs left none t there = by (subst (λ (l : List SsTableHandle). Contai
 pub one_among : (hs : List SsTableHandle) (i : ℕ) (h : SsTableHandle) → i < length hs → h ≡ get_or hs i h → (t : SsTableHandle) → Contains (h ∷ []) t → Contains hs t
 one_among hs i h within is t there = among_more hs i h [] (h ∷ []) true within is refl (λ u k. among_none hs [] refl u k) t there
 
+-- the tables that were left, and one that the next call asked
+pub let_in_more : (policies : List Policy) (query : Option FilterQuery) (a b c : Reach) (h : SsTableHandle) (left next : List SsTableHandle) (kept : Bool) → OnlyReads a b → next ≡ cond kept (left ++ (h ∷ [])) left →
+    Made a b (λ reads. AreLetIn a.meaning.decode policies query left reads) → Made b c (λ reads. kept ≡ true → IsLetIn b.meaning.decode policies query h reads) → Made a c (λ reads. AreLetIn a.meaning.decode policies query next reads)
+let_in_more policies query a b c h left next kept first are (done, f, before) (reads, call, one) =
+    (done ++ reads, call_both a b c done reads f call, λ t there. by t kept refl (subst (λ (l : List SsTableHandle). Contains l t) are there))
+  where
+    asked : (t : SsTableHandle) → kept ≡ true → Contains (h ∷ []) t → IsLetIn a.meaning.decode policies query t (done ++ reads)
+    asked t is (zero, lt, at) =
+        subst (λ (u : SsTableHandle). IsLetIn a.meaning.decode policies query u (done ++ reads)) at
+        (in_last a.meaning.decode policies query h done reads (subst (λ (m : Meaning). IsLetIn m.decode policies query h reads) first.meaning (one is)))
+    asked t is (suc n, lt, at) = absurd (omega (arith, lt))
+
+    by : (t : SsTableHandle) (k : Bool) → kept ≡ k → Contains (cond k (left ++ (h ∷ [])) left) t → IsLetIn a.meaning.decode policies query t (done ++ reads)
+    by t true is there = elim (Contains-append_cases left (h ∷ []) t there) [ inl l ↦ in_first a.meaning.decode policies query t done reads (before t l) | inr o ↦ asked t is o ]
+    by t false is there = in_first a.meaning.decode policies query t done reads (before t there)
+
 -- ---- several runs
 
 record LayersHere (m : Meaning) (os : Objects) (run : SortedRun) (i : ℕ) (groups : List (List Rows)) : Type 0 where
@@ -259,9 +298,9 @@ RunsSoFar policies a b range runs i left =
 pub runs_so_far_none : (policies : List Policy) (a : Reach) (range : BytesRange) (runs left : List SortedRun) → left ≡ [] → RunsSoFar policies a a range runs 0 left
 runs_so_far_none policies a range runs left none later groups os stored filtered answers h = subst (λ (l : List SortedRun). AreRunsLeft range runs groups (l ++ later)) (sym none) h
 
-pub runs_so_far_more : (policies : List Policy) (a b c : Reach) (range : BytesRange) (runs : List SortedRun) (i : ℕ) (run one : SortedRun) (left next : List SortedRun) → OnlyReads a b → OnlyReads b c → i < length runs → run ≡ get_or runs i run →
-    RunsSoFar policies a b range runs i left → TablesAreLeft policies b c range run.tables.items one.tables.items → AddsRun one left next → RunsSoFar policies a c range runs (i + 1) next
-runs_so_far_more policies a b c range runs i run one left next first last within is before tables added later groups os stored filtered answers rest = by added
+pub runs_so_far_more : (policies : List Policy) (query : Option FilterQuery) (a b c : Reach) (range : BytesRange) (runs : List SortedRun) (i : ℕ) (run one : SortedRun) (left next : List SortedRun) → OnlyReads a b → OnlyReads b c → i < length runs → run ≡ get_or runs i run →
+    RunsSoFar policies a b range runs i left → TablesAreLeft policies query b c range run.tables.items one.tables.items → AddsRun one left next → RunsSoFar policies a c range runs (i + 1) next
+runs_so_far_more policies query a b c range runs i run one left next first last within is before tables added later groups os stored filtered answers rest = by added
   where
     at : LayersHere a.meaning os run i groups
     at = layers_here a.meaning os runs groups i run stored within is
@@ -312,6 +351,20 @@ runs_among runs i run one left next within is (inr (some, more)) mine before h t
     by : Contains (handles_of left) h ⊎ Contains (one.tables.items ++ []) h → Contains (handles_of runs) h
     by (inl k) = before h k
     by (inr k) = handle_among runs i run within is h (mine h (subst (λ (l : List SsTableHandle). Contains l h) (append-nil one.tables.items) k))
+
+pub runs_let_in : (policies : List Policy) (query : Option FilterQuery) (a b c : Reach) (one : SortedRun) (left next : List SortedRun) → OnlyReads a b → AddsRun one left next →
+    Made a b (λ reads. AreLetIn a.meaning.decode policies query (handles_of left) reads) → Made b c (λ reads. AreLetIn b.meaning.decode policies query one.tables.items reads) → Made a c (λ reads. AreLetIn a.meaning.decode policies query (handles_of next) reads)
+runs_let_in policies query a b c one left next first added (done, f, before) (reads, call, mine) = (done ++ reads, call_both a b c done reads f call, λ t there. by t added there)
+  where
+    each : (t : SsTableHandle) → Contains (handles_of left) t ⊎ Contains (one.tables.items ++ []) t → IsLetIn a.meaning.decode policies query t (done ++ reads)
+    each t (inl k) = in_first a.meaning.decode policies query t done reads (before t k)
+    each t (inr k) =
+        in_last a.meaning.decode policies query t done reads (subst (λ (m : Meaning). IsLetIn m.decode policies query t reads) first.meaning (mine t (subst (λ (l : List SsTableHandle). Contains l t) (append-nil one.tables.items) k)))
+
+    by : (t : SsTableHandle) → AddsRun one left next → Contains (handles_of next) t → IsLetIn a.meaning.decode policies query t (done ++ reads)
+    by t (inl (none, same)) there = each t (inl (subst (λ (l : List SortedRun). Contains (handles_of l) t) same there))
+    by t (inr (some, more)) there =
+        each t (Contains-append_cases (handles_of left) (one.tables.items ++ []) t (subst (λ (l : List SsTableHandle). Contains l t) (ap handles_of more ∙ flat_map-append (λ (r : SortedRun). r.tables.items) left (one ∷ [])) there))
 
 -- the tables of runs are there
 pub tables_there : (m : Meaning) (os : Objects) (runs : List SortedRun) (groups : List (List Rows)) → AreStoredRuns m os runs groups → AreTablesThere m os (handles_of runs)

@@ -55,9 +55,9 @@ use Rattle.slate_db.specs.OpenScans.{AreScanSources, CanOpen, FoldsRefuse, IsBla
 use Rattle.slate_filter.specs.Policy.{Policy}
 use Rattle.slate_db.specs.Readable.{IsAnswered, IsOwnRow, IsReadable}
 use Rattle.slate_db.specs.RangeShares.{HasUpto, LeavesSeen}
-use Rattle.slate_db.specs.ScanFilters.{AreRunsLeft, AreTablesThere, RunsAreLeft, ShowsFilters, scan_query}
+use Rattle.slate_db.specs.ScanFilters.{AreLetIn, AreRunsLeft, AreTablesThere, RunsAreLeft, ShowsFilters, scan_query}
 use Rattle.slate_db.specs.Scanned.{AreStoredRuns, own_rows}
-use Rattle.slate_db.specs.Scans.{AreForIn, FoldsAll, HandsIn, IsFor, IsHandedByScan, IsOpeningError, IsOperableIn, IsReadAmong, IsReached, IsRefusedByScan, IsScanRefusal, IsScanned, IsShownByScan, IsSoundIn, IsSoundSource, IsWorldOf, Leaves, MergedSources, RefusesFold, RefusesIn, ScanHands, ScanRefuses, ScanSource, has_value, left_in, merge_begins, merge_offers, merge_refuses, merge_rows, merge_seeks, merge_takes, order_of, source_refuses, source_rows}
+use Rattle.slate_db.specs.Scans.{AreForIn, AreScanTables, FoldsAll, HandsIn, IsFor, IsHandedByScan, IsOpeningError, IsOperableIn, IsReadAmong, IsReached, IsRefusedByScan, IsScanRefusal, IsScanned, IsShownByScan, IsSoundIn, IsSoundSource, IsWorldOf, Leaves, MergedSources, RefusesFold, RefusesIn, ScanHands, ScanRefuses, ScanSource, ShowsAmong, has_value, left_in, merge_begins, merge_offers, merge_refuses, merge_rows, merge_seeks, merge_takes, order_of, source_refuses, source_rows}
 use Rattle.slate_db.specs.Sound.{AreBases}
 use Rattle.slate_db.specs.Whole.{IsWhole, Unseen}
 use Rattle.slate_db.proofs.Answered.{from_first, from_last}
@@ -66,7 +66,7 @@ use Rattle.slate_db.proofs.Foldings.{bases_closed, closed_bases, going_refuses, 
 use Rattle.slate_db.proofs.Runs.{all_handles}
 use Rattle.slate_db.proofs.ScanBringings.{merge_sources, read_later, scanned_later, sources_scanned}
 use Rattle.slate_db.proofs.ScanRises.{merge_risen, sources_risen}
-use Rattle.slate_db.proofs.ScanFilters.{shows_more, tables_there}
+use Rattle.slate_db.proofs.ScanFilters.{let_in_before, shows_more, tables_there}
 use Rattle.slate_db.proofs.ScanOpenings.{ScanOpens, runs_of_core, scan_opens, stored}
 use Rattle.slate_db.proofs.ScanRefusals.{IsShown, blamed_shows}
 use Rattle.slate_db.proofs.ScanFolds.{merged_falls}
@@ -242,33 +242,29 @@ by_reads_later decode h done reads e s = record {
   ];
 }
 
-shown_later : {m : Meaning} {c : CoreModel} (done reads : List Act) (e : SlateDBError) → IsShownByScan m c reads e → IsShownByScan m c (done ++ reads) e
-shown_later {m} done reads e s = record { handles = s.handles; are = s.are; shown = (s.shown.0, s.shown.1, by_reads_later m.decode s.shown.0 done reads e s.shown.2) }
+shown_later : (decode : Encode) (hs : List SsTableHandle) (done reads : List Act) (e : SlateDBError) → ShowsAmong decode hs reads e → ShowsAmong decode hs (done ++ reads) e
+shown_later decode hs done reads e (h, there, s) = (h, there, by_reads_later decode h done reads e s)
 
-pub refused_later : (m : Meaning) (c : CoreModel) (done reads : List Act) (at : Option (List ℕ)) (e : SlateDBError) → IsRefusedByScan m c reads at e → IsRefusedByScan m c (done ++ reads) at e
-refused_later m c done reads at e r = record {
-  handles = r.handles;
-  are = r.are;
-  refused = elim r.refused [
-    | inl k ↦ inl (brought_weaker (IsScanned m c r.handles reads) (IsScanned m c r.handles (done ++ reads)) (IsReadAmong m r.handles reads) (IsReadAmong m r.handles (done ++ reads)) m at e (scanned_later m c r.handles done reads) (read_later m r.handles done reads) k)
-    | inr s ↦ inr (s.0, s.1, by_reads_later m.decode s.0 done reads e s.2)
-  ];
-}
+-- opening: the reads of the call that asked
+module _ (policies : List Policy) (query : Option FilterQuery) (m : Meaning) (c : CoreModel) (opening : List Act) where
+  pub refused_later : (done reads : List Act) (at : Option (List ℕ)) (e : SlateDBError) → IsRefusedByScan policies query m c opening reads at e → IsRefusedByScan policies query m c opening (done ++ reads) at e
+  refused_later done reads at e r = record {
+    left = r.left;
+    tables = r.tables;
+    refused = elim r.refused [
+      | inl k ↦ inl (brought_weaker (IsScanned m c r.left reads) (IsScanned m c r.left (done ++ reads)) (IsReadAmong m r.left reads) (IsReadAmong m r.left (done ++ reads)) m at e (scanned_later m c r.left done reads) (read_later m r.left done reads) k)
+      | inr s ↦ inr (shown_later m.decode r.left done reads e s)
+    ];
+  }
 
-pub handed_later : (m : Meaning) (c : CoreModel) (done reads : List Act) (a : KeyValue) → IsHandedByScan m c reads a → IsHandedByScan m c (done ++ reads) a
-handed_later m c done reads a h = record { handles = h.handles; are = h.are; row = h.row; base = h.base; value = h.value; scanned = scanned_later m c h.handles done reads h.row h.scanned }
+  pub handed_later : (done reads : List Act) (a : KeyValue) → IsHandedByScan policies query m c opening reads a → IsHandedByScan policies query m c opening (done ++ reads) a
+  handed_later done reads a h = record { left = h.left; tables = h.tables; row = h.row; base = h.base; value = h.value; scanned = scanned_later m c h.left done reads h.row h.scanned }
 
 -- left: of the runs of a core, what filters left
 module _ (m : Meaning) (c : CoreModel) (x : Unseen) (w : IsWhole c x) (left : List SortedRun) (among : (h : SsTableHandle) → Contains (handles_of left) h → Contains (handles_of x.runs) h) (range : BytesRange) (order : IterationOrder) (n : ℕ) (ops : Ops)
     (layers : List Rows) (sources : List ScanSource) (are : AreScanSources range order n ops layers (reverse left) sources) where
-  shown : (reads : List Act) (at : Option (List ℕ)) (e : SlateDBError) → IsReached range at → IsBlamedFor sources m reads at e → IsShown m (handles_of x.runs) reads e
-  shown reads at e reached blamed = let s = blamed_shows m range order n ops layers left sources are reads at e reached blamed in (s.0, (s.1.0, among s.1.0 s.1.1, s.1.2))
-
-  shown_by : (reads : List Act) (e : SlateDBError) → IsShown m (handles_of x.runs) reads e → IsShownByScan m c reads e
-  shown_by reads e s = record { handles = handles_of x.runs; are = all_handles c.events x.runs w.tied.runs; shown = s.1 }
-
-  refused_by : (reads : List Act) (at : Option (List ℕ)) (e : SlateDBError) → IsShown m (handles_of x.runs) reads e → IsRefusedByScan m c reads at e
-  refused_by reads at e s = record { handles = handles_of x.runs; are = all_handles c.events x.runs w.tied.runs; refused = inr s.1 }
+  shown : (reads : List Act) (at : Option (List ℕ)) (e : SlateDBError) → IsReached range at → IsBlamedFor sources m reads at e → IsShown m (handles_of left) reads e
+  shown reads at e reached blamed = blamed_shows m range order n ops layers left sources are reads at e reached blamed
 
   abbrev pub LaterBlamed : Merged → List Act → Type 0
   LaterBlamed rows reads = (later : List Act) (at : Option (List ℕ)) (e : SlateDBError) → merge_refuses rows.iterator m later at e → IsBlamedFor sources m (reads ++ later) at e
@@ -288,61 +284,65 @@ module _ (m : Meaning) (c : CoreModel) (x : Unseen) (w : IsWhole c x) (left : Li
       by (inl (inr rise)) = inr (inl rise.refuses.2)
       by (inr r) = inr (inr (sources_for rows reads blamed later at e r))
 
-  -- some tables are among those of the core
-  read_of : (reads : List Act) (r : RowEntry) → IsReadAmong m (handles_of left) reads r → IsReadAmong m (handles_of x.runs) reads r
-  read_of reads r (h, there, unread) = (h, among h there, unread)
-
-  scanned_of : (reads : List Act) (r : RowEntry) → IsScanned m c (handles_of left) reads r → IsScanned m c (handles_of x.runs) reads r
-  scanned_of reads r (inl own) = inl own
-  scanned_of reads r (inr (inl there)) = inr (inl there)
-  scanned_of reads r (inr (inr there)) = inr (inr (read_of reads r there))
-
   abbrev pub LaterBrought : Merged → List Act → Type 0
   LaterBrought rows reads = (later : List Act) (at : Option (List ℕ)) (e : SlateDBError) → Folds rows m later at e → FoldsRefuse sources m (reads ++ later) at e
 
-  -- owns: the own operations are of an open transaction; there: the rows of the layers are among those in memory
-  pub scan_refused : (owns : (k : List ℕ) → AllByRecursion (IsOwnRow c) (own_rows ops k)) → (there : (r : RowEntry) → Contains (flat_map (λ rows. rows) layers) r → Contains (newest_first (memory c)) r) → (rows : Merged) (it : DbIterator) (reads : List Act) → it.state ≡ Walking rows → it.range ≡ range → IsGoing rows → LaterBrought rows reads →
-      (later : List Act) (at : Option (List ℕ)) (e : SlateDBError) → ScanRefuses it m later at e → IsRefusedByScan m c (reads ++ later) at e
-  scan_refused owns there rows it reads state_is range_is going brought later at e h = by (own_refusal rows it state_is range_is going later at e h)
-    where
-      of : IsReached range at → FoldsRefuse sources m (reads ++ later) at e → IsRefusedByScan m c (reads ++ later) at e
-      of reached (inl met) = record {
-        handles = handles_of x.runs;
-        are = all_handles c.events x.runs w.tied.runs;
-        refused = inl (brought_weaker (SourcesBring sources m (reads ++ later)) (IsScanned m c (handles_of x.runs) (reads ++ later)) (SourcesRise sources m (reads ++ later)) (IsReadAmong m (handles_of x.runs) (reads ++ later)) m at e
-            (λ r k. scanned_of (reads ++ later) r (sources_scanned m range order (reads ++ later) r c n ops layers left sources are owns (there r) k))
-            (λ r k. read_of (reads ++ later) r (sources_risen m range order (reads ++ later) r n ops layers left sources are k)) met);
-      }
-      of reached (inr blamed) = refused_by (reads ++ later) at e (shown (reads ++ later) at e reached blamed)
+  -- opening: the reads of the call that asked
+  module _ (policies : List Policy) (query : Option FilterQuery) (opening : List Act) (asked : AreLetIn m.decode policies query (handles_of left) opening) where
+    scan_tables : AreScanTables policies query m c opening (handles_of left)
+    scan_tables = record { handles = handles_of x.runs; are = all_handles c.events x.runs w.tied.runs; among = among; asked = asked }
 
-      folds : merge_refuses rows.iterator m later at e ⊎ RefusesFold rows m later at e → Folds rows m later at e
-      folds k = going_refuses (λ d. merge_refuses rows.iterator m later at d ⊎ RefusesFold rows m later at d) rows e going k
+    -- owns: the own operations are of an open transaction; there: the rows of the layers are among those in memory
+    pub scan_refused : (owns : (k : List ℕ) → AllByRecursion (IsOwnRow c) (own_rows ops k)) → (there : (r : RowEntry) → Contains (flat_map (λ rows. rows) layers) r → Contains (newest_first (memory c)) r) → (rows : Merged) (it : DbIterator) (reads : List Act) → it.state ≡ Walking rows → it.range ≡ range → IsGoing rows → LaterBrought rows reads →
+        (later : List Act) (at : Option (List ℕ)) (e : SlateDBError) → ScanRefuses it m later at e → IsRefusedByScan policies query m c opening (reads ++ later) at e
+    scan_refused owns there rows it reads state_is range_is going brought later at e h = by (own_refusal rows it state_is range_is going later at e h)
+      where
+        of : IsReached range at → FoldsRefuse sources m (reads ++ later) at e → IsRefusedByScan policies query m c opening (reads ++ later) at e
+        of reached (inl met) = record {
+          left = handles_of left;
+          tables = scan_tables;
+          refused = inl (brought_weaker (SourcesBring sources m (reads ++ later)) (IsScanned m c (handles_of left) (reads ++ later)) (SourcesRise sources m (reads ++ later)) (IsReadAmong m (handles_of left) (reads ++ later)) m at e
+              (λ r k. sources_scanned m range order (reads ++ later) r c n ops layers left sources are owns (there r) k)
+              (λ r k. sources_risen m range order (reads ++ later) r n ops layers left sources are k) met);
+        }
+        of reached (inr blamed) = record { left = handles_of left; tables = scan_tables; refused = inr (shown (reads ++ later) at e reached blamed).1 }
 
-      by : OwnRefusal range rows m later at e → IsRefusedByScan m c (reads ++ later) at e
-      by (inl met) = of (met_anywhere rows range m later at e met) (brought later at e (folds (inr met)))
-      by (inr r) = of r.0 (brought later at e (folds (inl r.1)))
+        folds : merge_refuses rows.iterator m later at e ⊎ RefusesFold rows m later at e → Folds rows m later at e
+        folds k = going_refuses (λ d. merge_refuses rows.iterator m later at d ⊎ RefusesFold rows m later at d) rows e going k
 
-  -- what it hands out from then on where there is no operator
-  pub scan_hands : (owns : (k : List ℕ) → AllByRecursion (IsOwnRow c) (own_rows ops k)) → (there : (r : RowEntry) → Contains (flat_map (λ rows. rows) layers) r → Contains (newest_first (memory c)) r) → (rows : Merged) (it : DbIterator) (reads : List Act) → it.state ≡ Walking rows → FoldsAll rows →
-      ((later : List Act) (r : RowEntry) → merge_offers rows.ahead rows.iterator m later (Comes r) → SourcesBring sources m (reads ++ later) r) → (later : List Act) (a : KeyValue) → ScanHands it m later a → IsHandedByScan m c (reads ++ later) a
-  scan_hands owns there rows it reads state_is folds offered later a h = by (subst (λ (s : ScanState). HandsIn s m later a) state_is h)
-    where
-      by : HandsIn (Walking rows) m later a → IsHandedByScan m c (reads ++ later) a
-      by q = record {
-        handles = handles_of x.runs;
-        are = all_handles c.events x.runs w.tied.runs;
-        row = q.row;
-        base = not_open q.row (subst (λ (b : Option ℕ). is_open b q.row ≡ false) folds.1 q.closed);
-        value = q.value;
-        scanned = scanned_of (reads ++ later) q.row (sources_scanned m range order (reads ++ later) q.row c n ops layers left sources are owns (there q.row) (offered later q.row q.brought));
-      }
+        by : OwnRefusal range rows m later at e → IsRefusedByScan policies query m c opening (reads ++ later) at e
+        by (inl met) = of (met_anywhere rows range m later at e met) (brought later at e (folds (inr met)))
+        by (inr r) = of r.0 (brought later at e (folds (inl r.1)))
+
+    -- what it hands out from then on where there is no operator
+    pub scan_hands : (owns : (k : List ℕ) → AllByRecursion (IsOwnRow c) (own_rows ops k)) → (there : (r : RowEntry) → Contains (flat_map (λ rows. rows) layers) r → Contains (newest_first (memory c)) r) → (rows : Merged) (it : DbIterator) (reads : List Act) → it.state ≡ Walking rows → FoldsAll rows →
+        ((later : List Act) (r : RowEntry) → merge_offers rows.ahead rows.iterator m later (Comes r) → SourcesBring sources m (reads ++ later) r) → (later : List Act) (a : KeyValue) → ScanHands it m later a → IsHandedByScan policies query m c opening (reads ++ later) a
+    scan_hands owns there rows it reads state_is folds offered later a h = by (subst (λ (s : ScanState). HandsIn s m later a) state_is h)
+      where
+        by : HandsIn (Walking rows) m later a → IsHandedByScan policies query m c opening (reads ++ later) a
+        by q = record {
+          left = handles_of left;
+          tables = scan_tables;
+          row = q.row;
+          base = not_open q.row (subst (λ (b : Option ℕ). is_open b q.row ≡ false) folds.1 q.closed);
+          value = q.value;
+          scanned = sources_scanned m range order (reads ++ later) q.row c n ops layers left sources are owns (there q.row) (offered later q.row q.brought);
+        }
 
   -- before: the filters were asked
-  pub opening_refused : (policies : List Policy) (query : Option FilterQuery) (before middle after : Reach) (e : SlateDBError) → middle.meaning ≡ m → OnlyReads before middle → Made before middle (λ _. Unit {0}) →
-      Made middle after (λ reads. IsFault middle after e ⊎ IsBlamedFor sources m reads None e) → IsOpeningError policies query before after c e
+  pub opening_refused : (policies : List Policy) (query : Option FilterQuery) (before middle after : Reach) (e : SlateDBError) → middle.meaning ≡ m → OnlyReads before middle →
+      Made before middle (λ reads. AreLetIn before.meaning.decode policies query (handles_of left) reads) → Made middle after (λ reads. IsFault middle after e ⊎ IsBlamedFor sources m reads None e) → IsOpeningError policies query before after c e
   opening_refused policies query before middle after e same first asked (reads, call, inl fault) = inl (fault_earlier before middle after e first.later fault)
   opening_refused policies query before middle after e same first asked (reads, call, inr blamed) =
-      inr (asked.0 ++ reads, call_both before middle after asked.0 reads asked.1 call, inl (subst (λ (k : Meaning). IsShownByScan k c (asked.0 ++ reads) e) (sym same ∙ first.meaning) (shown_later asked.0 reads e (shown_by reads e (shown reads None e tt blamed)))))
+      inr (
+        asked.0 ++ reads,
+        call_both before middle after asked.0 reads asked.1 call,
+        inl (subst (λ (k : Meaning). IsShownByScan policies query k c (asked.0 ++ reads) e) (sym same ∙ first.meaning) (record {
+          left = handles_of left;
+          tables = scan_tables policies query (asked.0 ++ reads) (let_in_before m.decode policies query (handles_of left) asked.0 reads (subst (λ (k : Meaning). AreLetIn k.decode policies query (handles_of left) asked.0) (sym first.meaning ∙ same) asked.2));
+          shown = shown_later m.decode (handles_of left) asked.0 reads e (shown reads None e tt blamed).1;
+        })),
+      )
 
   pub opening_undamaged : (os : Objects) (before after : Reach) (e : SlateDBError) (o : ScanOpens os m c n ops range order sources) → Sees o.world before after → Made before after (λ reads. IsFault before after e ⊎ IsBlamedFor sources m reads None e) → IsFault before after e
   opening_undamaged os before after e o sees (reads, call, inl fault) = fault
@@ -369,12 +369,11 @@ asking_refused policies query before after c x w e (inl fault) = inl fault
 asking_refused policies query before after c x w e (inr (reads, call, s)) = inr (reads, call, inr (record { handles = handles_of x.runs; are = all_handles c.events x.runs w.tied.runs; shown = s }))
 
 -- the same of equal policies, and of an equal query
-pub opening_as : {A : Type 0} (of : A → Policy) (xs ys : List A) → xs ≡ ys → (range : BytesRange) (p q : Option (List ℕ)) → p ≡ q → (u v : Option FilterContext) → u ≡ v → (before after : Reach) (c : CoreModel) (e : SlateDBError) →
-    IsOpeningError (map of xs) (scan_query range p u) before after c e → IsOpeningError (map of ys) (scan_query range q v) before after c e
-opening_as {A} of xs ys policies range p q prefix u v context before after c e h =
-    subst (λ (ws : List A). IsOpeningError (map of ws) (scan_query range q v) before after c e) policies
-    (subst (λ (o : Option (List ℕ)). IsOpeningError (map of xs) (scan_query range o v) before after c e) prefix
-    (subst (λ (o : Option FilterContext). IsOpeningError (map of xs) (scan_query range p o) before after c e) context h))
+pub query_as : {A : Type 0} (of : A → Policy) (xs ys : List A) → xs ≡ ys → (range : BytesRange) (p q : Option (List ℕ)) → p ≡ q → (u v : Option FilterContext) → u ≡ v → (means : List Policy → Option FilterQuery → Type 0) →
+    means (map of xs) (scan_query range p u) → means (map of ys) (scan_query range q v)
+query_as {A} of xs ys policies range p q prefix u v context means h =
+    subst (λ (ws : List A). means (map of ws) (scan_query range q v)) policies
+    (subst (λ (o : Option (List ℕ)). means (map of xs) (scan_query range o v)) prefix (subst (λ (o : Option FilterContext). means (map of xs) (scan_query range p o)) context h))
 
 pub answered_as : {A : Type 0} (of : A → Policy) (xs ys : List A) → xs ≡ ys → (before after : Reach) (c : CoreModel) (means : Objects → Type 0) → ((a : IsAnswered (map of xs) before after c) → means a.os) → (a : IsAnswered (map of ys) before after c) → means a.os
 answered_as {A} of xs ys same before after c means h = subst (λ (ws : List A). (a : IsAnswered (map of ws) before after c) → means a.os) same h
@@ -392,8 +391,8 @@ readable_still policies m m2 os c same r = subst (λ (k : Meaning). IsReadable p
 abbrev LeavesRuns : List Policy → Meaning → Objects → BytesRange → List SortedRun → List SortedRun → Type 0
 LeavesRuns policies m os range runs left = (groups : List (List Rows)) → AreStoredRuns m os runs groups → AreFilteredAs policies m os (handles_of runs) → AreRunsLeft range runs groups left
 
-leaves_runs : (policies : List Policy) (before middle : Reach) (range : BytesRange) (runs left : List SortedRun) → RunsAreLeft policies before middle range runs left → OnlyReads before middle → (os : Objects) → AnswersFrom os before middle → LeavesRuns policies middle.meaning os range runs left
-leaves_runs policies before middle range runs left asked first os answers groups s f =
+leaves_runs : (policies : List Policy) (query : Option FilterQuery) (before middle : Reach) (range : BytesRange) (runs left : List SortedRun) → RunsAreLeft policies query before middle range runs left → OnlyReads before middle → (os : Objects) → AnswersFrom os before middle → LeavesRuns policies middle.meaning os range runs left
+leaves_runs policies query before middle range runs left asked first os answers groups s f =
     asked.others groups os (subst (λ (k : Meaning). AreStoredRuns k os runs groups) first.meaning s) (subst (λ (k : Meaning). AreFilteredAs policies k os (handles_of runs)) first.meaning f) answers
 
 -- readable: objects for which the core is; lefts: what the filters left of its runs, by these
@@ -430,7 +429,7 @@ pub record OpensScan (policies : List Policy) (before after : Reach) (c : CoreMo
   pub checked : (os : Objects) → IsReadable policies before.meaning os c → OrSlips os before after (LeavesSeen os before.meaning c n ops range order it)
 
 -- filters are asked to the middle, and the sources that they left are opened from there on
-module _ (policies : List Policy) (before middle after : Reach) (c : CoreModel) (x : Unseen) (w : IsWhole c x) (left : List SortedRun) (range : BytesRange) (asked : RunsAreLeft policies before middle range x.runs left) (first : OnlyReads before middle) (last : OnlyReads middle after)
+module _ (policies : List Policy) (query : Option FilterQuery) (before middle after : Reach) (c : CoreModel) (x : Unseen) (w : IsWhole c x) (left : List SortedRun) (range : BytesRange) (asked : RunsAreLeft policies query before middle range x.runs left) (first : OnlyReads before middle) (last : OnlyReads middle after)
     (order : IterationOrder) (n : ℕ) (ops : Ops) (fine : AreFine ops) (from : c.floor ≤ n) (active : Rows) (has : HasUpto range n c.active active) (sources : List ScanSource) (are : AreScanSources range order n ops (active ∷ reverse c.frozen) (reverse left) sources)
     (plain : (os : Objects) → IsReadable policies middle.meaning os c → middle.meaning.combine ≡ None → holds_merge ops ≡ false) where
   module _ (os : Objects) (readable : IsReadable policies before.meaning os c) (answers : AnswersFrom os before middle) where
@@ -438,7 +437,7 @@ module _ (policies : List Policy) (before middle after : Reach) (c : CoreModel) 
     still = readable_still policies before.meaning middle.meaning os c first.meaning readable
 
     abbrev lefts_still : LeavesRuns policies middle.meaning os range x.runs left
-    lefts_still = leaves_runs policies before middle range x.runs left asked first os answers
+    lefts_still = leaves_runs policies query before middle range x.runs left asked first os answers
 
     abbrev opens_last : ScanOpens os middle.meaning c n ops range order sources
     opens_last = opens policies middle after c x w left asked.among range order n ops fine from active has sources are os still lefts_still (plain os still)

@@ -5,7 +5,7 @@
 --     IsRunSource range order n run s      those of a run of tables, up to a sequence
 --     AreEach R xs ys      two lists of one length, of which R is true place by place
 --     AreScanSources range order n ops memory runs sources      the own rows, then the memtables, then the runs
---     LeftSources policies before after range order n own active frozen runs made      the sources of a scan: the runs are those that were left to it
+--     LeftSources policies query before after range order n own active frozen runs made      the sources of a scan: the runs are those that were left to it
 --     CanOpen w order s      a source is sound in a world, of the order, and its rows there stand in turn
 --     merged_rows order w sources      the rows of all sources merged, in a world
 --     folded_rows m order w sources      what they fold to, by what the parts mean
@@ -17,6 +17,7 @@ use Rattle.std.specs.Prelude.{◌≡◌, ◌≢◌, ◌⊎◌, ℕ, true, List, 
 use Rattle.slate_types.specs.declared.bytes_range.BytesRange.{BytesRange}
 use Rattle.slate_types.specs.declared.error.SlateDBError.{SlateDBError}
 use Rattle.slate_types.specs.declared.error.SlateDBError.TheVariants.{IteratorNotInitialized}
+use Rattle.slate_types.specs.declared.filter_policy.FilterQuery.{FilterQuery}
 use Rattle.slate_types.specs.declared.iter.IterationOrder.{IterationOrder}
 use Rattle.slate_types.specs.declared.types.RowEntry.{RowEntry}
 use Rattle.slate_types.specs.Fold.{operator_at}
@@ -81,9 +82,9 @@ pub record AreScanSources (range : BytesRange) (order : IterationOrder) (n : ℕ
   pub of_memory : AreEach (IsMemorySource range order n) memory in_memory
   pub of_runs : AreEach (IsRunSource range order n) runs in_runs
 
-pub record LeftSources (policies : List Policy) (before after : Reach) (range : BytesRange) (order : IterationOrder) (n : ℕ) (own : RowList) (active : Rows) (frozen : List Rows) (runs : List SortedRun) (made : List ScanSource) : Type 0 where
+pub record LeftSources (policies : List Policy) (query : Option FilterQuery) (before after : Reach) (range : BytesRange) (order : IterationOrder) (n : ℕ) (own : RowList) (active : Rows) (frozen : List Rows) (runs : List SortedRun) (made : List ScanSource) : Type 0 where
   pub left : List SortedRun
-  pub asked : RunsAreLeft policies before after range runs left
+  pub asked : RunsAreLeft policies query before after range runs left
   pub are : (ops : Ops) → HasRows order (HasOwn range ops) own → AreScanSources range order n ops (active ∷ reverse frozen) (reverse left) made
 
 abbrev pub CanOpen : World → IterationOrder → ScanSource → Type 0

@@ -71,8 +71,8 @@ LeavesSeen os m c n ops range order it = (v : World) × IsWorldOf os m v × Leav
 pub record IsOpened (policies : List Policy) (query : Option FilterQuery) (before after : Reach) (c : CoreModel) (n : ℕ) (ops : Ops) (range : BytesRange) (order : IterationOrder) (result : Result DbIterator SlateDBError) : Type 0 where
   pub opened : c.floor ≤ n → (a : IsAnswered policies before after c) → IfOk result (LeavesSeen a.os before.meaning c n ops range order)
   pub checked : c.floor ≤ n → (os : Objects) → IsReadable policies before.meaning os c → IfOk result (λ it. OrSlips os before after (LeavesSeen os before.meaning c n ops range order it))
-  pub later : IfOk result (λ it. IsFor before.meaning it × Made before after (λ reads. (later : List Act) (at : Option (List ℕ)) (e : SlateDBError) → ScanRefuses it before.meaning later at e → IsRefusedByScan before.meaning c (reads ++ later) at e))
-  pub hands : IfOk result (λ it. Made before after (λ reads. (later : List Act) (a : KeyValue) → ScanHands it before.meaning later a → IsHandedByScan before.meaning c (reads ++ later) a))
+  pub later : IfOk result (λ it. IsFor before.meaning it × Made before after (λ reads. (later : List Act) (at : Option (List ℕ)) (e : SlateDBError) → ScanRefuses it before.meaning later at e → IsRefusedByScan policies query before.meaning c reads (reads ++ later) at e))
+  pub hands : IfOk result (λ it. Made before after (λ reads. (later : List Act) (a : KeyValue) → ScanHands it before.meaning later a → IsHandedByScan policies query before.meaning c reads (reads ++ later) a))
   pub undamaged : c.floor ≤ n → IsAnswered policies before after c → IfErr result (IsFault before after)
   pub cause : IfErr result (IsOpeningError policies query before after c)
   pub still : IsStill before.faults after.faults result

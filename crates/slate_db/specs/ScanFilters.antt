@@ -4,9 +4,10 @@
 --     AreLeft range hs layers left      some of these tables are left; of the others no row is in the range
 --     AreRunsLeft range runs groups left      the same of the tables of each run; a run of which none is left may be left out
 --     AddsRun one old new      a run is added to these, where it has any table
+--     IsLetIn decode policies query h reads, AreLetIn decode policies query hs reads      where the query is one and the table's filters are asked, the reads have these, and they let it through; and the same of several tables
 --     ShowsFilters decode policies query hs reads e      the filters of one of these tables were read, and they are refused, or the bytes of one that was asked
---     AddsLeft policies before after range h old new, TablesAreLeft policies before after range hs left, RunsAreLeft policies before after range runs left
---                 a call left a table, or its keys don't reach the range, or the filters that were read deny it; and the same of several tables, and of runs
+--     AddsLeft policies query before after range h old new, TablesAreLeft policies query before after range hs left, RunsAreLeft policies query before after range runs left
+--                 a call let a table in and left it, or its keys don't reach the range, or the filters that were read deny it; and the same of several tables, and of runs
 --     FailsAsking policies query before after hs e      a call that asked was refused, by a fault or by what such filters show
 use Rattle.std.specs.Prelude.{◌≡◌, ◌≢◌, ◌⊎◌, ℕ, Bool, true, false, if◌then◌else◌, List, [], ◌∷◌, ◌++◌, Contains, Option, Some, None}
 use Rattle.std.specs.List.{AllByRecursion}
@@ -26,6 +27,7 @@ use Rattle.slate_table.specs.Filtered.{RefusesQuery, asks_filters, point_query}
 use Rattle.slate_table.specs.Parts.{Encode}
 use Rattle.slate_table.specs.Reading.{of_filters, whole_answer}
 use Rattle.slate_db.specs.Answered.{AnswersFrom}
+use Rattle.slate_db.specs.Asked.{IsLetThrough}
 use Rattle.slate_db.specs.Checked.{ChecksFrom}
 use Rattle.slate_db.specs.Installs.{handles_of}
 use Rattle.slate_db.specs.Lookup.{AreFilteredAs, AreStoredAs, IsStoredAs}
@@ -67,6 +69,14 @@ AreRunsLeft range (run ∷ runs) [] left = ⊥
 abbrev pub AddsRun : SortedRun → List SortedRun → List SortedRun → Type 0
 AddsRun one old new = ((one.tables.items ≡ []) × (new ≡ old)) ⊎ ((one.tables.items ≢ []) × (new ≡ old ++ (one ∷ [])))
 
+-- ---- what is let in
+
+abbrev pub IsLetIn : Encode → List Policy → Option FilterQuery → SsTableHandle → List Act → Type 0
+IsLetIn decode policies query h reads = (asked : FilterQuery) → query ≡ Some asked → IsLetThrough decode (record { policies = policies; query = asked }) h reads
+
+abbrev pub AreLetIn : Encode → List Policy → Option FilterQuery → List SsTableHandle → List Act → Type 0
+AreLetIn decode policies query hs reads = (h : SsTableHandle) → Contains hs h → IsLetIn decode policies query h reads
+
 -- ---- what is refused
 
 pub record ShowsFilters (decode : Encode) (policies : List Policy) (query : Option FilterQuery) (hs : List SsTableHandle) (reads : List Act) (e : SlateDBError) : Type 0 where
@@ -82,19 +92,22 @@ pub record ShowsFilters (decode : Encode) (policies : List Policy) (query : Opti
 
 -- ---- calls that ask
 
-pub record AddsLeft (policies : List Policy) (before after : Reach) (range : BytesRange) (h : SsTableHandle) (old new : List SsTableHandle) : Type 0 where
+pub record AddsLeft (policies : List Policy) (query : Option FilterQuery) (before after : Reach) (range : BytesRange) (h : SsTableHandle) (old new : List SsTableHandle) : Type 0 where
   pub kept : Bool
   pub are : new ≡ (if kept then old ++ (h ∷ []) else old)
+  pub let_in : Made before after (λ reads. kept ≡ true → IsLetIn before.meaning.decode policies query h reads)
   pub denied : (rows : Rows) (os : Objects) → IsStoredAs before.meaning os h rows → AreFilteredAs policies before.meaning os (h ∷ []) → AnswersFrom os before after → kept ≡ false → ranged range rows ≡ []
   pub checked : (rows : Rows) (os : Objects) → IsStoredAs before.meaning os h rows → ChecksFrom os before after
 
-pub record TablesAreLeft (policies : List Policy) (before after : Reach) (range : BytesRange) (hs left : List SsTableHandle) : Type 0 where
+pub record TablesAreLeft (policies : List Policy) (query : Option FilterQuery) (before after : Reach) (range : BytesRange) (hs left : List SsTableHandle) : Type 0 where
   pub among : (h : SsTableHandle) → Contains left h → Contains hs h
+  pub let_in : Made before after (λ reads. AreLetIn before.meaning.decode policies query left reads)
   pub others : (layers : List Rows) (os : Objects) → AreStoredAs before.meaning os hs layers → AreFilteredAs policies before.meaning os hs → AnswersFrom os before after → AreLeft range hs layers left
   pub checked : (layers : List Rows) (os : Objects) → AreStoredAs before.meaning os hs layers → ChecksFrom os before after
 
-pub record RunsAreLeft (policies : List Policy) (before after : Reach) (range : BytesRange) (runs left : List SortedRun) : Type 0 where
+pub record RunsAreLeft (policies : List Policy) (query : Option FilterQuery) (before after : Reach) (range : BytesRange) (runs left : List SortedRun) : Type 0 where
   pub among : (h : SsTableHandle) → Contains (handles_of left) h → Contains (handles_of runs) h
+  pub let_in : Made before after (λ reads. AreLetIn before.meaning.decode policies query (handles_of left) reads)
   pub others : (groups : List (List Rows)) (os : Objects) → AreStoredRuns before.meaning os runs groups → AreFilteredAs policies before.meaning os (handles_of runs) → AnswersFrom os before after → AreRunsLeft range runs groups left
   pub checked : (groups : List (List Rows)) (os : Objects) → AreStoredRuns before.meaning os runs groups → ChecksFrom os before after
 

@@ -27,11 +27,14 @@
 --     IsShownByFilters policies query m c reads e      the reads show it of the filters of a table that the journal names, which were asked this
 --     IsReadAmong m hs reads r      of some tables one has the row, by reads among these
 --     IsScanned m c hs reads r      so it is, or the row stands in memory, or is of an open transaction's own
---     IsShownByScan m c reads e, IsRefusedByScan m c reads at e      the reads show it of the tables that the journal names; or, but for a seek,
+--     AreScanTables policies query m c opening left      some of the tables that the journal names, which the opening's reads let in
+--     IsShownByScan policies query m c reads e      the reads let in a table that the journal names, and show the error of it
+--     IsRefusedByScan policies query m c opening reads at e      the reads show it of the tables that the opening let in; or, but for a seek,
 --                                                                 such a row is an operand, and there is no operator; or there is one,
 --                                                                 and a row of one of these tables, which was read, has a greater
 --                                                                 sequence than an operand of its key: it names the two
---     IsHandedByScan m c reads a      such a row of the core is no operand, and a is what is seen of it
+--     IsHandedByScan policies query m c opening reads a      such a row of the core is no operand, and a is what is seen of it
+--     IsRefusedByTables m c reads at e      refused so by tables that the journal names, whatever their filters say
 --     IsRefusedInScan policies m c reads e      so it is, or the reads of its opening show it of the filters that were asked
 --     IsOpeningError policies query before after c e, IsScanError policies before after c e      a fault that came in the call, or want of memory, or such a refusal by its reads: an opening meets no operand
 use Rattle.std.specs.Prelude.{◌≡◌, ◌≢◌, ◌⊎◌, ℕ, ◌<◌, true, List, [], filter, count_by, Contains, Option, Some, None, Result, Err, IsSome, slice_get}
@@ -83,7 +86,7 @@ use Rattle.slate_db.specs.Installs.{AreHandles, tables_of}
 use Rattle.slate_db.specs.Meaning.{rules_of}
 use Rattle.slate_db.specs.Model.{CoreModel, memory}
 use Rattle.slate_db.specs.Readable.{IsOwnRow}
-use Rattle.slate_db.specs.ScanFilters.{ShowsFilters}
+use Rattle.slate_db.specs.ScanFilters.{AreLetIn, ShowsFilters}
 use Rattle.slate_db.specs.Values.{IsUnfolded}
 pub use Rattle.slate_db.specs.Values.{has_value}
 
@@ -276,11 +279,18 @@ HasLeft m c it rows = (t : Tx) → find_named (id_of it) c.state.txns ≡ Some t
 abbrev pub ShowsAmong : Encode → List SsTableHandle → List Act → SlateDBError → Type 0
 ShowsAmong decode hs reads e = (table : SsTableHandle) × Contains hs table × ShowsByReads decode table reads e
 
--- handles: what is kept of the tables that the journal names
-pub record IsShownByScan (m : Meaning) (c : CoreModel) (reads : List Act) (e : SlateDBError) : Type 0 where
+-- policies, query: what filters were asked; opening: the reads of the call that asked; handles: what is kept of the tables that the journal names
+pub record AreScanTables (policies : List Policy) (query : Option FilterQuery) (m : Meaning) (c : CoreModel) (opening : List Act) (left : List SsTableHandle) : Type 0 where
   pub handles : List SsTableHandle
   pub are : AreHandles (tables_of c.events) handles
-  pub shown : ShowsAmong m.decode handles reads e
+  pub among : (h : SsTableHandle) → Contains left h → Contains handles h
+  pub asked : AreLetIn m.decode policies query left opening
+
+-- of a call that asked itself
+pub record IsShownByScan (policies : List Policy) (query : Option FilterQuery) (m : Meaning) (c : CoreModel) (reads : List Act) (e : SlateDBError) : Type 0 where
+  pub left : List SsTableHandle
+  pub tables : AreScanTables policies query m c reads left
+  pub shown : ShowsAmong m.decode left reads e
 
 -- of some tables one has the row: its index was read, and a read of neighbouring blocks shows one that has it
 abbrev pub IsReadAmong : Meaning → List SsTableHandle → List Act → RowEntry → Type 0
@@ -290,18 +300,22 @@ abbrev pub IsScanned : Meaning → CoreModel → List SsTableHandle → List Act
 IsScanned m c hs reads r = IsOwnRow c r ⊎ Contains (newest_first (memory c)) r ⊎ IsReadAmong m hs reads r
 
 -- at: the key of a seek, none in the other calls
-pub record IsRefusedByScan (m : Meaning) (c : CoreModel) (reads : List Act) (at : Option (List ℕ)) (e : SlateDBError) : Type 0 where
-  pub handles : List SsTableHandle
-  pub are : AreHandles (tables_of c.events) handles
-  pub refused : RefusesBrought (IsScanned m c handles reads) (IsReadAmong m handles reads) m at e ⊎ ShowsAmong m.decode handles reads e
+pub record IsRefusedByScan (policies : List Policy) (query : Option FilterQuery) (m : Meaning) (c : CoreModel) (opening reads : List Act) (at : Option (List ℕ)) (e : SlateDBError) : Type 0 where
+  pub left : List SsTableHandle
+  pub tables : AreScanTables policies query m c opening left
+  pub refused : RefusesBrought (IsScanned m c left reads) (IsReadAmong m left reads) m at e ⊎ ShowsAmong m.decode left reads e
 
-pub record IsHandedByScan (m : Meaning) (c : CoreModel) (reads : List Act) (a : KeyValue) : Type 0 where
-  pub handles : List SsTableHandle
-  pub are : AreHandles (tables_of c.events) handles
+pub record IsHandedByScan (policies : List Policy) (query : Option FilterQuery) (m : Meaning) (c : CoreModel) (opening reads : List Act) (a : KeyValue) : Type 0 where
+  pub left : List SsTableHandle
+  pub tables : AreScanTables policies query m c opening left
   pub row : RowEntry
   pub base : is_base row ≡ true
   pub value : a ≡ key_value row
-  pub scanned : IsScanned m c handles reads row
+  pub scanned : IsScanned m c left reads row
+
+-- nothing was asked
+abbrev pub IsRefusedByTables : Meaning → CoreModel → List Act → Option (List ℕ) → SlateDBError → Type 0
+IsRefusedByTables m c reads at e = IsRefusedByScan [] None m c [] reads at e
 
 pub record IsShownByFilters (policies : List Policy) (query : Option FilterQuery) (m : Meaning) (c : CoreModel) (reads : List Act) (e : SlateDBError) : Type 0 where
   pub handles : List SsTableHandle
@@ -310,11 +324,11 @@ pub record IsShownByFilters (policies : List Policy) (query : Option FilterQuery
 
 -- policies, query: what filters are asked
 abbrev pub IsOpeningError : List Policy → Option FilterQuery → Reach → Reach → CoreModel → SlateDBError → Type 0
-IsOpeningError policies query before after c e = IsFault before after e ⊎ Made before after (λ reads. IsShownByScan before.meaning c reads e ⊎ IsShownByFilters policies query before.meaning c reads e)
+IsOpeningError policies query before after c e = IsFault before after e ⊎ Made before after (λ reads. IsShownByScan policies query before.meaning c reads e ⊎ IsShownByFilters policies query before.meaning c reads e)
 
 -- policies: those that the opening asked
 abbrev pub IsRefusedInScan : List Policy → Meaning → CoreModel → List Act → SlateDBError → Type 0
-IsRefusedInScan policies m c reads e = ((at : Option (List ℕ)) × IsRefusedByScan m c reads at e) ⊎ ((query : Option FilterQuery) × IsShownByFilters policies query m c reads e)
+IsRefusedInScan policies m c reads e = ((at : Option (List ℕ)) × IsRefusedByTables m c reads at e) ⊎ ((query : Option FilterQuery) × IsShownByFilters policies query m c reads e)
 
 abbrev pub IsScanError : List Policy → Reach → Reach → CoreModel → SlateDBError → Type 0
 IsScanError policies before after c e = IsFault before after e ⊎ Made before after (λ reads. IsRefusedInScan policies before.meaning c reads e)

@@ -288,8 +288,7 @@ fn asked_sources<'a, S: Store, M: MergeOperator, T: BlockTransformer>(
     requires prefix { (p k : List ℕ) → options.now.prefix ≡ Some p → in_range range.now k ≡ true → starts_with nat_eq k p ≡ true }
     requires fetches { CanFetch options.now }
     ensures sources { let reach = ⟦<EnvOf<S, M, T> as Outside>⟧.reach in
-        IfOk result (λ made. LeftSources (map (λ p. meaning p) policies.now) (reach env.old) (reach env.new) range.now options.now.order begin own active.now.rows (map (λ t. t.rows) frozen.now) runs.now made.items) }
-    ensures made { let reach = ⟦<EnvOf<S, M, T> as Outside>⟧.reach in OnOk result (Made (reach env.old) (reach env.new) (λ _. Unit {0})) }
+        IfOk result (λ made. LeftSources (map (λ p. meaning p) policies.now) (scan_query range.now options.now.prefix options.now.filter_context) (reach env.old) (reach env.new) range.now options.now.order begin own active.now.rows (map (λ t. t.rows) frozen.now) runs.now made.items) }
     ensures refused { let reach = ⟦<EnvOf<S, M, T> as Outside>⟧.reach in
         IfErr result (FailsAsking (map (λ p. meaning p) policies.now) (scan_query range.now options.now.prefix options.now.filter_context) (reach env.old) (reach env.new) (handles_of runs.now)) }
     ensures reads { let reach = ⟦<EnvOf<S, M, T> as Outside>⟧.reach in OnlyReads (reach env.old) (reach env.new) }

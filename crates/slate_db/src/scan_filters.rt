@@ -11,7 +11,7 @@ ghost use Rattle.slate_db.specs.Checked.{ChecksFrom};
 ghost use Rattle.slate_db.specs.Installs.{handles_of};
 ghost use Rattle.slate_db.specs.Lookup.{AreFilteredAs, IsStoredAs};
 ghost use Rattle.slate_db.specs.Model.{Rows};
-ghost use Rattle.slate_db.specs.ScanFilters.{AddsLeft, AddsRun, Covers, FailsAsking, RunsAreLeft, TablesAreLeft, scan_query};
+ghost use Rattle.slate_db.specs.ScanFilters.{AddsLeft, AddsRun, Covers, FailsAsking, IsLetIn, RunsAreLeft, TablesAreLeft, scan_query};
 
 use crate::flush::ROOT;
 use crate::open_scan::{copy_contexts, copy_handle};
@@ -59,7 +59,8 @@ fn is_left<S: Store, M: MergeOperator, T: BlockTransformer>(
         IfOk result (λ left. left ≡ false → ranged range.now rows ≡ []) }
     ensures checked { let reach = ⟦<EnvOf<S, M, T> as Outside>⟧.reach in
         (rows : Rows) (os : Objects) → IsStoredAs (reach env.old).meaning os table.now rows → OnOk result (ChecksFrom os (reach env.old) (reach env.new)) }
-    ensures made { let reach = ⟦<EnvOf<S, M, T> as Outside>⟧.reach in OnOk result (Made (reach env.old) (reach env.new) (λ _. Unit {0})) }
+    ensures let_in { let reach = ⟦<EnvOf<S, M, T> as Outside>⟧.reach in
+        IfOk result (λ left. Made (reach env.old) (reach env.new) (λ reads. left ≡ true → IsLetIn (reach env.old).meaning.decode (map (λ p. meaning p) policies.now) query.now table.now reads)) }
     ensures refused { let reach = ⟦<EnvOf<S, M, T> as Outside>⟧.reach in IfErr result (FailsAsking (map (λ p. meaning p) policies.now) query.now (reach env.old) (reach env.new) (table.now ∷ [])) }
     ensures reads { let reach = ⟦<EnvOf<S, M, T> as Outside>⟧.reach in OnlyReads (reach env.old) (reach env.new) }
     ensures still { let reach = ⟦<EnvOf<S, M, T> as Outside>⟧.reach in
@@ -101,8 +102,7 @@ fn add_left<S: Store, M: MergeOperator, T: BlockTransformer>(
     env: &mut Env<'_, S, M, T>,
 ) -> Result<(), SlateDBError>
     requires { Covers query.now range.now }
-    ensures added { let reach = ⟦<EnvOf<S, M, T> as Outside>⟧.reach in OnOk result (AddsLeft (map (λ p. meaning p) policies.now) (reach env.old) (reach env.new) range.now table.now left.old.items left.new.items) }
-    ensures made { let reach = ⟦<EnvOf<S, M, T> as Outside>⟧.reach in OnOk result (Made (reach env.old) (reach env.new) (λ _. Unit {0})) }
+    ensures added { let reach = ⟦<EnvOf<S, M, T> as Outside>⟧.reach in OnOk result (AddsLeft (map (λ p. meaning p) policies.now) query.now (reach env.old) (reach env.new) range.now table.now left.old.items left.new.items) }
     ensures refused { let reach = ⟦<EnvOf<S, M, T> as Outside>⟧.reach in IfErr result (FailsAsking (map (λ p. meaning p) policies.now) query.now (reach env.old) (reach env.new) (table.now ∷ [])) }
     ensures reads { let reach = ⟦<EnvOf<S, M, T> as Outside>⟧.reach in OnlyReads (reach env.old) (reach env.new) }
     ensures still { let reach = ⟦<EnvOf<S, M, T> as Outside>⟧.reach in
@@ -126,8 +126,7 @@ fn tables_left<S: Store, M: MergeOperator, T: BlockTransformer>(
     env: &mut Env<'_, S, M, T>,
 ) -> Result<Vec<SsTableHandle>, SlateDBError>
     requires { Covers query.now range.now }
-    ensures left { let reach = ⟦<EnvOf<S, M, T> as Outside>⟧.reach in IfOk result (λ left. TablesAreLeft (map (λ p. meaning p) policies.now) (reach env.old) (reach env.new) range.now tables.now left.items) }
-    ensures made { let reach = ⟦<EnvOf<S, M, T> as Outside>⟧.reach in OnOk result (Made (reach env.old) (reach env.new) (λ _. Unit {0})) }
+    ensures left { let reach = ⟦<EnvOf<S, M, T> as Outside>⟧.reach in IfOk result (λ left. TablesAreLeft (map (λ p. meaning p) policies.now) query.now (reach env.old) (reach env.new) range.now tables.now left.items) }
     ensures refused { let reach = ⟦<EnvOf<S, M, T> as Outside>⟧.reach in IfErr result (FailsAsking (map (λ p. meaning p) policies.now) query.now (reach env.old) (reach env.new) tables.now) }
     ensures reads { let reach = ⟦<EnvOf<S, M, T> as Outside>⟧.reach in OnlyReads (reach env.old) (reach env.new) }
     ensures still { let reach = ⟦<EnvOf<S, M, T> as Outside>⟧.reach in
@@ -150,8 +149,7 @@ fn run_left<S: Store, M: MergeOperator, T: BlockTransformer>(
     env: &mut Env<'_, S, M, T>,
 ) -> Result<SortedRun, SlateDBError>
     requires { Covers query.now range.now }
-    ensures left { let reach = ⟦<EnvOf<S, M, T> as Outside>⟧.reach in IfOk result (λ left. TablesAreLeft (map (λ p. meaning p) policies.now) (reach env.old) (reach env.new) range.now run.now.tables.items left.tables.items) }
-    ensures made { let reach = ⟦<EnvOf<S, M, T> as Outside>⟧.reach in OnOk result (Made (reach env.old) (reach env.new) (λ _. Unit {0})) }
+    ensures left { let reach = ⟦<EnvOf<S, M, T> as Outside>⟧.reach in IfOk result (λ left. TablesAreLeft (map (λ p. meaning p) policies.now) query.now (reach env.old) (reach env.new) range.now run.now.tables.items left.tables.items) }
     ensures refused { let reach = ⟦<EnvOf<S, M, T> as Outside>⟧.reach in IfErr result (FailsAsking (map (λ p. meaning p) policies.now) query.now (reach env.old) (reach env.new) run.now.tables.items) }
     ensures reads { let reach = ⟦<EnvOf<S, M, T> as Outside>⟧.reach in OnlyReads (reach env.old) (reach env.new) }
     ensures still { let reach = ⟦<EnvOf<S, M, T> as Outside>⟧.reach in
@@ -183,8 +181,7 @@ pub(crate) fn runs_left<S: Store, M: MergeOperator, T: BlockTransformer>(
     env: &mut Env<'_, S, M, T>,
 ) -> Result<Vec<SortedRun>, SlateDBError>
     requires { Covers query.now range.now }
-    ensures left { let reach = ⟦<EnvOf<S, M, T> as Outside>⟧.reach in IfOk result (λ left. RunsAreLeft (map (λ p. meaning p) policies.now) (reach env.old) (reach env.new) range.now runs.now left.items) }
-    ensures made { let reach = ⟦<EnvOf<S, M, T> as Outside>⟧.reach in OnOk result (Made (reach env.old) (reach env.new) (λ _. Unit {0})) }
+    ensures left { let reach = ⟦<EnvOf<S, M, T> as Outside>⟧.reach in IfOk result (λ left. RunsAreLeft (map (λ p. meaning p) policies.now) query.now (reach env.old) (reach env.new) range.now runs.now left.items) }
     ensures refused { let reach = ⟦<EnvOf<S, M, T> as Outside>⟧.reach in IfErr result (FailsAsking (map (λ p. meaning p) policies.now) query.now (reach env.old) (reach env.new) (handles_of runs.now)) }
     ensures reads { let reach = ⟦<EnvOf<S, M, T> as Outside>⟧.reach in OnlyReads (reach env.old) (reach env.new) }
     ensures still { let reach = ⟦<EnvOf<S, M, T> as Outside>⟧.reach in

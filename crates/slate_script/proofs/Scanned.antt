@@ -5,6 +5,7 @@ use Rattle.std.proofs.lemmas.List.{length-append}
 use Rattle.slate_types.specs.declared.bytes_range.BytesRange.{BytesRange}
 use Rattle.slate_types.specs.declared.error.SlateDBError.{SlateDBError}
 use Rattle.slate_types.specs.declared.error.SlateDBError.TheVariants.{OutOfMemory}
+use Rattle.slate_types.specs.declared.filter_policy.FilterQuery.{FilterQuery}
 use Rattle.slate_types.specs.declared.iter.IterationOrder.{IterationOrder}
 use Rattle.slate_types.specs.declared.types.KeyValue.{KeyValue}
 use Rattle.slate_types.specs.declared.types.RowEntry.{RowEntry}
@@ -33,8 +34,9 @@ use Rattle.slate_db.specs.Checked.{OrSlips}
 use Rattle.slate_db.specs.Meaning.{rules_in, Meaning, rules_of}
 use Rattle.slate_db.specs.Model.{CoreModel}
 use Rattle.slate_db.specs.Readable.{IsAnswered, IsReadable}
-use Rattle.slate_db.specs.Scans.{IsOpenScan, IsRefusedByScan, IsScanError, IsScanOf, IsWorldOf, Leaves, LeavesIn, ScanRefuses, id_of, number_of, scan_of}
+use Rattle.slate_db.specs.Scans.{IsOpenScan, IsRefusedByScan, IsRefusedByTables, IsScanError, IsScanOf, IsWorldOf, Leaves, LeavesIn, ScanRefuses, id_of, number_of, scan_of}
 use Rattle.slate_db.specs.Sound.{IsKept}
+use Rattle.slate_db.proofs.RowDamage.{by_tables}
 use Rattle.slate_db.proofs.ScanWorlds.{or_slips_world, world_holds}
 use Rattle.slate_script.specs.Scanning.{Took, Fails, HandsOut, HasScanned, IsNoted}
 use Rattle.slate_script.specs.Walking.{Means, TakesStep, TakesSteps, Walks}
@@ -264,18 +266,18 @@ pub record Opened (policies : List Policy) (a b : Reach) (k l : CoreModel) (id :
   pub names : IsScanOf id from.scans order range x
   pub left : (is : IsAnswered policies a b k) → LeavesIn is.os a.meaning x (rows_seen (rules_of k.settings a.meaning) k.state.commits from.at from.ops order range)
   pub checked : (os : Objects) → IsReadable policies a.meaning os k → OrSlips os a b (LeavesIn os a.meaning x (rows_seen (rules_of k.settings a.meaning) k.state.commits from.at from.ops order range))
-  pub later : Made a b (λ reads. (later : List Act) (at : Option (List ℕ)) (e : SlateDBError) → ScanRefuses (scan_of x) a.meaning later at e → IsRefusedByScan a.meaning k (reads ++ later) at e)
+  pub later : Made a b (λ reads. (later : List Act) (at : Option (List ℕ)) (e : SlateDBError) → ScanRefuses (scan_of x) a.meaning later at e → IsRefusedByTables a.meaning k (reads ++ later) at e)
   pub kept : (m : Meaning) → IsKept m k → IsKept m l
 
-pub opened_by : (policies : List Policy) (a b : Reach) (k l : CoreModel) (id : List ℕ) (order : IterationOrder) (range : BytesRange) (x : TxnIterator) → IsSome (reader k.state id) → l ≡ record k { state = noted k.state id (steps.Scan order range ∷ []) } →
+pub opened_by : (policies : List Policy) (query : Option FilterQuery) (a b : Reach) (k l : CoreModel) (id : List ℕ) (order : IterationOrder) (range : BytesRange) (x : TxnIterator) → IsSome (reader k.state id) → l ≡ record k { state = noted k.state id (steps.Scan order range ∷ []) } →
     ((from : Reader) → reader k.state id ≡ Some from → IsScanOf id from.scans order range x) →
     ((from : Reader) → reader k.state id ≡ Some from → (is : IsAnswered policies a b k) → LeavesIn is.os a.meaning x (rows_seen (rules_of k.settings a.meaning) k.state.commits from.at from.ops order range)) →
     ((from : Reader) → reader k.state id ≡ Some from → (os : Objects) → IsReadable policies a.meaning os k → OrSlips os a b (LeavesIn os a.meaning x (rows_seen (rules_of k.settings a.meaning) k.state.commits from.at from.ops order range))) →
-    Made a b (λ reads. (later : List Act) (at : Option (List ℕ)) (e : SlateDBError) → ScanRefuses (scan_of x) a.meaning later at e → IsRefusedByScan a.meaning k (reads ++ later) at e) → ((m : Meaning) → IsKept m k → IsKept m l) →
+    Made a b (λ reads. (later : List Act) (at : Option (List ℕ)) (e : SlateDBError) → ScanRefuses (scan_of x) a.meaning later at e → IsRefusedByScan policies query a.meaning k reads (reads ++ later) at e) → ((m : Meaning) → IsKept m k → IsKept m l) →
     Opened policies a b k l id order range x
-opened_by policies a b k l id order range x some notes names left checked later kept =
+opened_by policies query a b k l id order range x some notes names left checked later kept =
     let from = named_of (reader k.state id) some in
-    record { from = from.value; found = from.is; notes = notes; names = names from.value from.is; left = left from.value from.is; checked = checked from.value from.is; later = later; kept = kept }
+    record { from = from.value; found = from.is; notes = notes; names = names from.value from.is; left = left from.value from.is; checked = checked from.value from.is; later = (later.0, later.1, λ more at e h. by_tables a.meaning k later.0 (later.0 ++ more) at e (later.2 more at e h)); kept = kept }
 
 pub opens_scan : (policies : List Policy) (a b : Reach) (k l : CoreModel) (id : List ℕ) (order : IterationOrder) (range : BytesRange) (x : TxnIterator) → Opened policies a b k l id order range x → IsOpenScan l x
 opens_scan policies a b k l id order range x h = stays_open k l id (steps.Scan order range ∷ []) x h.notes h.names.named (noted_reads k.state id (steps.Scan order range ∷ []) (subst IsSome (sym h.found) refl))

@@ -65,7 +65,7 @@ use Rattle.slate_steps.specs.Reads.{IsMetBy, IsReadError, IsScanSince, IsUnslipp
 use Rattle.slate_steps.specs.Steps.{IsNext}
 use Rattle.slate_steps.proofs.Attempts.{attempt_alone, attempt_alone_before, attempt_left, attempt_noted, attempt_own_more, attempt_plain, attempt_stays, vouched_begun, vouched_on, vouched_own}
 use Rattle.slate_steps.proofs.Ending.{all_tracked}
-use Rattle.slate_steps.proofs.Reading.{if_err_map, if_ok_map, next_error, on_ok_map, scan_error, since_next}
+use Rattle.slate_steps.proofs.Reading.{if_err_map, if_ok_map, next_error, on_ok_map, scan_error, since_next, since_opening}
 use Rattle.slate_steps.proofs.StoreTruth.{readable_core, store_answered, true_of}
 
 read_core : (o : Options) (m n : Meaning) (t : Opened) (seen : List Event) (c : CoreModel) → m ≡ n → holds_merge t.tx.ops ≡ false → IsCoreOf o m t seen c → IsReadCore o n seen c
@@ -224,7 +224,7 @@ module _ (o : Options) (m : Meaning) (policies : List Policy) (query : Option Fi
           IsScanSinceOn o before after new.seen it
       by (inl nothing) = cc nothing.0
       by (inr (c, core, inl is)) = cc is
-      by (inr (c, core, inr is)) = (c, read_core o m before.meaning old new.seen c meant (attempt_plain o from level ts old a) core, is.later.1)
+      by (inr (c, core, inr is)) = (c, read_core o m before.meaning old new.seen c meant (attempt_plain o from level ts old a) core, since_opening policies query before after c it is.later.1)
 
   pub scan_cause : (r : Result TxnIterator SlateDBError) → Opens r → (from : List Event) (level : IsolationLevel) (ts : List TranscriptStep) → IsAttempt o from level ts old → m ≡ before.meaning → IfErr r (IsReadErrorOn o policies before after new.seen)
   scan_cause (Ok it) h from level ts a meant = tt

@@ -33,10 +33,11 @@ use Rattle.slate_db.specs.Meaning.{rules_of}
 use Rattle.slate_db.specs.Model.{CoreModel}
 use Rattle.slate_db.specs.Readable.{IsAnswered, IsReadable}
 use Rattle.slate_db.specs.Readable as gets
-use Rattle.slate_db.specs.Scans.{IsOpeningError, IsRefusedByScan, IsScanError, IsScanOf, IsWorldOf, Leaves, LeavesIn, ScanRefuses, number_of, scan_of}
+use Rattle.slate_db.specs.Scans.{IsFor, IsOpeningError, IsRefusedByScan, IsRefusedByTables, IsScanError, IsScanOf, IsWorldOf, Leaves, LeavesIn, ScanRefuses, number_of, scan_of}
 use Rattle.slate_db.specs.Settled.{IsSettled, IsSettledIn}
 use Rattle.slate_db.specs.Shown.{Asking}
 use Rattle.slate_db.specs.Vouched.{IsVouchedFor}
+use Rattle.slate_db.proofs.RowDamage.{by_tables, opening_scan}
 use Rattle.slate_db.proofs.ScanWorlds.{sees_world, slips_of_world, world_holds}
 use Rattle.slate_db.proofs.Settled.{settled_answered, settled_readable, true_answered}
 use Rattle.slate_steps.specs.Reads.{IsChecked, IsMetBy, IsReadError, IsReading, IsScanSince, of_get, of_scan}
@@ -191,13 +192,18 @@ as_reading {E} r os m c ts order order' range range' o g h =
     subst (λ (x : IterationOrder). IfOk r (λ it. IsReading os m c (ts ++ (steps.Scan x range' ∷ [])) it (rows_seen (rules_of c.settings m) c.state.commits (newest c) (own_of ts) x range'))) o
     (subst (λ (x : BytesRange). IfOk r (λ it. IsReading os m c (ts ++ (steps.Scan order x ∷ [])) it (rows_seen (rules_of c.settings m) c.state.commits (newest c) (own_of ts) order x))) g h)
 
-opening_error : (policies : List Policy) (query : Option FilterQuery) (before after : Reach) (d : CoreModel) (e : SlateDBError) → IsOpeningError policies query before after d e → IsScanError policies before after d e
-opening_error policies query before after d e (inl fault) = inl fault
-opening_error policies query before after d e (inr (reads, call, inl shown)) = inr (reads, call, inl (None, record { handles = shown.handles; are = shown.are; refused = inr shown.shown }))
-opening_error policies query before after d e (inr (reads, call, inr shown)) = inr (reads, call, inr (query, shown))
+-- what an opening says of later calls
+pub since_opening : (policies : List Policy) (query : Option FilterQuery) (before after : Reach) (c : CoreModel) (x : TxnIterator) →
+    Made before after (λ reads. (later : List Act) (at : Option (List ℕ)) (e : SlateDBError) → ScanRefuses (scan_of x) before.meaning later at e → IsRefusedByScan policies query before.meaning c reads (reads ++ later) at e) → IsScanSince before after c x
+since_opening policies query before after c x (reads, call, refuses) = (reads, call, λ later at e h. by_tables before.meaning c reads (reads ++ later) at e (refuses later at e h))
+
+pub opens_since : (r : Result TxnIterator SlateDBError) (policies : List Policy) (query : Option FilterQuery) (before after : Reach) (c : CoreModel) →
+    IfOk r (λ it. IsFor before.meaning (scan_of it) × Made before after (λ reads. (later : List Act) (at : Option (List ℕ)) (e : SlateDBError) → ScanRefuses (scan_of it) before.meaning later at e → IsRefusedByScan policies query before.meaning c reads (reads ++ later) at e)) →
+    IfOk r (IsScanSince before after c)
+opens_since r policies query before after c h = if_ok_map r _ _ (λ it o. since_opening policies query before after c it o.1) h
 
 pub scan_error : {A : Type 0} (r : Result A SlateDBError) (policies : List Policy) (query : Option FilterQuery) (before after : Reach) (d : CoreModel) → IfErr r (IsOpeningError policies query before after d) → IfErr r (IsReadError policies before after d)
-scan_error r policies query before after d h = if_err_map r _ _ (λ e x. of_scan (opening_error policies query before after d e x)) h
+scan_error r policies query before after d h = if_err_map r _ _ (λ e x. of_scan (opening_scan before after d e x)) h
 
 -- ---- a next
 
@@ -273,7 +279,7 @@ since_next (Ok a) from before after c x y (first, call, refuses) (second, more, 
   call_both from before after first second call more,
   λ later at e h.
       let meant : before.meaning ≡ from.meaning = call.meaning in
-      subst (λ (l : List Act). IsRefusedByScan from.meaning c l at e) (sym (append_assoc first second later))
+      subst (λ (l : List Act). IsRefusedByTables from.meaning c l at e) (sym (append_assoc first second later))
       (refuses (second ++ later) at e (subst (λ (m : Meaning). ScanRefuses (scan_of x) m (second ++ later) at e) meant
       (none later at e (subst (λ (m : Meaning). ScanRefuses (scan_of y) m later at e) (sym meant) h)))),
 )

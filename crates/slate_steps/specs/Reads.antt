@@ -28,7 +28,7 @@ use Rattle.slate_db.specs.Checked.{SlipsFrom}
 use Rattle.slate_db.specs.Meaning.{Meaning, rules_of}
 use Rattle.slate_db.specs.Model.{CoreModel}
 use Rattle.slate_db.specs.Readable as gets
-use Rattle.slate_db.specs.Scans.{IsRefusedByScan, IsScanError, LeavesIn, ScanRefuses, number_of, scan_of}
+use Rattle.slate_db.specs.Scans.{IsRefusedByTables, IsScanError, LeavesIn, ScanRefuses, number_of, scan_of}
 use Rattle.slate_db.specs.Settled.{IsSettled, IsSettledIn}
 use Rattle.slate_steps.specs.Steps.{IsWithin, newest}
 
@@ -80,4 +80,4 @@ pub record IsReading (os : Objects) (m : Meaning) (c : CoreModel) (ts : List Tra
   pub leaves : LeavesIn os m it rows
 
 abbrev pub IsScanSince : Reach → Reach → CoreModel → TxnIterator → Type 0
-IsScanSince from now c it = Made from now (λ reads. (later : List Act) (at : Option (List ℕ)) (e : SlateDBError) → ScanRefuses (scan_of it) from.meaning later at e → IsRefusedByScan from.meaning c (reads ++ later) at e)
+IsScanSince from now c it = Made from now (λ reads. (later : List Act) (at : Option (List ℕ)) (e : SlateDBError) → ScanRefuses (scan_of it) from.meaning later at e → IsRefusedByTables from.meaning c (reads ++ later) at e)

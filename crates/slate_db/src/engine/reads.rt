@@ -306,10 +306,10 @@ impl Core {
             IfOk result (λ it. OrSlips os (reach env.old) (reach env.new) ((w : World) × IsWorldOf os m w × Leaves it w (rows_seen (rules_of self.now.settings m) self.now.state.commits begin from.ops how.order range))) }
         ensures later { let reach = ⟦<EnvOf<S, M, T> as Outside>⟧.reach in
             let m = (reach env.old).meaning in
-            IfOk result (λ it. IsFor m it × Made (reach env.old) (reach env.new) (λ reads. (later : List Act) (at : Option (List ℕ)) (e : SlateDBError) → ScanRefuses it m later at e → IsRefusedByScan m self.now (reads ++ later) at e)) }
+            IfOk result (λ it. IsFor m it × Made (reach env.old) (reach env.new) (λ reads. (later : List Act) (at : Option (List ℕ)) (e : SlateDBError) → ScanRefuses it m later at e → IsRefusedByScan (map (λ p. meaning p) policies.now) (scan_query range how.prefix how.filter_context) m self.now reads (reads ++ later) at e)) }
         ensures hands { let reach = ⟦<EnvOf<S, M, T> as Outside>⟧.reach in
             let m = (reach env.old).meaning in
-            IfOk result (λ it. Made (reach env.old) (reach env.new) (λ reads. (later : List Act) (a : KeyValue) → ScanHands it m later a → IsHandedByScan m self.now (reads ++ later) a)) }
+            IfOk result (λ it. Made (reach env.old) (reach env.new) (λ reads. (later : List Act) (a : KeyValue) → ScanHands it m later a → IsHandedByScan (map (λ p. meaning p) policies.now) (scan_query range how.prefix how.filter_context) m self.now reads (reads ++ later) a)) }
         ensures undamaged { let reach = ⟦<EnvOf<S, M, T> as Outside>⟧.reach in self.now.floor ≤ begin → IsAnswered (map (λ p. meaning p) policies.now) (reach env.old) (reach env.new) self.now → IfErr result (IsFault (reach env.old) (reach env.new)) }
         ensures cause { let reach = ⟦<EnvOf<S, M, T> as Outside>⟧.reach in IfErr result (IsOpeningError (map (λ p. meaning p) policies.now) (scan_query range how.prefix how.filter_context) (reach env.old) (reach env.new) self.now) }
         ensures range { IfOk result (λ it. it.range ≡ range) }
@@ -337,14 +337,15 @@ impl Core {
     /// Opens a scan of an open transaction or an open snapshot over the rows in a range, in an order. The rows are fixed now: later
     /// calls change nothing of them. The opening is noted in the transaction's transcript; a snapshot has none. Where a prefix is
     /// given each key of the range must begin with it. The filters of tables that can hold a key of the range are asked first, for the
-    /// key where the range is a point, else for the prefix, with the options' context: a denied table costs one read.
+    /// key where the range is a point, else for the prefix, with the options' context: a denied table costs one read. One is *let in*
+    /// where its filters, if it has any that are asked, were read in this call and deny nothing.
     ///
     /// Refuses by `InvalidRange` exactly where the bounds make no range, and then nothing is reached; by `StoreFault` and
     /// `BlockTransformError`, each only where its count of faults rose; by `ChecksumMismatch`, `CorruptTable`, `InvalidRowFlags` and
-    /// `InvalidFilterBlock`, only where reads of this call show it, of a table that the journal names; and by `OutOfMemory`. Then
-    /// nothing is noted.
+    /// `InvalidFilterBlock`, only where reads of this call show it, of the filters of a table that the journal names, or of one of
+    /// these tables that was let in; and by `OutOfMemory`. Then nothing is noted.
     ///
-    /// Calls on the iterator refuse later by what the reads since show of such a table; and, but for seeks, by
+    /// Calls on the iterator refuse later by what the reads since show of a table that was let in; and, but for seeks, by
     /// `MergeOperatorMissing`, only where there is no operator and a row is an operand, and by `InvalidSequenceOrder`, only where
     /// there is one and a row has a greater sequence than an operand of its key: it names the two sequences. Each of these rows is
     /// of an open transaction's own, stood in memory at the opening, or stands in a block of such a table that was read since. So is
@@ -380,10 +381,10 @@ impl Core {
             (from : Reader) → reader self.old.state id.now ≡ Some from → IfOk result (λ it. HasLeft m self.new it (rows_seen (rules_of self.old.settings m) self.old.state.commits from.at from.ops options.now.order range)) }
         ensures later { let reach = ⟦<EnvOf<S, M, T> as Outside>⟧.reach in
             let m = (reach env.old).meaning in
-            IfOk result (λ it. IsFor m (scan_of it) × Made (reach env.old) (reach env.new) (λ reads. (later : List Act) (at : Option (List ℕ)) (e : SlateDBError) → ScanRefuses (scan_of it) m later at e → IsRefusedByScan m self.old (reads ++ later) at e)) }
+            IfOk result (λ it. IsFor m (scan_of it) × Made (reach env.old) (reach env.new) (λ reads. (later : List Act) (at : Option (List ℕ)) (e : SlateDBError) → ScanRefuses (scan_of it) m later at e → IsRefusedByScan (map (λ p. meaning p) laws.now.policies.items) (scan_query range prefix options.now.filter_context) m self.old reads (reads ++ later) at e)) }
         ensures hands { let reach = ⟦<EnvOf<S, M, T> as Outside>⟧.reach in
             let m = (reach env.old).meaning in
-            IfOk result (λ it. Made (reach env.old) (reach env.new) (λ reads. (later : List Act) (a : KeyValue) → ScanHands (scan_of it) m later a → IsHandedByScan m self.old (reads ++ later) a)) }
+            IfOk result (λ it. Made (reach env.old) (reach env.new) (λ reads. (later : List Act) (a : KeyValue) → ScanHands (scan_of it) m later a → IsHandedByScan (map (λ p. meaning p) laws.now.policies.items) (scan_query range prefix options.now.filter_context) m self.old reads (reads ++ later) a)) }
         ensures invalid { is_refused range.start range.end ≡ true → (result ≡ Err SlateDBError.InvalidRange) × (self.new ≡ self.old) × (env.new ≡ env.old) }
         ensures undamaged { let reach = ⟦<EnvOf<S, M, T> as Outside>⟧.reach in is_refused range.start range.end ≡ false → IsAnswered (map (λ p. meaning p) laws.now.policies.items) (reach env.old) (reach env.new) self.old → IfErr result (IsFault (reach env.old) (reach env.new)) }
         ensures cause { let reach = ⟦<EnvOf<S, M, T> as Outside>⟧.reach in

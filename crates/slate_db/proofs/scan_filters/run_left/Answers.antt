@@ -10,4 +10,4 @@ returns-in_err-tables-clause-refused g c =
     err_exit c.from_residual-in_err-tables.result _ c.from_residual-in_err-tables.ensures.1 _ (subst (λ (hs : List SsTableHandle). FailsAsking (map (λ p. (goal.FilterPolicy-dyn g (p.vtable, p.value)).meaning p.value) c.args.policies.now) c.args.query.now (reach_of g.S.Store g.M.MergeOperator g.T.BlockTransformer c.args.env.now) (reach_of g.S.Store g.M.MergeOperator g.T.BlockTransformer c.tables_left.new.env) hs c.in_err-tables.field-0.0) c.as_slice.ensures.value c.in_err-tables.ensures.refused)
 
 pub returns-clause-left : goal.returns-clause-left
-returns-clause-left g c = subst (λ (hs : List SsTableHandle). TablesAreLeft (map (λ p. (goal.FilterPolicy-dyn g (p.vtable, p.value)).meaning p.value) c.args.policies.now) (reach_of g.S.Store g.M.MergeOperator g.T.BlockTransformer c.args.env.now) (reach_of g.S.Store g.M.MergeOperator g.T.BlockTransformer c.tables_left.new.env) c.args.range.now hs c.in_ok-tables.tables.items) c.as_slice.ensures.value c.in_ok-tables.ensures.left
+returns-clause-left g c = subst (λ (hs : List SsTableHandle). TablesAreLeft (map (λ p. (goal.FilterPolicy-dyn g (p.vtable, p.value)).meaning p.value) c.args.policies.now) c.args.query.now (reach_of g.S.Store g.M.MergeOperator g.T.BlockTransformer c.args.env.now) (reach_of g.S.Store g.M.MergeOperator g.T.BlockTransformer c.tables_left.new.env) c.args.range.now hs c.in_ok-tables.tables.items) c.as_slice.ensures.value c.in_ok-tables.ensures.left

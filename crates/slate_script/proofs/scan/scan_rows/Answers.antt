@@ -10,13 +10,13 @@ pub walk-rows-requires : goal.walk-rows-requires
 walk-rows-requires g c =
     let policies = map (λ p. (goal.FilterPolicy-dyn g (p.vtable, p.value)).meaning p.value) c.args.laws.now.policies.items in
     let o = c.in_ok-scan.ensures in
-    opens_scan policies _ _ c.args.core.now c.scan-opened.new.self c.args.id.now c.args.order c.args.range c.in_ok-scan.scan (opened_by policies _ _ c.args.core.now c.scan-opened.new.self c.args.id.now c.args.order c.args.range c.in_ok-scan.scan c.requires.open o.noted o.names o.opened o.checked o.later.1 o.kept)
+    opens_scan policies _ _ c.args.core.now c.scan-opened.new.self c.args.id.now c.args.order c.args.range c.in_ok-scan.scan (opened_by policies _ _ _ c.args.core.now c.scan-opened.new.self c.args.id.now c.args.order c.args.range c.in_ok-scan.scan c.requires.open o.noted o.names o.opened o.checked o.later.1 o.kept)
 
 pub returns : goal.returns
 returns g c =
     let policies = map (λ p. (goal.FilterPolicy-dyn g (p.vtable, p.value)).meaning p.value) c.args.laws.now.policies.items in
     let o = c.in_ok-scan.ensures in
-    let h = opened_by policies _ _ c.args.core.now c.scan-opened.new.self c.args.id.now c.args.order c.args.range c.in_ok-scan.scan c.requires.open o.noted o.names o.opened o.checked o.later.1 o.kept in
+    let h = opened_by policies _ _ _ c.args.core.now c.scan-opened.new.self c.args.id.now c.args.order c.args.range c.in_ok-scan.scan c.requires.open o.noted o.names o.opened o.checked o.later.1 o.kept in
     record {
       noted = noted_then c.args.core.now c.scan-opened.new.self c.walk-rows.new.core c.args.id.now (id_of c.in_ok-scan.scan) h.names.named (_, h.notes) c.walk-rows.ensures.noted;
       scanned = walked policies (λ v. v.items) c.walk-rows.result _ _ _ c.args.core.now c.scan-opened.new.self c.walk-rows.new.core c.args.id.now c.args.order c.args.range c.args.steps.now c.in_ok-scan.scan c.walk-rows.new.scan c.requires.range h c.scan-opened.ensures.reads c.walk-rows.ensures.reads c.walk-rows.ensures.took;

@@ -9,7 +9,7 @@ use Rattle.slate_db.specs.Model.{CoreModel}
 use Rattle.slate_db.specs.Scans.{IsScanOf}
 use Rattle.slate_db.proofs.OpenIds.{transaction_reads}
 use Rattle.slate_store.specs.Reach.{reach_of}
-use Rattle.slate_steps.proofs.Reading.{answered_within, as_ordered, as_reading, on_ok_map, prefix_fits, scan_checked, scan_error, scan_named, scan_reading}
+use Rattle.slate_steps.proofs.Reading.{answered_within, as_ordered, as_reading, on_ok_map, opens_since, prefix_fits, scan_checked, scan_error, scan_named, scan_reading}
 use Rattle.slate_steps.proofs.Taking.{within_noted}
 use Rattle.slate_steps.proofs.scan.scan_prefix.Goals as goal
 
@@ -57,6 +57,13 @@ returns-clause-undamaged g c = λ d level ts seg h settled.
     let after = reach_of g.S.Store g.M.MergeOperator g.T.BlockTransformer c.scan.new.env in
     let policies = map (λ p. (goal.FilterPolicy-dyn g (p.vtable, p.value)).meaning p.value) c.args.laws.now.policies.items in
     c.scan.ensures.undamaged (ap (λ (r : BytesRange). is_refused r.start r.end) whole ∙ prefix_fits c.args.prefix.now) (answered_within policies seg before after d c.args.core.now c.args.id.now level ts h settled)
+
+pub returns-clause-since : goal.returns-clause-since
+returns-clause-since g c =
+    let before = reach_of g.S.Store g.M.MergeOperator g.T.BlockTransformer c.args.env.now in
+    let after = reach_of g.S.Store g.M.MergeOperator g.T.BlockTransformer c.scan.new.env in
+    let policies = map (λ p. (goal.FilterPolicy-dyn g (p.vtable, p.value)).meaning p.value) c.args.laws.now.policies.items in
+    opens_since c.scan.result policies _ before after c.args.core.now c.scan.ensures.later
 
 pub returns-clause-cause : goal.returns-clause-cause
 returns-clause-cause g c =

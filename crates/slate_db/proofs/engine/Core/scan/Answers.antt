@@ -1,11 +1,13 @@
-use Rattle.std.proofs.Common.{inl, inr, true, false, ◌≡◌, ◌≤◌, ℕ, [], ◌∷◌, ◌++◌, List, Some, refl, ap, sym, subst, ◌∙◌}
+use Rattle.std.proofs.Common.{inl, inr, true, false, ◌≡◌, ◌≤◌, ℕ, [], ◌∷◌, ◌++◌, List, Option, Some, refl, ap, sym, subst, ◌∙◌}
 use Rattle.std.specs.Prelude.{Ok, slice_get}
 use Rattle.std.proofs.lemmas.Result.{IfOk-from_err, err_from_is_err_and}
 use Rattle.slate_types.specs.declared.bytes_range.BytesRange.{BytesRange}
 use Rattle.slate_types.specs.declared.error.SlateDBError.{SlateDBError}
 use Rattle.slate_types.specs.declared.iter.IterationOrder.{IterationOrder}
+use Rattle.slate_types.specs.declared.types.KeyValue.{KeyValue}
 use Rattle.slate_types.specs.declared.types.RowEntry.{RowEntry}
-use Rattle.slate_types.specs.Outside.{IsCounted, IsFault, unblamed}
+use Rattle.slate_types.specs.Outside.{Act, IsCounted, IsFault, unblamed}
+use Rattle.slate_types.specs.World.{Made}
 use Rattle.slate_types.proofs.Exits.{err_exit}
 use Rattle.slate_types.proofs.Reaching.{reads_none}
 use Rattle.slate_store.specs.Reach.{reach_of}
@@ -24,6 +26,7 @@ use Rattle.slate_db.specs.Checked.{OrSlips}
 use Rattle.slate_db.specs.Meaning.{Meaning, rules_of}
 use Rattle.slate_db.specs.Model.{CoreModel}
 use Rattle.slate_db.specs.RangeShares.{LeavesSeen}
+use Rattle.slate_db.specs.Scans.{IsFor, IsHandedByScan, IsOpeningError, IsRefusedByScan, ScanHands, ScanRefuses}
 use Rattle.slate_db.specs.Sound.{IsKept}
 use Rattle.slate_db.specs.View.{view_of, unseen_of, IsWholeInside}
 use Rattle.slate_db.specs.Vouched.{IsVouchedFor}
@@ -31,7 +34,7 @@ use Rattle.slate_db.proofs.Keeps.{kept_event}
 use Rattle.slate_db.proofs.OpenNotes.{step_scan, vouched_scan}
 use Rattle.slate_db.proofs.Opened.{opened_scan, stay_noted, stay_same}
 use Rattle.slate_db.proofs.Operands.{own_updated}
-use Rattle.slate_db.proofs.ScanMerges.{answered_as, opening_as, readable_as}
+use Rattle.slate_db.proofs.ScanMerges.{answered_as, query_as, readable_as}
 use Rattle.slate_db.proofs.Readers.{floor_at, own_at, scan_left, scans_of, start_at}
 use Rattle.slate_db.proofs.Wholes.{after_note, whole_note}
 use Rattle.slate_db.proofs.engine.Core.scan.Goals as goal
@@ -112,7 +115,7 @@ returns-in_err-rows g c =
       undamaged = λ fits a. err_exit c.from_residual-in_err-rows.result _ c.from_residual-in_err-rows.ensures.1 _
           (answered_as (λ p. (goal.FilterPolicy-dyn g (p.vtable, p.value)).meaning p.value) c.as_slice.result.now c.args.laws.now.policies.items c.as_slice.ensures.value (reach_of g.S.Store g.M.MergeOperator g.T.BlockTransformer c.args.env.now) (reach_of g.S.Store g.M.MergeOperator g.T.BlockTransformer c.opened.new.env) c.args.self.now (λ os. IsFault (reach_of g.S.Store g.M.MergeOperator g.T.BlockTransformer c.args.env.now) (reach_of g.S.Store g.M.MergeOperator g.T.BlockTransformer c.opened.new.env) c.in_err-rows.field-0.0) (λ b. c.in_err-rows.ensures.undamaged above b) a);
       cause = λ fits. err_exit c.from_residual-in_err-rows.result _ c.from_residual-in_err-rows.ensures.1 _
-          (opening_as (λ p. (goal.FilterPolicy-dyn g (p.vtable, p.value)).meaning p.value) c.as_slice.result.now c.args.laws.now.policies.items c.as_slice.ensures.value c.args.range c.in_ok-how.how.prefix c.args.prefix c.in_ok-how.ensures.prefix c.in_ok-how.how.filter_context c.args.options.now.filter_context c.in_ok-how.ensures.context (reach_of g.S.Store g.M.MergeOperator g.T.BlockTransformer c.args.env.now) (reach_of g.S.Store g.M.MergeOperator g.T.BlockTransformer c.opened.new.env) c.args.self.now c.in_err-rows.field-0.0 c.in_err-rows.ensures.cause);
+          (query_as (λ p. (goal.FilterPolicy-dyn g (p.vtable, p.value)).meaning p.value) c.as_slice.result.now c.args.laws.now.policies.items c.as_slice.ensures.value c.args.range c.in_ok-how.how.prefix c.args.prefix c.in_ok-how.ensures.prefix c.in_ok-how.how.filter_context c.args.options.now.filter_context c.in_ok-how.ensures.context (λ policies query. IsOpeningError policies query (reach_of g.S.Store g.M.MergeOperator g.T.BlockTransformer c.args.env.now) (reach_of g.S.Store g.M.MergeOperator g.T.BlockTransformer c.opened.new.env) c.args.self.now c.in_err-rows.field-0.0) c.in_err-rows.ensures.cause);
       vouched = rw p.1 tt;
       same = rw p.1 refl;
       stay = stay_same c.args.self.now _ refl;
@@ -206,8 +209,10 @@ returns g c =
       left = λ from found. subst (λ (k : CoreModel). (u : Tx) → find_named id k.state.txns ≡ Some u → slice_get (scans_left (rules_of k.settings m) k.state.commits u.begin u.transcript) c.in-Ok.scan ≡ Some (rows.order, rows_seen (rules_of old.settings m) old.state.commits from.at from.ops order range)) (sym (noted_is g c))
           (λ u at. scan_left m old id order range from c.in-Ok.scan found (number_is g c from found) (own_at s old c.self.view_is id c.self.invariant) u at
           ∙ ap (λ (o : IterationOrder). Some (o, rows_seen (rules_of old.settings m) old.state.commits from.at from.ops order range)) (sym (e.order ∙ how)));
-      later = e.later;
-      hands = e.hands;
+      later = query_as (λ p. (goal.FilterPolicy-dyn g (p.vtable, p.value)).meaning p.value) c.as_slice.result.now c.args.laws.now.policies.items c.as_slice.ensures.value c.args.range c.in_ok-how.how.prefix c.args.prefix c.in_ok-how.ensures.prefix c.in_ok-how.how.filter_context c.args.options.now.filter_context c.in_ok-how.ensures.context
+          (λ policies query. IsFor m rows × Made before after (λ reads. (more : List Act) (at : Option (List ℕ)) (x : SlateDBError) → ScanRefuses rows m more at x → IsRefusedByScan policies query m old reads (reads ++ more) at x)) e.later;
+      hands = query_as (λ p. (goal.FilterPolicy-dyn g (p.vtable, p.value)).meaning p.value) c.as_slice.result.now c.args.laws.now.policies.items c.as_slice.ensures.value c.args.range c.in_ok-how.how.prefix c.args.prefix c.in_ok-how.ensures.prefix c.in_ok-how.how.filter_context c.args.options.now.filter_context c.in_ok-how.ensures.context
+          (λ policies query. Made before after (λ reads. (more : List Act) (a : KeyValue) → ScanHands rows m more a → IsHandedByScan policies query m old reads (reads ++ more) a)) e.hands;
       invalid = λ is. let never : true ≡ false = sym is ∙ sym c.leaves_none.ensures ∙ c.if-leaves_none.false in absurd cc;
       undamaged = λ fits a. tt;
       cause = λ fits. tt;
