@@ -4,7 +4,7 @@
 use Rattle.std.proofs.Common.{◌≡◌, ◌⊎◌, inl, inr, ℕ, List, Option, Some, Result, Ok, Err, OnOk, refl, sym, subst}
 use Rattle.std.specs.Prelude.{IfErr}
 use Rattle.slate_types.specs.declared.error.SlateDBError.{SlateDBError}
-use Rattle.slate_types.specs.Outside.{Objects, Reach, IsFault, OnlyReads, Puts}
+use Rattle.slate_types.specs.Outside.{Objects, Reach, IsFault, IsStill, OnlyReads, Puts}
 use Rattle.slate_types.specs.World.{Made}
 use Rattle.slate_types.proofs.Reaching.{reads_none, reads_put_nothing}
 use Rattle.slate_filter.specs.Policy.{Policy}
@@ -49,9 +49,9 @@ quiet : (layout : Layout) (line : Line) (before after : Reach) (old new : Sessio
     IfErr result (λ e. IsFault before after e ⊎ IsLimit old e ⊎ IsTableError e) →
     (IsSettledIn layout.policies layout.segments before old.core → IfErr result (λ e. IsFault before after e ⊎ IsLimit old e)) →
     ((os : Objects) → IsSettled layout.policies before.meaning layout.segments (Some os) old.core → IfErr result (λ e. IsTableError e → IsUntrue os before.acts after.acts)) →
-    IfErr result (λ e. IsTableError e → Made before after (λ reads. IsRefusedAt layout.policies line before.meaning old.core reads e)) → OnlyReads before after →
+    IfErr result (λ e. IsTableError e → Made before after (λ reads. IsRefusedAt layout.policies line before.meaning old.core reads e)) → OnlyReads before after → IsStill before.faults after.faults result →
     AsksAt layout.policies line before after old result → Answers layout line before after old new result
-quiet layout line before after old new result step checked stores grows cause undamaged untrue shown reads asked = record {
+quiet layout line before after old new result step checked stores grows cause undamaged untrue shown reads still asked = record {
   honest = λ settled. record {
     step = step settled;
     kept = keeps_settled result layout.policies before.meaning layout.segments before.objects after.objects old new reads.objects stores settled;
@@ -71,6 +71,7 @@ quiet layout line before after old new result step checked stores grows cause un
   asked = asked;
   adds = adds_reads before.acts after.acts reads.acts;
   puts = reads_put_nothing before after reads;
+  still = still;
 }
 
 pub within_answers : (layout : Layout) (line : Line) (reach : Reach) (old new : SessionModel) (result : Result Answer SlateDBError) → AnswersWithin line old new result → AsksAt layout.policies line reach reach old result → Answers layout line reach reach old new result
@@ -78,7 +79,7 @@ within_answers layout line reach old new result a asked =
     let cause = memory_or_limit result reach.faults reach.faults old a.cause in
     quiet layout line reach reach old new result (λ settled. a.step reach.meaning layout.segments) (λ os settled. always_holds _ os reach reach (a.step reach.meaning layout.segments))
     (stores_at result reach.meaning layout.segments old new a.stores) a.grows (or_damage result reach.faults reach.faults old cause) (λ settled. cause)
-    (λ os settled. no_damage _ result reach.faults reach.faults old cause) (no_error _ result reach.faults reach.faults old cause) (reads_none reach) asked
+    (λ os settled. no_damage _ result reach.faults reach.faults old cause) (no_error _ result reach.faults reach.faults old cause) (reads_none reach) refl asked
 
 -- given: had of a settled session
 pub write_answers : {given : Type 0} (layout : Layout) (line : Line) (before after : Reach) (old new : SessionModel) (result : Result Answer SlateDBError) → ((objects : Option Objects) → IsSettled layout.policies before.meaning layout.segments objects old.core → given) →
@@ -86,7 +87,7 @@ pub write_answers : {given : Type 0} (layout : Layout) (line : Line) (before aft
 write_answers layout line before after old new result given a asked =
     quiet layout line before after old new result (λ settled. a.step (given before.objects settled)) (λ os settled. always_holds _ os before after (a.step (given (Some os) settled)))
     a.stores a.grows (or_damage result before.faults after.faults old a.cause) (λ settled. a.cause)
-    (λ os settled. no_damage _ result before.faults after.faults old a.cause) (no_error _ result before.faults after.faults old a.cause) a.reads asked
+    (λ os settled. no_damage _ result before.faults after.faults old a.cause) (no_error _ result before.faults after.faults old a.cause) a.reads a.still asked
 
 read_cause : (policies : List Policy) (line : Line) (result : Result Answer SlateDBError) (before after : Reach) (e : SessionModel) → IfErr result (λ x. IsFault before after x ⊎ Made before after (λ reads. IsRefusedAt policies line before.meaning e.core reads x)) →
     IfErr result (λ x. IsFault before after x ⊎ IsLimit e x ⊎ IsTableError x)
@@ -110,12 +111,12 @@ read_answers layout line before after old new result a asked =
     (stores_at result before.meaning layout.segments old new a.stores) a.grows (read_cause layout.policies line result before after old a.cause)
     (λ settled. or_limit result before.faults after.faults old (a.undamaged (settled_answered layout.policies before after old.core settled)))
     (λ os settled. untrue_get result os before.acts after.acts before.faults after.faults a.reads.acts (λ answers. a.undamaged (true_answered layout.policies before after os old.core settled (inr answers))))
-    (read_shown layout.policies line result before after old a.cause) a.reads asked
+    (read_shown layout.policies line result before after old a.cause) a.reads a.still asked
 
 -- sound: which error it is, where what is kept of the rows holds
 pub failed_answers : {x : SlateDBError} (layout : Layout) (line : Line) (before after : Reach) (old new : SessionModel) (result : Result Answer SlateDBError) → result ≡ Err x → IsFault before after x ⊎ IsLimit old x ⊎ IsTableError x → (IsKept before.meaning old.core → IsFault before after x ⊎ IsLimit old x) →
-    AddsActs before.acts after.acts → Puts before after → AsksAt {A = Answer} layout.policies line before after old (Err x) → Answers layout line before after old new result
-failed_answers {x = x} layout line before after old new result is cause sound adds puts asked = subst (λ (r : Result Answer SlateDBError). Answers layout line before after old new r) (sym is) (record {
+    AddsActs before.acts after.acts → Puts before after → IsStill {A = Answer} before.faults after.faults (Err x) → AsksAt {A = Answer} layout.policies line before after old (Err x) → Answers layout line before after old new result
+failed_answers {x = x} layout line before after old new result is cause sound adds puts still asked = subst (λ (r : Result Answer SlateDBError). Answers layout line before after old new r) (sym is) (record {
   honest = λ settled. record { step = λ s stands. tt; kept = tt; alone = λ alone. tt; undamaged = sound settled.kept };
   told = λ os settled. record {
     step = always_holds _ os before after (λ s stands. tt);
@@ -130,4 +131,5 @@ failed_answers {x = x} layout line before after old new result is cause sound ad
   asked = asked;
   adds = adds;
   puts = puts;
+  still = still;
 })

@@ -1,9 +1,9 @@
--- Why a write or a commit is refused, and that its refusals are answered.
+-- Why a write or a commit is refused, that its refusals are answered, and that no fault of the operator is passed over.
 use Rattle.std.proofs.Common.{◌≡◌, ℕ, Bool, true, false, ◌<◌, ◌+◌, ◌⊎◌, inl, inr, List, [], ◌∷◌, ◌++◌, map, find, reverse, Option, Some, None, is_none, is_some, option_map, Result, Ok, Err, ℤ, sym, ◌∙◌, subst, arith}
-use Rattle.std.specs.Prelude.{IfErr, not, ◌&&◌}
+use Rattle.std.specs.Prelude.{IfErr, OnOk, not, ◌&&◌}
 use Rattle.slate_types.specs.declared.error.SlateDBError.{SlateDBError}
 use Rattle.slate_types.specs.declared.error.SlateDBError.TheVariants as errors
-use Rattle.slate_types.specs.Outside.{Counts, IsCounted}
+use Rattle.slate_types.specs.Outside.{Counts, IsCounted, IsOperatorStill, OperatorStays}
 use Rattle.slate_types.specs.Keys.{keys_set}
 use Rattle.slate_mem.specs.Batch.{Ops, batch_keys, kept}
 use Rattle.slate_mem.specs.BatchModel.{BatchModel, holds_merge}
@@ -97,3 +97,14 @@ commit_cause before after session conflict combine segments recorded default_mil
 commit_cause before after session conflict combine segments recorded default_millis now last ops error (Err x) other (inr (inl clash)) = absurd (other.1 (conflict_refuses conflict error clash))
 commit_cause before after session conflict combine segments recorded default_millis now last ops error (Err x) other (inr (inr (inl exhausted))) = absurd (other.1 (subst IsRefusal (sym exhausted.0) tt))
 commit_cause before after session conflict combine segments recorded default_millis now last ops error (Err x) other (inr (inr (inr refused))) = absurd (other.1 (tests_refuse (is_some combine) (holds_merge ops) segments recorded default_millis now ops error refused.is))
+
+-- ---- where no fault came
+
+-- a refusal that is answered is no fault of the operator
+no_callback : (before after : ℕ) (error : SlateDBError) → IsRefusal error → OperatorStays before after error → after ≡ before
+no_callback before after (errors.Callback m) refusal stays = absurd refusal
+no_callback before after error refusal stays = stays
+
+pub refused_still : (before after : ℕ) (error : SlateDBError) (result : Result Answer SlateDBError) → OnOk result (IsRefusal error) → IsPassedOn error result → OperatorStays before after error → IsOperatorStill before after result
+refused_still before after error (Ok a) refusal other stays = no_callback before after error refusal stays
+refused_still before after error (Err x) refusal other stays = subst (λ (e : SlateDBError). OperatorStays before after e) (sym other.0) stays

@@ -2,6 +2,8 @@
 use Rattle.std.proofs.Common.{◌≡◌, ◌⊎◌, ◌≤◌, ◌<◌, inl, inr, ℕ, List, Option, Some, Result, Err, arith, refl, sym, ap, ◌∙◌, subst}
 use Rattle.slate_types.specs.declared.error.SlateDBError.{SlateDBError}
 use Rattle.slate_types.specs.declared.error.SlateDBError.TheVariants.{ScriptSyntax, ScriptTooLong, OutOfMemory, ReadFault, WriteFault, StoreFault, Callback, BlockTransformError, ChecksumMismatch, InvalidRowFlags, CorruptTable, InvalidFilterBlock, InvalidSequenceOrder, MergeOperatorMissing}
+use Rattle.slate_types.specs.Outside.{Counts, StoreStays, unblamed}
+use Rattle.slate_types.proofs.StillLaws.{still_parts}
 use Rattle.slate_db.specs.Parts.{IsTableError}
 use Rattle.slate_script.specs.Program.{status, IsDamageStatus, IsGeneratedStatus, IsStatus}
 use Rattle.slate_script.specs.Run.{IsPartError, IsOutside, IsScriptError}
@@ -179,3 +181,11 @@ status_or e f n run is was (inl h) = inl (is ∙ ap status same)
     same : e ≡ f
     same = cc
 status_or e f n run is was (inr h) = inr h
+
+-- a fault of the store is the status, and else its count is as it was
+stays_or : (before after : ℕ) (e : SlateDBError) (n : ℕ) → n ≡ status e → StoreStays before after e → (n ≡ 7) ⊎ (after ≡ before)
+stays_or before after StoreFault n is stays = inl is
+stays_or before after e n is stays = inr stays
+
+pub store_or : (before after : Counts) (e : SlateDBError) (n : ℕ) → n ≡ status e → unblamed e after ≡ unblamed e before → (n ≡ 7) ⊎ (after.store ≡ before.store)
+store_or before after e n is still = stays_or before.store after.store e n is (still_parts {A = Unit {0}} before after (Err e) still).0

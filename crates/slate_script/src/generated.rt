@@ -77,7 +77,8 @@ impl Sink for Unwritten {
 ///
 /// What is said of the line, of stored tables and of the reads of each line of the script holds as in `run_script`. `WriteFault` comes only where the sink's
 /// count of faults rose, and then a front of the line was written, and not all of it. At another error nothing was
-/// written. The errors are those of parts, want of memory and `WriteFault`, each with its cause as in `run_script`.
+/// written. The errors are those of parts, want of memory and `WriteFault`, each with its cause as in `run_script`. No failure of the
+/// sink, the store or a part is passed over: each count of faults is as it was, but for that of the one whose fault the error is.
 pub fn run_generated<W: Sink, S: Store, M: MergeOperator, T: BlockTransformer, X: PrefixExtractor>(
     alloc: Global,
     rounds: u32,

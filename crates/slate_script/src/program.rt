@@ -26,7 +26,8 @@ use std::alloc::Global;
 /// filters that are handed in, those that they use. Answers the status to end with: 0 where the run answers Ok, 2 exactly
 /// where the words are none of a run, or the policies are more than 65535, one has a name of more bytes than that, or two have one
 /// name, 3 for `ScriptSyntax`, 4 for `ScriptTooLong`, 5 for `ReadFault`, 6 for `WriteFault`, 7 for `StoreFault`, 12, 14, 15, 16, 18 and
-/// 19 where a table isn't what was stored, and 20 for want of memory.
+/// 19 where a table isn't what was stored, and 20 for want of memory. No failure of the source, the sink or the store is passed over: each
+/// count of faults is as it was, but for that of the source at 5, of the sink at 6 and of the store at 7.
 ///
 /// The script is what the source gives, or, where the words begin with `gen`, one that the run makes for itself. Then
 /// the source isn't read, the replies are counted and not written, and the sink takes one line: how many replies there

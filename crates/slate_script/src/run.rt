@@ -32,13 +32,13 @@ use std::alloc::Global;
 ///
 /// An error of the script itself, `ScriptSyntax` or `ScriptTooLong`, comes exactly where `script_error` has it, unless
 /// another error came first. `ReadFault`, `WriteFault`, `StoreFault`, `Callback` and `BlockTransformError` come only
-/// where that object's count of faults rose in this call, and a source's or a sink's count that rose is never passed
-/// over. Damage is answered only where the store isn't honest, wasn't empty, or a part or a policy isn't lawful; where
-/// these are lawful and the store tells its acts, only where a read was answered otherwise than by what this run had put. It is shown
-/// by the last reads of the run, of a table that the run had put, but a scan's `MergeOperatorMissing`, which shows an operand where there
-/// is no operator, and its `InvalidSequenceOrder`, which shows an operand and a row of its key with a greater sequence: rows in memory, of
-/// an open transaction's own, or of such a table by these reads. No limit is reached: of a script no more bytes are taken than the least of
-/// them.
+/// where that object's count of faults rose in this call. No failure of the source, the sink, the store or a part is passed over: each
+/// count of faults is as it was, but for that of the one whose fault the error is. Damage is answered only where the store isn't honest,
+/// wasn't empty, or a part or a policy isn't lawful; where these are lawful and the store tells its acts, only where a read was
+/// answered otherwise than by what this run had put. It is shown by the last reads of the run, of a table that the run had put, but a
+/// scan's `MergeOperatorMissing`, which shows an operand where there is no operator, and its `InvalidSequenceOrder`, which shows an
+/// operand and a row of its key with a greater sequence: rows in memory, of an open transaction's own, or of such a table by these
+/// reads. No limit is reached: of a script no more bytes are taken than the least of them.
 ///
 /// What is written at an error is replies: at one of the script those to all lines before it, at `ReadFault` those to
 /// all whole lines that the source gave, or to the whole script, at `WriteFault` those to some first lines and a front
@@ -132,7 +132,7 @@ pub(crate) fn answer_lines<
 /// Answers and counts the line with this number: nothing for a silent one. `ScriptSyntax` comes exactly where it is
 /// neither silent nor means something, unless memory was wanting first. `WriteFault` comes only where the
 /// sink's count of faults rose, and then a front of the reply was written, and not all of it. At another error
-/// nothing was written.
+/// nothing was written. No failure of the store or of a part is passed over.
 fn answer_line<W: Sink, S: Store, M: MergeOperator, T: BlockTransformer, X: PrefixExtractor>(
     alloc: Global,
     session: &mut Session,

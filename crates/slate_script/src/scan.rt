@@ -2,7 +2,7 @@
 ghost use Rattle.std.specs.Prelude.{◌≡◌, [], IfOk, IfErr, OnOk, IsSome, false, map};
 ghost use Rattle.slate_types.specs.Config.{IsValid};
 ghost use Rattle.slate_types.specs.Keys.{is_refused};
-ghost use Rattle.slate_types.specs.Outside.{IsFault, OnlyReads};
+ghost use Rattle.slate_types.specs.Outside.{IsFault, IsStill, OnlyReads};
 ghost use Rattle.slate_txn.specs.declared.line.ScanStep.TheVariants.{Rows};
 ghost use Rattle.slate_txn.specs.Step.{reader};
 ghost use Rattle.slate_db.specs.Readable.{IsAnswered};
@@ -53,6 +53,8 @@ pub(crate) fn scan_rows<S: Store, M: MergeOperator, T: BlockTransformer, X: Pref
         let policies = map (λ p. meaning (p.vtable, p.value)) laws.now.policies.items in
         IfErr result (IsScanError policies (reach env.old) (reach env.new) core.old) }
     ensures reads { let reach = ⟦<EnvOf<S, M, T> as Outside>⟧.reach in OnlyReads (reach env.old) (reach env.new) }
+    ensures still { let reach = ⟦<EnvOf<S, M, T> as Outside>⟧.reach in
+        IsStill (reach env.old).faults (reach env.new).faults result }
 {
     let options = ScanOptions {
         order,
@@ -82,6 +84,8 @@ fn walk<S: Store, M: MergeOperator, T: BlockTransformer>(
     ensures refused { let reach = ⟦<EnvOf<S, M, T> as Outside>⟧.reach in
         IfErr result (Fails (reach env.old) (reach env.new) scan.old) }
     ensures reads { let reach = ⟦<EnvOf<S, M, T> as Outside>⟧.reach in OnlyReads (reach env.old) (reach env.new) }
+    ensures still { let reach = ⟦<EnvOf<S, M, T> as Outside>⟧.reach in
+        IsStill (reach env.old).faults (reach env.new).faults result }
 {
     let mut rows = Vec::new(alloc);
     take(core, scan, steps, &mut rows, env)?;
@@ -105,6 +109,8 @@ fn take<S: Store, M: MergeOperator, T: BlockTransformer>(
     ensures refused { let reach = ⟦<EnvOf<S, M, T> as Outside>⟧.reach in
         IfErr result (Fails (reach env.old) (reach env.new) scan.old) }
     ensures reads { let reach = ⟦<EnvOf<S, M, T> as Outside>⟧.reach in OnlyReads (reach env.old) (reach env.new) }
+    ensures still { let reach = ⟦<EnvOf<S, M, T> as Outside>⟧.reach in
+        IsStill (reach env.old).faults (reach env.new).faults result }
 {
     if steps.is_empty() {
         take_rows(core, scan, u64::MAX, rows, env)
@@ -130,6 +136,8 @@ fn take_steps<S: Store, M: MergeOperator, T: BlockTransformer>(
     ensures refused { let reach = ⟦<EnvOf<S, M, T> as Outside>⟧.reach in
         IfErr result (Fails (reach env.old) (reach env.new) scan.old) }
     ensures reads { let reach = ⟦<EnvOf<S, M, T> as Outside>⟧.reach in OnlyReads (reach env.old) (reach env.new) }
+    ensures still { let reach = ⟦<EnvOf<S, M, T> as Outside>⟧.reach in
+        IsStill (reach env.old).faults (reach env.new).faults result }
 {
     for step in steps {
         take_step(core, scan, step, rows, env)?;
@@ -154,6 +162,8 @@ fn take_step<S: Store, M: MergeOperator, T: BlockTransformer>(
     ensures refused { let reach = ⟦<EnvOf<S, M, T> as Outside>⟧.reach in
         IfErr result (Fails (reach env.old) (reach env.new) scan.old) }
     ensures reads { let reach = ⟦<EnvOf<S, M, T> as Outside>⟧.reach in OnlyReads (reach env.old) (reach env.new) }
+    ensures still { let reach = ⟦<EnvOf<S, M, T> as Outside>⟧.reach in
+        IsStill (reach env.old).faults (reach env.new).faults result }
 {
     match step {
         ScanStep::Rows(count) => take_rows(core, scan, *count, rows, env),
@@ -178,6 +188,8 @@ fn take_rows<S: Store, M: MergeOperator, T: BlockTransformer>(
     ensures refused { let reach = ⟦<EnvOf<S, M, T> as Outside>⟧.reach in
         IfErr result (Fails (reach env.old) (reach env.new) scan.old) }
     ensures reads { let reach = ⟦<EnvOf<S, M, T> as Outside>⟧.reach in OnlyReads (reach env.old) (reach env.new) }
+    ensures still { let reach = ⟦<EnvOf<S, M, T> as Outside>⟧.reach in
+        IsStill (reach env.old).faults (reach env.new).faults result }
 {
     for _ in 0..count {
         let Some(row) = core.next(scan, env)? else {

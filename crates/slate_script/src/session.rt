@@ -2,7 +2,7 @@
 ghost use Rattle.std.specs.Prelude.{◌≡◌, ◌≢◌, ◌⊎◌, ◌∷◌, ℕ, List, ◌++◌, [], map, Some, None, Ok, IfOk, IfErr, IfSome, IsSome, OnOk, IsTrue, false, drop};
 ghost use Rattle.slate_types.specs.Config.{IsValid};
 ghost use Rattle.slate_types.specs.Keys.{is_refused, prefix_subrange};
-ghost use Rattle.slate_types.specs.Outside.{Objects, IsFault, OnlyReads};
+ghost use Rattle.slate_types.specs.Outside.{Objects, IsFault, IsStill, OnlyReads};
 ghost use Rattle.std.specs.declared.ops.Bound.{Bound};
 ghost use Rattle.slate_types.specs.declared.iter.IterationOrder.{IterationOrder};
 ghost use Rattle.slate_types.specs.declared.config.Ttl.{Ttl};
@@ -108,9 +108,10 @@ impl Session {
     /// answered; nor is it where the store's acts tell that each read of this call was answered by those tables. Where they tell
     /// otherwise, the answer is that of the model's step, or one of the reads returned a section of those tables that isn't what
     /// stands there, and whose checksum fits. A part's fault is answered only where its count rose in this call, and `LimitReached`
-    /// only where the journal or memory holds more than a script can bring. A line that gets a key asks filters before it reads blocks, and
-    /// reads a block that has the key where its answer rests on a stored row. One that is answered puts nothing unless it flushes, and reads nothing
-    /// unless it gets or scans; a get of a name that isn't open does neither.
+    /// only where the journal or memory holds more than a script can bring. No failure of the store or of a part is passed over: each
+    /// count of faults is as it was, but for that of the one whose fault the error is. A line that gets a key asks filters before it
+    /// reads blocks, and reads a block that has the key where its answer rests on a stored row. One that is answered puts nothing
+    /// unless it flushes, and reads nothing unless it gets or scans; a get of a name that isn't open does neither.
     pub fn answer<S: Store, M: MergeOperator, T: BlockTransformer, X: PrefixExtractor>(
         &mut self,
         line: Line,
@@ -342,6 +343,8 @@ impl Session {
             IsAnswered (map (λ p. meaning (p.vtable, p.value)) laws.now.policies.items) (reach env.old) (reach env.new)
             self.old.core → IfErr result (IsFault (reach env.old) (reach env.new)) }
         ensures reads { let reach = ⟦<EnvOf<S, M, T> as Outside>⟧.reach in OnlyReads (reach env.old) (reach env.new) }
+        ensures still { let reach = ⟦<EnvOf<S, M, T> as Outside>⟧.reach in
+            IsStill (reach env.old).faults (reach env.new).faults result }
     {
         let Some(id) = self.reader_id(&name) else {
             drop((range, prefix));

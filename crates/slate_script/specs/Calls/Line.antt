@@ -18,7 +18,7 @@ use Rattle.slate_types.specs.declared.bytes_range.BytesRange.{BytesRange}
 use Rattle.slate_types.specs.declared.error.SlateDBError.{SlateDBError}
 use Rattle.slate_types.specs.declared.error.SlateDBError.TheVariants.{OutOfMemory}
 use Rattle.slate_types.specs.declared.iter.IterationOrder.{IterationOrder}
-use Rattle.slate_types.specs.Outside.{Act, AddsReads, Objects, Reach, IsFault, OnlyReads, Puts}
+use Rattle.slate_types.specs.Outside.{Act, AddsReads, Objects, Reach, IsFault, IsStill, OnlyReads, Puts}
 use Rattle.slate_types.specs.World.{IsCall, Made}
 use Rattle.slate_filter.specs.Policy.{Policy}
 use Rattle.slate_mem.specs.KeyTests.{Segments}
@@ -58,6 +58,7 @@ pub record AnswersByRead (policies : List Policy) (line : Line) (before after : 
   pub cause : IfErr result (λ e. IsFault before after e ⊎ Made before after (λ reads. IsRefusedAt policies line before.meaning old.core reads e))
   pub undamaged : IsAnswered policies before after old.core → IfErr result (IsFault before after)
   pub reads : OnlyReads before after
+  pub still : IsStill before.faults after.faults result
 
 abbrev pub IsPutAct : Act → Type 0
 IsPutAct (Act.put path bytes) = Unit {0}
@@ -104,6 +105,7 @@ pub record AnswersByWrite (given : Type 0) (seg : Segments) (line : Line) (befor
   pub cause : IfErr result (λ e. IsFault before after e ⊎ IsLimit old e)
   pub call : IsCall before after []
   pub reads : OnlyReads before after
+  pub still : IsStill before.faults after.faults result
 
 -- ---- a line
 
@@ -135,3 +137,4 @@ pub record Answers (layout : Layout) (line : Line) (before after : Reach) (old n
   pub asked : AsksAt layout.policies line before after old result
   pub adds : AddsActs before.acts after.acts
   pub puts : Puts before after
+  pub still : IsStill before.faults after.faults result

@@ -3,7 +3,7 @@
 --     HonestScript, EndsScript      a run over a script that is read, of these settings: by lawful policies over a store that was empty, and over any
 --     HonestSum, EndsGenerated      the same of one over a script that it makes for itself
 --     ReadsScript old new n      what was read, and the errors that reading has
---     IsCaused old new before after n      a fault of the sink or the store, with its cause
+--     IsCaused old new before after n      a fault of the sink or the store, with its cause; none is passed over
 --     Ends ws handed given old new before after n      all of these, by the words ws; handed: the names of the policies
 use Rattle.std.specs.Prelude.{◌≡◌, ◌≢◌, ◌⊎◌, ◌≤◌, ℕ, List, [], drop, Some, None}
 use Rattle.slate_types.specs.declared.error.SlateDBError.TheVariants as errors
@@ -78,6 +78,7 @@ pub record IsCaused (old new : Streams) (before after : Storage) (n : ℕ) : Typ
   pub write_fault : n ≡ 6 → Rose old.sink new.sink
   pub store_fault : n ≡ 7 → Rose before.faults after.faults
   pub sink_still : (n ≡ 6) ⊎ (new.sink ≡ old.sink)
+  pub store_still : (n ≡ 7) ⊎ (after.faults ≡ before.faults)
   pub later : old.sink ≤ new.sink
   pub store_later : before.faults ≤ after.faults
 

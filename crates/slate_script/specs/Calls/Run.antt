@@ -10,7 +10,7 @@ use Rattle.std.specs.Prelude.{◌≡◌, ◌⊎◌, ◌≤◌, ◌+◌, ℕ, Lis
 use Rattle.slate_types.specs.declared.error.SlateDBError.{SlateDBError}
 use Rattle.slate_types.specs.declared.error.SlateDBError.TheVariants as errors
 use Rattle.slate_types.specs.Faults.{Rose}
-use Rattle.slate_types.specs.Outside.{Objects, Puts, Reach}
+use Rattle.slate_types.specs.Outside.{IsStill, Objects, Puts, Reach}
 use Rattle.slate_types.specs.World.{Made}
 use Rattle.slate_store.specs.Lines.{lines_of}
 use Rattle.slate_txn.specs.State.{Rules, opening}
@@ -61,6 +61,7 @@ pub record Runs {T : Type 0} (t : Terms) (old new : Streams) (before after : Rea
   pub cause : HasCause (Rose old.source new.source) (Rose old.sink new.sink) before after result
   pub source_still : (result ≡ Err errors.ReadFault) ⊎ (new.source ≡ old.source)
   pub sink_still : (result ≡ Err errors.WriteFault) ⊎ (new.sink ≡ old.sink)
+  pub parts_still : IsStill before.faults after.faults result
   pub later : (old.source ≤ new.source) × (old.sink ≤ new.sink)
   pub puts : Puts before after
 
@@ -92,6 +93,7 @@ pub record RunsSummed {T : Type 0} (t : Terms) (script : List ℕ) (old new : St
   pub cause : HasCause ⊥ (Rose old.sink new.sink) before after result
   pub unwritten : IfErr result (λ e. (e ≡ errors.WriteFault) ⊎ (new.taken ≡ old.taken))
   pub sink_still : (result ≡ Err errors.WriteFault) ⊎ (new.sink ≡ old.sink)
+  pub parts_still : IsStill before.faults after.faults result
   pub later : old.sink ≤ new.sink
   pub puts : Puts before after
 
@@ -129,6 +131,7 @@ pub record RepliesLine {T : Type 0} (layout : Layout) (number : ℕ) (line : Lis
   pub asked : OnOk result (AsksLine layout.policies (meanings (line ∷ [])) before after old result)
   pub adds : AddsActs before.acts after.acts
   pub puts : Puts before after
+  pub still : IsStill before.faults after.faults result
 
 pub record WritesReply {T : Type 0} (line : List ℕ) (from to : Streams) (result : Result T SlateDBError) : Type 0 where
   pub write_fault : result ≡ Err errors.WriteFault → Rose from.sink to.sink × IsTrue (is_line line)

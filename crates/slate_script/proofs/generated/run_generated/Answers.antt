@@ -1,4 +1,5 @@
 use Rattle.std.proofs.Common.{◌≡◌, ℕ, [], List, Some, Err, inl, inr, refl, ap, subst, ◌∙◌, arith}
+use Rattle.slate_types.specs.Outside.{unblamed_by}
 use Rattle.slate_store.specs.Lines.{lines_of}
 use Rattle.slate_store.specs.Reach.{reach_of}
 use Rattle.slate_txn.specs.State.{opening}
@@ -47,6 +48,7 @@ returns-in-Ok g c =
       cause = only_cause _ _ c.write_tally.result c.write_tally.ensures.cause c.write_tally.ensures.write_fault;
       unwritten = c.write_tally.ensures.unwritten;
       sink_still = c.write_tally.ensures.sink_still;
+      parts_still = ap (unblamed_by c.write_tally.result) c.in-Ok.ensures.run.parts_still;
       later = c.write_tally.ensures.later;
       puts = c.answer_lines.ensures.run.puts;
     }
@@ -77,6 +79,7 @@ returns g c =
       cause = lines_cause _ _ c.in-Err.error outside run.cause;
       unwritten = inr refl;
       sink_still = inr refl;
+      parts_still = run.parts_still;
       later = omega arith;
       puts = c.answer_lines.ensures.run.puts;
     }

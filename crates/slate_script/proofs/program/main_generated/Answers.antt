@@ -1,6 +1,7 @@
-use Rattle.std.proofs.Common.{[], ◌⊎◌, ◌≤◌, ℕ, inl, inr, Err, sym, ap, subst, refl, ◌∙◌, arith, map}
+use Rattle.std.proofs.Common.{[], ◌≡◌, ◌⊎◌, ◌≤◌, ℕ, inl, inr, Err, sym, ap, subst, refl, ◌∙◌, arith, map}
 use Rattle.slate_types.specs.declared.error.SlateDBError.TheVariants.{WriteFault}
 use Rattle.slate_types.specs.Faults.{Rose}
+use Rattle.slate_types.specs.Outside.{Counts}
 use Rattle.slate_store.specs.Lines.{lines_of}
 use Rattle.slate_txn.specs.State.{Rules, opening}
 use Rattle.slate_db.specs.Checked.{SlipsFrom}
@@ -17,7 +18,7 @@ use Rattle.slate_script.specs.Told.{IsShown, IsUntrue}
 use Rattle.slate_script.proofs.Mains.{lawful, premises, none_rose, rules_are, words_are, words_or_slips}
 use Rattle.slate_script.proofs.Written.{cut_or_slips, summed_err, summed_ok, summed_or_slips}
 use Rattle.slate_script.proofs.RunEnds.{unless_error}
-use Rattle.slate_script.proofs.Statuses.{damage_between, is_damage, is_ended, is_generated, is_store, is_write, status_or, written_or}
+use Rattle.slate_script.proofs.Statuses.{damage_between, is_damage, is_ended, is_generated, is_store, is_write, status_or, store_or, written_or}
 use Rattle.slate_script.proofs.program.main_generated.Goals as goal
 
 pub returns-in-Ok : goal.returns-in-Ok
@@ -63,6 +64,7 @@ returns-in-Ok g c =
         write_fault = λ six. absurd (omega (arith, six));
         store_fault = λ seven. absurd (omega (arith, seven));
         sink_still = inr (unless_error _ WriteFault c.in-Ok.ensures.sink_still);
+        store_still = inr (subst (λ t. g.S.Store.faults t ≡ g.S.Store.faults c.args.store.now) (sym (c.store-1.given.1 (sym c.in-Ok.ensures.puts.store))) (ap (λ (k : Counts). k.store) c.in-Ok.ensures.parts_still));
         later = c.run_generated-ran.ensures.later;
         store_later = subst (λ t. g.S.Store.faults c.args.store.now ≤ g.S.Store.faults t) (sym (c.store-1.given.1 (sym c.in-Ok.ensures.puts.store))) c.in-Ok.ensures.puts.later.store;
       };
@@ -112,6 +114,7 @@ returns-in-Err g c =
             let rose = c.in-Err.ensures.cause.store_fault (ap Err (is_store c.in-Err.error c.in-Err.ensures.cause.kinds (sym c.status_of-status.ensures ∙ seven))) in
             subst (λ t. Rose (g.S.Store.faults c.args.store.now) (g.S.Store.faults t)) (sym (c.store-1.given.1 (sym c.in-Err.ensures.puts.store))) rose);
         sink_still = status_or c.in-Err.error WriteFault c.status_of-status.result _ c.status_of-status.ensures refl c.in-Err.ensures.sink_still;
+        store_still = subst (λ t. (c.status_of-status.result ≡ 7) ⊎ (g.S.Store.faults t ≡ g.S.Store.faults c.args.store.now)) (sym (c.store-1.given.1 (sym c.in-Err.ensures.puts.store))) (store_or _ _ c.in-Err.error c.status_of-status.result c.status_of-status.ensures c.in-Err.ensures.parts_still);
         later = c.run_generated-ran.ensures.later;
         store_later = subst (λ t. g.S.Store.faults c.args.store.now ≤ g.S.Store.faults t) (sym (c.store-1.given.1 (sym c.in-Err.ensures.puts.store))) c.in-Err.ensures.puts.later.store;
       };

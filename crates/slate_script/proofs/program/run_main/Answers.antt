@@ -3,7 +3,7 @@ use Rattle.slate_types.specs.declared.error.SlateDBError.TheVariants.{ReadFault,
 use Rattle.slate_script.specs.LineReads.{HasReadByLine}
 use Rattle.slate_script.specs.Program.{segments_of, status}
 use Rattle.slate_script.specs.Run.{run_rules, script_error}
-use Rattle.slate_script.proofs.Statuses.{is_status, is_ended, is_read, is_write, is_store, is_too_long, is_syntax, is_damage, damage_between, its_own, status_or}
+use Rattle.slate_script.proofs.Statuses.{is_status, is_ended, is_read, is_write, is_store, is_too_long, is_syntax, is_damage, damage_between, its_own, status_or, store_or}
 use Rattle.slate_language.specs.declared.words.Settings.{Settings}
 use Rattle.slate_script.specs.Program.{segments_of, main_rules, parts_of, HasSummed, HasWritten, IsShownStatus}
 use Rattle.slate_language.specs.Replies.{after_lines}
@@ -13,7 +13,7 @@ use Rattle.slate_script.specs.Told.{IsShown, IsUntrue}
 use Rattle.slate_store.specs.Lines.{lines_of}
 use Rattle.slate_txn.specs.State.{Rules, opening}
 use Rattle.slate_types.specs.Faults.{Rose}
-use Rattle.slate_types.specs.Outside.{Objects}
+use Rattle.slate_types.specs.Outside.{Counts, Objects}
 use Rattle.slate_db.specs.Checked.{SlipsFrom}
 use Rattle.slate_db.specs.Flushed.{layout_of}
 use Rattle.slate_db.specs.Meaning.{Meaning}
@@ -127,6 +127,7 @@ returns-in-Ok g c =
           write_fault = λ six. absurd (omega (arith, six));
           store_fault = λ seven. absurd (omega (arith, seven));
           sink_still = inr (unless_error _ WriteFault c.in-Ok.ensures.sink_still);
+          store_still = inr (subst (λ t. g.S.Store.faults t ≡ g.S.Store.faults c.args.store.now) (sym (c.store-1.given.1 (sym c.in-Ok.ensures.puts.store))) (ap (λ (k : Counts). k.store) c.in-Ok.ensures.parts_still));
           later = c.run_script-ran.ensures.later.1;
           store_later = subst (λ t. g.S.Store.faults c.args.store.now ≤ g.S.Store.faults t) (sym (c.store-1.given.1 (sym c.in-Ok.ensures.puts.store))) c.in-Ok.ensures.puts.later.store;
         };
@@ -226,6 +227,7 @@ returns-in-Err g c =
               let rose = c.in-Err.ensures.cause.store_fault (ap Err (is_store c.in-Err.error c.in-Err.ensures.cause.kinds (sym c.status_of-status.ensures ∙ seven))) in
               subst (λ t. Rose (g.S.Store.faults c.args.store.now) (g.S.Store.faults t)) (sym (c.store-1.given.1 (sym c.in-Err.ensures.puts.store))) rose);
           sink_still = status_or c.in-Err.error WriteFault c.status_of-status.result _ c.status_of-status.ensures refl c.in-Err.ensures.sink_still;
+          store_still = subst (λ t. (c.status_of-status.result ≡ 7) ⊎ (g.S.Store.faults t ≡ g.S.Store.faults c.args.store.now)) (sym (c.store-1.given.1 (sym c.in-Err.ensures.puts.store))) (store_or _ _ c.in-Err.error c.status_of-status.result c.status_of-status.ensures c.in-Err.ensures.parts_still);
           later = c.run_script-ran.ensures.later.1;
           store_later = subst (λ t. g.S.Store.faults c.args.store.now ≤ g.S.Store.faults t) (sym (c.store-1.given.1 (sym c.in-Err.ensures.puts.store))) c.in-Err.ensures.puts.later.store;
         };
@@ -289,6 +291,7 @@ returns-then-not-have_valid_names g c =
           write_fault = λ six. absurd (omega (arith, six));
           store_fault = λ seven. absurd (omega (arith, seven));
           sink_still = inr refl;
+          store_still = inr refl;
           later = omega arith;
           store_later = omega arith;
         };
@@ -348,6 +351,7 @@ returns-in_default-parse_words g c =
           write_fault = λ six. absurd (omega (arith, six));
           store_fault = λ seven. absurd (omega (arith, seven));
           sink_still = inr refl;
+          store_still = inr refl;
           later = omega arith;
           store_later = omega arith;
         };
@@ -424,6 +428,7 @@ returns-in-Some g c =
           write_fault = c.main_generated.ensures.caused.write_fault;
           store_fault = c.main_generated.ensures.caused.store_fault;
           sink_still = c.main_generated.ensures.caused.sink_still;
+          store_still = c.main_generated.ensures.caused.store_still;
           later = c.main_generated.ensures.caused.later;
           store_later = c.main_generated.ensures.caused.store_later;
         };

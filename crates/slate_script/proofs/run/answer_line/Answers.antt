@@ -1,5 +1,5 @@
 use Rattle.std.proofs.Common.{◌≤◌, arith, inl, inr, Option, Some, length, refl, sym, ap, subst, Ok, map}
-use Rattle.slate_types.specs.Outside.{Objects}
+use Rattle.slate_types.specs.Outside.{Objects, unblamed_by}
 use Rattle.slate_types.proofs.Reaching.{puts_none}
 use Rattle.slate_store.specs.Reach.{reach_of}
 use Rattle.slate_txn.specs.State.{Rules}
@@ -48,6 +48,7 @@ returns-in-Err-answer g c =
         asked = tt;
         adds = c.answer.ensures.adds;
         puts = c.answer.ensures.puts;
+        still = c.in-Err-answer.ensures.still;
       };
       sink = record {
         write_fault = λ is. absurd (session_wrote _ _ c.args.session.now c.in-Err-answer.error c.in-Err-answer.ensures.cause (error_of c.in-Err-answer.error is));
@@ -94,6 +95,7 @@ returns-in-Ok g c =
             reply_asked c.write_reply.result c.in-Ok.answer policies c.args.line.items c.in-Ok-Some.meaning (reach_of g.S.Store g.M.MergeOperator g.T.BlockTransformer c.args.env.now) (reach_of g.S.Store g.M.MergeOperator g.T.BlockTransformer c.answer.new.env) c.args.session.now means.0 means.1 c.in-Ok.ensures.asked);
         adds = c.answer.ensures.adds;
         puts = c.answer.ensures.puts;
+        still = ap (unblamed_by c.write_reply.result) c.in-Ok.ensures.still;
       };
       sink = record {
         write_fault = (λ is.
@@ -129,6 +131,7 @@ returns-in-Err g c =
         asked = tt;
         adds = adds_same _ _ refl;
         puts = puts_none _;
+        still = refl;
       };
       sink = record {
         write_fault = λ is. absurd (parse_wrote c.args.number c.args.line.items c.at_line.result by (error_of c.at_line.result is));
@@ -163,6 +166,7 @@ returns-in-Ok-None g c =
         asked = silent_asked tt policies c.args.line.items (reach_of g.S.Store g.M.MergeOperator g.T.BlockTransformer c.args.env.now) c.args.session.now silent;
         adds = adds_same _ _ refl;
         puts = puts_none _;
+        still = refl;
       };
       sink = record {
         write_fault = λ is. absurd (is_no_error is);

@@ -1,7 +1,7 @@
 use Rattle.std.proofs.Common.{◌≤◌, ◌≡◌, ◌⊎◌, ◌<◌, ◌+◌, ℕ, [], List, take, IfSome, Some, Result, Ok, Err, length, sym, ap, subst, ◌∙◌, arith, refl, inl, inr, map}
 use Rattle.slate_types.specs.declared.error.SlateDBError.{SlateDBError}
 use Rattle.slate_types.specs.declared.error.SlateDBError.TheVariants.{ScriptTooLong, ReadFault, WriteFault, StoreFault, Callback, BlockTransformError}
-use Rattle.slate_types.specs.Outside.{Objects}
+use Rattle.slate_types.specs.Outside.{Objects, unblamed}
 use Rattle.slate_types.proofs.Reaching.{puts_none, puts_then}
 use Rattle.slate_store.specs.Lines.{lines_of}
 use Rattle.slate_store.specs.Reach.{reach_of}
@@ -76,6 +76,7 @@ loop-line-init g c =
       sink_later = omega arith;
       source_still = refl;
       sink_still = refl;
+      parts_still = refl;
       puts = puts_none _;
     }
 
@@ -134,6 +135,7 @@ returns-in-Err g c =
         };
         source_still = error_or c.in-Err.error ReadFault _ (Err c.in-Err.error) refl refl c.in-Err.ensures.still (λ h. h ∙ c.loop-line.invariant.source_still);
         sink_still = inr c.loop-line.invariant.sink_still;
+        parts_still = ap (unblamed c.in-Err.error) c.loop-line.invariant.parts_still;
         later = (omega (arith, c.loop-line.invariant.source_later, c.next.ensures.later), c.loop-line.invariant.sink_later);
         puts = c.loop-line.invariant.puts;
       };
@@ -209,6 +211,7 @@ returns-in-Err-answer_line g c =
         };
         source_still = inr (unless_error c.in-Ok-Some.field-0 ReadFault c.in-Ok-Some.ensures.still ∙ c.loop-line.invariant.source_still);
         sink_still = error_is_or c.in-Err-answer_line.error WriteFault (Err c.in-Err-answer_line.error) refl c.in-Err-answer_line.ensures.sink.uncounted (λ h. h ∙ c.loop-line.invariant.sink_still);
+        parts_still = c.in-Err-answer_line.ensures.line.still ∙ ap (unblamed c.in-Err-answer_line.error) c.loop-line.invariant.parts_still;
         later = (omega (arith, c.loop-line.invariant.source_later, c.next.ensures.later), omega (arith, c.loop-line.invariant.sink_later, c.answer_line.ensures.sink.later));
         puts = puts_then _ _ _ c.loop-line.invariant.puts c.answer_line.ensures.line.puts;
       };
@@ -264,6 +267,7 @@ loop-line-preserved g c =
       sink_later = omega (arith, c.answer_line.ensures.sink.later);
       source_still = unless_error c.in-Ok-Some.field-0 ReadFault c.in-Ok-Some.ensures.still ∙ c.loop-line.invariant.source_still;
       sink_still = c.in-Ok.ensures.sink.still ∙ c.loop-line.invariant.sink_still;
+      parts_still = c.in-Ok.ensures.line.still ∙ c.loop-line.invariant.parts_still;
       puts = puts_then _ _ _ c.loop-line.invariant.puts c.answer_line.ensures.line.puts;
     }
 
@@ -330,6 +334,7 @@ returns g c =
         };
         source_still = inr (unless_error c.in-Ok-None.field-0 ReadFault c.in-Ok-None.ensures.still ∙ c.loop-line.invariant.source_still);
         sink_still = inr c.loop-line.invariant.sink_still;
+        parts_still = c.loop-line.invariant.parts_still;
         later = (omega (arith, c.loop-line.invariant.source_later, c.next.ensures.later), c.loop-line.invariant.sink_later);
         puts = c.loop-line.invariant.puts;
       };

@@ -53,6 +53,7 @@ invariant-loop-line g l =
       sink_later : g.W.Sink.faults l.initial.sink ≤ g.W.Sink.faults l.sink;
       source_still : g.R.Source.faults l.source ≡ g.R.Source.faults l.initial.source;
       sink_still : g.W.Sink.faults l.sink ≡ g.W.Sink.faults l.initial.sink;
+      parts_still : now.faults ≡ before.faults;
       puts : Puts before now;
     }
 

@@ -1,5 +1,6 @@
-use Rattle.std.proofs.Common.{map}
+use Rattle.std.proofs.Common.{map, ap, ◌∙◌}
 use Rattle.std.proofs.lemmas.Result.{err_from_is_err_and}
+use Rattle.slate_types.specs.Outside.{unblamed_by}
 use Rattle.slate_types.proofs.Reaching.{reads_then}
 use Rattle.slate_db.proofs.RowDamage.{opening_scan}
 use Rattle.slate_db.specs.Scans.{id_of}
@@ -23,6 +24,7 @@ returns g c =
       undamaged = walk_fault policies c.walk-rows.result _ _ _ c.args.core.now c.scan-opened.new.self c.args.id.now c.args.order c.args.range c.in_ok-scan.scan h c.scan-opened.ensures.reads c.walk-rows.ensures.refused;
       cause = walk_cause policies c.walk-rows.result _ _ _ c.args.core.now c.scan-opened.new.self c.args.id.now c.args.order c.args.range c.in_ok-scan.scan h c.scan-opened.ensures.reads c.walk-rows.ensures.refused;
       reads = reads_then _ _ _ c.scan-opened.ensures.reads c.walk-rows.ensures.reads;
+      still = c.walk-rows.ensures.still ∙ ap (unblamed_by c.walk-rows.result) c.in_ok-scan.ensures.still;
     }
 
 pub returns-in_err-scan-clause-noted : goal.returns-in_err-scan-clause-noted
@@ -37,3 +39,8 @@ pub returns-in_err-scan-clause-undamaged : goal.returns-in_err-scan-clause-undam
 returns-in_err-scan-clause-undamaged g c answered =
     let p = err_from_is_err_and c.from_residual.result c.from_residual.ensures.1 in
     rw (p.1, p.2) (c.in_err-scan.ensures.undamaged c.requires.range answered)
+
+pub returns-in_err-scan-clause-still : goal.returns-in_err-scan-clause-still
+returns-in_err-scan-clause-still g c =
+    let p = err_from_is_err_and c.from_residual.result c.from_residual.ensures.1 in
+    rw (p.1, p.2) c.in_err-scan.ensures.still

@@ -1,5 +1,6 @@
-use Rattle.std.proofs.Common.{◌≡◌, [], ◌∷◌, None, refl, ◌∙◌, arith}
-use Rattle.std.proofs.lemmas.Result.{IfOk-from_err}
+use Rattle.std.proofs.Common.{◌≡◌, [], ◌∷◌, None, refl, ap, ◌∙◌, arith}
+use Rattle.std.proofs.lemmas.Result.{IfOk-from_err, err_from_is_err_and}
+use Rattle.slate_types.specs.Outside.{unblamed, unblamed_by}
 use Rattle.slate_types.proofs.Exits.{err_exit}
 use Rattle.slate_types.proofs.Reaching.{reads_none, reads_then}
 use Rattle.slate_txn.specs.declared.event.TranscriptStep.TheVariants as steps
@@ -14,6 +15,7 @@ loop-init g c = record {
   took = took_none (TakesFirst (number_of c.args.scan.now) 0) _ c.args.core.now c.args.scan.now c.args.rows.now.items (first_none (number_of c.args.scan.now));
   opened = c.requires;
   reads = reads_none _;
+  still = refl;
 }
 
 pub loop-preserved : goal.loop-preserved
@@ -22,17 +24,19 @@ loop-preserved g c =
     let o = c.in_ok-row.ensures in
     let took = took_row _ _ _ c.args.core.now c.loop.core c.next.new.self c.args.scan.now c.loop.scan c.next.new.it c.loop.counter c.in_ok-row.field-0 c.in-Some.row c.args.rows.now.items c.loop.rows.items _ i.took
     (record { notes = o.noted; names = o.names; rows = o.rows; checked = o.checked; later = o.later; kept = o.kept }) c.in-Some.is c.in_ok-push.ensures.items in
-    record { took = took; opened = open_on c.args.core.now c.next.new.self c.args.scan.now c.next.new.it took c.requires; reads = reads_then _ _ _ i.reads c.next.ensures.reads }
+    record { took = took; opened = open_on c.args.core.now c.next.new.self c.args.scan.now c.next.new.it took c.requires; reads = reads_then _ _ _ i.reads c.next.ensures.reads; still = o.still ∙ i.still }
 
 pub returns-in_err-row : goal.returns-in_err-row
 returns-in_err-row g c =
     let i = c.loop.invariant in
     let o = c.in_err-row.ensures in
+    let p = err_from_is_err_and c.from_residual.result c.from_residual.ensures.1 in
     record {
       noted = (i.took.ts, o.same ∙ i.took.notes);
       took = IfOk-from_err c.from_residual.result _ c.from_residual.ensures.0;
       refused = err_exit c.from_residual.result _ c.from_residual.ensures.1 _ (fails_on _ _ _ c.args.core.now c.loop.core c.args.scan.now c.loop.scan _ i.took i.reads (fails_call _ _ c.loop.scan None _ o.undamaged o.cause));
       reads = reads_then _ _ _ i.reads c.next.ensures.reads;
+      still = rw (p.1, p.2) (o.still ∙ ap (unblamed c.in_err-row.field-0.0) i.still);
     }
 
 pub returns-in_err-push : goal.returns-in_err-push
@@ -46,6 +50,7 @@ returns-in_err-push g c =
       took = IfOk-from_err c.from_residual-in_err-push.result _ c.from_residual-in_err-push.ensures.0;
       refused = err_exit c.from_residual-in_err-push.result _ c.from_residual-in_err-push.ensures.1 _ (fails_memory _ _ c.args.core.now c.next.new.self c.args.scan.now c.next.new.it took);
       reads = reads_then _ _ _ i.reads c.next.ensures.reads;
+      still = ap (unblamed_by c.from_residual-in_err-push.result) (o.still ∙ i.still);
     }
 
 pub returns-clause-took : goal.returns-clause-took
@@ -75,4 +80,11 @@ returns-clause-reads g c =
     elim c.loop-test.branch [
       | else-loop-test w ↦ rw w.env-is c.loop.invariant.reads
       | then-loop-test+in_ok-row+in_default w ↦ rw w.env-is (reads_then _ _ _ c.loop.invariant.reads w.next.ensures.reads)
+    ]
+
+pub returns-clause-still : goal.returns-clause-still
+returns-clause-still g c =
+    elim c.loop-test.branch [
+      | else-loop-test w ↦ rw w.env-is c.loop.invariant.still
+      | then-loop-test+in_ok-row+in_default w ↦ rw w.env-is (w.in_ok-row.ensures.still ∙ c.loop.invariant.still)
     ]

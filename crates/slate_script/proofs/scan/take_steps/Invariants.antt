@@ -1,3 +1,4 @@
+use Rattle.std.proofs.Common.{◌≡◌}
 use Rattle.slate_types.specs.Outside.{OnlyReads}
 use Rattle.slate_store.specs.Reach.{reach_of}
 use Rattle.slate_db.specs.Scans.{IsOpenScan, number_of, scan_of}
@@ -13,4 +14,5 @@ invariant-loop-step g l =
       took : Took (TakesRest (number_of l.initial.scan) (scan_of l.initial.scan).order l.steps l.step-index) before now l.initial.core l.core l.initial.scan l.scan l.initial.rows.items l.rows.items;
       opened : IsOpenScan l.core l.scan;
       reads : OnlyReads before now;
+      still : now.faults ≡ before.faults;
     }

@@ -1,9 +1,11 @@
-use Rattle.std.proofs.Common.{◌≡◌, ℕ, ◌⊎◌, List, length, None, Some, Ok, OnOk, Result, cond, sym, ap, subst, ◌∙◌, arith}
+use Rattle.std.proofs.Common.{◌≡◌, ℕ, ◌⊎◌, List, length, None, Some, Ok, OnOk, Result, cond, refl, sym, ap, subst, ◌∙◌, arith}
 use Rattle.std.specs.Prelude.{IfErr}
 use Rattle.std.specs.Str.{bytes_eq}
-use Rattle.slate_types.specs.Outside.{IsCounted}
+use Rattle.slate_store.specs.Reach.{reach_of}
+use Rattle.slate_types.specs.Outside.{IsCounted, IsOperatorStill}
 use Rattle.slate_types.proofs.Calls.{call_none}
 use Rattle.slate_types.proofs.Reaching.{reads_none}
+use Rattle.slate_types.proofs.StillLaws.{asked_still}
 use Rattle.slate_txn.specs.Named.{find_named, without}
 use Rattle.slate_txn.specs.Conflict.{conflict}
 use Rattle.slate_txn.specs.State.{Tx}
@@ -23,7 +25,7 @@ use Rattle.slate_script.proofs.SessionNames.{names_closed}
 use Rattle.slate_script.proofs.SessionSteps.{IsNamed, given_moment, named_of}
 use Rattle.slate_script.proofs.SessionOperations.{commit_unknown, commit_as, commit_moment, refused_as, refused_moment}
 use Rattle.slate_script.proofs.SessionLeaves.{Closes, closes_committed, closes_ended, leaves_closed, stores_by}
-use Rattle.slate_script.proofs.Refusing.{commit_cause}
+use Rattle.slate_script.proofs.Refusing.{commit_cause, refused_still}
 use Rattle.slate_script.proofs.Growth.{grows, takes_closed}
 use Rattle.slate_script.proofs.Running.{always}
 use Rattle.slate_script.proofs.session.Session.commit.Goals as goal
@@ -55,6 +57,7 @@ returns-in_default g c =
       cause = tt;
       call = call_none _;
       reads = reads_none _;
+      still = refl;
     }
 
 pub commit-requires : goal.commit-requires
@@ -146,4 +149,13 @@ returns g c =
           ]));
       call = c.commit.ensures.call;
       reads = c.commit.ensures.reads;
+      still = (let old = counts_of (g.S.Store.faults c.args.env.now.store.now) g.M.MergeOperator.faults g.T.BlockTransformer.faults c.args.env.now.operator c.args.env.now.transformer in
+          let new = counts_of (g.S.Store.faults c.commit.new.env.store.now) g.M.MergeOperator.faults g.T.BlockTransformer.faults c.commit.new.env.operator c.commit.new.env.transformer in
+          asked_still old new c.match-commit.result (ap (λ v. (reach_of g.S.Store g.M.MergeOperator g.T.BlockTransformer v).faults.store) c.commit.ensures.outside)
+          (elim c.match-commit.branch [
+            | in-Ok w ↦ subst (λ (r : Result Answer SlateDBError). IsOperatorStill old.operator new.operator r) (sym w.result-is) w.in-Ok.ensures.still
+            | in-Err w ↦ subst (λ (r : Result Answer SlateDBError). IsOperatorStill old.operator new.operator r) (sym w.result-is)
+                (refused_still old.operator new.operator w.in-Err.error w.refused.result w.refused.ensures.answered w.refused.ensures.other w.in-Err.ensures.still)
+          ])
+          (ap (λ v. (reach_of g.S.Store g.M.MergeOperator g.T.BlockTransformer v).faults.transformer) c.commit.ensures.outside));
     }

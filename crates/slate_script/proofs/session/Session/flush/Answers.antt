@@ -74,6 +74,7 @@ returns g c =
       asked = puts_alone _ _ _ _ (subst (λ (v : SessionModel). AddsTables (tables_of v.core.events) (tables_of c.flush.new.self.events) (g.S.Store.acts c.args.env.now.store.now) (g.S.Store.acts c.flush.new.env.store.now)) c.self.view_is c.in_ok-seq.ensures.acts);
       adds = c.flush.ensures.adds;
       puts = c.flush.ensures.puts;
+      still = c.in_ok-seq.ensures.still;
     }
 
 pub returns-in_err-seq : goal.returns-in_err-seq
@@ -90,4 +91,4 @@ returns-in_err-seq g c =
     (subst (λ (v : SessionModel). IsFault old new c.in_err-seq.field-0.0 ⊎ IsLimit v c.in_err-seq.field-0.0) c.self.view_is
     (operable_cause old new before c.in_err-seq.field-0.0 (c.in_err-seq.ensures.operable (subst (λ (v : SessionModel). IsKept (meaning_of g.M.MergeOperator.combine g.T.BlockTransformer.encoded g.T.BlockTransformer.decoded c.args.env.now.operator c.args.env.now.transformer) v.core) (sym c.self.view_is) kept))
     (flush_cause old new (layout_of c.args.laws.now.options policies (segments_by g.X.PrefixExtractor.lengths c.args.laws.now.segments)) before c.in_err-seq.field-0.0 c.in_err-seq.ensures.cause))))
-    c.flush.ensures.adds c.flush.ensures.puts tt
+    c.flush.ensures.adds c.flush.ensures.puts c.in_err-seq.ensures.still tt

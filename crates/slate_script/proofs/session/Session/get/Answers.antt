@@ -42,6 +42,7 @@ returns-in_default g c = record {
     cause = tt;
     undamaged = λ is. tt;
     reads = reads_none _;
+    still = refl;
   };
   asked = closed_asked {A = Answer} _ c.args.name c.args.key c.reader_id.result _ c.args.self.now (Ok (answers.Refused (UnknownTransaction c.args.name))) c.reader_id.ensures.reads c.in_default.is;
 }
@@ -93,6 +94,7 @@ returns g c =
         cause = tt;
         undamaged = λ is. tt;
         reads = c.get-read.ensures.read.reads;
+        still = c.in_ok-row.ensures.read.still;
       };
     }
 
@@ -129,5 +131,6 @@ returns-in_err-row g c =
             let p = err_from_is_err_and c.from_residual.result c.from_residual.ensures.1 in
             rw (p.1, p.2) (c.in_err-row.ensures.read.undamaged (subst (λ (v : SessionModel). IsAnswered policies old new v.core) (sym c.self.view_is) is)));
         reads = c.get-read.ensures.read.reads;
+        still = rw (p.1, p.2) c.in_err-row.ensures.read.still;
       };
     }

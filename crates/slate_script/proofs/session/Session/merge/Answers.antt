@@ -5,7 +5,7 @@ use Rattle.slate_txn.specs.declared.line.Line.TheVariants as lines
 use Rattle.slate_txn.specs.Step.{with_op}
 use Rattle.slate_language.specs.declared.reply.Answer.TheVariants as answers
 use Rattle.slate_types.specs.declared.error.SlateDBError.TheVariants as errors
-use Rattle.slate_types.specs.Outside.{OnlyReads}
+use Rattle.slate_types.specs.Outside.{IsStill, OnlyReads}
 use Rattle.slate_store.specs.Reach.{reach_of}
 use Rattle.slate_types.specs.World.{IsCall}
 use Rattle.slate_types.proofs.Calls.{call_none}
@@ -35,6 +35,7 @@ returns-in_default g c seg =
       cause = tt;
       call = call_none _;
       reads = reads_none _;
+      still = refl;
     }
 
 pub merge-merge-requires : goal.merge-merge-requires
@@ -78,4 +79,5 @@ returns g c seg =
           (merge_cause ((meaning_of g.M.MergeOperator.combine g.T.BlockTransformer.encoded g.T.BlockTransformer.decoded c.args.env.now.operator c.args.env.now.transformer).combine ≡ None) c.merge-merge.result c.as_slice.result.now (ops.Merge c.as_slice-2.result.now (record { ttl = c.args.ttl })) c.merge-merge.ensures.cause)));
       call = subst (λ v. IsCall (reach_of g.S.Store g.M.MergeOperator g.T.BlockTransformer c.args.env.now) (reach_of g.S.Store g.M.MergeOperator g.T.BlockTransformer v) []) (sym c.merge-merge.ensures.outside) (call_none _);
       reads = subst (λ v. OnlyReads (reach_of g.S.Store g.M.MergeOperator g.T.BlockTransformer c.args.env.now) (reach_of g.S.Store g.M.MergeOperator g.T.BlockTransformer v)) (sym c.merge-merge.ensures.outside) (reads_none _);
+      still = subst (λ v. IsStill (reach_of g.S.Store g.M.MergeOperator g.T.BlockTransformer c.args.env.now).faults (reach_of g.S.Store g.M.MergeOperator g.T.BlockTransformer v).faults c.done.result) (sym c.merge-merge.ensures.outside) refl;
     }

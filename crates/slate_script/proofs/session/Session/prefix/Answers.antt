@@ -36,6 +36,7 @@ returns g c =
       cause = c.scan_range.ensures.cause;
       undamaged = c.scan_range.ensures.undamaged;
       reads = c.scan_range.ensures.reads;
+      still = c.scan_range.ensures.still;
     }
 
 pub returns-in-Err : goal.returns-in-Err
@@ -49,4 +50,5 @@ returns-in-Err g c =
       cause = inl fault;
       undamaged = λ is. fault;
       reads = reads_none _;
+      still = refl;
     }

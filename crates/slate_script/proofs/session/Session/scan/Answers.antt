@@ -30,4 +30,5 @@ returns g c =
       cause = c.scan_range.ensures.cause;
       undamaged = c.scan_range.ensures.undamaged;
       reads = c.scan_range.ensures.reads;
+      still = c.scan_range.ensures.still;
     }

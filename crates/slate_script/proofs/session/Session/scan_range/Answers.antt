@@ -1,6 +1,6 @@
 use Rattle.std.proofs.Common.{◌≡◌, ℕ, inl, false, List, length, Ok, refl, sym, ap, subst, ◌∙◌, arith, map}
 use Rattle.std.specs.Prelude.{IfSome, IsSome, Option}
-use Rattle.std.proofs.lemmas.Result.{IfOk-from_err}
+use Rattle.std.proofs.lemmas.Result.{IfOk-from_err, err_from_is_err_and}
 use Rattle.slate_mem.specs.KeyTests.{Segments}
 use Rattle.slate_store.specs.Reach.{reach_of}
 use Rattle.slate_types.specs.declared.bytes_range.BytesRange.{BytesRange}
@@ -122,3 +122,11 @@ returns-clause-stores g c =
     let same : length c.scan_rows-scanned.new.core.events ≡ length c.self.inside.core.events = ap (λ (v : CoreModel). length v.events) is in
     subst (λ (v : SessionModel). (m : Meaning) (seg : Segments) → StoresNothing m seg v (record before { core = c.scan_rows-scanned.new.core })) c.self.view_is
     (λ m seg. record { settings = ap (λ (v : CoreModel). v.settings) is; runs = ap (λ (v : CoreModel). runs_of v.events) is; later = omega (arith, same); kept = c.in_ok-rows.ensures.scanned.kept m; segmented = segmented_noted c.self.inside.core c.scan_rows-scanned.new.core c.in-Some.id _ is seg })
+
+pub returns-in_err-rows-clause-still : goal.returns-in_err-rows-clause-still
+returns-in_err-rows-clause-still g c =
+    let p = err_from_is_err_and c.from_residual.result c.from_residual.ensures.1 in
+    rw (p.1, p.2) c.in_err-rows.ensures.still
+
+pub returns-clause-still : goal.returns-clause-still
+returns-clause-still g c = c.in_ok-rows.ensures.still

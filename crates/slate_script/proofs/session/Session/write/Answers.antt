@@ -1,8 +1,10 @@
-use Rattle.std.proofs.Common.{◌⊎◌, arith, length, OnOk, Result, sym, subst, refl}
+use Rattle.std.proofs.Common.{◌⊎◌, arith, length, OnOk, Result, sym, ap, subst, refl}
 use Rattle.std.specs.Prelude.{IfErr}
-use Rattle.slate_types.specs.Outside.{IsCounted}
+use Rattle.slate_store.specs.Reach.{reach_of}
+use Rattle.slate_types.specs.Outside.{IsCounted, IsOperatorStill}
 use Rattle.slate_types.proofs.Calls.{call_none}
 use Rattle.slate_types.proofs.Reaching.{reads_none}
+use Rattle.slate_types.proofs.StillLaws.{asked_still}
 use Rattle.slate_txn.specs.Reply.{Written}
 use Rattle.slate_db.specs.Meaning.{rules_in, segments_by}
 use Rattle.slate_db.specs.Segmented.{IsSegmented}
@@ -15,7 +17,7 @@ use Rattle.slate_script.proofs.SessionSteps.{batch_refused, refused_cause, write
 use Rattle.slate_script.proofs.SessionLeaves.{leaves_written, leaves_same, written_txns, written_snapshots, written_flushed, kept_same, stores_by}
 use Rattle.slate_script.proofs.Growth.{grows, grows_where, takes_written, takes_same}
 use Rattle.slate_script.proofs.LineEnds.{memory_or_limit}
-use Rattle.slate_script.proofs.Refusing.{write_cause}
+use Rattle.slate_script.proofs.Refusing.{refused_still, write_cause}
 use Rattle.slate_script.proofs.Running.{always}
 use Rattle.slate_script.proofs.session.Session.write.Goals as goal
 use Rattle.slate_script.proofs.session.Session.write.Goals.{in-Ok-write, in-Err-write}
@@ -69,6 +71,15 @@ returns g c =
           ]));
       call = c.write.ensures.call;
       reads = c.write.ensures.reads;
+      still = (let old = counts_of (g.S.Store.faults c.args.env.now.store.now) g.M.MergeOperator.faults g.T.BlockTransformer.faults c.args.env.now.operator c.args.env.now.transformer in
+          let new = counts_of (g.S.Store.faults c.write.new.env.store.now) g.M.MergeOperator.faults g.T.BlockTransformer.faults c.write.new.env.operator c.write.new.env.transformer in
+          asked_still old new c.match-write.result (ap (λ v. (reach_of g.S.Store g.M.MergeOperator g.T.BlockTransformer v).faults.store) c.write.ensures.outside)
+          (elim c.match-write.branch [
+            | in-Ok-write w ↦ subst (λ (r : Result Answer SlateDBError). IsOperatorStill old.operator new.operator r) (sym w.result-is) w.in-Ok-write.ensures.still
+            | in-Err-write w ↦ subst (λ (r : Result Answer SlateDBError). IsOperatorStill old.operator new.operator r) (sym w.result-is)
+                (refused_still old.operator new.operator w.in-Err-write.error w.refused-in-Err-write.result w.refused-in-Err-write.ensures.answered w.refused-in-Err-write.ensures.other w.in-Err-write.ensures.still)
+          ])
+          (ap (λ v. (reach_of g.S.Store g.M.MergeOperator g.T.BlockTransformer v).faults.transformer) c.write.ensures.outside));
     }
 
 pub returns-in-Err : goal.returns-in-Err
@@ -81,4 +92,5 @@ returns-in-Err g c =
           memory_or_limit c.refused.result old old c.args.self.now (refused_cause (λ e. IsLimit c.args.self.now e) c.args.ops c.in-Err.error c.refused.result c.refused.ensures.other c.in-Err.ensures.refused));
       call = call_none _;
       reads = reads_none _;
+      still = refl;
     }
