@@ -5,7 +5,7 @@ use Rattle.std.specs.Global.{Vec}
 use Rattle.slate_types.specs.declared.error.SlateDBError.{SlateDBError}
 use Rattle.slate_types.specs.declared.error.SlateDBError.TheVariants as errors
 use Rattle.slate_types.specs.declared.config.Options.{Options}
-use Rattle.slate_types.specs.Outside.{IsFault, Meaning, Objects, Reach}
+use Rattle.slate_types.specs.Outside.{Counts, IsFault, IsStill, Meaning, Objects, Reach, unblamed}
 use Rattle.slate_types.proofs.Reaching.{reads_none}
 use Rattle.slate_filter.specs.Policy.{Policy}
 use Rattle.slate_store.specs.Lines.{script_limit}
@@ -27,11 +27,13 @@ use Rattle.slate_db.specs.Readable.{AreFiltered}
 use Rattle.slate_db.specs.Segmented.{IsSegmented}
 use Rattle.slate_db.specs.Settled.{HasTables, IsSettledIn}
 use Rattle.slate_db.specs.Sound.{IsKept}
+use Rattle.slate_steps.specs.Reads.{IsStillBy, unblamed_if}
+use Rattle.slate_steps.proofs.Reading.{if_ok_map}
 use Rattle.slate_language.specs.Replies.{is_silent}
 use Rattle.slate_index.specs.declared.error.IndexError.{IndexError}
 use Rattle.slate_index.specs.declared.error.IndexError.TheVariants.{Db}
 use Rattle.slate_index.specs.declared.line.Line.{Line}
-use Rattle.slate_index.specs.Calls.{IsChangeCall, faults, values_in}
+use Rattle.slate_index.specs.Calls.{IsChangeCall, db_error, faults, values_in}
 use Rattle.slate_index.specs.Entries.{FieldsModel, record_key}
 use Rattle.slate_index.specs.Journals.{AreChanges}
 use Rattle.slate_index.specs.Looking.{IsLookup}
@@ -53,6 +55,33 @@ silence_said fs r line s rest = λ i. said_by fs (s i) (meaning fs line) r ++ sa
 
 -- ---- one line
 
+-- an error that a line is answered blames no part
+blames_none : (x : SlateDBError) (a : Counts) → has_reply x ≡ true → unblamed x a ≡ a
+unfolding unblamed
+blames_none errors.StoreFault a said = cc
+blames_none (errors.Callback m) a said = cc
+blames_none errors.BlockTransformError a said = cc
+blames_none _ a said = refl
+
+said_still : (e : IndexError) (a b : Counts) → is_said e ≡ true → unblamed_if (db_error e) b ≡ unblamed_if (db_error e) a → b ≡ a
+said_still (Db x) a b said same = sym (blames_none x b said) ∙ same ∙ blames_none x a said
+said_still _ a b said same = same
+
+-- of what a call says of the counts, and of what its result is answered
+pub answered_still : {A : Type 0} (a b : Counts) (made : Result A IndexError) (result : Result (Vec ℕ) SlateDBError) → IsStillBy db_error a b made → ((e : IndexError) → made ≡ Err e → IfOk result (λ v. is_said e ≡ true)) →
+    IfErr result (λ x. ((x ≡ errors.OutOfMemory) × IfErr made (λ e. is_said e ≡ true)) ⊎ ((made ≡ Err (Db x)) × (has_reply x ≡ false))) → IsStill a b result
+answered_still {A = A} a b made (Ok v) still refused cause = by made still refused
+  where
+    by : (k : Result A IndexError) → IsStillBy db_error a b k → ((e : IndexError) → k ≡ Err e → is_said e ≡ true) → b ≡ a
+    by (Ok n) same said = same
+    by (Err e) same said = said_still e a b (said e refl) same
+answered_still {A = A} a b made (Err x) still refused (inl memory) = ap (unblamed x) (by made still memory.1)
+  where
+    by : (k : Result A IndexError) → IsStillBy db_error a b k → IfErr k (λ e. is_said e ≡ true) → b ≡ a
+    by (Ok n) same said = same
+    by (Err e) same said = said_still e a b said same
+answered_still {A = A} a b made (Err x) still refused (inr why) = subst (λ (k : Result A IndexError). IsStillBy db_error a b k) why.0 still
+
 memory_ends : (policies : List Policy) (before after : Reach) (c d : CoreModel) (x : SlateDBError) → x ≡ errors.OutOfMemory → IsRunError policies before after c d x
 memory_ends policies before after c d x is = subst (IsRunError policies before after c d) (sym is) (record {
   apart = tt;
@@ -67,13 +96,14 @@ module _ (policies : List Policy) (fs : FieldsModel) (before after : Reach) (c d
       IsChangeCall policies None fs id new now before after c d change →
       ((n : ℕ) → change ≡ Ok n → IfOk result (λ v. v.items ≡ reply_line Reply.Done)) →
       ((e : IndexError) → change ≡ Err e → IfOk result (λ v. (v.items ≡ reply_line (Reply.Refused e)) × (is_said e ≡ true))) →
-      IfErr result (λ x. (x ≡ errors.OutOfMemory) ⊎ ((change ≡ Err (Db x)) × (has_reply x ≡ false))) →
+      IfErr result (λ x. ((x ≡ errors.OutOfMemory) × IfErr change (λ e. is_said e ≡ true)) ⊎ ((change ≡ Err (Db x)) × (has_reply x ≡ false))) → IsStillBy db_error before.faults after.faults change →
       Answers policies fs line before after c d result
-  change_answers id new now change step call done refused cause = record {
+  change_answers id new now change step call done refused cause counts = record {
     said = λ r h. by_result r h result done refused;
     settled = call.settled;
     grows = call.events;
     reads = call.reads;
+    still = answered_still before.faults after.faults change result counts (λ e is. if_ok_map result _ _ (λ v t. t.1) (refused e is)) cause;
     cause = by_error result cause;
   }
     where
@@ -94,22 +124,23 @@ module _ (policies : List Policy) (fs : FieldsModel) (before after : Reach) (c d
               let stepped_is = step r ∙ left.0 in
               (said.0 ∙ ap (λ (p : Run × Reply). reply_line p.1) (sym stepped_is), subst (λ (p : Run × Reply). IsRunning policies fs after d p.0) (sym stepped_is) left.1)
 
-      by_error : (q : Result (Vec ℕ) SlateDBError) → IfErr q (λ x. (x ≡ errors.OutOfMemory) ⊎ ((change ≡ Err (Db x)) × (has_reply x ≡ false))) → IfErr q (IsRunError policies before after c d)
+      by_error : (q : Result (Vec ℕ) SlateDBError) → IfErr q (λ x. ((x ≡ errors.OutOfMemory) × IfErr change (λ e. is_said e ≡ true)) ⊎ ((change ≡ Err (Db x)) × (has_reply x ≡ false))) → IfErr q (IsRunError policies before after c d)
       by_error (Ok v) h = tt
-      by_error (Err x) (inl memory) = memory_ends policies before after c d x memory
+      by_error (Err x) (inl memory) = memory_ends policies before after c d x memory.0
       by_error (Err x) (inr (is, unsaid)) = change_ends policies fs id new now before after c d x (subst (IsChangeCall policies None fs id new now before after c d) is call) unsaid
 
   pub search_answers : (n : ℕ) (f : List ℕ) (ids : Result (Vec (List ℕ)) IndexError) → ((r : Run) → stepped fs r line ≡ (r, Reply.FoundAre (found fs n f r.records))) →
       IsLegal c.settings.start_seq c.events → n < fs.count → IsLookup policies None n f before after c d ids →
       ((v : Vec (List ℕ)) → ids ≡ Ok v → IfOk result (λ t. t.items ≡ reply_line (Reply.FoundAre v.items))) →
       ((e : IndexError) → ids ≡ Err e → IfOk result (λ t. is_said e ≡ true)) →
-      IfErr result (λ x. (x ≡ errors.OutOfMemory) ⊎ ((ids ≡ Err (Db x)) × (has_reply x ≡ false))) →
+      IfErr result (λ x. ((x ≡ errors.OutOfMemory) × IfErr ids (λ e. is_said e ≡ true)) ⊎ ((ids ≡ Err (Db x)) × (has_reply x ≡ false))) → IsStillBy db_error before.faults after.faults ids →
       Answers policies fs line before after c d result
-  search_answers n f ids step legal below call done refused cause = record {
+  search_answers n f ids step legal below call done refused cause counts = record {
     said = λ r h. by_result r h result done refused;
     settled = call.settled;
     grows = call.events;
     reads = call.reads;
+    still = answered_still before.faults after.faults ids result counts refused cause;
     cause = by_error result cause;
   }
     where
@@ -126,9 +157,9 @@ module _ (policies : List Policy) (fs : FieldsModel) (before after : Reach) (c d
               )
           by (Err e) is = search_unsaid policies fs n f before after c d e h.settled (subst (IsLookup policies None n f before after c d) is call) (λ x same. ap is_said (sym same) ∙ refused e is)
 
-      by_error : (q : Result (Vec ℕ) SlateDBError) → IfErr q (λ x. (x ≡ errors.OutOfMemory) ⊎ ((ids ≡ Err (Db x)) × (has_reply x ≡ false))) → IfErr q (IsRunError policies before after c d)
+      by_error : (q : Result (Vec ℕ) SlateDBError) → IfErr q (λ x. ((x ≡ errors.OutOfMemory) × IfErr ids (λ e. is_said e ≡ true)) ⊎ ((ids ≡ Err (Db x)) × (has_reply x ≡ false))) → IfErr q (IsRunError policies before after c d)
       by_error (Ok v) h = tt
-      by_error (Err x) (inl memory) = memory_ends policies before after c d x memory
+      by_error (Err x) (inl memory) = memory_ends policies before after c d x memory.0
       by_error (Err x) (inr (is, unsaid)) = search_ends policies fs n f before after c d x (Db x) refl (subst (IsLookup policies None n f before after c d) is call) unsaid
 
 -- ---- a new core
@@ -174,8 +205,8 @@ new_weight c state none = λ i. length (none i) + ends_of (state i)
 
 -- no limit is reached by as many lines as a run can take
 pub no_limit : (policies : List Policy) (before after : Reach) (c d : CoreModel) (n : ℕ) (e : SlateDBError) → (Premises policies before → IsSettledIn policies None before c) → weight c ≡ 0 → n ≤ script_limit → Goes policies before after c d n →
-    IsRunError policies before after c d e → RunEnds policies before after e
-no_limit policies before after c d n e settled light few goes error = by (is_limit e) refl
+    IsRunError policies before after c d e → unblamed e after.faults ≡ unblamed e before.faults → RunEnds policies before after e
+no_limit policies before after c d n e settled light few goes error still = by (is_limit e) refl
   where
     by : (b : Bool) → is_limit e ≡ b → RunEnds policies before after e
     by true is =
@@ -185,6 +216,7 @@ no_limit policies before after c d n e settled light few goes error = by (is_lim
     by false is = record {
       apart = error.apart;
       unlimited = is;
+      still = still;
       lawful = λ h. at (error.settled (settled h));
       cause = error.cause;
     }
@@ -246,9 +278,9 @@ cause_map A B P Q e f (inr (inr (inr (inl h)))) = inr (inr (inr (inl h)))
 cause_map A B P Q e f (inr (inr (inr (inr (inl h))))) = inr (inr (inr (inr (inl h))))
 cause_map A B P Q e f (inr (inr (inr (inr (inr h))))) = inr (inr (inr (inr (inr (f h)))))
 
-pub run_ends : {V P : Type 0} {policies : P → List Policy} {reach : P → Reach} {core : P → CoreModel} {p q : P} {n : ℕ} {after : Reach} (A B : Type 0) (result : Result V SlateDBError) → GoesBetween policies reach core p q n →
-    IfErr result (IsRunCause A B (EndsBetween policies reach core p q)) → reach q ≡ after → (Premises (policies p) (reach p) → IsSettledIn (policies p) None (reach p) (core p)) → weight (core p) ≡ 0 → n ≤ script_limit →
+pub run_ends : {V P : Type 0} {policies : P → List Policy} {reach : P → Reach} {core : P → CoreModel} {ended : P → Bool} {p q : P} {n : ℕ} {after : Reach} (A B : Type 0) (result : Result V SlateDBError) → GoesBetween policies reach core ended p q n →
+    IfErr result (IsRunCause A B (EndsBetween policies reach core ended p q)) → reach q ≡ after → (Premises (policies p) (reach p) → IsSettledIn (policies p) None (reach p) (core p)) → weight (core p) ≡ 0 → n ≤ script_limit →
     IfErr result (IsRunCause A B (RunEnds (policies p) (reach p) after))
 run_ends A B (Ok v) goes cause same settled light few = tt
-run_ends {policies = policies} {reach = reach} {core = core} {p = p} {q = q} {n = n} {after = after} A B (Err e) goes cause same settled light few =
-    cause_map A B (EndsBetween policies reach core p q) (RunEnds (policies p) (reach p) after) e (λ x. subst (λ t. RunEnds (policies p) (reach p) t e) same (no_limit (policies p) (reach p) (reach q) (core p) (core q) n e settled light few goes.goes x.error)) cause
+run_ends {policies = policies} {reach = reach} {core = core} {ended = ended} {p = p} {q = q} {n = n} {after = after} A B (Err e) goes cause same settled light few =
+    cause_map A B (EndsBetween policies reach core ended p q) (RunEnds (policies p) (reach p) after) e (λ x. subst (λ t. RunEnds (policies p) (reach p) t e) same (no_limit (policies p) (reach p) (reach q) (core p) (core q) n e settled light few goes.goes x.error x.still)) cause

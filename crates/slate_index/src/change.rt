@@ -46,7 +46,8 @@ use uuid::Uuid;
 /// Refuses before a transaction begins by `FieldTooLong`, where the value has a field of more than 1024 bytes, with the number of the
 /// first, and by `Db` with `ValueTooLong` above 2^32 - 1 bytes. Then by `Db` with `LimitReached` where the journal has no place for two
 /// events, with what a read is refused for, with `SequenceExhausted` where no sequence is left, and with `OutOfMemory`. A refusal commits
-/// nothing and leaves no transaction open.
+/// nothing and leaves no transaction open. No failure of the store or of a part is passed over: each count of faults is as it was, but for
+/// that of the one whose fault `Db` holds.
 pub fn put_record<F: Fields, S: Store, M: MergeOperator, X: PrefixExtractor, T: BlockTransformer>(
     core: &mut Core,
     fields: &F,
@@ -74,7 +75,8 @@ pub fn put_record<F: Fields, S: Store, M: MergeOperator, X: PrefixExtractor, T: 
 ///
 /// Refuses by `NoRecord` where there is no record with this id, and by `Db` with `LimitReached` where the journal has no place for two
 /// events, with what a read is refused for, with `SequenceExhausted` where no sequence is left, and with `OutOfMemory`. A refusal commits
-/// nothing and leaves no transaction open.
+/// nothing and leaves no transaction open. No failure of the store or of a part is passed over: each count of faults is as it was, but for
+/// that of the one whose fault `Db` holds.
 pub fn delete_record<
     F: Fields,
     S: Store,

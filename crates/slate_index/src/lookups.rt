@@ -45,7 +45,8 @@ use uuid::Uuid;
 /// is left out. It is read in a transaction that ends with the call.
 ///
 /// Refuses by `Db` with `LimitReached` where the journal has no place for two events, with what a scan is refused for, and with
-/// `OutOfMemory`. A refusal leaves no transaction open.
+/// `OutOfMemory`. A refusal leaves no transaction open. No failure of the store or of a part is passed over: each count of faults is as it
+/// was, but for that of the one whose fault `Db` holds.
 pub fn lookup<S: Store, M: MergeOperator, X: PrefixExtractor, T: BlockTransformer>(
     core: &mut Core,
     number: u8,

@@ -46,9 +46,10 @@ use std::sync::Wait;
 ///
 /// Refuses before a transaction begins by `FieldTooLong`, where the value has a field of more than 1024 bytes, with the number of the
 /// first, and by `Db` with `ValueTooLong` above 2^32 - 1 bytes. Then by `Db` with `LimitReached` where the journal has no place for two
-/// events, with what a read is refused for, with `TransactionConflict`, and its greatest sequence, where another thread's commit since
-/// the begin wrote a key that this one read or writes, with `SequenceExhausted` where no sequence is left, and with `OutOfMemory`. A
-/// refusal commits nothing and leaves no transaction open.
+/// events, with what a read is refused for, with `TransactionConflict`, and its greatest sequence, where another thread's commit since the
+/// begin wrote a key that this one read or writes, with `SequenceExhausted` where no sequence is left, and with `OutOfMemory`. A refusal
+/// commits nothing and leaves no transaction open. No failure of the store or of a part is passed over: each count of faults is as it was,
+/// but for that of the one whose fault `Db` holds.
 pub fn put_record_shared<
     F: Fields,
     P: Parts,
@@ -88,7 +89,8 @@ pub fn put_record_shared<
 /// Deletes a record with its entries, at a moment, by one attempt, and gives the sequence.
 ///
 /// Refuses by `NoRecord` where there was no record with this id when the transaction began, and by `Db` as a put does. A refusal commits
-/// nothing and leaves no transaction open.
+/// nothing and leaves no transaction open. No failure of the store or of a part is passed over: each count of faults is as it was, but for
+/// that of the one whose fault `Db` holds.
 pub fn delete_record_shared<
     F: Fields,
     P: Parts,

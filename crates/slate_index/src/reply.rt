@@ -29,7 +29,7 @@ pub(crate) fn done(alloc: Global) -> Result<Vec<u8>, AllocError>
 /// The reply to a line that is refused by the error, where that doesn't end the run, and else the database's own error.
 pub(crate) fn refusal(alloc: Global, error: IndexError) -> Result<Vec<u8>, SlateDBError>
     ensures said { IfOk result (λ v. (v.items ≡ reply_line (Reply.Refused error)) × (is_said error ≡ true)) }
-    ensures cause { IfErr result (λ x. (x ≡ SlateDBError.OutOfMemory) ⊎ ((error ≡ IndexError.Db x) × (is_said error ≡ false))) }
+    ensures cause { IfErr result (λ x. ((x ≡ SlateDBError.OutOfMemory) × (is_said error ≡ true)) ⊎ ((error ≡ IndexError.Db x) × (is_said error ≡ false))) }
 {
     if is_said(&error) {
         refused(alloc, error).map_err(SlateDBError::from)

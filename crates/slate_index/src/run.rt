@@ -40,7 +40,8 @@ use std::alloc::Global;
 ///
 /// An error of the lines themselves, `ScriptSyntax` or `ScriptTooLong`, comes exactly where `error_in` has it, unless another error came
 /// first. `ReadFault` and `WriteFault` come only where that object's count of faults rose, and any other error only where the database
-/// refuses for it; with lawful parts that is a fault whose count rose in this call, or `OutOfMemory`. No limit is reached.
+/// refuses for it; with lawful parts that is a fault whose count rose in this call, or `OutOfMemory`. Where the database refuses, no count
+/// of a part rose in the run but that of the one whose fault it is. No limit is reached.
 pub fn run_index<
     R: Source,
     W: Sink,
@@ -117,7 +118,8 @@ fn reply<F: Fields, S: Store, M: MergeOperator, X: PrefixExtractor, T: BlockTran
 }
 
 /// The program over a core. A struct that holds a `&mut Env` gives its last value back to no proof, so the environment is a parameter.
-/// No method of a trait may hand on an extractor, which is `Send`, so the reply is a closure of the run.
+/// No method of a trait may hand on an extractor, which is `Send`, so the reply is a closure of the run. A line that isn't answered has
+/// ended it: behind that no line is answered.
 #[derive(Drop)]
 struct Index<'c, 'a, 'p, 'f, E, F, A> {
     core: &'c mut Core,
@@ -125,6 +127,7 @@ struct Index<'c, 'a, 'p, 'f, E, F, A> {
     policies: &'p Vec<Box<dyn FilterPolicy>>,
     fields: &'f F,
     reply: A,
+    ended: bool,
 }
 
 impl<
@@ -138,12 +141,13 @@ impl<
 
     ghost ready = { λ p. ((e : _) (c : _) (l : _) (n : ℕ) → A.pre p.reply e c l n)
         × ((e : _) (c : _) (l : _) (n : ℕ) (r : _) (f : _) (d : _) → A.post p.reply e c l n r f d →
-        RepliesTo (map (λ q. (FilterPolicy-box q).meaning q.value) p.policies.now.items) (F.model p.fields.now) l.now n (E.reach e.now) (E.reach f.now) c.now d.now r) };
+        RepliesTo (map (λ q. (FilterPolicy-box q).meaning q.value) p.policies.now.items) (F.model p.fields.now) l.now n (E.reach e.now) (E.reach f.now) c.now d.now r)
+        × (p.ended ≡ false) };
 
     ghost goes = { λ p q n. (q.env.ghost_name ≡ p.env.ghost_name)
-        × GoesBetween (λ x. map (λ r. (FilterPolicy-box r).meaning r.value) x.policies.now.items) (λ x. E.reach x.env.now) (λ x. x.core.now) p q n };
+        × GoesBetween (λ x. map (λ r. (FilterPolicy-box r).meaning r.value) x.policies.now.items) (λ x. E.reach x.env.now) (λ x. x.core.now) (λ x. x.ended) p q n };
 
-    ghost refuses = { λ p q e. EndsBetween (λ x. map (λ r. (FilterPolicy-box r).meaning r.value) x.policies.now.items) (λ x. E.reach x.env.now) (λ x. x.core.now) p q e };
+    ghost refuses = { λ p q e. EndsBetween (λ x. map (λ r. (FilterPolicy-box r).meaning r.value) x.policies.now.items) (λ x. E.reach x.env.now) (λ x. x.core.now) (λ x. x.ended) p q e };
 
     fn answer(
         &mut self,
@@ -151,12 +155,18 @@ impl<
         line: &[u8],
         number: u64,
     ) -> Result<Option<Vec<u8>>, SlateDBError> {
-        (self.reply)(self.env, self.core, line, number)
+        match (self.reply)(self.env, self.core, line, number) {
+            Ok(text) => Ok(text),
+            Err(error) => {
+                self.ended = true;
+                Err(error)
+            }
+        }
     }
 
     ghost ends = { λ p f h. h.2 [] };
 
-    ghost stays = { λ p. (refl, between_none _ _ _ p) };
+    ghost stays = { λ p. (refl, between_none _ _ _ _ p) };
 
     ghost goes_on = { λ a b c n m p q. (q.0 ∙ p.0, between_both p.1 q.1) };
 
@@ -204,6 +214,7 @@ fn run_over<
         policies,
         fields,
         reply,
+        ended: false,
     };
     let ran = run_lines(alloc, source, sink, &mut index);
     let Index { env, reply, .. } = index;
@@ -259,7 +270,7 @@ fn answer_line<F: Fields, S: Store, M: MergeOperator, X: PrefixExtractor, T: Blo
 fn changed(alloc: Global, change: Result<u64, IndexError>) -> Result<Vec<u8>, SlateDBError>
     ensures done { (n : ℕ) → change ≡ Ok n → IfOk result (λ v. v.items ≡ reply_line Reply.Done) }
     ensures refused { (e : IndexError) → change ≡ Err e → IfOk result (λ v. (v.items ≡ reply_line (Reply.Refused e)) × (is_said e ≡ true)) }
-    ensures cause { IfErr result (λ x. (x ≡ SlateDBError.OutOfMemory) ⊎ ((change ≡ Err (IndexError.Db x)) × (has_reply x ≡ false))) }
+    ensures cause { IfErr result (λ x. ((x ≡ SlateDBError.OutOfMemory) × IfErr change (λ e. is_said e ≡ true)) ⊎ ((change ≡ Err (IndexError.Db x)) × (has_reply x ≡ false))) }
 {
     match change {
         Ok(_) => done(alloc).map_err(SlateDBError::from),
@@ -271,7 +282,7 @@ fn changed(alloc: Global, change: Result<u64, IndexError>) -> Result<Vec<u8>, Sl
 fn searched(alloc: Global, ids: Result<Vec<Name>, IndexError>) -> Result<Vec<u8>, SlateDBError>
     ensures found { (found : Vec (List ℕ)) → ids ≡ Ok found → IfOk result (λ v. v.items ≡ reply_line (Reply.FoundAre found.items)) }
     ensures refused { (e : IndexError) → ids ≡ Err e → IfOk result (λ v. is_said e ≡ true) }
-    ensures cause { IfErr result (λ x. (x ≡ SlateDBError.OutOfMemory) ⊎ ((ids ≡ Err (IndexError.Db x)) × (has_reply x ≡ false))) }
+    ensures cause { IfErr result (λ x. ((x ≡ SlateDBError.OutOfMemory) × IfErr ids (λ e. is_said e ≡ true)) ⊎ ((ids ≡ Err (IndexError.Db x)) × (has_reply x ≡ false))) }
 {
     match ids {
         Ok(ids) => {

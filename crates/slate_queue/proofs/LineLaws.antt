@@ -3,7 +3,7 @@ use Rattle.std.proofs.Common.{Vec, Global, ◌≡◌, ◌≢◌, ◌⊎◌, inl,
 use Rattle.std.specs.Prelude.{IfOk, IfErr}
 use Rattle.slate_types.specs.declared.error.SlateDBError.{SlateDBError}
 use Rattle.slate_types.specs.declared.error.SlateDBError.TheVariants.{OutOfMemory, ScriptSyntax, SequenceExhausted}
-use Rattle.slate_types.specs.Outside.{Reach}
+use Rattle.slate_types.specs.Outside.{Counts, IsStill, Reach, unblamed}
 use Rattle.slate_store.specs.Run.{LineSays, Says}
 use Rattle.slate_filter.specs.Policy.{Policy}
 use Rattle.slate_mem.specs.declared.WriteOp.TheVariants.{Delete}
@@ -13,6 +13,7 @@ use Rattle.slate_mem.proofs.BatchLaws.{keeps_its_keys}
 use Rattle.slate_txn.specs.Alone.{own_of}
 use Rattle.slate_db.specs.Meaning.{Meaning}
 use Rattle.slate_db.specs.Model.{CoreModel}
+use Rattle.slate_steps.specs.Reads.{unblamed_if}
 use Rattle.slate_steps.proofs.Reading.{if_err_map, if_ok_map}
 use Rattle.slate_language.specs.Replies.{is_silent}
 use Rattle.slate_queue.specs.declared.claims.Claim.{Claim}
@@ -27,7 +28,7 @@ use Rattle.slate_queue.specs.Feed.{feed_of}
 use Rattle.slate_queue.specs.Commits.{added, put_of}
 use Rattle.slate_queue.specs.Standing.{job_in}
 use Rattle.slate_queue.specs.CallSteps.{ClaimStops, counter_refusal, job_refusal, value_of}
-use Rattle.slate_queue.specs.Calls.{AddRefuses, CallsAs, ClaimEnds, ClaimRefuses, Commits, FinishRefuses, Form, IsAddOf, IsClaimOf, IsFinishOf, Leaves, StandsIn, StepRefuses, claim_answer}
+use Rattle.slate_queue.specs.Calls.{AddRefuses, CallsAs, ClaimEnds, ClaimRefuses, Commits, FinishRefuses, Form, IsAddOf, IsClaimOf, IsFinishOf, Leaves, StandsIn, StepRefuses, claim_answer, db_error}
 use Rattle.slate_queue.specs.Runs.{AnswersBy, Ends, IsReply, IsRunAt}
 use Rattle.slate_queue.specs.Script.{Reply, Run, after_by, called, keys_of, meaning, reply_line, said_by, says, stepped, takes}
 use Rattle.slate_queue.specs.Words.{fed_pair}
@@ -78,15 +79,29 @@ module _ {T : Type 0} (ends : T → Type 0) (answer : T → model.Answer) (call 
       if_ok_map result _ _ (λ v t. let said = refused_at r at e refused t.0 in (said.run, t.1 ∙ ap reply_line (sym said.is))) text
 
   pub refused_ends : ((x : SlateDBError) → own (errors.Db x) → ⊥) → (e : QueueError) (result : Result (Vec ℕ Global) SlateDBError) → CallsAs ends answer call own policies seg before after c d (Err e) →
-      IfErr result (λ x. (x ≡ OutOfMemory) ⊎ ((e ≡ errors.Db x) × (x ≢ SequenceExhausted))) → IfErr result (Ends policies seg before after c d)
+      IfErr result (λ x. ((x ≡ OutOfMemory) × IsReply e) ⊎ ((e ≡ errors.Db x) × (x ≢ SequenceExhausted))) → IfErr result (Ends policies seg before after c d)
   refused_ends none e result refused cause = if_err_map result _ _ by cause
     where
-      by : (x : SlateDBError) → (x ≡ OutOfMemory) ⊎ ((e ≡ errors.Db x) × (x ≢ SequenceExhausted)) → Ends policies seg before after c d x
-      by x (inl memory) = ends_memory policies seg before after c d x memory
+      by : (x : SlateDBError) → ((x ≡ OutOfMemory) × IsReply e) ⊎ ((e ≡ errors.Db x) × (x ≢ SequenceExhausted)) → Ends policies seg before after c d x
+      by x (inl memory) = ends_memory policies seg before after c d x memory.0
       by x (inr why) = ends_by own policies seg before after c d e x none refused.refused why.0 why.1 refused.cause
 
 pub text_ends : (policies : List Policy) (seg : Segments) (before after : Reach) (c d : CoreModel) (result : Result (Vec ℕ Global) SlateDBError) → IfErr result (λ x. x ≡ OutOfMemory) → IfErr result (Ends policies seg before after c d)
 text_ends policies seg before after c d result cause = if_err_map result _ _ (λ x memory. ends_memory policies seg before after c d x memory) cause
+
+-- ---- the counts of faults
+
+-- a refusal that is a reply blames no part
+reply_still : (e : QueueError) (a b : Counts) → IsReply e → unblamed_if (db_error e) b ≡ unblamed_if (db_error e) a → b ≡ a
+unfolding unblamed
+reply_still (errors.Db x) a b reply same = subst (λ (y : SlateDBError). unblamed y b ≡ unblamed y a) reply same
+reply_still _ a b reply same = same
+
+pub refused_still : (e : QueueError) (a b : Counts) (result : Result (Vec ℕ Global) SlateDBError) → unblamed_if (db_error e) b ≡ unblamed_if (db_error e) a → IfOk result (λ v. IsReply e × (v.items ≡ reply_line (Reply.Refused e))) →
+    IfErr result (λ x. ((x ≡ OutOfMemory) × IsReply e) ⊎ ((e ≡ errors.Db x) × (x ≢ SequenceExhausted))) → IsStill a b result
+refused_still e a b (Ok v) same text cause = reply_still e a b text.0 same
+refused_still e a b (Err x) same text (inl memory) = ap (unblamed x) (reply_still e a b memory.1 same)
+refused_still e a b (Err x) same text (inr why) = subst (λ (q : QueueError). unblamed_if (db_error q) b ≡ unblamed_if (db_error q) a) why.0 same
 
 -- ---- how many keys were changed
 
@@ -230,12 +245,12 @@ pub refused_db : (q : QueueError) (e : SlateDBError) (result : Result (Vec ℕ G
     IfOk result (λ v. IsReply q × (v.items ≡ reply_line (Reply.Refused q)))
 refused_db q e result is h = subst (λ (x : QueueError). IfOk result (λ v. IsReply x × (v.items ≡ reply_line (Reply.Refused x)))) (sym is) h
 
-pub unsaid_db : (q : QueueError) (e : SlateDBError) (result : Result (Vec ℕ Global) SlateDBError) → q ≡ errors.Db e → IfErr result (λ x. (x ≡ OutOfMemory) ⊎ ((e ≡ x) × (x ≢ SequenceExhausted))) →
-    IfErr result (λ x. (x ≡ OutOfMemory) ⊎ ((q ≡ errors.Db x) × (x ≢ SequenceExhausted)))
+pub unsaid_db : (q : QueueError) (e : SlateDBError) (result : Result (Vec ℕ Global) SlateDBError) → q ≡ errors.Db e → IfErr result (λ x. ((x ≡ OutOfMemory) × (e ≡ SequenceExhausted)) ⊎ ((e ≡ x) × (x ≢ SequenceExhausted))) →
+    IfErr result (λ x. ((x ≡ OutOfMemory) × IsReply q) ⊎ ((q ≡ errors.Db x) × (x ≢ SequenceExhausted)))
 unsaid_db q e result is h = if_err_map result _ _ by h
   where
-    by : (x : SlateDBError) → (x ≡ OutOfMemory) ⊎ ((e ≡ x) × (x ≢ SequenceExhausted)) → (x ≡ OutOfMemory) ⊎ ((q ≡ errors.Db x) × (x ≢ SequenceExhausted))
-    by x (inl memory) = inl memory
+    by : (x : SlateDBError) → ((x ≡ OutOfMemory) × (e ≡ SequenceExhausted)) ⊎ ((e ≡ x) × (x ≢ SequenceExhausted)) → ((x ≡ OutOfMemory) × IsReply q) ⊎ ((q ≡ errors.Db x) × (x ≢ SequenceExhausted))
+    by x (inl memory) = inl (memory.0, subst IsReply (sym is) memory.1)
     by x (inr why) = inr (is ∙ ap errors.Db why.0, why.1)
 
 pub exhausted_text : (e : SlateDBError) (result : Result (Vec ℕ Global) SlateDBError) → e ≡ SequenceExhausted → IfOk result (λ v. v.items ≡ reply_line (Reply.Refused (errors.Db SequenceExhausted))) →

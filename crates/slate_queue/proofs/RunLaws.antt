@@ -28,6 +28,7 @@ use Rattle.slate_queue.specs.Jobs as model
 use Rattle.slate_queue.specs.Jobs.{Queue, Call, queue_step}
 use Rattle.slate_queue.specs.Calls.{Commits, Form, IsRefusal, Keeps, Leaves, StandsIn, StepRefuses}
 use Rattle.slate_queue.specs.Feed.{entry_above, feed_of}
+use Rattle.slate_queue.specs.Onward.{goes_none}
 use Rattle.slate_queue.specs.Runs.{Ends, GoesOn, IsReply, IsRunAt, WhyEnds}
 use Rattle.slate_queue.specs.Script.{Reply, Run, called, committed, fed_above, keys_of, last_seq}
 use Rattle.slate_queue.specs.Words.{fed_pair}
@@ -179,8 +180,8 @@ ends_by own policies seg before after c d q e none left is other (IsRefusal.at_r
     same : h.error ≡ e
     same = same_error h.error e (sym h.is ∙ is)
 
-    by : (h.error ≡ OutOfMemory) ⊎ IsReadFault policies before after c id SerializableSnapshot h.error → WhyEnds policies before after d e
+    by : (h.error ≡ OutOfMemory) ⊎ IsReadFault policies before after c id SerializableSnapshot h.error → WhyEnds policies seg before after c d e
     by (inl memory) = WhyEnds.by_fault (subst (IsFault before after) (sym memory ∙ same) tt)
-    by (inr read) = WhyEnds.by_read c id (subst (IsReadFault policies before after c id SerializableSnapshot) same read)
+    by (inr read) = WhyEnds.by_read 0 before c id (goes_none policies seg before c) (subst (IsReadFault policies before after c id SerializableSnapshot) same read)
 ends_by own policies seg before after c d q e none left is other (IsRefusal.at_commit h last) = absurd (other (same_error e SequenceExhausted (sym is ∙ h)))
 ends_by own policies seg before after c d q e none left is other (IsRefusal.by_fault x h fault) = record { why = WhyEnds.by_fault (subst (IsFault before after) (same_error x e (sym h ∙ is)) fault); settled = λ s. inl (subst (IsFault before after) (same_error x e (sym h ∙ is)) fault) }

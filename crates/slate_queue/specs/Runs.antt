@@ -2,18 +2,22 @@
 --     IsRunAt policies seg reach c r      the core is settled, and has the queue, the newest number and the commits of the run
 --     AnswersBy policies seg reach c f      so it is for some run, which writes f
 --     GoesOn policies seg before after c d n      what n lines keep
---     WhyEnds, Ends policies seg before after c d e      why a line ends a run: a fault, a read that was refused by damage or want of an operator, or no place in the journal
---     EndsBy policies before after e      a line ended the run by a fault, or a read that was refused so
+--     WhyEnds, Ends policies seg before after c d e      why a line ends a run: a fault, a read that was refused by damage or want of an operator, of the core behind some lines, or no place in the journal
+--     IsFirst options c      the core that a run begins with
+--     WhyRunEnds, EndsBy policies options before after e      a line ended the run by a fault, or a read that was refused so
 --     IsReply e      a refusal that is a reply
-use Rattle.std.specs.Prelude.{◌≡◌, ◌⊎◌, ℕ, ◌+◌, ◌*◌, ◌≤◌, List, map}
+use Rattle.std.specs.Prelude.{◌≡◌, ◌⊎◌, ℕ, ◌+◌, ◌*◌, ◌≤◌, List, [], None, map}
+use Rattle.slate_types.specs.declared.config.Options.{Options}
 use Rattle.slate_types.specs.declared.config.IsolationLevel.TheVariants.{SerializableSnapshot}
 use Rattle.slate_types.specs.declared.error.SlateDBError.{SlateDBError}
 use Rattle.slate_types.specs.declared.error.SlateDBError.TheVariants.{LimitReached, SequenceExhausted}
-use Rattle.slate_types.specs.Outside.{IsFault, OnlyReads, Reach}
+use Rattle.slate_types.specs.Outside.{IsFault, OnlyReads, Reach, unblamed}
 use Rattle.slate_store.specs.Run.{Says}
 use Rattle.slate_filter.specs.Policy.{Policy}
 use Rattle.slate_mem.specs.KeyTests.{Segments}
 use Rattle.slate_txn.specs.Audited.{AreOfKind}
+use Rattle.slate_txn.specs.Settings.{settings_of}
+use Rattle.slate_txn.specs.State.{opening}
 use Rattle.slate_db.specs.Flushed.{NoPlace}
 use Rattle.slate_db.specs.Load.{weight}
 use Rattle.slate_db.specs.Log.{LIMIT}
@@ -47,18 +51,29 @@ pub record GoesOn (policies : List Policy) (seg : Segments) (before after : Reac
   pub queue : AreOfKind IsQueueCommit c.events → AreOfKind IsQueueCommit d.events
   pub grows : weight d ≤ weight c + 2 * n
 
-pub data WhyEnds (policies : List Policy) (before after : Reach) (d : CoreModel) (e : SlateDBError) : Type 0 where
-  by_fault : IsFault before after e → WhyEnds policies before after d e
-  by_read : (c : CoreModel) (id : List ℕ) → IsReadFault policies before after c id SerializableSnapshot e → WhyEnds policies before after d e
-  by_limit : e ≡ LimitReached LIMIT → NoPlace 2 d → WhyEnds policies before after d e
+-- k: the core behind n lines, and between what these reached
+pub data WhyEnds (policies : List Policy) (seg : Segments) (before after : Reach) (c d : CoreModel) (e : SlateDBError) : Type 0 where
+  by_fault : IsFault before after e → WhyEnds policies seg before after c d e
+  by_read : (n : ℕ) (between : Reach) (k : CoreModel) (id : List ℕ) → GoesOn policies seg before between c k n → IsReadFault policies between after k id SerializableSnapshot e → WhyEnds policies seg before after c d e
+  by_limit : e ≡ LimitReached LIMIT → NoPlace 2 d → WhyEnds policies seg before after c d e
 
 pub record Ends (policies : List Policy) (seg : Segments) (before after : Reach) (c d : CoreModel) (e : SlateDBError) : Type 0 where
-  pub why : WhyEnds policies before after d e
+  pub why : WhyEnds policies seg before after c d e
   pub settled : IsSettledIn policies seg before c → IsFault before after e ⊎ ((e ≡ LimitReached LIMIT) × NoPlace 2 d)
 
-pub data EndsBy (policies : List Policy) (before after : Reach) (e : SlateDBError) : Type 0 where
-  by_fault : IsFault before after e → EndsBy policies before after e
-  by_read : (c : CoreModel) (id : List ℕ) → IsReadFault policies before after c id SerializableSnapshot e → EndsBy policies before after e
+pub record IsFirst (options : Options) (c : CoreModel) : Type 0 where
+  pub settings : c.settings ≡ settings_of options
+  pub state : c.state ≡ opening
+  pub events : c.events ≡ []
+
+pub data WhyRunEnds (policies : List Policy) (options : Options) (before after : Reach) (e : SlateDBError) : Type 0 where
+  by_fault : IsFault before after e → WhyRunEnds policies options before after e
+  by_read : (c k : CoreModel) (n : ℕ) (between : Reach) (id : List ℕ) → IsFirst options c → GoesOn policies None before between c k n → IsReadFault policies between after k id SerializableSnapshot e → WhyRunEnds policies options before after e
+
+-- still: no count of faults rose, but that of the part whose fault the error is
+pub record EndsBy (policies : List Policy) (options : Options) (before after : Reach) (e : SlateDBError) : Type 0 where
+  pub why : WhyRunEnds policies options before after e
+  pub still : unblamed e after.faults ≡ unblamed e before.faults
 
 abbrev pub IsReply : QueueError → Type 0
 IsReply (errors.Db e) = e ≡ SequenceExhausted

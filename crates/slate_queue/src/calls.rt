@@ -1,5 +1,4 @@
-//! Calls on a queue in a core. None passes over a failure: where one is answered no count of faults rose, and where one is refused none but
-//! that of the part whose fault it tells.
+//! Calls on a queue in a core.
 ghost use Rattle.std.specs.Prelude.{◌≡◌, None, map};
 ghost use Rattle.slate_types.specs.Config.{IsValid};
 ghost use Rattle.slate_db.specs.Meaning.{segments_by};
@@ -26,8 +25,9 @@ pub(crate) const LONGEST: usize = 4_294_967_279;
 /// Adds a job, at a moment, and gives its id. It begins with lease number 0 and lease's end 0.
 ///
 /// Refuses by `PayloadTooLong` above 2^32 - 17 bytes; by `BadJob` where the counter isn't 8 bytes, and then by `IdsSpent` where it is the
-/// greatest number; and by `Db` as a read does, by `SequenceExhausted`, by `LimitReached` and by want of memory. Then nothing is added,
-/// and no transaction stays open.
+/// greatest number; and by `Db` as a read does, by `SequenceExhausted`, by `LimitReached` and by want of memory. Then nothing is added, and
+/// no transaction stays open. No failure of the store or of a part is passed over: each count of faults is as it was, but for that of the
+/// one whose fault `Db` holds.
 pub fn add<S: Store, M: MergeOperator, T: BlockTransformer, X: PrefixExtractor>(
     core: &mut Core,
     payload: &Bytes,
@@ -68,7 +68,8 @@ pub fn add<S: Store, M: MergeOperator, T: BlockTransformer, X: PrefixExtractor>(
 /// Deletes the job of this id, at a moment, where it was last claimed under this lease.
 ///
 /// Refuses by `NoJob` where no job has the id; by `BadJob` where what stands at its key is no job; by `StaleLease` where it has another
-/// lease number, or 0; and by `Db` as an add does. Then nothing is deleted, and no transaction stays open.
+/// lease number, or 0; and by `Db` as an add does. Then nothing is deleted, and no transaction stays open. No failure of the store or of a
+/// part is passed over: each count of faults is as it was, but for that of the one whose fault `Db` holds.
 pub fn finish<S: Store, M: MergeOperator, T: BlockTransformer, X: PrefixExtractor>(
     core: &mut Core,
     id: u64,
@@ -106,7 +107,8 @@ pub fn finish<S: Store, M: MergeOperator, T: BlockTransformer, X: PrefixExtracto
 /// the last moment at most. None where no job is free. It reads jobs only up to the one that it takes.
 ///
 /// Refuses by `LeasesSpent` where that job has the greatest lease number; by `BadJob` where what stands at the key of a job up to it is
-/// none; and by `Db` as an add does. Then, and where no job is free, nothing is changed, and no transaction stays open.
+/// none; and by `Db` as an add does. Then, and where no job is free, nothing is changed, and no transaction stays open. No failure of the
+/// store or of a part is passed over: each count of faults is as it was, but for that of the one whose fault `Db` holds.
 pub fn claim<S: Store, M: MergeOperator, T: BlockTransformer, X: PrefixExtractor>(
     core: &mut Core,
     now: i64,

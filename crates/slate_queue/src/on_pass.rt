@@ -1,7 +1,6 @@
 //! Calls on a queue in a database that threads share, one attempt each. Two threads that claim one job conflict, and so do two that add:
 //! a caller tries again after `TransactionConflict`. A claim reads jobs only up to the one that it takes, and so doesn't conflict with an
-//! add. None passes over a failure: where one is answered no count of faults rose, and where one is refused none but that of the part
-//! whose fault it tells.
+//! add.
 ghost use Rattle.std.specs.Prelude.{◌≡◌, None, map};
 ghost use Rattle.slate_types.specs.Config.{IsValid};
 ghost use Rattle.slate_db.specs.Meaning.{segments_by};
@@ -33,7 +32,8 @@ use std::sync::Wait;
 ///
 /// Refuses by `PayloadTooLong` above 2^32 - 17 bytes; by `BadJob` where the counter isn't 8 bytes, and then by `IdsSpent` where it is the
 /// greatest number; and by `Db` as a read does, by `TransactionConflict`, by `SequenceExhausted`, by `LimitReached` and by want of memory.
-/// Then nothing is added, and no transaction stays open.
+/// Then nothing is added, and no transaction stays open. No failure of the store or of a part is passed over: each count of faults is as it
+/// was, but for that of the one whose fault `Db` holds.
 pub fn add_shared<
     P: Parts,
     R: Wait,
@@ -83,7 +83,8 @@ pub fn add_shared<
 /// Deletes the job of this id, at a moment, where it was last claimed under this lease.
 ///
 /// Refuses by `NoJob` where no job has the id; by `BadJob` where what stands at its key is no job; by `StaleLease` where it has another
-/// lease number, or 0; and by `Db` as an add does. Then nothing is deleted, and no transaction stays open.
+/// lease number, or 0; and by `Db` as an add does. Then nothing is deleted, and no transaction stays open. No failure of the store or of a
+/// part is passed over: each count of faults is as it was, but for that of the one whose fault `Db` holds.
 pub fn finish_shared<
     P: Parts,
     R: Wait,
@@ -131,7 +132,8 @@ pub fn finish_shared<
 /// the last moment at most. None where no job is free. It reads jobs only up to the one that it takes.
 ///
 /// Refuses by `LeasesSpent` where that job has the greatest lease number; by `BadJob` where what stands at the key of a job up to it is
-/// none; and by `Db` as an add does. Then, and where no job is free, nothing is changed, and no transaction stays open.
+/// none; and by `Db` as an add does. Then, and where no job is free, nothing is changed, and no transaction stays open. No failure of the
+/// store or of a part is passed over: each count of faults is as it was, but for that of the one whose fault `Db` holds.
 pub fn claim_shared<
     P: Parts,
     R: Wait,

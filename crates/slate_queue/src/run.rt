@@ -1,9 +1,9 @@
 //! The queue's program.
-ghost use Rattle.std.specs.Prelude.{◌≡◌, ◌≢◌, ◌⊎◌, [], ℕ, List, Err, IfErr, IfOk, None, Ok, Some, map};
+ghost use Rattle.std.specs.Prelude.{◌≡◌, ◌≢◌, ◌⊎◌, [], ℕ, List, Err, IfErr, IfOk, None, Ok, Some, false, map};
 ghost use Rattle.slate_types.specs.Config.{IsValid};
 ghost use Rattle.slate_types.specs.declared.error.SlateDBError.{SlateDBError};
 ghost use Rattle.slate_types.specs.Faults.{Rose};
-ghost use Rattle.slate_types.specs.Outside.{IsFault, Objects, OnlyReads};
+ghost use Rattle.slate_types.specs.Outside.{IsFault, IsStill, Objects, OnlyReads};
 ghost use Rattle.slate_table.specs.Filtered.{AreLawful};
 ghost use Rattle.slate_store.specs.Reach.{reach_of};
 ghost use Rattle.slate_store.specs.Run.{HasTaken, IsRunCause, WroteAsSaid};
@@ -50,6 +50,7 @@ fn reply_to<S: Store, M: MergeOperator, T: BlockTransformer, X: PrefixExtractor>
     ensures goes { let reach = ⟦<EnvOf<S, M, T> as Outside>⟧.reach in
         let policies = map (λ p. meaning (p.vtable, p.value)) laws.now.policies.items in
         GoesOn policies (segments_by X.lengths laws.now.segments) (reach env.old) (reach env.new) core.old core.new 1 }
+    ensures still { let reach = ⟦<EnvOf<S, M, T> as Outside>⟧.reach in IsStill (reach env.old).faults (reach env.new).faults result }
     ensures cause { let reach = ⟦<EnvOf<S, M, T> as Outside>⟧.reach in
         let policies = map (λ p. meaning (p.vtable, p.value)) laws.now.policies.items in
         IfErr result (Ends policies (segments_by X.lengths laws.now.segments) (reach env.old) (reach env.new) core.old core.new) }
@@ -79,6 +80,7 @@ fn reply_add<S: Store, M: MergeOperator, T: BlockTransformer, X: PrefixExtractor
     ensures goes { let reach = ⟦<EnvOf<S, M, T> as Outside>⟧.reach in
         let policies = map (λ p. meaning (p.vtable, p.value)) laws.now.policies.items in
         GoesOn policies (segments_by X.lengths laws.now.segments) (reach env.old) (reach env.new) core.old core.new 1 }
+    ensures still { let reach = ⟦<EnvOf<S, M, T> as Outside>⟧.reach in IsStill (reach env.old).faults (reach env.new).faults result }
     ensures cause { let reach = ⟦<EnvOf<S, M, T> as Outside>⟧.reach in
         let policies = map (λ p. meaning (p.vtable, p.value)) laws.now.policies.items in
         IfErr result (Ends policies (segments_by X.lengths laws.now.segments) (reach env.old) (reach env.new) core.old core.new) }
@@ -109,6 +111,7 @@ fn reply_finish<S: Store, M: MergeOperator, T: BlockTransformer, X: PrefixExtrac
     ensures goes { let reach = ⟦<EnvOf<S, M, T> as Outside>⟧.reach in
         let policies = map (λ p. meaning (p.vtable, p.value)) laws.now.policies.items in
         GoesOn policies (segments_by X.lengths laws.now.segments) (reach env.old) (reach env.new) core.old core.new 1 }
+    ensures still { let reach = ⟦<EnvOf<S, M, T> as Outside>⟧.reach in IsStill (reach env.old).faults (reach env.new).faults result }
     ensures cause { let reach = ⟦<EnvOf<S, M, T> as Outside>⟧.reach in
         let policies = map (λ p. meaning (p.vtable, p.value)) laws.now.policies.items in
         IfErr result (Ends policies (segments_by X.lengths laws.now.segments) (reach env.old) (reach env.new) core.old core.new) }
@@ -137,6 +140,7 @@ fn reply_claim<S: Store, M: MergeOperator, T: BlockTransformer, X: PrefixExtract
     ensures goes { let reach = ⟦<EnvOf<S, M, T> as Outside>⟧.reach in
         let policies = map (λ p. meaning (p.vtable, p.value)) laws.now.policies.items in
         GoesOn policies (segments_by X.lengths laws.now.segments) (reach env.old) (reach env.new) core.old core.new 1 }
+    ensures still { let reach = ⟦<EnvOf<S, M, T> as Outside>⟧.reach in IsStill (reach env.old).faults (reach env.new).faults result }
     ensures cause { let reach = ⟦<EnvOf<S, M, T> as Outside>⟧.reach in
         let policies = map (λ p. meaning (p.vtable, p.value)) laws.now.policies.items in
         IfErr result (Ends policies (segments_by X.lengths laws.now.segments) (reach env.old) (reach env.new) core.old core.new) }
@@ -182,7 +186,7 @@ fn written(text: Result<Vec<u8>, AllocError>) -> Result<Vec<u8>, SlateDBError>
 /// The reply to a line that is refused. An error of the database ends the run, but for `SequenceExhausted`.
 fn refuse(alloc: Global, error: QueueError) -> Result<Vec<u8>, SlateDBError>
     ensures text { IfOk result (λ v. IsReply error × (v.items ≡ reply_line (Reply.Refused error))) }
-    ensures cause { IfErr result (λ e. (e ≡ SlateDBError.OutOfMemory) ⊎ ((error ≡ QueueError.Db e) × (e ≢ SlateDBError.SequenceExhausted))) }
+    ensures cause { IfErr result (λ e. ((e ≡ SlateDBError.OutOfMemory) × IsReply error) ⊎ ((error ≡ QueueError.Db e) × (e ≢ SlateDBError.SequenceExhausted))) }
 {
     match error {
         QueueError::Db(error) => refuse_by(alloc, error),
@@ -192,7 +196,7 @@ fn refuse(alloc: Global, error: QueueError) -> Result<Vec<u8>, SlateDBError>
 
 fn refuse_by(alloc: Global, error: SlateDBError) -> Result<Vec<u8>, SlateDBError>
     ensures text { IfOk result (λ v. (error ≡ SlateDBError.SequenceExhausted) × (v.items ≡ reply_line (Reply.Refused (QueueError.Db error)))) }
-    ensures cause { IfErr result (λ e. (e ≡ SlateDBError.OutOfMemory) ⊎ ((error ≡ e) × (e ≢ SlateDBError.SequenceExhausted))) }
+    ensures cause { IfErr result (λ e. ((e ≡ SlateDBError.OutOfMemory) × (error ≡ SlateDBError.SequenceExhausted)) ⊎ ((error ≡ e) × (e ≢ SlateDBError.SequenceExhausted))) }
 {
     match error {
         SlateDBError::SequenceExhausted => written(reply::refused_by(
@@ -230,13 +234,15 @@ fn answer_line<S: Store, M: MergeOperator, T: BlockTransformer, X: PrefixExtract
 }
 
 /// The program over a core. A struct that holds a `&mut Env` gives its last value back to no proof, so the environment is a parameter.
-/// No method of a trait may hand on an extractor, which is `Send`, so the reply is a closure of the run.
+/// No method of a trait may hand on an extractor, which is `Send`, so the reply is a closure of the run. A line that isn't answered has
+/// ended it: behind that no line is answered.
 #[derive(Drop)]
 struct Queue<'c, 'a, 'p, E, F> {
     core: &'c mut Core,
     env: &'a mut E,
     policies: &'p Vec<Box<dyn FilterPolicy>>,
     reply: F,
+    ended: bool,
 }
 
 impl<
@@ -249,12 +255,13 @@ impl<
 
     ghost ready = { λ p. ((e : _) (c : _) (l : _) (n : ℕ) → F.pre p.reply e c l n)
         × ((e : _) (c : _) (l : _) (n : ℕ) (r : _) (f : _) (d : _) → F.post p.reply e c l n r f d →
-        RepliesTo (map (λ q. (FilterPolicy-box q).meaning q.value) p.policies.now.items) None l.now n (E.reach e.now) (E.reach f.now) c.now d.now r) };
+        RepliesTo (map (λ q. (FilterPolicy-box q).meaning q.value) p.policies.now.items) None l.now n (E.reach e.now) (E.reach f.now) c.now d.now r)
+        × (p.ended ≡ false) };
 
     ghost goes = { λ p q n. (q.env.ghost_name ≡ p.env.ghost_name)
-        × GoesBetween (λ x. map (λ r. (FilterPolicy-box r).meaning r.value) x.policies.now.items) (λ x. E.reach x.env.now) (λ x. x.core.now) p q n };
+        × GoesBetween (λ x. map (λ r. (FilterPolicy-box r).meaning r.value) x.policies.now.items) (λ x. E.reach x.env.now) (λ x. x.core.now) (λ x. x.ended) p q n };
 
-    ghost refuses = { λ p q e. EndsBetween (λ x. map (λ r. (FilterPolicy-box r).meaning r.value) x.policies.now.items) (λ x. E.reach x.env.now) (λ x. x.core.now) p q e };
+    ghost refuses = { λ p q e. EndsBetween (λ x. map (λ r. (FilterPolicy-box r).meaning r.value) x.policies.now.items) (λ x. E.reach x.env.now) (λ x. x.core.now) (λ x. x.ended) p q e };
 
     fn answer(
         &mut self,
@@ -262,12 +269,18 @@ impl<
         line: &[u8],
         number: u64,
     ) -> Result<Option<Vec<u8>>, SlateDBError> {
-        (self.reply)(self.env, self.core, line, number)
+        match (self.reply)(self.env, self.core, line, number) {
+            Ok(text) => Ok(text),
+            Err(error) => {
+                self.ended = true;
+                Err(error)
+            }
+        }
     }
 
     ghost ends = { λ p f h. h.2 [] };
 
-    ghost stays = { λ p. (refl, between_none _ _ _ p) };
+    ghost stays = { λ p. (refl, between_none _ _ _ _ p) };
 
     ghost goes_on = { λ a b c n m p q. (q.0 ∙ p.0, between_both p.1 q.1) };
 
@@ -302,7 +315,7 @@ fn run_over<
         WroteAsSaid takes (says (begun options.now.start_seq)) script (R.left source.new) before (W.content sink.new) result }
     ensures read { (script : List ℕ) → R.left source.old ≡ Some script → HasTaken takes script (R.left source.new) result }
     ensures cause { let ps = map (λ p. meaning p) policies.now.items in
-        IfErr result (IsRunCause (Rose (R.faults source.old) (R.faults source.new)) (Rose (W.faults sink.old) (W.faults sink.new)) (EndsBy ps (E.reach env.old) (E.reach env.new))) }
+        IfErr result (IsRunCause (Rose (R.faults source.old) (R.faults source.new)) (Rose (W.faults sink.old) (W.faults sink.new)) (EndsBy ps options.now (E.reach env.old) (E.reach env.new))) }
     ensures undamaged { let ps = map (λ p. meaning p) policies.now.items in
         (os : Objects) → AreLawful ps → IsLawfulMeaning (E.reach env.old).meaning → (E.reach env.old).objects ≡ Some os →
         IfErr result (IsRunCause (Rose (R.faults source.old) (R.faults source.new)) (Rose (W.faults sink.old) (W.faults sink.new)) (IsFault (E.reach env.old) (E.reach env.new))) }
@@ -316,6 +329,7 @@ fn run_over<
         env,
         policies,
         reply,
+        ended: false,
     };
     let ran = run_lines(alloc, source, sink, &mut queue);
     let Queue { env, reply, .. } = queue;
@@ -336,7 +350,8 @@ fn give_back<E>(env: &mut E)
 /// What is said of replies holds where source and sink tell their bytes, and the parts and the policies are lawful and the store tells
 /// its objects. `ScriptSyntax` and `ScriptTooLong` come exactly where the script has them, unless another error came first, `ReadFault`,
 /// `WriteFault`, `StoreFault`, `Callback` and `BlockTransformError` only where that object's count of faults rose, and damage only where a
-/// read shows it. No limit is reached.
+/// read of the core behind some of the lines shows it. Where the database refuses, no count of a part rose in the run but that of the one
+/// whose fault it is. No limit is reached.
 pub fn run_queue<
     R: Source,
     W: Sink,
@@ -361,7 +376,7 @@ pub fn run_queue<
     ensures read { (script : List ℕ) → R.left source.old ≡ Some script → HasTaken takes script (R.left source.new) result }
     ensures cause { let reach = ⟦<EnvOf<S, M, T> as Outside>⟧.reach in
         let policies = map (λ p. meaning (p.vtable, p.value)) laws.now.policies.items in
-        IfErr result (IsRunCause (Rose (R.faults source.old) (R.faults source.new)) (Rose (W.faults sink.old) (W.faults sink.new)) (EndsBy policies (reach env.old) (reach env.new))) }
+        IfErr result (IsRunCause (Rose (R.faults source.old) (R.faults source.new)) (Rose (W.faults sink.old) (W.faults sink.new)) (EndsBy policies laws.now.options (reach env.old) (reach env.new))) }
     ensures undamaged { let reach = ⟦<EnvOf<S, M, T> as Outside>⟧.reach in
         let policies = map (λ p. meaning (p.vtable, p.value)) laws.now.policies.items in
         (os : Objects) → AreLawful policies → IsLawfulMeaning (reach env.old).meaning → (reach env.old).objects ≡ Some os →

@@ -5,7 +5,7 @@ use Rattle.std.specs.Global.{Vec}
 use Rattle.slate_types.specs.declared.error.SlateDBError.{SlateDBError}
 use Rattle.slate_types.specs.declared.error.SlateDBError.TheVariants as errors
 use Rattle.slate_types.specs.declared.config.Options.{Options}
-use Rattle.slate_types.specs.Outside.{IsFault, Meaning, Objects, Reach}
+use Rattle.slate_types.specs.Outside.{Counts, IsFault, IsStill, Meaning, Objects, Reach, unblamed}
 use Rattle.slate_types.proofs.Reaching.{reads_none}
 use Rattle.slate_filter.specs.Policy.{Policy}
 use Rattle.slate_store.specs.Lines.{script_limit}
@@ -28,6 +28,8 @@ use Rattle.slate_db.specs.Segmented.{IsSegmented}
 use Rattle.slate_db.specs.Settled.{HasTables, IsSettledIn}
 use Rattle.slate_db.specs.Sound.{IsKept}
 use Rattle.slate_db.specs.SerialLaws.{IsVouchedCore}
+use Rattle.slate_steps.specs.Reads.{IsStillBy, unblamed_if}
+use Rattle.slate_steps.proofs.Reading.{if_ok_map}
 use Rattle.slate_language.specs.Replies.{is_silent}
 use Rattle.slate_stock.specs.declared.error.StockError.{StockError}
 use Rattle.slate_stock.specs.declared.error.StockError.TheVariants.{Db}
@@ -37,7 +39,7 @@ use Rattle.slate_stock.specs.declared.order.Order.{Order}
 use Rattle.slate_stock.specs.declared.total.AssetTotal.{AssetTotal}
 use Rattle.slate_stock.specs.Journals.{IsOrders}
 use Rattle.slate_stock.specs.Lines.{Books, after_by, is_stock_line, line_step, ok_words, opening_books, read_line, refused_words, replies_on, reply_of_words, said_by, total_words}
-use Rattle.slate_stock.specs.Running.{amounts_of}
+use Rattle.slate_stock.specs.Running.{amounts_of, db_error}
 use Rattle.slate_stock.specs.Runs.{Answers, Goes, IsRunError, IsRunning, Premises, RunEnds, RunsAs, is_limit}
 use Rattle.slate_stock.specs.Onward.{EndsBetween, GoesBetween}
 use Rattle.slate_stock.specs.Words.{has_reply, is_said}
@@ -55,17 +57,45 @@ silence_said r line s rest = λ i. said_by (s i) (read_line line) r ++ replies_o
 
 -- ---- one line
 
+-- an error that a line is answered blames no part
+blames_none : (x : SlateDBError) (a : Counts) → has_reply x ≡ true → unblamed x a ≡ a
+unfolding unblamed
+blames_none errors.StoreFault a said = cc
+blames_none (errors.Callback m) a said = cc
+blames_none errors.BlockTransformError a said = cc
+blames_none _ a said = refl
+
+said_still : (e : StockError) (a b : Counts) → is_said e ≡ true → unblamed_if (db_error e) b ≡ unblamed_if (db_error e) a → b ≡ a
+said_still (Db x) a b said same = sym (blames_none x b said) ∙ same ∙ blames_none x a said
+said_still _ a b said same = same
+
+-- of what a call says of the counts, and of what its result is answered
+pub answered_still : {A : Type 0} (a b : Counts) (made : Result A StockError) (result : Result (Vec ℕ) SlateDBError) → IsStillBy db_error a b made → ((e : StockError) → made ≡ Err e → IfOk result (λ v. is_said e ≡ true)) →
+    IfErr result (λ x. ((x ≡ errors.OutOfMemory) × IfErr made (λ e. is_said e ≡ true)) ⊎ ((made ≡ Err (Db x)) × (has_reply x ≡ false))) → IsStill a b result
+answered_still {A = A} a b made (Ok v) still refused cause = by made still refused
+  where
+    by : (k : Result A StockError) → IsStillBy db_error a b k → ((e : StockError) → k ≡ Err e → is_said e ≡ true) → b ≡ a
+    by (Ok n) same said = same
+    by (Err e) same said = said_still e a b (said e refl) same
+answered_still {A = A} a b made (Err x) still refused (inl memory) = ap (unblamed x) (by made still memory.1)
+  where
+    by : (k : Result A StockError) → IsStillBy db_error a b k → IfErr k (λ e. is_said e ≡ true) → b ≡ a
+    by (Ok n) same said = same
+    by (Err e) same said = said_still e a b said same
+answered_still {A = A} a b made (Err x) still refused (inr why) = subst (λ (k : Result A StockError). IsStillBy db_error a b k) why.0 still
+
 module _ (policies : List Policy) (before after : Reach) (c d : CoreModel) (line : StockLine) (result : Result (Vec ℕ) SlateDBError) where
   pub order_answers : (o : Order) (now : ℤ) (made : Result ℕ StockError) → line ≡ lines.Order o → IsOrderCall policies o now before after c d made →
       ((n : ℕ) → made ≡ Ok n → IfOk result (λ v. v.items ≡ reply_of_words ok_words)) →
       ((e : StockError) → made ≡ Err e → IfOk result (λ v. (v.items ≡ reply_of_words (refused_words e)) × (is_said e ≡ true))) →
-      IfErr result (λ x. (x ≡ errors.OutOfMemory) ⊎ ((made ≡ Err (Db x)) × (has_reply x ≡ false))) →
+      IfErr result (λ x. ((x ≡ errors.OutOfMemory) × IfErr made (λ e. is_said e ≡ true)) ⊎ ((made ≡ Err (Db x)) × (has_reply x ≡ false))) → IsStillBy db_error before.faults after.faults made →
       Answers policies line before after c d result
-  order_answers o now made asks call done refused cause = record {
+  order_answers o now made asks call done refused cause counts = record {
     said = λ b h. by_result b h result done refused;
     settled = call.settled;
     grows = call.grows;
     reads = call.reads;
+    still = answered_still before.faults after.faults made result counts (λ e is. if_ok_map result _ _ (λ v t. t.1) (refused e is)) cause;
     cause = by_error result cause;
   }
     where
@@ -86,21 +116,22 @@ module _ (policies : List Policy) (before after : Reach) (c d : CoreModel) (line
               let step_is = ap (line_step b) asks ∙ at.0 in
               (said.0 ∙ ap (λ (p : Books × List (List ℕ)). reply_of_words p.1) (sym step_is), subst (λ (p : Books × List (List ℕ)). IsRunning policies after d p.0) (sym step_is) at.1)
 
-      by_error : (q : Result (Vec ℕ) SlateDBError) → IfErr q (λ x. (x ≡ errors.OutOfMemory) ⊎ ((made ≡ Err (Db x)) × (has_reply x ≡ false))) → IfErr q (IsRunError policies before after c d)
+      by_error : (q : Result (Vec ℕ) SlateDBError) → IfErr q (λ x. ((x ≡ errors.OutOfMemory) × IfErr made (λ e. is_said e ≡ true)) ⊎ ((made ≡ Err (Db x)) × (has_reply x ≡ false))) → IfErr q (IsRunError policies before after c d)
       by_error (Ok v) h = tt
-      by_error (Err x) (inl memory) = memory_ends policies before after c d x memory
+      by_error (Err x) (inl memory) = memory_ends policies before after c d x memory.0
       by_error (Err x) (inr (is, unsaid)) = order_ends policies o now before after c d x (subst (IsOrderCall policies o now before after c d) is call) unsaid
 
   pub total_answers : (asset : List ℕ) (total : Result AssetTotal StockError) → line ≡ lines.Total asset → IsTotalCall policies asset before after c d total →
       ((t : AssetTotal) → total ≡ Ok t → IfOk result (λ v. v.items ≡ reply_of_words (total_words t.sum t.issued))) →
       ((e : StockError) → total ≡ Err e → IfOk result (λ v. (v.items ≡ reply_of_words (refused_words e)) × (is_said e ≡ true))) →
-      IfErr result (λ x. (x ≡ errors.OutOfMemory) ⊎ ((total ≡ Err (Db x)) × (has_reply x ≡ false))) →
+      IfErr result (λ x. ((x ≡ errors.OutOfMemory) × IfErr total (λ e. is_said e ≡ true)) ⊎ ((total ≡ Err (Db x)) × (has_reply x ≡ false))) → IsStillBy db_error before.faults after.faults total →
       Answers policies line before after c d result
-  total_answers asset total asks call found refused cause = record {
+  total_answers asset total asks call found refused cause counts = record {
     said = λ b h. by_result b h result found refused;
     settled = call.settled;
     grows = (left_grows c d call.left).0;
     reads = call.reads;
+    still = answered_still before.faults after.faults total result counts (λ e is. if_ok_map result _ _ (λ v t. t.1) (refused e is)) cause;
     cause = by_error result cause;
   }
     where
@@ -117,9 +148,9 @@ module _ (policies : List Policy) (before after : Reach) (c d : CoreModel) (line
               (found t is ∙ ap (λ (p : Books × List (List ℕ)). reply_of_words p.1) (sym step_is), subst (λ (p : Books × List (List ℕ)). IsRunning policies after d p.0) (sym step_is) at.1)
           by (Err e) is = absurd (total_unsaid policies asset before after c d b h e (subst (IsTotalCall policies asset before after c d) is call) (refused e is).1)
 
-      by_error : (q : Result (Vec ℕ) SlateDBError) → IfErr q (λ x. (x ≡ errors.OutOfMemory) ⊎ ((total ≡ Err (Db x)) × (has_reply x ≡ false))) → IfErr q (IsRunError policies before after c d)
+      by_error : (q : Result (Vec ℕ) SlateDBError) → IfErr q (λ x. ((x ≡ errors.OutOfMemory) × IfErr total (λ e. is_said e ≡ true)) ⊎ ((total ≡ Err (Db x)) × (has_reply x ≡ false))) → IfErr q (IsRunError policies before after c d)
       by_error (Ok v) h = tt
-      by_error (Err x) (inl memory) = memory_ends policies before after c d x memory
+      by_error (Err x) (inl memory) = memory_ends policies before after c d x memory.0
       by_error (Err x) (inr (is, unsaid)) = total_ends policies asset before after c d x (subst (IsTotalCall policies asset before after c d) is call) unsaid
 
 -- ---- a new core
@@ -169,8 +200,8 @@ new_weight c state none = λ i. length (none i) + ends_of (state i)
 
 -- no limit is reached by as many lines as a run can take
 pub no_limit : (policies : List Policy) (before after : Reach) (c d : CoreModel) (n : ℕ) (e : SlateDBError) → (Premises policies before → IsSettledIn policies None before c) → weight c ≡ 0 → n ≤ script_limit → Goes policies before after c d n →
-    IsRunError policies before after c d e → RunEnds policies before after e
-no_limit policies before after c d n e settled light few goes error = by (is_limit e) refl
+    IsRunError policies before after c d e → unblamed e after.faults ≡ unblamed e before.faults → RunEnds policies before after e
+no_limit policies before after c d n e settled light few goes error still = by (is_limit e) refl
   where
     by : (b : Bool) → is_limit e ≡ b → RunEnds policies before after e
     by true is =
@@ -180,6 +211,7 @@ no_limit policies before after c d n e settled light few goes error = by (is_lim
     by false is = record {
       apart = error.apart;
       unlimited = is;
+      still = still;
       lawful = λ h. at (error.settled (settled h));
       cause = error.cause;
     }
@@ -241,9 +273,9 @@ cause_map A B P Q e f (inr (inr (inr (inl h)))) = inr (inr (inr (inl h)))
 cause_map A B P Q e f (inr (inr (inr (inr (inl h))))) = inr (inr (inr (inr (inl h))))
 cause_map A B P Q e f (inr (inr (inr (inr (inr h))))) = inr (inr (inr (inr (inr (f h)))))
 
-pub run_ends : {V P : Type 0} {policies : P → List Policy} {reach : P → Reach} {core : P → CoreModel} {p q : P} {n : ℕ} {after : Reach} (A B : Type 0) (result : Result V SlateDBError) → GoesBetween policies reach core p q n →
-    IfErr result (IsRunCause A B (EndsBetween policies reach core p q)) → reach q ≡ after → (Premises (policies p) (reach p) → IsSettledIn (policies p) None (reach p) (core p)) → weight (core p) ≡ 0 → n ≤ script_limit →
+pub run_ends : {V P : Type 0} {policies : P → List Policy} {reach : P → Reach} {core : P → CoreModel} {ended : P → Bool} {p q : P} {n : ℕ} {after : Reach} (A B : Type 0) (result : Result V SlateDBError) → GoesBetween policies reach core ended p q n →
+    IfErr result (IsRunCause A B (EndsBetween policies reach core ended p q)) → reach q ≡ after → (Premises (policies p) (reach p) → IsSettledIn (policies p) None (reach p) (core p)) → weight (core p) ≡ 0 → n ≤ script_limit →
     IfErr result (IsRunCause A B (RunEnds (policies p) (reach p) after))
 run_ends A B (Ok v) goes cause same settled light few = tt
-run_ends {policies = policies} {reach = reach} {core = core} {p = p} {q = q} {n = n} {after = after} A B (Err e) goes cause same settled light few =
-    cause_map A B (EndsBetween policies reach core p q) (RunEnds (policies p) (reach p) after) e (λ x. subst (λ t. RunEnds (policies p) (reach p) t e) same (no_limit (policies p) (reach p) (reach q) (core p) (core q) n e settled light few goes.goes x.error)) cause
+run_ends {policies = policies} {reach = reach} {core = core} {ended = ended} {p = p} {q = q} {n = n} {after = after} A B (Err e) goes cause same settled light few =
+    cause_map A B (EndsBetween policies reach core ended p q) (RunEnds (policies p) (reach p) after) e (λ x. subst (λ t. RunEnds (policies p) (reach p) t e) same (no_limit (policies p) (reach p) (reach q) (core p) (core q) n e settled light few goes.goes x.error x.still)) cause

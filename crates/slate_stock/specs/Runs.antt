@@ -15,7 +15,7 @@ use Rattle.std.specs.List.{AllByRecursion}
 use Rattle.slate_types.specs.declared.error.SlateDBError.{SlateDBError}
 use Rattle.slate_types.specs.declared.error.SlateDBError.TheVariants as errors
 use Rattle.slate_types.specs.Keys.{AreBytes, keys_set}
-use Rattle.slate_types.specs.Outside.{IsFault, Meaning, OnlyReads, Reach}
+use Rattle.slate_types.specs.Outside.{IsFault, IsStill, Meaning, OnlyReads, Reach, unblamed}
 use Rattle.slate_filter.specs.Policy.{Policy}
 use Rattle.slate_store.specs.Run.{IsProgramError, Says}
 use Rattle.slate_table.specs.Filtered.{AreLawful}
@@ -68,6 +68,7 @@ pub record Answers (policies : List Policy) (line : StockLine) (before after : R
   pub settled : IsSettledIn policies None before c → IsSettledIn policies None after d
   pub grows : weight d ≤ weight c + 2
   pub reads : OnlyReads before after
+  pub still : IsStill before.faults after.faults result
   pub cause : IfErr result (IsRunError policies before after c d)
 
 pub record Goes (policies : List Policy) (before after : Reach) (c d : CoreModel) (n : ℕ) : Type 0 where
@@ -83,8 +84,10 @@ pub record Premises (policies : List Policy) (before : Reach) : Type 0 where
   pub lawful : IsLawfulMeaning before.meaning
   pub objects : IsSome before.objects
 
+-- still: no count of faults rose, but that of the part whose fault the error is
 pub record RunEnds (policies : List Policy) (before after : Reach) (e : SlateDBError) : Type 0 where
   pub apart : IsProgramError e
   pub unlimited : is_limit e ≡ false
+  pub still : unblamed e after.faults ≡ unblamed e before.faults
   pub lawful : Premises policies before → IsFault before after e
   pub cause : IsSomeDbError policies before after e

@@ -38,7 +38,8 @@ use std::alloc::Global;
 ///
 /// An error of the lines themselves, `ScriptSyntax` or `ScriptTooLong`, comes exactly where `error_in` has it, unless another error came
 /// first. `ReadFault` and `WriteFault` come only where that object's count of faults rose, and any other error only where the database
-/// refuses for it; with lawful parts that is a fault whose count rose in this call, or `OutOfMemory`. No limit is reached.
+/// refuses for it; with lawful parts that is a fault whose count rose in this call, or `OutOfMemory`. Where the database refuses, no count
+/// of a part rose in the run but that of the one whose fault it is. No limit is reached.
 pub fn run_stock<
     R: Source,
     W: Sink,
@@ -111,13 +112,15 @@ fn reply<S: Store, M: MergeOperator, X: PrefixExtractor, T: BlockTransformer>(
 }
 
 /// The program over a core. A struct that holds a `&mut Env` gives its last value back to no proof, so the environment is a parameter.
-/// No method of a trait may hand on an extractor, which is `Send`, so the reply is a closure of the run.
+/// No method of a trait may hand on an extractor, which is `Send`, so the reply is a closure of the run. A line that isn't answered has
+/// ended it: behind that no line is answered.
 #[derive(Drop)]
 struct Stock<'c, 'a, 'p, E, F> {
     core: &'c mut Core,
     env: &'a mut E,
     policies: &'p Vec<Box<dyn FilterPolicy>>,
     reply: F,
+    ended: bool,
 }
 
 impl<
@@ -130,12 +133,13 @@ impl<
 
     ghost ready = { λ p. ((e : _) (c : _) (l : _) (n : ℕ) → F.pre p.reply e c l n)
         × ((e : _) (c : _) (l : _) (n : ℕ) (r : _) (f : _) (d : _) → F.post p.reply e c l n r f d →
-        RepliesTo (map (λ q. (FilterPolicy-box q).meaning q.value) p.policies.now.items) l.now n (E.reach e.now) (E.reach f.now) c.now d.now r) };
+        RepliesTo (map (λ q. (FilterPolicy-box q).meaning q.value) p.policies.now.items) l.now n (E.reach e.now) (E.reach f.now) c.now d.now r)
+        × (p.ended ≡ false) };
 
     ghost goes = { λ p q n. (q.env.ghost_name ≡ p.env.ghost_name)
-        × GoesBetween (λ x. map (λ r. (FilterPolicy-box r).meaning r.value) x.policies.now.items) (λ x. E.reach x.env.now) (λ x. x.core.now) p q n };
+        × GoesBetween (λ x. map (λ r. (FilterPolicy-box r).meaning r.value) x.policies.now.items) (λ x. E.reach x.env.now) (λ x. x.core.now) (λ x. x.ended) p q n };
 
-    ghost refuses = { λ p q e. EndsBetween (λ x. map (λ r. (FilterPolicy-box r).meaning r.value) x.policies.now.items) (λ x. E.reach x.env.now) (λ x. x.core.now) p q e };
+    ghost refuses = { λ p q e. EndsBetween (λ x. map (λ r. (FilterPolicy-box r).meaning r.value) x.policies.now.items) (λ x. E.reach x.env.now) (λ x. x.core.now) (λ x. x.ended) p q e };
 
     fn answer(
         &mut self,
@@ -143,12 +147,18 @@ impl<
         line: &[u8],
         number: u64,
     ) -> Result<Option<Vec<u8>>, SlateDBError> {
-        (self.reply)(self.env, self.core, line, number)
+        match (self.reply)(self.env, self.core, line, number) {
+            Ok(text) => Ok(text),
+            Err(error) => {
+                self.ended = true;
+                Err(error)
+            }
+        }
     }
 
     ghost ends = { λ p f h. h.2 [] };
 
-    ghost stays = { λ p. (refl, between_none _ _ _ p) };
+    ghost stays = { λ p. (refl, between_none _ _ _ _ p) };
 
     ghost goes_on = { λ a b c n m p q. (q.0 ∙ p.0, between_both p.1 q.1) };
 
@@ -193,6 +203,7 @@ fn run_over<
         env,
         policies,
         reply,
+        ended: false,
     };
     let ran = run_lines(alloc, source, sink, &mut stock);
     let Stock { env, reply, .. } = stock;
@@ -241,7 +252,7 @@ fn answer_line<S: Store, M: MergeOperator, X: PrefixExtractor, T: BlockTransform
 fn ordered(alloc: Global, made: Result<u64, StockError>) -> Result<Vec<u8>, SlateDBError>
     ensures done { (n : ℕ) → made ≡ Ok n → IfOk result (λ v. v.items ≡ reply_of_words ok_words) }
     ensures refused { (e : StockError) → made ≡ Err e → IfOk result (λ v. (v.items ≡ reply_of_words (refused_words e)) × (is_said e ≡ true)) }
-    ensures cause { IfErr result (λ x. (x ≡ SlateDBError.OutOfMemory) ⊎ ((made ≡ Err (StockError.Db x)) × (has_reply x ≡ false))) }
+    ensures cause { IfErr result (λ x. ((x ≡ SlateDBError.OutOfMemory) × IfErr made (λ e. is_said e ≡ true)) ⊎ ((made ≡ Err (StockError.Db x)) × (has_reply x ≡ false))) }
 {
     match made {
         Ok(_) => done(alloc).map_err(SlateDBError::from),
@@ -253,7 +264,7 @@ fn ordered(alloc: Global, made: Result<u64, StockError>) -> Result<Vec<u8>, Slat
 fn totalled(alloc: Global, total: Result<AssetTotal, StockError>) -> Result<Vec<u8>, SlateDBError>
     ensures found { (t : AssetTotal) → total ≡ Ok t → IfOk result (λ v. v.items ≡ reply_of_words (total_words t.sum t.issued)) }
     ensures refused { (e : StockError) → total ≡ Err e → IfOk result (λ v. (v.items ≡ reply_of_words (refused_words e)) × (is_said e ≡ true)) }
-    ensures cause { IfErr result (λ x. (x ≡ SlateDBError.OutOfMemory) ⊎ ((total ≡ Err (StockError.Db x)) × (has_reply x ≡ false))) }
+    ensures cause { IfErr result (λ x. ((x ≡ SlateDBError.OutOfMemory) × IfErr total (λ e. is_said e ≡ true)) ⊎ ((total ≡ Err (StockError.Db x)) × (has_reply x ≡ false))) }
 {
     match total {
         Ok(total) => sums(alloc, total.sum, total.issued).map_err(SlateDBError::from),

@@ -1,4 +1,4 @@
-use Rattle.std.proofs.Common.{◌≡◌, Ok, Some, ap, false, inr, map, subst}
+use Rattle.std.proofs.Common.{◌≡◌, Ok, Some, ap, false, inr, map, refl, subst}
 use Rattle.std.specs.Prelude.{IfSome}
 use Rattle.slate_store.specs.Reach.{reach_of}
 use Rattle.slate_language.specs.Replies.{is_silent}
@@ -25,6 +25,7 @@ returns-in-Ok g c =
       own = taken_line fs line c.in-Ok-Some.meant meant.1;
       said = λ f h. line_answers policies fs before after c.args.core.now c.answer_line.new.core f line c.in-Ok-Some.meant c.in-Ok.text meant.0 meant.1 c.in-Ok.ensures h;
       goes = goes_line _ _ _ _ _ c.args.core.now c.answer_line.new.core _ c.answer_line.ensures;
+      still = c.in-Ok.ensures.still;
       cause = tt;
     }
 
@@ -33,6 +34,7 @@ returns-in-Err-answer_line g c = record {
   own = tt;
   said = λ f h. tt;
   goes = goes_line _ _ _ _ _ c.args.core.now c.answer_line.new.core _ c.answer_line.ensures;
+  still = c.in-Err-answer_line.ensures.still;
   cause = inr c.in-Err-answer_line.ensures.cause;
 }
 
@@ -46,6 +48,7 @@ returns-in-Ok-None g c =
       own = taken_silence fs c.args.line.now silent;
       said = λ f h. silence_says policies fs before before c.args.core.now c.args.core.now f c.args.line.now silent h;
       goes = goes_silent _ _ c.args.core.now;
+      still = refl;
       cause = tt;
     }
 
@@ -58,5 +61,6 @@ returns-in-Err g c =
       own = tt;
       said = λ f h. tt;
       goes = goes_silent _ _ c.args.core.now;
+      still = refl;
       cause = unread_line policies fs before before c.args.core.now c.args.core.now c.args.line.now c.args.number c.in-Err.error c.in-Err.ensures.cause;
     }

@@ -1,4 +1,4 @@
-use Rattle.std.proofs.Common.{◌≡◌, Ok, Option, Some, false, inr, ap, map, subst}
+use Rattle.std.proofs.Common.{◌≡◌, Ok, Option, Some, false, inr, ap, map, refl, subst}
 use Rattle.std.specs.Prelude.{IfSome}
 use Rattle.slate_store.specs.Reach.{reach_of}
 use Rattle.slate_language.specs.Replies.{is_silent}
@@ -20,6 +20,7 @@ returns-in-Ok g c =
       own = taken_line c.args.line.now c.in-Ok-Some.meaning means.1;
       said = λ f h. line_says policies seg before after c.args.core.now c.reply_to.new.core c.args.line.now c.in-Ok-Some.meaning c.in-Ok.text f means c.in-Ok.ensures.said h;
       goes = c.reply_to.ensures.goes;
+      still = c.in-Ok.ensures.still;
       cause = tt;
     }
 
@@ -28,6 +29,7 @@ returns-in-Err-reply_to g c = record {
   own = tt;
   said = λ f h. tt;
   goes = c.reply_to.ensures.goes;
+  still = c.in-Err-reply_to.ensures.still;
   cause = inr c.in-Err-reply_to.ensures.cause;
 }
 
@@ -41,6 +43,7 @@ returns-in-Ok-None g c =
       own = taken_silence c.args.line.now silent;
       said = λ f h. silence_says policies seg before c.args.core.now c.args.line.now f silent h;
       goes = goes_same policies seg before c.args.core.now;
+      still = refl;
       cause = tt;
     }
 
@@ -53,5 +56,6 @@ returns-in-Err g c =
       own = tt;
       said = λ f h. tt;
       goes = goes_same policies seg before c.args.core.now;
+      still = refl;
       cause = unread policies seg before c.args.core.now c.args.line.now c.args.number c.in-Err.error c.in-Err.ensures.cause;
     }

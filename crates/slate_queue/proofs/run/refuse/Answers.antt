@@ -12,5 +12,5 @@ returns-in-Db c = record {
 pub returns-in_default : goal.returns-in_default
 returns-in_default c = record {
   text = if_ok_map c.written.result _ _ (λ v t. (reply_other c.args.error c.in_default.not-Db, t)) (c.written.ensures.text _ c.refused.ensures.text);
-  cause = if_err_map c.written.result _ _ (λ e memory. inl memory) c.written.ensures.cause;
+  cause = if_err_map c.written.result _ _ (λ e memory. inl (memory, reply_other c.args.error c.in_default.not-Db)) c.written.ensures.cause;
 }

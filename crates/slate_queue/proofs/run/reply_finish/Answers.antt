@@ -1,10 +1,11 @@
-use Rattle.std.proofs.Common.{map}
+use Rattle.std.proofs.Common.{ap, map}
+use Rattle.slate_types.specs.Outside.{unblamed_by}
 use Rattle.slate_store.specs.Reach.{reach_of}
 use Rattle.slate_db.specs.Meaning.{segments_by}
 use Rattle.slate_queue.specs.Jobs as model
 use Rattle.slate_queue.specs.Jobs.{Call, queue_step}
 use Rattle.slate_queue.specs.Script.{Reply, called}
-use Rattle.slate_queue.proofs.LineLaws.{finish_apart, finished_at, refused_ends, refused_text, said_text, text_ends}
+use Rattle.slate_queue.proofs.LineLaws.{finish_apart, finished_at, refused_ends, refused_still, refused_text, said_text, text_ends}
 use Rattle.slate_queue.proofs.RunLaws.{goes_one}
 use Rattle.slate_queue.proofs.run.reply_finish.Goals as goal
 
@@ -20,6 +21,7 @@ returns-in-Ok g c =
       said = λ r at. said_text policies seg after d (called r (queue_step r.queue (Call.Finish c.args.id c.args.lease))) (Reply.Answered model.Answer.Finished) c.written.result
           (finished_at policies seg before after c.args.core.now d c.args.id c.args.lease _ tt r at done) (c.written.ensures.text _ c.finished.ensures.text);
       goes = goes_one policies seg before after c.args.core.now d done.reads done.keeps;
+      still = ap (unblamed_by c.written.result) c.in-Ok.ensures.counts;
       cause = text_ends policies seg before after c.args.core.now d c.written.result c.written.ensures.cause;
     }
 
@@ -34,5 +36,6 @@ returns-in-Err g c =
     record {
       said = λ r at. refused_text _ _ _ _ policies seg before after c.args.core.now d r at c.in-Err.error c.refuse.result done c.refuse.ensures.text;
       goes = goes_one policies seg before after c.args.core.now d done.reads done.keeps;
+      still = refused_still c.in-Err.error before.faults after.faults c.refuse.result c.in-Err.ensures.counts c.refuse.ensures.text c.refuse.ensures.cause;
       cause = refused_ends _ _ _ _ policies seg before after c.args.core.now d (finish_apart c.args.id c.args.lease policies before after c.args.core.now d) c.in-Err.error c.refuse.result done c.refuse.ensures.cause;
     }

@@ -13,7 +13,7 @@ returns g c =
     record {
       said = λ script told os is told-is policy lawful objects. ran.ensures.said script told _ is told-is (new_at _ None before c.new-core.result c.args.options.now os policy lawful objects c.requires.valid.start new.settings new.state new.journal new.kept new.segmented);
       read = ran.ensures.read;
-      cause = ended_by _ _ ran.result went.2.1 ran.ensures.cause (ap g.E.Outside.reach (search (went.2.0, rules))) light went.1;
+      cause = ended_by _ _ c.args.options.now ran.result went.2.1 ran.ensures.cause (ap g.E.Outside.reach (search (went.2.0, rules))) (record { settings = new.settings; state = new.state; events = new.journal }) light went.1;
       undamaged = λ os policy lawful objects.
           ended_fault _ _ ran.result went.2.1 ran.ensures.cause (ap g.E.Outside.reach (search (went.2.0, rules))) light went.1
           (new_at _ None before c.new-core.result c.args.options.now os policy lawful objects c.requires.valid.start new.settings new.state new.journal new.kept new.segmented).1.settled;

@@ -32,7 +32,7 @@ returns-in-Order g c =
       legal = c.journal.ensures.legal;
       replays = c.journal.ensures.replays;
     } in
-    order_answers policies before after core c.run_order_core-made.new.core c.args.line c.ordered.result c.in-Order.order _ c.run_order_core-made.result c.in-Order.is call c.ordered.ensures.done c.ordered.ensures.refused c.ordered.ensures.cause
+    order_answers policies before after core c.run_order_core-made.new.core c.args.line c.ordered.result c.in-Order.order _ c.run_order_core-made.result c.in-Order.is call c.ordered.ensures.done c.ordered.ensures.refused c.ordered.ensures.cause made.counts
 
 pub returns-in-Total : goal.returns-in-Total
 returns-in-Total g c =
@@ -52,4 +52,4 @@ returns-in-Total g c =
       replays = c.journal.ensures.replays;
       named = c.is_named.ensures;
     } in
-    total_answers policies before after core c.total-found.new.core c.args.line c.totalled.result c.in-Total.asset c.total-found.result c.in-Total.is call c.totalled.ensures.found c.totalled.ensures.refused c.totalled.ensures.cause
+    total_answers policies before after core c.total-found.new.core c.args.line c.totalled.result c.in-Total.asset c.total-found.result c.in-Total.is call c.totalled.ensures.found c.totalled.ensures.refused c.totalled.ensures.cause found.counts
