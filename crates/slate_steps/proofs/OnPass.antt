@@ -215,6 +215,12 @@ module _ (o : Options) (m : Meaning) (policies : List Policy) (query : Option Fi
       IsStoreTrue policies m new.seen before after → IfErr r (IsFault before after)
   scan_undamaged r h from level ts a s = h.undamaged (store_answered policies m new.seen old.tx.ops before after (attempt_plain o from level ts old a) s)
 
+  unfoldable since_core : (it : TxnIterator) (c : CoreModel) → IsReadCore o before.meaning new.seen c → IsOpened policies query before after c old.tx.begin old.tx.ops range order (Ok (scan_of it)) → IsScanSinceOn o before after new.seen it
+  since_core it c core is = (c, core, since_opening policies query before after c it is.later.1)
+
+  since_memory : (it : TxnIterator) → ◌≡◌ {A = Result TxnIterator SlateDBError} (Ok it) (Err OutOfMemory) → IsScanSinceOn o before after new.seen it
+  since_memory it is = cc is
+
   pub scan_since : (r : Result TxnIterator SlateDBError) → Opens r → (from : List Event) (level : IsolationLevel) (ts : List TranscriptStep) → IsAttempt o from level ts old → m ≡ before.meaning → IfOk r (IsScanSinceOn o before after new.seen)
   scan_since (Err e) h from level ts a meant = tt
   scan_since (Ok it) h from level ts a meant = by h.opened
@@ -222,9 +228,9 @@ module _ (o : Options) (m : Meaning) (policies : List Policy) (query : Option Fi
       by : (◌≡◌ {A = Result TxnIterator SlateDBError} (Ok it) (Err OutOfMemory) × quiet) ⊎
           ((c : CoreModel) × IsCoreOf o m old new.seen c × (◌≡◌ {A = Result TxnIterator SlateDBError} (Ok it) (Err OutOfMemory) ⊎ IsOpened policies query before after c old.tx.begin old.tx.ops range order (rows_in (Ok it)))) →
           IsScanSinceOn o before after new.seen it
-      by (inl nothing) = cc nothing.0
-      by (inr (c, core, inl is)) = cc is
-      by (inr (c, core, inr is)) = (c, read_core o m before.meaning old new.seen c meant (attempt_plain o from level ts old a) core, since_opening policies query before after c it is.later.1)
+      by (inl nothing) = since_memory it nothing.0
+      by (inr (c, core, inl is)) = since_memory it is
+      by (inr (c, core, inr is)) = since_core it c (read_core o m before.meaning old new.seen c meant (attempt_plain o from level ts old a) core) is
 
   pub scan_cause : (r : Result TxnIterator SlateDBError) → Opens r → (from : List Event) (level : IsolationLevel) (ts : List TranscriptStep) → IsAttempt o from level ts old → m ≡ before.meaning → IfErr r (IsReadErrorOn o policies before after new.seen)
   scan_cause (Ok it) h from level ts a meant = tt

@@ -193,7 +193,7 @@ as_reading {E} r os m c ts order order' range range' o g h =
     (subst (λ (x : BytesRange). IfOk r (λ it. IsReading os m c (ts ++ (steps.Scan order x ∷ [])) it (rows_seen (rules_of c.settings m) c.state.commits (newest c) (own_of ts) order x))) g h)
 
 -- what an opening says of later calls
-pub since_opening : (policies : List Policy) (query : Option FilterQuery) (before after : Reach) (c : CoreModel) (x : TxnIterator) →
+unfoldable pub since_opening : (policies : List Policy) (query : Option FilterQuery) (before after : Reach) (c : CoreModel) (x : TxnIterator) →
     Made before after (λ reads. (later : List Act) (at : Option (List ℕ)) (e : SlateDBError) → ScanRefuses (scan_of x) before.meaning later at e → IsRefusedByScan policies query before.meaning c reads (reads ++ later) at e) → IsScanSince before after c x
 since_opening policies query before after c x (reads, call, refuses) = (reads, call, λ later at e h. by_tables before.meaning c reads (reads ++ later) at e (refuses later at e h))
 
