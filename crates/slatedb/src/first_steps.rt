@@ -1,6 +1,6 @@
 //! First steps: a value is put, stored as a table, and read in a transaction.
 ghost use Rattle.std.specs.Prelude.{◌≡◌, Some, IfOk};
-ghost use Rattle.slate_types.specs.Outside.{IsStoreStill, Objects};
+ghost use Rattle.slate_types.specs.Outside.{Objects};
 ghost use Rattle.slatedb.specs.FirstSteps.{first_put};
 
 use crate::{
@@ -14,7 +14,7 @@ use std::rt::Files;
 /// objects, the value.
 ///
 /// The operator, the transformer and the extractor are none here. A core is given its store and its laws call by call, and each call's
-/// errors say what it left. No failure of the store is passed over: but at `StoreFault` its count of faults is as it was.
+/// errors say what it left.
 pub fn put_and_get<S: Store>(
     alloc: Global,
     store: &mut S,
@@ -22,7 +22,6 @@ pub fn put_and_get<S: Store>(
     value: &[u8],
 ) -> Result<Option<KeyValue>, SlateDBError>
     ensures found { (os : Objects) → S.objects store.old ≡ Some os → IfOk result (λ found. found ≡ Some (first_put key.now value.now)) }
-    ensures still { IsStoreStill (S.faults store.old) (S.faults store.new) result }
 {
     // What all calls on one core are given alike.
     let laws: Laws<NoExtractor> = Laws {

@@ -247,6 +247,7 @@ fn store_rows<R: Wait, S: Store>(
 
 /// Writes a row, stores it, and gives what a transaction reads at its key, all by one pass: of a store that tells its objects, that
 /// row, whose table the store took then. That nobody else wrote or stored anything is known at the end, since the pass has all parts.
+/// No failure of the store is passed over: but at `StoreFault` its count of faults is as it was.
 pub fn write_and_read<R: Wait, S: Store>(
     rt: &R,
     alloc: Global,

@@ -1,7 +1,10 @@
-use Rattle.std.proofs.Common.{Option, refl, sym, subst, ◌∙◌}
+use Rattle.std.proofs.Common.{Option, Ok, ap, refl, sym, subst, ◌∙◌}
 use Rattle.std.specs.Prelude.{OnOk}
 use Rattle.std.proofs.lemmas.Result.{IfOk-weaker}
-use Rattle.slate_types.specs.Outside.{Objects}
+use Rattle.slate_types.specs.contracts.block_transformer.NoTransformerBlockTransformer.TheImpl.{faults-value}
+use Rattle.slate_types.specs.Faults.{faults_of}
+use Rattle.slate_types.specs.Outside.{Objects, unblamed_by}
+use Rattle.slate_types.proofs.StillLaws.{asked_still}
 use Rattle.slatedb.specs.ReadBack.{TakesFirstPut}
 use Rattle.slatedb.proofs.ReadBack.{found_put, still_objects, taken_on}
 use Rattle.slatedb.proofs.threads.store_and_read.Goals as goal
@@ -27,4 +30,7 @@ returns-clause-stored g c = λ value journal os batch all told.
     c.read_once.result c.read_once.ensures.read c.in_ok-write.field-0 c.in_ok-write.was c.in_ok-flush.ensures.newest c.in_ok-flush.ensures.through refl)
 
 pub returns-clause-still : goal.returns-clause-still
-returns-clause-still g c = c.read_once.ensures.still ∙ ap (unblamed_by c.read_once.result) (c.in_ok-flush.ensures.still ∙ written)
+returns-clause-still g c =
+    let out = c.write.ensures.outside in
+    let written = asked_still _ _ (Ok c.in_ok-write.field-0) (ap (λ e. g.S.Store.faults e.store.now) out) c.in_ok-write.ensures.still (ap (λ e. faults_of faults-value.it e.transformer) out) in
+    c.read_once.ensures.still ∙ ap (unblamed_by c.read_once.result) (c.in_ok-flush.ensures.still ∙ written)
