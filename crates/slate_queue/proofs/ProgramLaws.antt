@@ -26,7 +26,7 @@ use Rattle.slate_db.specs.Sound.{IsKept}
 use Rattle.slate_queue.specs.Stored.{counter_in, counter_key, job_key}
 use Rattle.slate_queue.specs.Feed.{feed_of}
 use Rattle.slate_queue.specs.Onward.{EndsBetween, GoesBetween}
-use Rattle.slate_queue.specs.Runs.{AnswersBy, Ends, EndsBy, GoesOn, IsFirst, IsRunAt, WhyEnds, WhyRunEnds}
+use Rattle.slate_queue.specs.Runs.{AnswersBy, Ends, EndsBy, GoesOn, IsFirstCore, IsRunAt, WhyEnds, WhyRunEnds}
 use Rattle.slate_queue.specs.Script.{begun, last_seq, says}
 use Rattle.slate_queue.specs.Standing.{job_in, value_at}
 use Rattle.slate_queue.specs.Words.{fed_pair}
@@ -72,7 +72,7 @@ never_full policies seg before after c d n light few goes full =
     omega (arith, place, less, light, few)
 
 module _ (policies : List Policy) (before after : Reach) (c d : CoreModel) (n : ℕ) (light : weight c ≡ 0) (few : n ≤ script_limit) (goes : GoesOn policies None before after c d n) where
-  run_ends : (options : Options) → IsFirst options c → (e : SlateDBError) → Ends policies None before after c d e → unblamed e after.faults ≡ unblamed e before.faults → EndsBy policies options before after e
+  run_ends : (options : Options) → IsFirstCore options c → (e : SlateDBError) → Ends policies None before after c d e → unblamed e after.faults ≡ unblamed e before.faults → EndsBy policies options before after e
   run_ends options first e h still = record { why = by h.why; still = still }
     where
       by : WhyEnds policies None before after c d e → WhyRunEnds policies options before after e
@@ -96,7 +96,7 @@ cause_map source sink P Q e f (inr (inr (inr (inr (inl h))))) = inr (inr (inr (i
 cause_map source sink P Q e f (inr (inr (inr (inr (inr h))))) = inr (inr (inr (inr (inr (f h)))))
 
 module _ {V P : Type 0} {policies : P → List Policy} {reach : P → Reach} {core : P → CoreModel} {ended : P → Bool} {p q : P} {n : ℕ} {after : Reach} where
-  pub ended_by : (A B : Type 0) (options : Options) (result : Result V SlateDBError) → GoesBetween policies reach core ended p q n → IfErr result (IsRunCause A B (EndsBetween policies reach core ended p q)) → reach q ≡ after → IsFirst options (core p) →
+  pub ended_by : (A B : Type 0) (options : Options) (result : Result V SlateDBError) → GoesBetween policies reach core ended p q n → IfErr result (IsRunCause A B (EndsBetween policies reach core ended p q)) → reach q ≡ after → IsFirstCore options (core p) →
       weight (core p) ≡ 0 → n ≤ script_limit → IfErr result (IsRunCause A B (EndsBy (policies p) options (reach p) after))
   ended_by A B options (Ok v) goes cause same first light few = tt
   ended_by A B options (Err e) goes cause same first light few =

@@ -3,7 +3,7 @@
 --     AnswersBy policies seg reach c f      so it is for some run, which writes f
 --     GoesOn policies seg before after c d n      what n lines keep
 --     WhyEnds, Ends policies seg before after c d e      why a line ends a run: a fault, a read that was refused by damage or want of an operator, of the core behind some lines, or no place in the journal
---     IsFirst options c      the core that a run begins with
+--     IsFirstCore options c      the core that a run begins with
 --     WhyRunEnds, EndsBy policies options before after e      a line ended the run by a fault, or a read that was refused so
 --     IsReply e      a refusal that is a reply
 use Rattle.std.specs.Prelude.{◌≡◌, ◌⊎◌, ℕ, ◌+◌, ◌*◌, ◌≤◌, List, [], None, map}
@@ -61,14 +61,14 @@ pub record Ends (policies : List Policy) (seg : Segments) (before after : Reach)
   pub why : WhyEnds policies seg before after c d e
   pub settled : IsSettledIn policies seg before c → IsFault before after e ⊎ ((e ≡ LimitReached LIMIT) × NoPlace 2 d)
 
-pub record IsFirst (options : Options) (c : CoreModel) : Type 0 where
+pub record IsFirstCore (options : Options) (c : CoreModel) : Type 0 where
   pub settings : c.settings ≡ settings_of options
   pub state : c.state ≡ opening
   pub events : c.events ≡ []
 
 pub data WhyRunEnds (policies : List Policy) (options : Options) (before after : Reach) (e : SlateDBError) : Type 0 where
   by_fault : IsFault before after e → WhyRunEnds policies options before after e
-  by_read : (c k : CoreModel) (n : ℕ) (between : Reach) (id : List ℕ) → IsFirst options c → GoesOn policies None before between c k n → IsReadFault policies between after k id SerializableSnapshot e → WhyRunEnds policies options before after e
+  by_read : (c k : CoreModel) (n : ℕ) (between : Reach) (id : List ℕ) → IsFirstCore options c → GoesOn policies None before between c k n → IsReadFault policies between after k id SerializableSnapshot e → WhyRunEnds policies options before after e
 
 -- still: no count of faults rose, but that of the part whose fault the error is
 pub record EndsBy (policies : List Policy) (options : Options) (before after : Reach) (e : SlateDBError) : Type 0 where
