@@ -195,6 +195,8 @@ impl<E: Outside, B: BlockLike> RowEntryIterator<E> for BlockIteratorV2<B> {
 
     ghost stays = { λ before _ _ at e after. (after ≡ before) × Blames at before e };
 
+    ghost within = { λ _ _. Unit {0} };
+
     ghost unbegun = { λ _. ⊥ };
 
     ghost rising = { λ it _ h. rising_rows it.order (left it) h };

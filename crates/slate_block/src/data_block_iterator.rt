@@ -117,6 +117,8 @@ impl<E: Outside, B: BlockLike> RowEntryIterator<E> for DataBlockIterator<B> {
 
     ghost stays = { λ before _ _ at e after. (after ≡ before) × Blames at (left_of before) e };
 
+    ghost within = { λ _ _. Unit {0} };
+
     ghost unbegun = { λ _. ⊥ };
 
     ghost rising = { λ it _ h. rising_rows (left_of it).order (left (left_of it)) h };

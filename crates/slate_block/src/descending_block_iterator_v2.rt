@@ -138,6 +138,8 @@ impl<E: Outside, B: BlockLike> RowEntryIterator<E> for DescendingBlockIteratorV2
 
     ghost stays = { λ before _ _ at e after. (after ≡ before) × Blames at before e };
 
+    ghost within = { λ _ _. Unit {0} };
+
     ghost unbegun = { λ _. ⊥ };
 
     ghost rising = { λ it _ h. rising_rows it.order (left it) h };

@@ -73,15 +73,23 @@ asked_adds objects before after path start size means asks (Err e) none asked on
 asked_adds objects before after path start size means true (Ok passes) none asked once = adds_read objects before after path start size (means passes) (asked refl)
 asked_adds objects before after path start size means false (Ok passes) none asked once = adds_same before after (none refl).1
 
+-- nothing but its filters is read
+pub asked_filters : (asking : Asking) (h : SsTableHandle) (a c : Reach) (r : Result Bool SlateDBError) → IsAsking asking h a c r → IfOk r (λ passes. Made a c (λ reads. AllByRecursion (IsFiltersRead h) reads × (passes ≡ true → LetsThrough a.meaning.decode asking h reads)))
+asked_filters asking h a c (Err e) k = tt
+asked_filters asking h a c (Ok passes) k = by (Asks asking h) refl
+  where
+    by : (t : Bool) → Asks asking h ≡ t → Made a c (λ reads. AllByRecursion (IsFiltersRead h) reads × (passes ≡ true → LetsThrough a.meaning.decode asking h reads))
+    by true is =
+        let call = call_of a c (path_of root h.id.0) h.info.filter_offset h.info.filter_len (λ answer. IsAsked a.meaning.decode asking.policies asking.query (of_filters h answer) passes) k.objects (same_parts asking h a c _ k) (k.asked is) in (
+          filters_act h call.0 ∷ [],
+          call.1,
+          (((call.0, refl), tt), λ yes. inr (is, (call.0, refl, subst (λ (b : Bool). IsAsked a.meaning.decode asking.policies asking.query (of_filters h (whole_answer h.info.filter_len call.0)) b) yes call.2))),
+        )
+    by false is = ([], call_quiet a c k.objects (same_parts asking h a c _ k) (k.none is).1, (tt, λ yes. inl (is, refl)))
+
 pub asked_passes : (asking : Asking) (h : SsTableHandle) (a c : Reach) (r : Result Bool SlateDBError) → IsAsking asking h a c r → IfOk r (λ passes. Made a c (λ reads. passes ≡ true → LetsThrough a.meaning.decode asking h reads))
 asked_passes asking h a c (Err e) k = tt
-asked_passes asking h a c (Ok passes) k = by (Asks asking h) refl
-  where
-    by : (t : Bool) → Asks asking h ≡ t → Made a c (λ reads. passes ≡ true → LetsThrough a.meaning.decode asking h reads)
-    by true is =
-        let call = call_of a c (path_of root h.id.0) h.info.filter_offset h.info.filter_len (λ answer. IsAsked a.meaning.decode asking.policies asking.query (of_filters h answer) passes) k.objects (same_parts asking h a c _ k) (k.asked is) in
-        (filters_act h call.0 ∷ [], call.1, λ yes. inr (is, (call.0, refl, subst (λ (b : Bool). IsAsked a.meaning.decode asking.policies asking.query (of_filters h (whole_answer h.info.filter_len call.0)) b) yes call.2)))
-    by false is = ([], call_quiet a c k.objects (same_parts asking h a c _ k) (k.none is).1, λ yes. inl (is, refl))
+asked_passes asking h a c (Ok passes) k = let made = asked_filters asking h a c (Ok passes) k in (made.0, made.1, made.2.1)
 
 pub asks_err : (asking : Asking) (h : SsTableHandle) (a c : Reach) (e : SlateDBError) → IsAsking asking h a c (Err e) → Asks asking h ≡ true
 asks_err asking h a c e k = by (Asks asking h) refl

@@ -109,6 +109,7 @@ mod OpenNotes
 pub mod Opened
 pub mod OpenIds
 pub mod Readers
+pub mod ScanWithin
 mod ScanMerges
 pub mod RowDamage
 mod Serial
@@ -122,3 +123,4 @@ mod Numbered
 mod PreparedOf
 pub mod Flights
 pub mod Aloft
+mod ChangedReads

@@ -11,7 +11,7 @@ use Rattle.slate_types.specs.declared.types.KeyValue.{KeyValue}
 use Rattle.slate_types.specs.declared.types.RowEntry.{RowEntry}
 use Rattle.slate_types.specs.Iteration.{RowList}
 use Rattle.slate_types.specs.Outside.{Act, IsFault, Meaning, Objects, OnlyReads, Reach, unblamed}
-use Rattle.slate_types.specs.World.{Checks, Made, Sees, World}
+use Rattle.slate_types.specs.World.{Checks, Made, ReadsAt, Sees, World}
 use Rattle.slate_types.proofs.Calls.{call_both}
 use Rattle.slate_filter.specs.Policy.{Policy}
 use Rattle.slate_mem.specs.BatchModel.{holds_merge}
@@ -19,9 +19,11 @@ use Rattle.slate_mem.specs.Lookup.{newest_first}
 use Rattle.slate_merge.specs.Offers.{Comes}
 use Rattle.slate_merge.specs.OperatorIterators.{IsGoing, rest_folding}
 use Rattle.slate_read.specs.declared.sorted_run.SortedRun.{SortedRun}
+use Rattle.slate_read.specs.TableWalk.{path_in}
 use Rattle.slate_table.specs.declared.info.SsTableHandle.{SsTableHandle}
 use Rattle.slate_txn.specs.Step.{Reader}
 use Rattle.slate_db.specs.declared.scan.DbIterator.{DbIterator}
+use Rattle.slate_db.specs.declared.scan.ScanState.{ScanState}
 use Rattle.slate_db.specs.declared.scan.ScanState.TheVariants.{Walking}
 use Rattle.slate_db.specs.Checked.{OrSlips}
 use Rattle.slate_db.specs.Installs.{handles_of}
@@ -30,9 +32,9 @@ use Rattle.slate_db.specs.Model.{CoreModel, Rows, memory}
 use Rattle.slate_db.specs.OpenScans.{AreScanSources, CanOpen, FoldsRefuse, IsBlamedFor, LeftSources, SourcesBring, folded_rows, merged_rows}
 use Rattle.slate_db.specs.RangeShares.{HasUpto, IsOpened, IsPart, IsReaderOf, LeavesSeen, StandsIn}
 use Rattle.slate_db.specs.Readable.{IsAnswered, IsReadable}
-use Rattle.slate_db.specs.ScanFilters.{AreLeft, AreLetIn, AreRunsLeft, AreTablesThere, FailsAsking, RunsAreLeft, ShowsFilters}
+use Rattle.slate_db.specs.ScanFilters.{AreLeft, AreLetIn, AreRunsLeft, AreTablesThere, AsksOf, FailsAsking, RunsAreLeft, ShowsFilters}
 use Rattle.slate_db.specs.Scanned.{AreStoredRuns, own_rows}
-use Rattle.slate_db.specs.Scans.{FoldsAll, IsFor, IsHandedByScan, IsOpeningError, IsOperableIn, IsRefusedByScan, ScanHands, ScanRefuses, ScanSource, merge_offers, merge_refuses, merge_rows}
+use Rattle.slate_db.specs.Scans.{FoldsAll, IsFor, IsHandedByScan, IsMergeWithin, IsOpeningError, IsOperableIn, IsRefusedByScan, IsScanWithin, IsWithinIn, ScanHands, ScanRefuses, ScanSource, merge_offers, merge_refuses, merge_rows}
 use Rattle.slate_db.specs.SharedRuns.{tables_in}
 use Rattle.slate_db.specs.Sound.{AreBases}
 use Rattle.slate_db.proofs.RangeRows.{has_part}
@@ -42,6 +44,7 @@ use Rattle.slate_db.proofs.ScanFilters.{let_in_before}
 use Rattle.slate_db.proofs.ScanMerges.{OpensScan, asking_refused, handed_later, opening_refused, opening_whole, refused_later, runs_filtered, runs_there, scan_hands, scan_is_for, scan_opened, scan_refused}
 use Rattle.slate_db.proofs.ScanReaders.{plain_reader}
 use Rattle.slate_db.proofs.ScanStates.{Folds, IsSound, Merged}
+use Rattle.slate_db.proofs.ScanWithin.{AreSourcesWithin, asking_within, left_within, sources_within}
 use Rattle.slate_db.proofs.SharedRuns.{same_handles}
 
 -- ---- runs with the same tables
@@ -74,7 +77,7 @@ same_left range (r ∷ runs) [] groups left same h = cc
 left_of_runs : (policies : List Policy) (query : Option FilterQuery) (before after : Reach) (range : BytesRange) (runs copies left : List SortedRun) → tables_in copies ≡ tables_in runs → RunsAreLeft policies query before after range copies left → RunsAreLeft policies query before after range runs left
 left_of_runs policies query before after range runs copies left same h = record {
   among = λ t k. subst (λ (hs : List SsTableHandle). Contains hs t) (same_handles copies runs same) (h.among t k);
-  let_in = h.let_in;
+  let_in = subst (λ (hs : List SsTableHandle). AsksOf hs before after (λ reads. AreLetIn before.meaning.decode policies query (handles_of left) reads)) (same_handles copies runs same) h.let_in;
   others = λ groups os stored filtered answers.
       same_left range copies runs groups left same
       (h.others groups os (same_stored before.meaning os runs copies groups (sym same) stored) (subst (AreFilteredAs policies before.meaning os) (sym (same_handles copies runs same)) filtered) answers);
@@ -104,6 +107,7 @@ asking_opens policies query before after c range n active frozen runs id from or
   checked = λ above os r. tt;
   later = tt;
   hands = tt;
+  within = asking_within policies query before after c st.unseen (λ left. Unit {0}) st.whole refused.asks tt;
   undamaged = λ above a. refused.undamaged a.os (runs_there policies before.meaning a.os c st.unseen st.whole a.readable) (runs_filtered policies before.meaning a.os c st.unseen st.whole a.readable) a.answers;
   cause = asking_refused policies query before after c st.unseen st.whole e refused.cause;
   still = still;
@@ -123,11 +127,17 @@ module _ (policies : List Policy) (query : Option FilterQuery) (before middle af
   asked_here = left_of_runs policies query before middle range st.unseen.runs runs lefts.left st.tables lefts.asked
 
   abbrev asked : Made before middle (λ reads. AreLetIn before.meaning.decode policies query (handles_of lefts.left) reads)
-  asked = lefts.asked.let_in
+  asked = (lefts.asked.let_in.0, lefts.asked.let_in.1, lefts.asked.let_in.2.1)
 
   -- by the reads of the whole opening
   let_in : (reads : List Act) → AreLetIn middle.meaning.decode policies query (handles_of lefts.left) (asked.0 ++ reads)
   let_in reads = let_in_before middle.meaning.decode policies query (handles_of lefts.left) asked.0 reads (subst (λ (k : Meaning). AreLetIn k.decode policies query (handles_of lefts.left) asked.0) (sym first.meaning) asked.2)
+
+  abbrev some : List (List ℕ)
+  some = map path_in (handles_of lefts.left)
+
+  them : AreSourcesWithin some sources
+  them = sources_within range order n from.ops (active ∷ reverse c.frozen) lefts.left sources here
 
   plain : (os : Objects) → IsReadable policies middle.meaning os c → middle.meaning.combine ≡ None → holds_merge from.ops ≡ false
   plain os r = plain_reader middle.meaning c id from mine.open_there r.kept.2
@@ -140,8 +150,9 @@ module _ (policies : List Policy) (query : Option FilterQuery) (before middle af
       Made middle after (λ reads. (later : List Act) (at : Option (List ℕ)) (e : SlateDBError) → merge_refuses rows.iterator middle.meaning later at e → IsBlamedFor sources middle.meaning (reads ++ later) at e) →
       Made middle after (λ reads. (later : List Act) (at : Option (List ℕ)) (e : SlateDBError) → Folds rows middle.meaning later at e → FoldsRefuse sources middle.meaning (reads ++ later) at e) →
       Made middle after (λ reads. (later : List Act) (r : RowEntry) → merge_offers rows.ahead rows.iterator middle.meaning later (Comes r) → SourcesBring sources middle.meaning (reads ++ later) r) →
+      ((paths : List (List ℕ)) → AreSourcesWithin paths sources → ReadsAt paths middle after × IsMergeWithin rows.iterator paths) →
       after.faults ≡ before.faults → IsOpened policies query before after c n from.ops range order (Ok it)
-  sources_open rows it state_is range_is order_is going sound rest op checks blamed brought offered still = record {
+  sources_open rows it state_is range_is order_is going sound rest op checks blamed brought offered within still = record {
     opened = λ above a. (opens above).answered a;
     checked = λ above os r. (opens above).checked os r;
     later = (
@@ -164,6 +175,7 @@ module _ (policies : List Policy) (query : Option FilterQuery) (before middle af
           (handed_later policies query before.meaning c (asked.0 ++ offered.0) asked.0 (offered.0 ++ later) a
           (subst (λ (k : Meaning). IsHandedByScan policies query k c (asked.0 ++ offered.0) (offered.0 ++ later) a) first.meaning (handed later a (subst (λ (k : Meaning). ScanHands it k later a) (sym first.meaning) h)))),
     );
+    within = (let read = within some them in left_within policies query before middle after c st.unseen range lefts.left (λ left. IsScanWithin it (map path_in left)) st.whole asked_here read.0 (subst (λ (s : ScanState). IsWithinIn s some) (sym state_is) read.1));
     undamaged = λ above a. tt;
     cause = tt;
     still = still;
@@ -182,12 +194,14 @@ module _ (policies : List Policy) (query : Option FilterQuery) (before middle af
           scan_hands middle.meaning c st.unseen st.whole lefts.left asked_here.among range order n from.ops (active ∷ reverse c.frozen) sources here policies query (asked.0 ++ offered.0) (let_in offered.0)
           (λ k. own_of_reader c id from k (own_rows from.ops k) mine.open_there refl) (layers_there c range n active st.active_has) rows it offered.0 state_is going.1 offered.2 later a h
 
-  pub rows_refused : (e : SlateDBError) (result : Result DbIterator SlateDBError) → result ≡ Err e → Made middle after (λ reads. IsFault middle after e ⊎ IsBlamedFor sources middle.meaning reads None e) → unblamed e after.faults ≡ unblamed e before.faults → IsOpened policies query before after c n from.ops range order result
-  rows_refused e result is made still = subst (IsOpened policies query before after c n from.ops range order) (sym is) (record {
+  pub rows_refused : (e : SlateDBError) (result : Result DbIterator SlateDBError) → result ≡ Err e → Made middle after (λ reads. IsFault middle after e ⊎ IsBlamedFor sources middle.meaning reads None e) →
+      ((paths : List (List ℕ)) → AreSourcesWithin paths sources → ReadsAt paths middle after) → unblamed e after.faults ≡ unblamed e before.faults → IsOpened policies query before after c n from.ops range order result
+  rows_refused e result is made within still = subst (IsOpened policies query before after c n from.ops range order) (sym is) (record {
     opened = λ above a. tt;
     checked = λ above os r. tt;
     later = tt;
     hands = tt;
+    within = left_within policies query before middle after c st.unseen range lefts.left (λ left. Unit {0}) st.whole asked_here (within some them) tt;
     undamaged = λ above a. opening_whole policies query before middle after c st.unseen st.whole lefts.left range asked_here first last order n from.ops mine.fine above active st.active_has sources here plain e made a;
     cause = opening_refused middle.meaning c st.unseen st.whole lefts.left asked_here.among range order n from.ops (active ∷ reverse c.frozen) sources here policies query before middle after e refl first asked made;
     still = still;

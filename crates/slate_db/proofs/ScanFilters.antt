@@ -2,6 +2,7 @@
 use Rattle.slate_table.specs.Reading.{of_filters}
 use Rattle.std.proofs.Common.{◌≡◌, ℕ, zero, suc, ◌+◌, ◌<◌, ◌≤◌, ◌⊎◌, inl, inr, Bool, true, false, cond, List, [], ◌∷◌, ◌++◌, drop, length, get_or, Option, Some, Result, Ok, Err, refl, sym, ap, subst, ◌∙◌, arith, append_assoc, append-nil}
 use Rattle.std.specs.Prelude.{Contains, IfErr, IfOk}
+use Rattle.std.specs.List.{AllByRecursion}
 use Rattle.std.proofs.lemmas.Grind.{flat_map-append}
 use Rattle.std.proofs.lemmas.List.{drop_all}
 use Rattle.std.proofs.lemmas.List.Elements.{All-contains, All-from_recursion, Contains-append_cases, Contains-append_left, Contains-append_right}
@@ -25,22 +26,38 @@ use Rattle.slate_table.specs.InfoReading.{seen_info}
 use Rattle.slate_table.specs.Parts.{Encode}
 use Rattle.slate_table.specs.Paths.{path_of}
 use Rattle.slate_db.specs.Answered.{AnswersFrom}
-use Rattle.slate_db.specs.Asked.{IsLetThrough}
+use Rattle.slate_db.specs.Asked.{IsFiltersRead, IsLetThrough}
 use Rattle.slate_db.specs.Checked.{ChecksFrom}
 use Rattle.slate_db.specs.Installs.{handles_of, root}
 use Rattle.slate_db.specs.Lookup.{AreFilteredAs, AreStoredAs, IsStoredAs}
 use Rattle.slate_db.specs.Model.{Rows}
-use Rattle.slate_db.specs.ScanFilters.{AddsLeft, AddsRun, AreLeft, AreLetIn, AreRunsLeft, AreTablesThere, FailsAsking, IsLetIn, ShowsFilters, TablesAreLeft}
+use Rattle.slate_db.specs.ScanFilters.{AddsLeft, AddsRun, AreLeft, AreLetIn, AreRunsLeft, AreTablesThere, AsksOf, FailsAsking, IsAskingRead, IsLetIn, ShowsFilters, TablesAreLeft}
 use Rattle.slate_db.specs.Scanned.{AreStoredRuns}
 use Rattle.slate_db.specs.Shown.{Asking, IsUnreadable, LetsThrough, RefusesFiltersRead, filters_act}
 use Rattle.slate_db.proofs.Answered.{from_first, from_last}
 use Rattle.slate_db.proofs.Checks.{checks_both}
 use Rattle.slate_db.proofs.Causes.{store_fault, transform_fault}
-use Rattle.slate_db.proofs.Filters.{Asks, IsAsking, WhyNot, asked_cause, asked_passes, asks_err, asks_some, filtered_one, filtered_some, table_there}
+use Rattle.slate_db.proofs.Filters.{Asks, IsAsking, WhyNot, asked_alone, asked_cause, asked_filters, asks_err, asks_some, filtered_one, filtered_some, table_there}
 use Rattle.slate_db.proofs.RangeFilters.{denied_range}
 use Rattle.slate_db.proofs.RunReads.{handle_among, run_here}
 use Rattle.slate_db.proofs.Tables.{answered_by, read_part, table_as}
-use Rattle.slate_types.proofs.Lists.{AllByRecursion_append}
+use Rattle.slate_types.proofs.Lists.{AllByRecursion_append, AllByRecursion_weaken}
+
+-- ---- reads of filters
+
+-- of one table
+asking_one : (h : SsTableHandle) (reads : List Act) → AllByRecursion (IsFiltersRead h) reads → AllByRecursion (IsAskingRead (h ∷ [])) reads
+asking_one h reads each = AllByRecursion_weaken (IsFiltersRead h) (IsAskingRead (h ∷ [])) (λ act is. (h, (0, omega arith, refl), is)) reads each
+
+-- and of more
+pub asking_more : (hs ks : List SsTableHandle) (reads : List Act) → ((h : SsTableHandle) → Contains hs h → Contains ks h) → AllByRecursion (IsAskingRead hs) reads → AllByRecursion (IsAskingRead ks) reads
+asking_more hs ks reads among each = AllByRecursion_weaken (IsAskingRead hs) (IsAskingRead ks) (λ act is. (is.0, among is.0 is.1, is.2)) reads each
+
+asking_both : (hs ks : List SsTableHandle) (done reads : List Act) → ((h : SsTableHandle) → Contains hs h → Contains ks h) → AllByRecursion (IsAskingRead ks) done → AllByRecursion (IsAskingRead hs) reads → AllByRecursion (IsAskingRead ks) (done ++ reads)
+asking_both hs ks done reads among first last = AllByRecursion_append (IsAskingRead ks) done reads first (asking_more hs ks reads among last)
+
+pub asks_then : (a b c : Reach) (hs ks : List SsTableHandle) → ((h : SsTableHandle) → Contains hs h → Contains ks h) → Made a b (AllByRecursion (IsAskingRead ks)) → Made b c (AllByRecursion (IsAskingRead hs)) → Made a c (AllByRecursion (IsAskingRead ks))
+asks_then a b c hs ks among (done, f, first) (reads, call, last) = (done ++ reads, call_both a b c done reads f call, asking_both hs ks done reads among first last)
 
 -- ---- one table, whose filters were asked
 
@@ -84,6 +101,7 @@ left_refused asking h a c (Ok passes) range known matches = tt
 left_refused asking h a c (Err e) range known matches = record {
   undamaged = λ os there filtered answers. left_whole asking h a c e range there.0.0 os known matches there.0.1 filtered answers;
   cause = by (asked_cause asking h a c (Err e) known);
+  asks = (let alone = asked_alone asking h a c (Err e) known in (alone.0, alone.1, asking_one h alone.0 alone.2));
 }
   where
     by : IsFault a c e ⊎ Made a c (λ reads. IsUnreadable e × RefusesFiltersRead a.meaning.decode asking h reads e) → IsFault a c e ⊎ Made a c (λ reads. ShowsFilters a.meaning.decode asking.policies (Some asking.query) (h ∷ []) reads e)
@@ -109,11 +127,17 @@ through : (decode : Encode) (asking : Asking) (h : SsTableHandle) (reads : List 
 through decode asking h reads (inl (unasked, none)) asks = let clash : true ≡ false = sym asks ∙ unasked in cc
 through decode asking h reads (inr (asked, (given, one, says))) asks = (given, subst (λ (l : List Act). Contains l (filters_act h given)) (sym one) (0, omega arith, refl), says)
 
-pub left_let_in : (asking : Asking) (h : SsTableHandle) (a c : Reach) (r : Result Bool SlateDBError) → IsAsking asking h a c r → IfOk r (λ passes. Made a c (λ reads. passes ≡ true → IsLetIn a.meaning.decode asking.policies (Some asking.query) h reads))
+pub left_let_in : (asking : Asking) (h : SsTableHandle) (a c : Reach) (r : Result Bool SlateDBError) → IsAsking asking h a c r → IfOk r (λ passes. AsksOf (h ∷ []) a c (λ reads. passes ≡ true → IsLetIn a.meaning.decode asking.policies (Some asking.query) h reads))
 left_let_in asking h a c (Err e) known = tt
 left_let_in asking h a c (Ok passes) known =
-    let made = asked_passes asking h a c (Ok passes) known in
-    (made.0, made.1, λ yes query is. subst (λ (q : FilterQuery). IsLetThrough a.meaning.decode (record { policies = asking.policies; query = q }) h made.0) (same_Some asking.query query is) (through a.meaning.decode asking h made.0 (made.2 yes)))
+    let made = asked_filters asking h a c (Ok passes) known in (
+      made.0,
+      made.1,
+      (
+        asking_one h made.0 made.2.0,
+        λ yes query is. subst (λ (q : FilterQuery). IsLetThrough a.meaning.decode (record { policies = asking.policies; query = q }) h made.0) (same_Some asking.query query is) (through a.meaning.decode asking h made.0 (made.2.1 yes)),
+      ),
+    )
 
 -- ---- what filters show of some tables they show of more
 
@@ -148,13 +172,14 @@ let_in_none decode policies query left reads none h there = by (subst (λ (l : L
     by (k, lt, at) = absurd (omega (arith, lt))
 
 -- behind a call that asked others
-pub fails_more : (policies : List Policy) (query : Option FilterQuery) (a b c : Reach) (hs ks : List SsTableHandle) (e : SlateDBError) → ((h : SsTableHandle) → Contains hs h → Contains ks h) → Made a b (λ _. Unit {0}) → OnlyReads a b → OnlyReads b c →
+pub fails_more : (policies : List Policy) (query : Option FilterQuery) (a b c : Reach) (hs ks : List SsTableHandle) (e : SlateDBError) → ((h : SsTableHandle) → Contains hs h → Contains ks h) → Made a b (AllByRecursion (IsAskingRead ks)) → OnlyReads a b → OnlyReads b c →
     FailsAsking policies query b c hs e → FailsAsking policies query a c ks e
 fails_more policies query a b c hs ks e among made first last f = record {
   undamaged = λ os there filtered answers. fault_earlier a b c e first.later
       (f.undamaged os (each os hs (λ h k. subst (λ (m : Meaning). (rows : Rows) × IsStoredAs m os h rows) (sym first.meaning) (All-contains (λ (t : SsTableHandle). (rows : Rows) × IsStoredAs a.meaning os t rows) ks h (All-from_recursion _ ks there) (among h k))))
       (filtered_some policies a.meaning b.meaning os ks hs first.meaning filtered among) (from_last os a b c first last answers));
   cause = by f.cause;
+  asks = asks_then a b c hs ks among made f.asks;
 }
   where
     each : (os : Objects) (xs : List SsTableHandle) → ((h : SsTableHandle) → Contains xs h → (rows : Rows) × IsStoredAs b.meaning os h rows) → AreTablesThere b.meaning os xs
@@ -166,10 +191,10 @@ fails_more policies query a b c hs ks e among made first last f = record {
     by (inr (reads, call, shows)) = inr (made.0 ++ reads, call_both a b c made.0 reads made.1 call, subst (λ (m : Meaning). ShowsFilters m.decode policies query ks (made.0 ++ reads) e) first.meaning (shows_more hs ks made.0 reads e among shows))
 
 -- want of memory
-pub fails_memory : (policies : List Policy) (query : Option FilterQuery) (a c : Reach) (hs : List SsTableHandle) (e : SlateDBError) → e ≡ OutOfMemory → FailsAsking policies query a c hs e
-fails_memory policies query a c hs e is =
+pub fails_memory : (policies : List Policy) (query : Option FilterQuery) (a c : Reach) (hs : List SsTableHandle) (e : SlateDBError) → Made a c (AllByRecursion (IsAskingRead hs)) → e ≡ OutOfMemory → FailsAsking policies query a c hs e
+fails_memory policies query a c hs e made is =
     let fault : IsFault a c e = subst (IsFault a c) (sym is) tt in
-    record { undamaged = λ os there filtered answers. fault; cause = inl fault }
+    record { undamaged = λ os there filtered answers. fault; cause = inl fault; asks = made }
 
 -- ---- several tables
 
@@ -259,10 +284,10 @@ pub one_among : (hs : List SsTableHandle) (i : ℕ) (h : SsTableHandle) → i < 
 one_among hs i h within is t there = among_more hs i h [] (h ∷ []) true within is refl (λ u k. among_none hs [] refl u k) t there
 
 -- the tables that were left, and one that the next call asked
-pub let_in_more : (policies : List Policy) (query : Option FilterQuery) (a b c : Reach) (h : SsTableHandle) (left next : List SsTableHandle) (kept : Bool) → OnlyReads a b → next ≡ cond kept (left ++ (h ∷ [])) left →
-    Made a b (λ reads. AreLetIn a.meaning.decode policies query left reads) → Made b c (λ reads. kept ≡ true → IsLetIn b.meaning.decode policies query h reads) → Made a c (λ reads. AreLetIn a.meaning.decode policies query next reads)
-let_in_more policies query a b c h left next kept first are (done, f, before) (reads, call, one) =
-    (done ++ reads, call_both a b c done reads f call, λ t there. by t kept refl (subst (λ (l : List SsTableHandle). Contains l t) are there))
+pub let_in_more : (policies : List Policy) (query : Option FilterQuery) (a b c : Reach) (hs : List SsTableHandle) (h : SsTableHandle) (left next : List SsTableHandle) (kept : Bool) → ((t : SsTableHandle) → Contains (h ∷ []) t → Contains hs t) → OnlyReads a b → next ≡ cond kept (left ++ (h ∷ [])) left →
+    AsksOf hs a b (λ reads. AreLetIn a.meaning.decode policies query left reads) → AsksOf (h ∷ []) b c (λ reads. kept ≡ true → IsLetIn b.meaning.decode policies query h reads) → AsksOf hs a c (λ reads. AreLetIn a.meaning.decode policies query next reads)
+let_in_more policies query a b c hs h left next kept among first are (done, f, (filters, before)) (reads, call, (more, one)) =
+    (done ++ reads, call_both a b c done reads f call, (asking_both (h ∷ []) hs done reads among filters more, λ t there. by t kept refl (subst (λ (l : List SsTableHandle). Contains l t) are there)))
   where
     asked : (t : SsTableHandle) → kept ≡ true → Contains (h ∷ []) t → IsLetIn a.meaning.decode policies query t (done ++ reads)
     asked t is (zero, lt, at) =
@@ -352,9 +377,10 @@ runs_among runs i run one left next within is (inr (some, more)) mine before h t
     by (inl k) = before h k
     by (inr k) = handle_among runs i run within is h (mine h (subst (λ (l : List SsTableHandle). Contains l h) (append-nil one.tables.items) k))
 
-pub runs_let_in : (policies : List Policy) (query : Option FilterQuery) (a b c : Reach) (one : SortedRun) (left next : List SortedRun) → OnlyReads a b → AddsRun one left next →
-    Made a b (λ reads. AreLetIn a.meaning.decode policies query (handles_of left) reads) → Made b c (λ reads. AreLetIn b.meaning.decode policies query one.tables.items reads) → Made a c (λ reads. AreLetIn a.meaning.decode policies query (handles_of next) reads)
-runs_let_in policies query a b c one left next first added (done, f, before) (reads, call, mine) = (done ++ reads, call_both a b c done reads f call, λ t there. by t added there)
+pub runs_let_in : (policies : List Policy) (query : Option FilterQuery) (a b c : Reach) (hs ks : List SsTableHandle) (one : SortedRun) (left next : List SortedRun) → ((t : SsTableHandle) → Contains hs t → Contains ks t) → OnlyReads a b → AddsRun one left next →
+    AsksOf ks a b (λ reads. AreLetIn a.meaning.decode policies query (handles_of left) reads) → AsksOf hs b c (λ reads. AreLetIn b.meaning.decode policies query one.tables.items reads) → AsksOf ks a c (λ reads. AreLetIn a.meaning.decode policies query (handles_of next) reads)
+runs_let_in policies query a b c hs ks one left next among first added (done, f, (filters, before)) (reads, call, (more, mine)) =
+    (done ++ reads, call_both a b c done reads f call, (asking_both hs ks done reads among filters more, λ t there. by t added there))
   where
     each : (t : SsTableHandle) → Contains (handles_of left) t ⊎ Contains (one.tables.items ++ []) t → IsLetIn a.meaning.decode policies query t (done ++ reads)
     each t (inl k) = in_first a.meaning.decode policies query t done reads (before t k)

@@ -57,7 +57,7 @@ use Rattle.slate_db.specs.Readable.{IsAnswered, IsOwnRow, IsReadable}
 use Rattle.slate_db.specs.RangeShares.{HasUpto, LeavesSeen}
 use Rattle.slate_db.specs.ScanFilters.{AreLetIn, AreRunsLeft, AreTablesThere, RunsAreLeft, ShowsFilters, scan_query}
 use Rattle.slate_db.specs.Scanned.{AreStoredRuns, own_rows}
-use Rattle.slate_db.specs.Scans.{AreForIn, AreScanTables, FoldsAll, HandsIn, IsFor, IsHandedByScan, IsOpeningError, IsOperableIn, IsReadAmong, IsReached, IsRefusedByScan, IsScanRefusal, IsScanned, IsShownByScan, IsSoundIn, IsSoundSource, IsWorldOf, Leaves, MergedSources, RefusesFold, RefusesIn, ScanHands, ScanRefuses, ScanSource, ShowsAmong, has_value, left_in, merge_begins, merge_offers, merge_refuses, merge_rows, merge_seeks, merge_takes, order_of, source_refuses, source_rows}
+use Rattle.slate_db.specs.Scans.{AreForIn, AreScanTables, FoldsAll, HandsIn, IsFor, IsHandedByScan, IsMergeWithin, IsOpeningError, IsOperableIn, IsReadAmong, IsReached, IsRefusedByScan, IsScanRefusal, IsScanned, IsShownByScan, IsSoundIn, IsSoundSource, IsWorldOf, Leaves, MergedSources, RefusesFold, RefusesIn, ScanHands, ScanRefuses, ScanSource, ShowsAmong, has_value, left_in, merge_begins, merge_offers, merge_refuses, merge_rows, merge_seeks, merge_takes, order_of, source_refuses, source_rows}
 use Rattle.slate_db.specs.Sound.{AreBases}
 use Rattle.slate_db.specs.Whole.{IsWhole, Unseen}
 use Rattle.slate_db.proofs.Answered.{from_first, from_last}
@@ -71,6 +71,7 @@ use Rattle.slate_db.proofs.ScanOpenings.{ScanOpens, runs_of_core, scan_opens, st
 use Rattle.slate_db.proofs.ScanRefusals.{IsShown, blamed_shows}
 use Rattle.slate_db.proofs.ScanFolds.{merged_falls}
 use Rattle.slate_db.proofs.ScanStates.{Folds, IsSound, Merged, OwnRefusal, met_anywhere, operable_folds}
+use Rattle.slate_db.proofs.ScanWithin.{AreSourcesWithin, waiting_within}
 use Rattle.slate_db.proofs.ScanWorlds.{or_slips_last, or_slips_world, sees_world, world_holds}
 
 -- ---- a merge that was begun
@@ -110,6 +111,9 @@ module _ (sources : List ScanSource) (order : IterationOrder) (merge : MergedSou
 
   pub fresh_waits : WaitingAre sources it.iterator.state
   fresh_waits = subst (λ (u : Merged). WaitingAre sources u.iterator.state) is_fresh made.waits
+
+  pub fresh_within : (paths : List (List ℕ)) → AreSourcesWithin paths sources → IsMergeWithin it.iterator paths
+  fresh_within paths h = waiting_within (λ (s : ScanSource) ps. read.IsSourceWithin s.iterator ps) sources it.iterator.state paths fresh_waits h
 
   module _ (w : World) (can : AllByRecursion (CanOpen w order) sources) where
     merge_is : merge_rows merge w ≡ merged_rows order w sources

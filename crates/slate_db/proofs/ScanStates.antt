@@ -15,7 +15,7 @@ use Rattle.slate_types.specs.Iteration.{NoneBefore, drop_before}
 use Rattle.slate_types.specs.Keys.{in_range, is_before_end, is_past_start, key_lt}
 use Rattle.slate_types.specs.Outside.{Act, IsFault, Meaning, Reach}
 use Rattle.slate_types.specs.Refusing.{IsDamage, NoMore}
-use Rattle.slate_types.specs.World.{World, Made}
+use Rattle.slate_types.specs.World.{World, Made, ReadsAt}
 use Rattle.slate_types.proofs.Calls.{call_none}
 use Rattle.slate_types.proofs.IterationLaws.{drop_before_none}
 use Rattle.slate_types.proofs.KeyOrder.{le_lt_trans, lt_irreflexive, lt_le_trans, lt_trans, not_le, not_lt}
@@ -32,7 +32,7 @@ use Rattle.slate_txn.specs.Alone.{first_left}
 use Rattle.slate_db.specs.declared.scan.DbIterator.{DbIterator}
 use Rattle.slate_db.specs.declared.scan.ScanState.{ScanState}
 use Rattle.slate_db.specs.declared.scan.ScanState.TheVariants.{Walking, Done, Refused}
-use Rattle.slate_db.specs.Scans.{AnswersAgain, AreForIn, FoldsAll, HandsIn, IsOperableIn, IsReached, IsSoundIn, IsSoundMerged, Leaves, MergedSources, RefusesFold, RefusesIn, ScanHands, SourcesRefuse, left_in, merge_offers, merge_refuses, merge_rows, order_of_merge}
+use Rattle.slate_db.specs.Scans.{AnswersAgain, AreForIn, FoldsAll, HandsIn, IsMergeWithin, IsOperableIn, IsReached, IsScanWithin, IsSoundIn, IsSoundMerged, IsWithinIn, Keeps, Leaves, MergedSources, RefusesFold, RefusesIn, ScanHands, SourcesRefuse, left_in, merge_offers, merge_refuses, merge_rows, order_of_merge}
 use Rattle.slate_db.specs.Values.{HasValues, has_value}
 use Rattle.slate_db.proofs.Foldings.{bases_closed, closed_bases, going_refuses, refuses_going, refuses_weaker}
 use Rattle.slate_db.proofs.Passing.{has_none}
@@ -231,6 +231,9 @@ cause_walk r range at a b x u is reached h = IfErr-weaker r _ _
 pub checked_walk : {V : Type 0} (r : Result V SlateDBError) (order : IterationOrder) (w : World) (a b : Reach) (x : ScanState) (u : Merged) (Q : Type 0) → x ≡ Walking u → (IsSound u w → OnOk r Q) → IsSoundIn order x w → OnOk r Q
 checked_walk r order w a b x u Q is h sound = h (sound_walk order w x u is sound).2
 
+pub within_walk : (paths : List (List ℕ)) (a b : Reach) (x : ScanState) (u v : Merged) → x ≡ Walking u → (IsMergeWithin u.iterator paths → ReadsAt paths a b × IsMergeWithin v.iterator paths) → IsWithinIn x paths → ReadsAt paths a b × IsWithinIn (Walking v) paths
+within_walk paths a b x u v is step h = step (subst (λ (s : ScanState). IsWithinIn s paths) is h)
+
 -- no row is left
 pub none_left : (range : BytesRange) (order : IterationOrder) (rows : List RowEntry) (w : World) (x y : ScanState) → x ≡ Done → y ≡ Done → HasValues range (left_in x w) rows → (None ≡ first_left rows) × IsSoundIn order y w × HasValues range (left_in y w) (drop 1 rows)
 none_left range order rows w x y is too has =
@@ -266,6 +269,11 @@ kept_answer r x k l e answer is (inr memory) kept = inr (answer ∙ ap Err memor
 pub answered_once : {V Q : Type 0} (a : V) (k : SlateDBError) → AnswersAgain k (Ok a) → Q
 answered_once a k (inl clash) = cc
 answered_once a k (inr clash) = cc
+
+-- it reads nothing more
+pub keeps_within : (e : SlateDBError) (it : DbIterator) (paths : List (List ℕ)) → Keeps e it → IsScanWithin it paths
+keeps_within e it paths (inl is) = subst (λ (s : ScanState). IsWithinIn s paths) (sym is) tt
+keeps_within e it paths (inr is) = subst (λ (s : ScanState). IsWithinIn s paths) (sym is) tt
 
 -- ---- what is left of an iterator
 
@@ -329,6 +337,13 @@ start_hands it after m none all later a h = by it.order refl
     by : (o : IterationOrder) → it.order ≡ o → ScanHands it m later a
     by Ascending is = subst (λ (d : DbIterator). ScanHands d m later a) (none is) h
     by Descending is = absurd (subst (λ (d : DbIterator). ScanHands d m later a) (all is) h)
+
+pub start_within : (it after : DbIterator) (paths : List (List ℕ)) → (it.order ≡ Ascending → after ≡ it) → (it.order ≡ Descending → after ≡ record it { state = Done }) → IsScanWithin it paths → IsScanWithin after paths
+start_within it after paths none all h = by it.order refl
+  where
+    by : (o : IterationOrder) → it.order ≡ o → IsScanWithin after paths
+    by Ascending is = subst (λ (d : DbIterator). IsScanWithin d paths) (sym (none is)) h
+    by Descending is = subst (λ (d : DbIterator). IsScanWithin d paths) (sym (all is)) tt
 
 pub start_range : {Q : Type 0} (read : DbIterator → Q) (it after : DbIterator) → ((s : ScanState) → read (record it { state = s }) ≡ read it) → (it.order ≡ Ascending → after ≡ it) → (it.order ≡ Descending → after ≡ record it { state = Done }) → read after ≡ read it
 start_range read it after same none all = by it.order refl

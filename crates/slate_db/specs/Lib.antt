@@ -51,3 +51,4 @@ pub mod RangeShares
 pub mod TxnScans
 pub mod Prefixes
 pub mod LeftLaws
+pub mod ChangedReads

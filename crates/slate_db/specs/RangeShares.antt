@@ -7,7 +7,8 @@
 --     IsReaderOf c id from range order own      an open transaction or snapshot of the core, and these are the rows of its own operations in the range
 --     LeavesSeen os m c n ops range order it      in a world of these objects a scan leaves what is seen at the sequence under own operations
 --     IsOpened policies query before after c n ops range order result      what a call answers that opens such a scan
-use Rattle.std.specs.Prelude.{◌≡◌, ℕ, ◌≤◌, true, List, ◌++◌, Contains, filter, Option, Some, IfErr, IfOk, Result}
+use Rattle.slate_read.specs.TableWalk.{path_in}
+use Rattle.std.specs.Prelude.{◌≡◌, ℕ, ◌≤◌, true, List, ◌++◌, Contains, filter, Option, Some, IfErr, IfOk, Result, map}
 use Rattle.slate_types.specs.declared.bytes_range.BytesRange.{BytesRange}
 use Rattle.slate_types.specs.declared.error.SlateDBError.{SlateDBError}
 use Rattle.slate_types.specs.declared.filter_policy.FilterQuery.{FilterQuery}
@@ -33,7 +34,7 @@ use Rattle.slate_db.specs.Model.{CoreModel, Rows}
 use Rattle.slate_db.specs.OpenScans.{HasRows}
 use Rattle.slate_db.specs.Readable.{IsAnswered, IsReadable}
 use Rattle.slate_db.specs.Scanned.{HasOwn}
-use Rattle.slate_db.specs.Scans.{IsFor, IsHandedByScan, IsOpeningError, IsRefusedByScan, IsWorldOf, Leaves, ScanHands, ScanRefuses}
+use Rattle.slate_db.specs.Scans.{IsFor, IsHandedByScan, IsOpeningError, IsRefusedByScan, IsWorldOf, Leaves, ScanHands, ScanRefuses, IsScanWithin, OpensWithin}
 use Rattle.slate_db.specs.SharedRuns.{tables_in}
 use Rattle.slate_db.specs.Whole.{Unseen, IsWhole}
 
@@ -73,6 +74,7 @@ pub record IsOpened (policies : List Policy) (query : Option FilterQuery) (befor
   pub checked : c.floor ≤ n → (os : Objects) → IsReadable policies before.meaning os c → IfOk result (λ it. OrSlips os before after (LeavesSeen os before.meaning c n ops range order it))
   pub later : IfOk result (λ it. IsFor before.meaning it × Made before after (λ reads. (later : List Act) (at : Option (List ℕ)) (e : SlateDBError) → ScanRefuses it before.meaning later at e → IsRefusedByScan policies query before.meaning c reads (reads ++ later) at e))
   pub hands : IfOk result (λ it. Made before after (λ reads. (later : List Act) (a : KeyValue) → ScanHands it before.meaning later a → IsHandedByScan policies query before.meaning c reads (reads ++ later) a))
+  pub within : Made before after (λ reads. OpensWithin policies query before.meaning c reads (λ left. IfOk result (λ it. IsScanWithin it (map path_in left))))
   pub undamaged : c.floor ≤ n → IsAnswered policies before after c → IfErr result (IsFault before after)
   pub cause : IfErr result (IsOpeningError policies query before after c)
   pub still : IsStill before.faults after.faults result

@@ -6,6 +6,8 @@
 --     AddsRun one old new      a run is added to these, where it has any table
 --     IsLetIn decode policies query h reads, AreLetIn decode policies query hs reads      where the query is one and the table's filters are asked, the reads have these, and they let it through; and the same of several tables
 --     ShowsFilters decode policies query hs reads e      the filters of one of these tables were read, and they are refused, or the bytes of one that was asked
+--     IsAskingRead hs act      the act is a read of the filters of one of these tables
+--     AsksOf hs before after means      a call made reads of these alone, and they mean this
 --     AddsLeft policies query before after range h old new, TablesAreLeft policies query before after range hs left, RunsAreLeft policies query before after range runs left
 --                 a call let a table in and left it, or its keys don't reach the range, or the filters that were read deny it; and the same of several tables, and of runs
 --     FailsAsking policies query before after hs e      a call that asked was refused, by a fault or by what such filters show
@@ -27,7 +29,7 @@ use Rattle.slate_table.specs.Filtered.{RefusesQuery, asks_filters, point_query}
 use Rattle.slate_table.specs.Parts.{Encode}
 use Rattle.slate_table.specs.Reading.{of_filters, whole_answer}
 use Rattle.slate_db.specs.Answered.{AnswersFrom}
-use Rattle.slate_db.specs.Asked.{IsLetThrough}
+use Rattle.slate_db.specs.Asked.{IsFiltersRead, IsLetThrough}
 use Rattle.slate_db.specs.Checked.{ChecksFrom}
 use Rattle.slate_db.specs.Installs.{handles_of}
 use Rattle.slate_db.specs.Lookup.{AreFilteredAs, AreStoredAs, IsStoredAs}
@@ -92,22 +94,28 @@ pub record ShowsFilters (decode : Encode) (policies : List Policy) (query : Opti
 
 -- ---- calls that ask
 
+abbrev pub IsAskingRead : List SsTableHandle → Act → Type 0
+IsAskingRead hs act = (table : SsTableHandle) × Contains hs table × IsFiltersRead table act
+
+abbrev pub AsksOf : List SsTableHandle → Reach → Reach → (List Act → Type 0) → Type 0
+AsksOf hs before after means = Made before after (λ reads. AllByRecursion (IsAskingRead hs) reads × means reads)
+
 pub record AddsLeft (policies : List Policy) (query : Option FilterQuery) (before after : Reach) (range : BytesRange) (h : SsTableHandle) (old new : List SsTableHandle) : Type 0 where
   pub kept : Bool
   pub are : new ≡ (if kept then old ++ (h ∷ []) else old)
-  pub let_in : Made before after (λ reads. kept ≡ true → IsLetIn before.meaning.decode policies query h reads)
+  pub let_in : AsksOf (h ∷ []) before after (λ reads. kept ≡ true → IsLetIn before.meaning.decode policies query h reads)
   pub denied : (rows : Rows) (os : Objects) → IsStoredAs before.meaning os h rows → AreFilteredAs policies before.meaning os (h ∷ []) → AnswersFrom os before after → kept ≡ false → ranged range rows ≡ []
   pub checked : (rows : Rows) (os : Objects) → IsStoredAs before.meaning os h rows → ChecksFrom os before after
 
 pub record TablesAreLeft (policies : List Policy) (query : Option FilterQuery) (before after : Reach) (range : BytesRange) (hs left : List SsTableHandle) : Type 0 where
   pub among : (h : SsTableHandle) → Contains left h → Contains hs h
-  pub let_in : Made before after (λ reads. AreLetIn before.meaning.decode policies query left reads)
+  pub let_in : AsksOf hs before after (λ reads. AreLetIn before.meaning.decode policies query left reads)
   pub others : (layers : List Rows) (os : Objects) → AreStoredAs before.meaning os hs layers → AreFilteredAs policies before.meaning os hs → AnswersFrom os before after → AreLeft range hs layers left
   pub checked : (layers : List Rows) (os : Objects) → AreStoredAs before.meaning os hs layers → ChecksFrom os before after
 
 pub record RunsAreLeft (policies : List Policy) (query : Option FilterQuery) (before after : Reach) (range : BytesRange) (runs left : List SortedRun) : Type 0 where
   pub among : (h : SsTableHandle) → Contains (handles_of left) h → Contains (handles_of runs) h
-  pub let_in : Made before after (λ reads. AreLetIn before.meaning.decode policies query (handles_of left) reads)
+  pub let_in : AsksOf (handles_of runs) before after (λ reads. AreLetIn before.meaning.decode policies query (handles_of left) reads)
   pub others : (groups : List (List Rows)) (os : Objects) → AreStoredRuns before.meaning os runs groups → AreFilteredAs policies before.meaning os (handles_of runs) → AnswersFrom os before after → AreRunsLeft range runs groups left
   pub checked : (groups : List (List Rows)) (os : Objects) → AreStoredRuns before.meaning os runs groups → ChecksFrom os before after
 
@@ -118,3 +126,4 @@ AreTablesThere m os hs = AllByRecursion (λ h. (rows : Rows) × IsStoredAs m os 
 pub record FailsAsking (policies : List Policy) (query : Option FilterQuery) (before after : Reach) (hs : List SsTableHandle) (e : SlateDBError) : Type 0 where
   pub undamaged : (os : Objects) → AreTablesThere before.meaning os hs → AreFilteredAs policies before.meaning os hs → AnswersFrom os before after → IsFault before after e
   pub cause : IsFault before after e ⊎ Made before after (λ reads. ShowsFilters before.meaning.decode policies query hs reads e)
+  pub asks : Made before after (AllByRecursion (IsAskingRead hs))

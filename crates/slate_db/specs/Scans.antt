@@ -3,6 +3,7 @@
 --     source_rows, IsSoundSource, order_of, source_refuses, source_begins, source_takes, source_seeks      what it is as an iterator
 --     merge_rows, IsSoundMerged, order_of_merge, merge_refuses, merge_begins, merge_takes, merge_seeks      of the sources merged
 --     merge_brings rows m reads r      the rows that calls of the merge may hand out by the reads
+--     IsMergeWithin rows paths      the merge reads objects at these paths alone
 --     merge_offers ahead rows m reads o      these, and those that rise, behind the row that is held ahead
 --     RefusesFold rows m reads at e      an operand without an operator, or a row that rises above one, of what comes next where they are folded
 --     left_of it w      the rows that are left, tombstones among them
@@ -22,6 +23,7 @@
 --     IsWorldOf os m w      the world has tables of these objects, for what the parts mean
 --     LeavesIn os m it rows      in some world that the objects hold
 --     IsOpenScan c it      its transaction is open, and opened it; or its snapshot is open
+--     IsWithinIn state paths, IsScanWithin it paths      what is left of a scan is read from objects at these paths alone
 --     HasLeft m c it rows      of the list that the scan's opening fixed these rows are left, by the transcript
 --     ShowsAmong decode hs reads e      of some tables one shows the error, by reads among these
 --     IsShownByFilters policies query m c reads e      the reads show it of the filters of a table that the journal names, which were asked this
@@ -34,10 +36,13 @@
 --                                                                 and a row of one of these tables, which was read, has a greater
 --                                                                 sequence than an operand of its key: it names the two
 --     IsHandedByScan policies query m c opening reads a      such a row of the core is no operand, and a is what is seen of it
+--     IsOpeningRead handles left act      a read of the filters of one of these tables, or any read of one that was let in
+--     OpensWithin policies query m c reads means      each read of an opening is one, and this holds of the tables that were let in
+--     OpensAlone policies query before after c      a call made such reads alone
 --     IsRefusedByTables m c reads at e      refused so by tables that the journal names, whatever their filters say
 --     IsRefusedInScan policies m c reads e      so it is, or the reads of its opening show it of the filters that were asked
 --     IsOpeningError policies query before after c e, IsScanError policies before after c e      a fault that came in the call, or want of memory, or such a refusal by its reads: an opening meets no operand
-use Rattle.std.specs.Prelude.{◌≡◌, ◌≢◌, ◌⊎◌, ℕ, ◌<◌, true, List, [], filter, count_by, Contains, Option, Some, None, Result, Err, IsSome, slice_get}
+use Rattle.std.specs.Prelude.{◌≡◌, ◌≢◌, ◌⊎◌, ℕ, ◌<◌, true, List, [], filter, count_by, Contains, Option, Some, None, Result, Err, IsSome, slice_get, map}
 use Rattle.std.specs.List.{AllByRecursion}
 use Rattle.slate_types.specs.declared.bytes_range.BytesRange.{BytesRange}
 use Rattle.slate_types.specs.declared.error.SlateDBError.{SlateDBError}
@@ -50,7 +55,7 @@ use Rattle.slate_types.specs.Keys.{in_range, is_past_start}
 use Rattle.slate_types.specs.Outside.{Act, Objects, IsFault, Meaning, Reach}
 use Rattle.slate_types.specs.Refusing.{IsDamage}
 use Rattle.slate_types.specs.Rows.{is_base, key_value}
-use Rattle.slate_types.specs.World.{Kept, World, Made}
+use Rattle.slate_types.specs.World.{Kept, World, Made, IsReadAt}
 use Rattle.slate_filter.specs.Policy.{Policy}
 use Rattle.slate_mem.specs.Lookup.{newest_first}
 use Rattle.slate_merge.specs.declared.filter_iterator.FilterIterator.{FilterIterator}
@@ -62,6 +67,7 @@ use Rattle.slate_merge.specs.Filtering.{TakesKept, upto_seq}
 use Rattle.slate_merge.specs.Folding.{NoneRises}
 use Rattle.slate_merge.specs.Folds.{IsRise, RefusesBrought}
 use Rattle.slate_merge.specs.MergeBringing.{MergeBegins, MergeSeeks, MergeTakes}
+use Rattle.slate_merge.specs.MergeStates as merge
 use Rattle.slate_merge.specs.MergeStates.{IsSoundMerge, refuses_in, rest_of_merge}
 use Rattle.slate_merge.specs.Offers.{Comes, Offer, Rises, offers}
 use Rattle.slate_merge.specs.OperatorIterators.{IsGoing, RefusesBy, rest_folding, sound_folding}
@@ -71,6 +77,7 @@ use Rattle.slate_read.specs.Bringing.{BringsUnread}
 use Rattle.slate_read.specs.ReadSources as read
 use Rattle.slate_read.specs.SourceBringing as bringing
 use Rattle.slate_read.specs.Showing.{ShowsByReads}
+use Rattle.slate_read.specs.TableWalk.{path_in}
 use Rattle.slate_table.specs.declared.info.SsTableHandle.{SsTableHandle}
 use Rattle.slate_table.specs.Parts.{Encode, sum_fits}
 use Rattle.slate_txn.specs.Alone.{scans_left}
@@ -86,7 +93,7 @@ use Rattle.slate_db.specs.Installs.{AreHandles, tables_of}
 use Rattle.slate_db.specs.Meaning.{rules_of}
 use Rattle.slate_db.specs.Model.{CoreModel, memory}
 use Rattle.slate_db.specs.Readable.{IsOwnRow}
-use Rattle.slate_db.specs.ScanFilters.{AreLetIn, ShowsFilters}
+use Rattle.slate_db.specs.ScanFilters.{AreLetIn, IsAskingRead, ShowsFilters}
 use Rattle.slate_db.specs.Values.{IsUnfolded}
 pub use Rattle.slate_db.specs.Values.{has_value}
 
@@ -160,6 +167,9 @@ merge_seeks before m reads key after = MergeSeeks source_begins source_takes sou
 abbrev pub merge_brings : MergedSources → Meaning → List Act → RowEntry → Type 0
 merge_brings rows m reads r = BringsByCalls merge_begins merge_takes merge_seeks rows m reads r
 
+abbrev pub IsMergeWithin : MergedSources → List (List ℕ) → Type 0
+IsMergeWithin rows paths = merge.IsWithinIn (λ (s : ScanSource) ps. read.IsSourceWithin s.iterator ps) rows.state paths
+
 -- ---- and folded
 
 -- expiries may differ, and there is no barrier
@@ -186,6 +196,14 @@ abbrev pub IsSoundIn : IterationOrder → ScanState → World → Type 0
 IsSoundIn order (Walking rows) w = IsGoing rows × FoldsAll rows × sound_folding merge_rows IsSoundMerged order_of_merge rows w × (rows.iterator.order ≡ order)
 IsSoundIn order Done w = Unit {0}
 IsSoundIn order (Refused e) w = ⊥
+
+abbrev pub IsWithinIn : ScanState → List (List ℕ) → Type 0
+IsWithinIn (Walking rows) paths = IsMergeWithin rows.iterator paths
+IsWithinIn Done paths = Unit {0}
+IsWithinIn (Refused e) paths = Unit {0}
+
+abbrev pub IsScanWithin : DbIterator → List (List ℕ) → Type 0
+IsScanWithin it paths = IsWithinIn it.state paths
 
 abbrev pub left_of : DbIterator → World → List RowEntry
 left_of it w = left_in it.state w
@@ -285,6 +303,20 @@ pub record AreScanTables (policies : List Policy) (query : Option FilterQuery) (
   pub are : AreHandles (tables_of c.events) handles
   pub among : (h : SsTableHandle) → Contains left h → Contains handles h
   pub asked : AreLetIn m.decode policies query left opening
+
+-- a read of the filters of one of the tables that may be asked, or any read of one that was let in
+abbrev pub IsOpeningRead : List SsTableHandle → List SsTableHandle → Act → Type 0
+IsOpeningRead handles left act = IsAskingRead handles act ⊎ IsReadAt (map path_in left) act
+
+-- reads: all of the opening's; means: what holds of the tables that were let in
+pub record OpensWithin (policies : List Policy) (query : Option FilterQuery) (m : Meaning) (c : CoreModel) (reads : List Act) (means : List SsTableHandle → Type 0) : Type 0 where
+  pub left : List SsTableHandle
+  pub tables : AreScanTables policies query m c reads left
+  pub each : AllByRecursion (IsOpeningRead tables.handles left) reads
+  pub meant : means left
+
+abbrev pub OpensAlone : List Policy → Option FilterQuery → Reach → Reach → CoreModel → Type 0
+OpensAlone policies query before after c = Made before after (λ reads. OpensWithin policies query before.meaning c reads (λ left. Unit {0}))
 
 -- of a call that asked itself
 pub record IsShownByScan (policies : List Policy) (query : Option FilterQuery) (m : Meaning) (c : CoreModel) (reads : List Act) (e : SlateDBError) : Type 0 where

@@ -9,11 +9,11 @@ use Rattle.slate_types.specs.declared.types.RowEntry.{RowEntry}
 use Rattle.slate_types.specs.Iteration.{drop_before}
 use Rattle.slate_types.specs.Outside.{Act, IsFault, OnlyReads, Reach, IsStill}
 use Rattle.slate_types.specs.Refusing.{NoMore}
-use Rattle.slate_types.specs.World.{Checks, Made, Sees, World}
+use Rattle.slate_types.specs.World.{Checks, Made, Sees, World, ReadsAt}
 use Rattle.slate_merge.specs.NoMoreRows.{NoMoreRows}
 use Rattle.slate_txn.specs.Alone.{first_left}
 use Rattle.slate_db.specs.declared.scan.TxnIterator.{TxnIterator}
-use Rattle.slate_db.specs.Scans.{AnswersAgain, IsRefusedScan, IsScanOf, IsUnrefused, Keeps, Leaves, ScanHands, ScanRefuses, id_of, number_of, scan_of}
+use Rattle.slate_db.specs.Scans.{AnswersAgain, IsRefusedScan, IsScanOf, IsUnrefused, Keeps, Leaves, ScanHands, ScanRefuses, id_of, number_of, scan_of, IsScanWithin}
 
 pub record IsStep {A : Type 0} (at : Option (List ℕ)) (more : List RowEntry → List RowEntry) (means : List RowEntry → A → Type 0) (brings : List Act → A → Type 0) (before after : Reach) (same : Type 0) (old new : TxnIterator) (result : Result A SlateDBError) : Type 0 where
   pub rows : (w : World) (rows : List RowEntry) → Leaves (scan_of old) w rows → Sees w before after → IfOk result (λ a. means rows a × Leaves (scan_of new) w (more rows))
@@ -26,6 +26,7 @@ pub record IsStep {A : Type 0} (at : Option (List ℕ)) (more : List RowEntry �
   pub again : IsUnrefused (scan_of old) → IfErr result (λ e. Keeps e (scan_of new))
   pub refused : (kept : SlateDBError) → IsRefusedScan kept (scan_of old) → AnswersAgain kept result × (new ≡ old) × same
   pub names : IsScanOf (id_of old) (number_of old) (scan_of old).order (scan_of old).range new
+  pub within : (paths : List (List ℕ)) → IsScanWithin (scan_of old) paths → ReadsAt paths before after × IsScanWithin (scan_of new) paths
   pub reads : OnlyReads before after
   pub still : IsStill before.faults after.faults result
 

@@ -1,5 +1,6 @@
 //! What all calls on one core are given alike, beside what is outside; and the laws of the definitions, each of which is
 //! proved of all values by a call that does nothing.
+ghost use Rattle.slate_db.specs.ChangedReads.{ChangedBytesSlipNowhere};
 ghost use Rattle.slate_db.specs.FlushLaws.{RunsAreOfSegments, TablesAreOfOneSegment};
 ghost use Rattle.slate_db.specs.LeftLaws.{CallsBesideKeepWhatIsLeft, StepsEndNothing, WhatIsLeftIsOpen};
 ghost use Rattle.slate_db.specs.ScanLaws.{ListsHaveAllRows, ScansOfCoreShowWhatIsSeen, ScansShowWhatIsSeen};
@@ -29,6 +30,13 @@ pub fn scans()
     ensures seen { ScansShowWhatIsSeen }
     ensures of_core { ScansOfCoreShowWhatIsSeen }
     ensures have_rows { ListsHaveAllRows }
+{}
+
+/// Of stores that change bytes. Where each read of a call was answered by what the objects have, or by that with one byte changed, no
+/// section of a table slipped through its checksum: so what the call answers by `Ok` rests on what the objects have, and each other
+/// answer is a refusal with its name.
+pub fn changed_bytes()
+    ensures { ChangedBytesSlipNowhere }
 {}
 
 /// Of flushes. Where no prefixes of its rows nest, the tables of a flush stand in one run for each segment that the rows touch, in the

@@ -8,10 +8,11 @@ ghost use Rattle.slate_types.specs.Iteration.{IsInOrder};
 ghost use Rattle.slate_types.specs.Keys.{in_range, is_refused};
 ghost use Rattle.slate_types.specs.Outside.{Act, IsFault, IsStill, OnlyReads};
 ghost use Rattle.slate_types.specs.RowTurns.{AreInTurn, row_before};
-ghost use Rattle.slate_types.specs.World.{World, Checks, Made, Sees};
+ghost use Rattle.slate_types.specs.World.{World, Checks, Made, ReadsAt, Sees};
 ghost use Rattle.slate_mem.specs.Batch.{Ops};
 ghost use Rattle.slate_merge.specs.Offers.{Comes};
 ghost use Rattle.slate_merge.specs.OperatorIterators.{IsGoing, refuses_folding, rest_folding, sound_folding};
+ghost use Rattle.slate_read.specs.ReadSources.{IsSourceWithin};
 ghost use Rattle.slate_read.specs.SstOptions.{CanFetch};
 ghost use Rattle.slate_txn.specs.Step.{Reader};
 ghost use Rattle.slate_db.specs.Installs.{handles_of};
@@ -20,7 +21,7 @@ ghost use Rattle.slate_db.specs.OpenScans.{AreEach, AreScanSources, CanOpen, Fol
 ghost use Rattle.slate_db.specs.RangeShares.{IsOpened, IsReaderOf, StandsIn};
 ghost use Rattle.slate_db.specs.ScanFilters.{FailsAsking, scan_query};
 ghost use Rattle.slate_db.specs.Scanned.{HasOwn};
-ghost use Rattle.slate_db.specs.Scans.{FoldsAll, IsOperableIn, IsSoundMerged, merge_offers, merge_refuses, merge_rows, order_of_merge};
+ghost use Rattle.slate_db.specs.Scans.{FoldsAll, IsMergeWithin, IsOperableIn, IsSoundMerged, merge_offers, merge_refuses, merge_rows, order_of_merge};
 ghost use Rattle.slate_db.specs.Sound.{AreBases};
 
 use crate::scan::{DbIterator, ScanState};
@@ -344,6 +345,7 @@ pub(crate) fn merged<'a, S: Store, M: MergeOperator, T: BlockTransformer>(
     ensures brought { let reach = ⟦<EnvOf<S, M, T> as Outside>⟧.reach in IfOk result (λ rows. Made (reach env.old) (reach env.new) (λ reads. (later : List Act) (at : Option (List ℕ)) (e : SlateDBError) → refuses_folding merge_refuses merge_offers rows (reach env.old).meaning later at e → FoldsRefuse sources.entry.items (reach env.old).meaning (reads ++ later) at e)) }
     ensures offered { let reach = ⟦<EnvOf<S, M, T> as Outside>⟧.reach in IfOk result (λ rows. Made (reach env.old) (reach env.new) (λ reads. (later : List Act) (r : RowEntry) → merge_offers rows.ahead rows.iterator (reach env.old).meaning later (Comes r) → SourcesBring sources.entry.items (reach env.old).meaning (reads ++ later) r)) }
     ensures cause { let reach = ⟦<EnvOf<S, M, T> as Outside>⟧.reach in IfErr result (λ e. Made (reach env.old) (reach env.new) (λ reads. IsFault (reach env.old) (reach env.new) e ⊎ IsBlamedFor sources.entry.items (reach env.old).meaning reads None e)) }
+    ensures within { let reach = ⟦<EnvOf<S, M, T> as Outside>⟧.reach in (paths : List (List ℕ)) → AllByRecursion (λ s. IsSourceWithin s.iterator paths) sources.entry.items → ReadsAt paths (reach env.old) (reach env.new) × IfOk result (λ rows. IsMergeWithin rows.iterator paths) }
     ensures reads { let reach = ⟦<EnvOf<S, M, T> as Outside>⟧.reach in OnlyReads (reach env.old) (reach env.new) }
     ensures still { let reach = ⟦<EnvOf<S, M, T> as Outside>⟧.reach in
         IsStill (reach env.old).faults (reach env.new).faults result }

@@ -8,10 +8,10 @@ ghost use Rattle.slate_types.specs.Iteration.{drop_before};
 ghost use Rattle.slate_types.specs.Keys.{is_past_start};
 ghost use Rattle.slate_types.specs.Outside.{IsFault, IsStill, OnlyReads};
 ghost use Rattle.slate_types.specs.Refusing.{NoMore};
-ghost use Rattle.slate_types.specs.World.{World, Checks, Made, Sees};
+ghost use Rattle.slate_types.specs.World.{World, Checks, Made, Sees, ReadsAt};
 ghost use Rattle.slate_merge.specs.NoMoreRows.{NoMoreRows};
 ghost use Rattle.slate_txn.specs.Alone.{first_left};
-ghost use Rattle.slate_db.specs.Scans.{AnswersAgain, AreForIn, HandsIn, IsOperableIn, IsRefusedScan, IsSoundIn, IsUnrefused, Keeps, Leaves, RefusesIn, ScanHands, ScanRefuses, SourcesRefuse, left_in};
+ghost use Rattle.slate_db.specs.Scans.{AnswersAgain, AreForIn, HandsIn, IsOperableIn, IsRefusedScan, IsSoundIn, IsUnrefused, Keeps, Leaves, RefusesIn, ScanHands, ScanRefuses, SourcesRefuse, left_in, IsScanWithin, IsWithinIn};
 ghost use Rattle.slate_db.specs.Values.{HasValues};
 
 use crate::values::{next_value, seek_values};
@@ -55,6 +55,7 @@ fn next_in<S: Store, M: MergeOperator, T: BlockTransformer>(
     ensures bases { let reach = ⟦<EnvOf<S, M, T> as Outside>⟧.reach in (reach env.old).meaning.combine ≡ None → IfOk result (λ a. Made (reach env.old) (reach env.new) (λ reads. IfSome a (HandsIn state.old (reach env.old).meaning reads))) }
     ensures hands { let reach = ⟦<EnvOf<S, M, T> as Outside>⟧.reach in OnOk result (Made (reach env.old) (reach env.new) (λ reads. NoMoreRows (HandsIn state.old (reach env.old).meaning) reads (HandsIn state.new (reach env.old).meaning))) }
     ensures cause { let reach = ⟦<EnvOf<S, M, T> as Outside>⟧.reach in (range : BytesRange) → IfErr result (λ e. Made (reach env.old) (reach env.new) (λ reads. IsFault (reach env.old) (reach env.new) e ⊎ RefusesIn range state.old (reach env.old).meaning reads None e)) }
+    ensures within { let reach = ⟦<EnvOf<S, M, T> as Outside>⟧.reach in (paths : List (List ℕ)) → IsWithinIn state.old paths → ReadsAt paths (reach env.old) (reach env.new) × IsWithinIn state.new paths }
     ensures reads { let reach = ⟦<EnvOf<S, M, T> as Outside>⟧.reach in OnlyReads (reach env.old) (reach env.new) }
     ensures still { let reach = ⟦<EnvOf<S, M, T> as Outside>⟧.reach in
         IsStill (reach env.old).faults (reach env.new).faults result }
@@ -87,6 +88,7 @@ fn seek_in<S: Store, M: MergeOperator, T: BlockTransformer>(
     ensures hands { let reach = ⟦<EnvOf<S, M, T> as Outside>⟧.reach in OnOk result (Made (reach env.old) (reach env.new) (λ reads. NoMoreRows (HandsIn state.old (reach env.old).meaning) reads (HandsIn state.new (reach env.old).meaning))) }
     ensures cause { let reach = ⟦<EnvOf<S, M, T> as Outside>⟧.reach in (range : BytesRange) → is_past_start range.start key.now ≡ true →
         IfErr result (λ e. Made (reach env.old) (reach env.new) (λ reads. IsFault (reach env.old) (reach env.new) e ⊎ RefusesIn range state.old (reach env.old).meaning reads (Some key.now) e)) }
+    ensures within { let reach = ⟦<EnvOf<S, M, T> as Outside>⟧.reach in (paths : List (List ℕ)) → IsWithinIn state.old paths → ReadsAt paths (reach env.old) (reach env.new) × IsWithinIn state.new paths }
     ensures reads { let reach = ⟦<EnvOf<S, M, T> as Outside>⟧.reach in OnlyReads (reach env.old) (reach env.new) }
     ensures still { let reach = ⟦<EnvOf<S, M, T> as Outside>⟧.reach in
         IsStill (reach env.old).faults (reach env.new).faults result }
@@ -143,6 +145,7 @@ impl DbIterator<'_> {
         ensures refused { (kept : SlateDBError) → IsRefusedScan kept self.old → AnswersAgain kept result × (self.new ≡ self.old) × (env.new ≡ env.old) }
         ensures range { self.new.range ≡ self.old.range }
         ensures order { self.new.order ≡ self.old.order }
+        ensures within { let reach = ⟦<EnvOf<S, M, T> as Outside>⟧.reach in (paths : List (List ℕ)) → IsScanWithin self.old paths → ReadsAt paths (reach env.old) (reach env.new) × IsScanWithin self.new paths }
         ensures reads { let reach = ⟦<EnvOf<S, M, T> as Outside>⟧.reach in OnlyReads (reach env.old) (reach env.new) }
         ensures still { let reach = ⟦<EnvOf<S, M, T> as Outside>⟧.reach in
             IsStill (reach env.old).faults (reach env.new).faults result }
@@ -174,6 +177,7 @@ impl DbIterator<'_> {
         ensures refused { (kept : SlateDBError) → IsRefusedScan kept self.old → AnswersAgain kept result × (self.new ≡ self.old) × (env.new ≡ env.old) }
         ensures range { self.new.range ≡ self.old.range }
         ensures order { self.new.order ≡ self.old.order }
+        ensures within { let reach = ⟦<EnvOf<S, M, T> as Outside>⟧.reach in (paths : List (List ℕ)) → IsScanWithin self.old paths → ReadsAt paths (reach env.old) (reach env.new) × IsScanWithin self.new paths }
         ensures reads { let reach = ⟦<EnvOf<S, M, T> as Outside>⟧.reach in OnlyReads (reach env.old) (reach env.new) }
         ensures still { let reach = ⟦<EnvOf<S, M, T> as Outside>⟧.reach in
             IsStill (reach env.old).faults (reach env.new).faults result }

@@ -4,14 +4,13 @@ ghost use Rattle.std.specs.List.{starts_with};
 ghost use Rattle.slate_types.specs.declared.error.SlateDBError.{SlateDBError};
 ghost use Rattle.slate_types.specs.Keys.{in_range};
 ghost use Rattle.slate_types.specs.Outside.{IsStill, Objects, OnlyReads};
-ghost use Rattle.slate_types.specs.World.{Made};
 ghost use Rattle.slate_mem.specs.Table.{ranged};
 ghost use Rattle.slate_db.specs.Answered.{AnswersFrom};
 ghost use Rattle.slate_db.specs.Checked.{ChecksFrom};
 ghost use Rattle.slate_db.specs.Installs.{handles_of};
 ghost use Rattle.slate_db.specs.Lookup.{AreFilteredAs, IsStoredAs};
 ghost use Rattle.slate_db.specs.Model.{Rows};
-ghost use Rattle.slate_db.specs.ScanFilters.{AddsLeft, AddsRun, Covers, FailsAsking, IsLetIn, RunsAreLeft, TablesAreLeft, scan_query};
+ghost use Rattle.slate_db.specs.ScanFilters.{AddsLeft, AddsRun, AsksOf, Covers, FailsAsking, IsLetIn, RunsAreLeft, TablesAreLeft, scan_query};
 
 use crate::flush::ROOT;
 use crate::open_scan::{copy_contexts, copy_handle};
@@ -60,7 +59,7 @@ fn is_left<S: Store, M: MergeOperator, T: BlockTransformer>(
     ensures checked { let reach = ⟦<EnvOf<S, M, T> as Outside>⟧.reach in
         (rows : Rows) (os : Objects) → IsStoredAs (reach env.old).meaning os table.now rows → OnOk result (ChecksFrom os (reach env.old) (reach env.new)) }
     ensures let_in { let reach = ⟦<EnvOf<S, M, T> as Outside>⟧.reach in
-        IfOk result (λ left. Made (reach env.old) (reach env.new) (λ reads. left ≡ true → IsLetIn (reach env.old).meaning.decode (map (λ p. meaning p) policies.now) query.now table.now reads)) }
+        IfOk result (λ left. AsksOf (table.now ∷ []) (reach env.old) (reach env.new) (λ reads. left ≡ true → IsLetIn (reach env.old).meaning.decode (map (λ p. meaning p) policies.now) query.now table.now reads)) }
     ensures refused { let reach = ⟦<EnvOf<S, M, T> as Outside>⟧.reach in IfErr result (FailsAsking (map (λ p. meaning p) policies.now) query.now (reach env.old) (reach env.new) (table.now ∷ [])) }
     ensures reads { let reach = ⟦<EnvOf<S, M, T> as Outside>⟧.reach in OnlyReads (reach env.old) (reach env.new) }
     ensures still { let reach = ⟦<EnvOf<S, M, T> as Outside>⟧.reach in

@@ -1,5 +1,5 @@
 //! The rows of an iterator as a reader gets them.
-ghost use Rattle.std.specs.Prelude.{◌≡◌, ◌⊎◌, List, None, Some, IfOk, IfErr, IfSome, OnOk, drop, if◌then◌else◌};
+ghost use Rattle.std.specs.Prelude.{◌≡◌, ◌⊎◌, List, None, Some, IfOk, IfErr, IfSome, OnOk, drop, if◌then◌else◌, ℕ};
 ghost use Rattle.slate_types.specs.declared.bytes_range.BytesRange.{BytesRange};
 ghost use Rattle.slate_types.specs.declared.error.SlateDBError.{SlateDBError};
 ghost use Rattle.slate_types.specs.declared.types.RowEntry.{RowEntry};
@@ -7,7 +7,7 @@ ghost use Rattle.slate_types.specs.Iteration.{drop_before};
 ghost use Rattle.slate_types.specs.Outside.{IsFault, IsStill, OnlyReads};
 ghost use Rattle.slate_types.specs.Refusing.{IsDamage, NoMore};
 ghost use Rattle.slate_types.specs.Rows.{key_value};
-ghost use Rattle.slate_types.specs.World.{World, Checks, Made, Sees};
+ghost use Rattle.slate_types.specs.World.{World, Checks, Made, Sees, ReadsAt};
 ghost use Rattle.slate_merge.specs.NoMoreRows.{NoMoreRows};
 ghost use Rattle.slate_merge.specs.Offers.{Comes, offers};
 ghost use Rattle.slate_merge.specs.OperatorIterators.{IsGoing, IsOperable, refuses_folding, rest_folding, sound_folding};
@@ -54,6 +54,7 @@ pub(crate) fn next_value<E: Operates, I: RowEntryIterator<E>>(
         IfErr result (λ e. IsFault (E.reach env.old) (E.reach env.new) e ⊎ Made (E.reach env.old) (E.reach env.new) (λ reads. I.refuses rows.old.iterator (E.reach env.old).meaning reads None e × ¬ IsDamage e)) }
     ensures cause { IfErr result (λ e. Made (E.reach env.old) (E.reach env.new) (λ reads. IsFault (E.reach env.old) (E.reach env.new) e ⊎ refuses_folding I.refuses (offers I.begins I.takes I.seeks) rows.old (E.reach env.old).meaning reads None e)) }
     ensures order { I.order rows.new.iterator ≡ I.order rows.old.iterator }
+    ensures within { (paths : List (List ℕ)) → I.within rows.old.iterator paths → ReadsAt paths (E.reach env.old) (E.reach env.new) × I.within rows.new.iterator paths }
     ensures reads { OnlyReads (E.reach env.old) (E.reach env.new) }
     ensures counts { IsStill (E.reach env.old).faults (E.reach env.new).faults result }
 {
@@ -85,6 +86,7 @@ pub(crate) fn seek_values<E: Operates, I: RowEntryIterator<E>>(
         IfErr result (λ e. IsFault (E.reach env.old) (E.reach env.new) e ⊎ Made (E.reach env.old) (E.reach env.new) (λ reads. I.refuses rows.old.iterator (E.reach env.old).meaning reads (Some key.now) e × ¬ IsDamage e)) }
     ensures cause { IfErr result (λ e. Made (E.reach env.old) (E.reach env.new) (λ reads. IsFault (E.reach env.old) (E.reach env.new) e ⊎ refuses_folding I.refuses (offers I.begins I.takes I.seeks) rows.old (E.reach env.old).meaning reads (Some key.now) e)) }
     ensures order { I.order rows.new.iterator ≡ I.order rows.old.iterator }
+    ensures within { (paths : List (List ℕ)) → I.within rows.old.iterator paths → ReadsAt paths (E.reach env.old) (E.reach env.new) × I.within rows.new.iterator paths }
     ensures reads { OnlyReads (E.reach env.old) (E.reach env.new) }
     ensures counts { IsStill (E.reach env.old).faults (E.reach env.new).faults result }
 {

@@ -215,6 +215,8 @@ impl<E: Outside> RowEntryIterator<E> for WriteBatchIterator {
 
     ghost stays = { λ _ _ _ _ _ _. ⊥ };
 
+    ghost within = { λ _ _. Unit {0} };
+
     ghost unbegun = { λ _. ⊥ };
 
     ghost rising = { λ _ _ h. h };

@@ -148,6 +148,8 @@ impl<E: Outside> RowEntryIterator<E> for MemTableIterator {
 
     ghost stays = { λ before _ _ at _ after. StaysBefore at before after };
 
+    ghost within = { λ _ _. Unit {0} };
+
     ghost unbegun = { λ _. ⊥ };
 
     ghost rising = { λ _ _ h. h };
@@ -160,17 +162,17 @@ impl<E: Outside> RowEntryIterator<E> for MemTableIterator {
         self.order
     }
 
-    #[tactic(auto, using(slate_types::proofs::Reaching::reads_none))]
+    #[tactic(auto, using(slate_types::proofs::Reaching::reads_none, slate_types::proofs::Calls::reads_at_none))]
     fn init(&mut self, _alloc: Global, _env: &mut E) -> Result<(), SlateDBError> {
         Ok(())
     }
 
-    #[tactic(auto, using(slate_types::proofs::Reaching::reads_none))]
+    #[tactic(auto, using(slate_types::proofs::Reaching::reads_none, slate_types::proofs::Calls::reads_at_none))]
     fn next(&mut self, alloc: Global, _env: &mut E) -> Result<Option<RowEntry>, SlateDBError> {
         self.pop(alloc)
     }
 
-    #[tactic(auto, using(slate_types::proofs::Reaching::reads_none, slate_types::proofs::IterationLaws::drops_first, slate_types::proofs::IterationLaws::fewer_behind, slate_types::proofs::IterationLaws::drops_none, slate_types::proofs::IterationLaws::in_order_dropped))]
+    #[tactic(auto, using(slate_types::proofs::Reaching::reads_none, slate_types::proofs::Calls::reads_at_none, slate_types::proofs::IterationLaws::drops_first, slate_types::proofs::IterationLaws::fewer_behind, slate_types::proofs::IterationLaws::drops_none, slate_types::proofs::IterationLaws::in_order_dropped))]
     fn seek(&mut self, alloc: Global, key: &[u8], _env: &mut E) -> Result<(), SlateDBError> {
         while self.begins_before(alloc, key)? {
             drop(self.pop(alloc)?);

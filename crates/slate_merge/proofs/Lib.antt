@@ -33,3 +33,5 @@ pub mod FoldedTurns
 pub mod Operators
 pub mod Waitings
 pub mod OperatorCounts
+mod SourcesWithin
+mod Withins

@@ -1,5 +1,6 @@
 -- Where a merge stands.
 --     rest_in, IsSoundIn, bound_in, refuses_in      its rest, whether that is sound, its bound, and what it refuses
+--     IsWithinIn within s paths      its sources read objects at these paths alone; one that was refused reads none
 --     left_of rest order s w      all rows that are left, also those that dedup drops
 --     rest_of_merge, IsSoundMerge      the same of the iterator
 --     refuses_of_merge, stays_of_merge      what the iterator refuses, and how it stands then, in the words of an iterator
@@ -32,7 +33,7 @@ use Rattle.slate_merge.specs.declared.merge_iterator.MergeState.TheVariants.{New
 use Rattle.slate_merge.specs.Kept.{Copies, IsKept}
 use Rattle.slate_merge.specs.Merge.{shown_rows}
 use Rattle.slate_merge.specs.MergeSteps.{CountsTaken, TakesMerged}
-use Rattle.slate_merge.specs.Merging.{CanMerge, IsFront, IsMergingIn, begun_sources, blames, left_in, merging_bound, waiting_sources}
+use Rattle.slate_merge.specs.Merging.{CanMerge, IsFront, IsMergingIn, begun_sources, blames, left_in, merging_bound, waiting_sources, AreWithin}
 
 module _ {S : Type 0} where
   abbrev pub rest_in : (S → World → List RowEntry) → IterationOrder → Bool → MergeState S → World → List RowEntry
@@ -44,6 +45,11 @@ module _ {S : Type 0} where
   IsSoundIn rest sound order_of order (New sources) w = AllByRecursion (CanMerge (λ s. rest s w) (λ s. sound s w × (order_of s ≡ order)) order) sources.items
   IsSoundIn rest sound order_of order (Begun heads) w = IsMergingIn rest sound order_of order (begun_sources (heap_items heads)) w
   IsSoundIn rest sound order_of order (Refused e) w = ¬ IsDamage e
+
+  abbrev pub IsWithinIn : (S → List (List ℕ) → Type 0) → MergeState S → List (List ℕ) → Type 0
+  IsWithinIn within (New sources) paths = AreWithin within (waiting_sources sources.items) paths
+  IsWithinIn within (Begun heads) paths = AreWithin within (begun_sources (heap_items heads)) paths
+  IsWithinIn within (Refused e) paths = Unit {0}
 
   abbrev pub bound_in : (S → ℕ) → MergeState S → ℕ
   bound_in bound (New sources) = merging_bound bound sources.items []

@@ -21,6 +21,7 @@
 --     has_key key top, is_before key top      this head has the key, or stands before it
 --     waiting_sources waiting, begun_sources heads      sources that all wait, and such as have all begun
 --     left_in, IsMergingIn, blames      what sources are together as an iterator: their rest, whether it is sound, what they refuse
+--     AreWithin within x paths      each source reads objects at these paths alone
 --     AreReady refuses m heads      no source refuses for want of an `init`
 use Rattle.std.specs.Prelude.{ℕ, ◌≡◌, ◌+◌, ◌≤◌, ◌⊎◌, ◌==◌, Bool, cond, List, [], ◌∷◌, ◌++◌, length, map, flat_map, sum_by, Option, Some, None, false, bytes_eq}
 use Rattle.std.specs.List.{AllByRecursion}
@@ -148,6 +149,9 @@ module _ {S : Type 0} where
 
   abbrev pub left_in : (S → World → List RowEntry) → IterationOrder → Sources S → World → List RowEntry
   left_in rest order x w = left_rows (λ s. rest s w) order x.waiting x.heads
+
+  abbrev pub AreWithin : (S → List (List ℕ) → Type 0) → Sources S → List (List ℕ) → Type 0
+  AreWithin within x paths = AllByRecursion (λ s. within s paths) x.waiting × AllByRecursion (λ h. within h.source paths) x.heads
 
   abbrev pub IsMergingIn : (S → World → List RowEntry) → (S → World → Type 0) → (S → IterationOrder) → IterationOrder → Sources S → World → Type 0
   IsMergingIn rest sound order_of order x w = IsMerging (λ s. rest s w) (λ s. sound s w × (order_of s ≡ order)) order x.waiting x.heads

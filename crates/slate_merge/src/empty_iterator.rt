@@ -35,6 +35,8 @@ impl<E: Outside> RowEntryIterator<E> for EmptyIterator {
 
     ghost stays = { λ _ _ _ _ _ _. ⊥ };
 
+    ghost within = { λ _ _. Unit {0} };
+
     ghost unbegun = { λ _. ⊥ };
 
     ghost rising = { λ _ _ _. tt };
@@ -47,17 +49,17 @@ impl<E: Outside> RowEntryIterator<E> for EmptyIterator {
         IterationOrder::Ascending
     }
 
-    #[tactic(auto, using(slate_types::proofs::Reaching::reads_none))]
+    #[tactic(auto, using(slate_types::proofs::Reaching::reads_none, slate_types::proofs::Calls::reads_at_none))]
     fn init(&mut self, _alloc: Global, _env: &mut E) -> Result<(), SlateDBError> {
         Ok(())
     }
 
-    #[tactic(auto, using(slate_types::proofs::Reaching::reads_none))]
+    #[tactic(auto, using(slate_types::proofs::Reaching::reads_none, slate_types::proofs::Calls::reads_at_none))]
     fn next(&mut self, _alloc: Global, _env: &mut E) -> Result<Option<RowEntry>, SlateDBError> {
         Ok(None)
     }
 
-    #[tactic(auto, using(slate_types::proofs::Reaching::reads_none))]
+    #[tactic(auto, using(slate_types::proofs::Reaching::reads_none, slate_types::proofs::Calls::reads_at_none))]
     fn seek(&mut self, _alloc: Global, _key: &[u8], _env: &mut E) -> Result<(), SlateDBError> {
         Ok(())
     }

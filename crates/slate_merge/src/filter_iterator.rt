@@ -95,6 +95,8 @@ impl<E: Outside, I: RowEntryIterator<E>, P: RowPredicate> RowEntryIterator<E>
 
     ghost stays = { λ before p reads at e after. StaysKept (λ x rs a y. I.takes x p rs a y) (λ x rs k d y. I.stays x p rs k d y) (P.keeps before.predicate) before.iterator reads at e after.iterator × (after.predicate ≡ before.predicate) };
 
+    ghost within = { λ it paths. I.within it.iterator paths };
+
     ghost unbegun = { λ it. I.unbegun it.iterator };
 
     ghost rising = { λ it w h. in_order_filtered (I.order it.iterator) (P.keeps it.predicate) (I.rest it.iterator w) (I.rising it.iterator w h) };

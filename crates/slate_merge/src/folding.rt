@@ -1,11 +1,11 @@
 //! Which rows are folded, and the fold of the next ones of a source.
-ghost use Rattle.std.specs.Prelude.{◌≡◌, ◌<◌, ◌≤◌, ◌+◌, ◌∷◌, [], true, false, Option, Some, None, IfOk, IfErr, IsSome, OnOk};
+ghost use Rattle.std.specs.Prelude.{◌≡◌, ◌<◌, ◌≤◌, ◌+◌, ◌∷◌, [], true, false, Option, Some, None, IfOk, IfErr, IsSome, OnOk, List, ℕ};
 ghost use Rattle.slate_types.specs.declared.error.SlateDBError.{SlateDBError};
 ghost use Rattle.slate_types.specs.Equality as equality;
 ghost use Rattle.slate_types.specs.Outside.{IsStill, OnlyReads};
 ghost use Rattle.slate_types.specs.Refusing.{NoMore};
 ghost use Rattle.slate_types.specs.Steps.{Step};
-ghost use Rattle.slate_types.specs.World.{World, Made, Sees};
+ghost use Rattle.slate_types.specs.World.{World, Made, Sees, ReadsAt};
 ghost use Rattle.slate_types.proofs.Moves.{Moves};
 ghost use Rattle.slate_merge.specs.Answering.{AnswersBy, IsFaultOr};
 ghost use Rattle.slate_merge.specs.FoldCalls.{FailsFolding, StepsFolding, group_rows, operable_by, stops_gathering};
@@ -49,6 +49,7 @@ fn take_ahead<E: Outside, I: RowEntryIterator<E>>(
     ensures smaller { IfOk result (λ answer. IsSome answer → I.bound iterator.new < ahead_bound ahead.old + I.bound iterator.old) }
     ensures no_larger { OnOk result (I.bound iterator.new ≤ ahead_bound ahead.old + I.bound iterator.old) }
     ensures order { I.order iterator.new ≡ I.order iterator.old }
+    ensures within { (paths : List (List ℕ)) → I.within iterator.old paths → ReadsAt paths (E.reach env.old) (E.reach env.new) × I.within iterator.new paths }
     ensures reads { OnlyReads (E.reach env.old) (E.reach env.new) }
     ensures counts { IsStill (E.reach env.old).faults (E.reach env.new).faults result }
 {
@@ -106,6 +107,7 @@ impl Folding {
             NoneRises self.merge_different_expire_ts self.snapshot_barrier_seq (rest_taken I.rest (iterator.old, None, first ∷ []) w) → IfErr result (λ e. IsOwn I.refuses (E.reach env.old) (E.reach env.new) iterator.old e) }
         ensures no_larger { OnOk result (ahead_bound ahead.new + I.bound iterator.new ≤ I.bound iterator.old) }
         ensures order { I.order iterator.new ≡ I.order iterator.old }
+        ensures within { (paths : List (List ℕ)) → I.within iterator.old paths → ReadsAt paths (E.reach env.old) (E.reach env.new) × I.within iterator.new paths }
         ensures reads { OnlyReads (E.reach env.old) (E.reach env.new) }
         ensures counts { IsStill (E.reach env.old).faults (E.reach env.new).faults result }
     {
@@ -155,6 +157,7 @@ impl Folding {
         ensures smaller { IfOk result (λ answer. IsSome answer → ahead_bound ahead.new + I.bound iterator.new < ahead_bound ahead.old + I.bound iterator.old) }
         ensures no_larger { OnOk result (ahead_bound ahead.new + I.bound iterator.new ≤ ahead_bound ahead.old + I.bound iterator.old) }
         ensures order { I.order iterator.new ≡ I.order iterator.old }
+        ensures within { (paths : List (List ℕ)) → I.within iterator.old paths → ReadsAt paths (E.reach env.old) (E.reach env.new) × I.within iterator.new paths }
         ensures reads { OnlyReads (E.reach env.old) (E.reach env.new) }
         ensures counts { IsStill (E.reach env.old).faults (E.reach env.new).faults result }
     {

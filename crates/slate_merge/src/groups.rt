@@ -1,10 +1,10 @@
 //! Rows of a source, grouped by their keys.
-ghost use Rattle.std.specs.Prelude.{◌≡◌, ◌<◌, ◌≤◌, ◌+◌, ◌++◌, ◌∷◌, List, [], length, vec_len, vec_capacity, true, false, Option, Some, None, IfOk, IfErr, IsSome, OnOk};
+ghost use Rattle.std.specs.Prelude.{◌≡◌, ◌<◌, ◌≤◌, ◌+◌, ◌++◌, ◌∷◌, List, [], length, vec_len, vec_capacity, true, false, Option, Some, None, IfOk, IfErr, IsSome, OnOk, ℕ};
 ghost use Rattle.slate_types.specs.declared.iter.IterationOrder.{IterationOrder};
 ghost use Rattle.slate_types.specs.Iteration.{drop_before};
 ghost use Rattle.slate_types.specs.Outside.{IsStill, OnlyReads};
 ghost use Rattle.slate_types.specs.Steps.{Step};
-ghost use Rattle.slate_types.specs.World.{World, Sees};
+ghost use Rattle.slate_types.specs.World.{World, Sees, ReadsAt};
 ghost use Rattle.slate_merge.specs.Answering.{AnswersBy, IsFaultOr};
 ghost use Rattle.slate_merge.specs.Handing.{HandsHeld, SeeksHeld, held_of, refuses_held};
 ghost use Rattle.slate_merge.specs.Groups.{IsOneKey, StandsApart, Stands, Seeks, no_rows, refuses_grouped, rest_grouped, rows_in_groups, sound_grouped, stays_at};
@@ -72,6 +72,7 @@ impl Groups {
         ensures no_larger { OnOk result (I.bound iterator.new + rows_in_groups self.new ≤ I.bound iterator.old + rows_in_groups self.old) }
         ensures came { OnOk result (AnswersBy (λ x m reads y. HandsHeld I.takes x m reads None y) (refuses_held I.refuses) (E.reach env.old) (E.reach env.new) (iterator.old, held_of self.old) (iterator.new, held_of self.new)) }
         ensures order { I.order iterator.new ≡ I.order iterator.old }
+        ensures within { (paths : List (List ℕ)) → I.within iterator.old paths → ReadsAt paths (E.reach env.old) (E.reach env.new) × I.within iterator.new paths }
         ensures reads { OnlyReads (E.reach env.old) (E.reach env.new) }
         ensures counts { IsStill (E.reach env.old).faults (E.reach env.new).faults result }
     {
@@ -107,6 +108,7 @@ impl Groups {
         ensures no_larger { OnOk result (I.bound iterator.new + rows_in_groups self.new ≤ I.bound iterator.old + rows_in_groups self.old) }
         ensures hands { IfOk result (λ answer. AnswersBy (λ x m reads y. HandsHeld I.takes x m reads answer y) (refuses_held I.refuses) (E.reach env.old) (E.reach env.new) (iterator.old, held_of self.old) (iterator.new, held_of self.new)) }
         ensures order { I.order iterator.new ≡ I.order iterator.old }
+        ensures within { (paths : List (List ℕ)) → I.within iterator.old paths → ReadsAt paths (E.reach env.old) (E.reach env.new) × I.within iterator.new paths }
         ensures reads { OnlyReads (E.reach env.old) (E.reach env.new) }
         ensures counts { IsStill (E.reach env.old).faults (E.reach env.new).faults result }
     {
@@ -134,6 +136,7 @@ impl Groups {
         ensures no_larger { OnOk result (I.bound iterator.new + rows_in_groups self.new ≤ I.bound iterator.old + rows_in_groups self.old) }
         ensures held { OnOk result (AnswersBy (λ x m reads y. SeeksHeld I.seeks x m reads key.now y) (refuses_held I.refuses) (E.reach env.old) (E.reach env.new) (iterator.old, held_of self.old) (iterator.new, held_of self.new)) }
         ensures order { I.order iterator.new ≡ I.order iterator.old }
+        ensures within { (paths : List (List ℕ)) → I.within iterator.old paths → ReadsAt paths (E.reach env.old) (E.reach env.new) × I.within iterator.new paths }
         ensures reads { OnlyReads (E.reach env.old) (E.reach env.new) }
         ensures counts { IsStill (E.reach env.old).faults (E.reach env.new).faults result }
     {

@@ -51,6 +51,8 @@ impl<E: Outside, I: RowEntryIterator<E>> RowEntryIterator<E> for BoxedSource<I> 
 
     ghost stays = { I.stays };
 
+    ghost within = { I.within };
+
     ghost unbegun = { I.unbegun };
 
     ghost rising = { I.rising };

@@ -1,18 +1,18 @@
 //! Heads of sources in a heap, and the steps of a merge over them.
-ghost use Rattle.std.specs.Prelude.{◌≡◌, ◌<◌, ◌≤◌, ◌-◌, ◌^◌, ◌&&◌, List, [], ◌∷◌, length, min, Option, None, Some, true, false, IfOk, IfErr, IsSome, OnOk};
+ghost use Rattle.std.specs.Prelude.{◌≡◌, ◌<◌, ◌≤◌, ◌-◌, ◌^◌, ◌&&◌, List, [], ◌∷◌, length, min, Option, None, Some, true, false, IfOk, IfErr, IsSome, OnOk, ℕ};
 ghost use Rattle.std.specs.BinaryHeap.{heap_items, KeepsHeap};
 ghost use Rattle.slate_types.specs.declared.iter.IterationOrder.{IterationOrder};
 ghost use Rattle.slate_types.specs.declared.types.RowEntry.{RowEntry};
 ghost use Rattle.slate_types.specs.Iteration.{begins_before, drop_before};
 ghost use Rattle.slate_types.specs.Outside.{IsStill, OnlyReads};
 ghost use Rattle.slate_types.specs.Rows.{is_base};
-ghost use Rattle.slate_types.specs.World.{World, Sees};
+ghost use Rattle.slate_types.specs.World.{World, Sees, ReadsAt};
 ghost use Rattle.slate_merge.specs.Heads.{head_cmp};
 ghost use Rattle.slate_merge.specs.declared.head.Head.{Head};
 ghost use Rattle.slate_merge.specs.Merge.{begins_with, counted, past_key, row_bytes, shown_rows, with_key};
 ghost use Rattle.slate_merge.specs.Answering.{IsFaultOr};
 ghost use Rattle.slate_merge.specs.MergeSteps.{CountsKey, CountsTaken, Goes, Joins, JoinsAgain, Renews, TakesMerged};
-ghost use Rattle.slate_merge.specs.Merging.{AreHeaped, AreReady, HasRow, begun_sources, blames, has_key, is_before, IsTop, merging_bound, waiting_sources};
+ghost use Rattle.slate_merge.specs.Merging.{AreHeaped, AreReady, HasRow, begun_sources, blames, has_key, is_before, IsTop, merging_bound, waiting_sources, AreWithin};
 ghost use Rattle.slate_merge.specs.SourceSteps.{AreMerging, left_of_heads, MovesSources, SourcesAddNone, StepsHeads};
 
 use crate::head::{BoxedSource, Head};
@@ -35,6 +35,7 @@ pub fn put_back<E: Outside, I: RowEntryIterator<E>>(
     ensures joins { OnOk result (Joins (Goes I.rest I.sound I.refuses I.takes I.bound I.order (E.reach env.old) (E.reach env.new)) source behind order (heap_items heads.old) (heap_items heads.new)) }
     ensures heap { KeepsHeap head_cmp (heap_items heads.old) (heap_items heads.new) }
     ensures cause { IfErr result (λ e. IsFaultOr I.refuses (E.reach env.old) (E.reach env.new) source None e) }
+    ensures within { (paths : List (List ℕ)) → I.within source paths → AreWithin I.within (begun_sources (heap_items heads.old)) paths → ReadsAt paths (E.reach env.old) (E.reach env.new) × OnOk result (AreWithin I.within (begun_sources (heap_items heads.new)) paths) }
     ensures reads { OnlyReads (E.reach env.old) (E.reach env.new) }
     ensures counts { IsStill (E.reach env.old).faults (E.reach env.new).faults result }
 {
@@ -65,6 +66,7 @@ pub fn take_first<E: Outside, I: RowEntryIterator<E>>(
     ensures smaller { IfOk result (λ answer. IsSome answer → merging_bound I.bound [] (heap_items heads.new) < merging_bound I.bound [] (heap_items heads.old)) }
     ensures no_larger { OnOk result (merging_bound I.bound [] (heap_items heads.new) ≤ merging_bound I.bound [] (heap_items heads.old)) }
     ensures cause { IfErr result (λ e. IsFaultOr (blames I.refuses) (E.reach env.old) (E.reach env.new) (begun_sources (heap_items heads.old)) None e) }
+    ensures within { (paths : List (List ℕ)) → AreWithin I.within (begun_sources (heap_items heads.old)) paths → ReadsAt paths (E.reach env.old) (E.reach env.new) × OnOk result (AreWithin I.within (begun_sources (heap_items heads.new)) paths) }
     ensures reads { OnlyReads (E.reach env.old) (E.reach env.new) }
     ensures counts { IsStill (E.reach env.old).faults (E.reach env.new).faults result }
 {
@@ -137,6 +139,7 @@ pub fn drop_older<E: Outside, I: RowEntryIterator<E>>(
     ensures counted { OnOk result (CountsKey key.now processed.old processed.new) }
     ensures no_larger { OnOk result (merging_bound I.bound [] (heap_items heads.new) ≤ merging_bound I.bound [] (heap_items heads.old)) }
     ensures cause { IfErr result (λ e. IsFaultOr (blames I.refuses) (E.reach env.old) (E.reach env.new) (begun_sources (heap_items heads.old)) None e) }
+    ensures within { (paths : List (List ℕ)) → AreWithin I.within (begun_sources (heap_items heads.old)) paths → ReadsAt paths (E.reach env.old) (E.reach env.new) × OnOk result (AreWithin I.within (begun_sources (heap_items heads.new)) paths) }
     ensures reads { OnlyReads (E.reach env.old) (E.reach env.new) }
     ensures counts { IsStill (E.reach env.old).faults (E.reach env.new).faults result }
 {
@@ -169,6 +172,7 @@ pub fn seek_first<E: Outside, I: RowEntryIterator<E>>(
     ensures smaller { IfOk result (λ sought. sought ≡ true → merging_bound I.bound [] (heap_items heads.new) < merging_bound I.bound [] (heap_items heads.old)) }
     ensures no_larger { OnOk result (merging_bound I.bound [] (heap_items heads.new) ≤ merging_bound I.bound [] (heap_items heads.old)) }
     ensures cause { IfErr result (λ e. IsFaultOr (blames I.refuses) (E.reach env.old) (E.reach env.new) (begun_sources (heap_items heads.old)) (Some key.now) e) }
+    ensures within { (paths : List (List ℕ)) → AreWithin I.within (begun_sources (heap_items heads.old)) paths → ReadsAt paths (E.reach env.old) (E.reach env.new) × OnOk result (AreWithin I.within (begun_sources (heap_items heads.new)) paths) }
     ensures reads { OnlyReads (E.reach env.old) (E.reach env.new) }
     ensures counts { IsStill (E.reach env.old).faults (E.reach env.new).faults result }
 {
@@ -207,6 +211,7 @@ pub fn seek_heads<E: Outside, I: RowEntryIterator<E>>(
     ensures done { (order : IterationOrder) (w : World) → AreMerging I.rest I.sound I.order order (heap_items heads.new) w → OnOk result (begins_before order key.now (left_of_heads I.rest order (heap_items heads.new) w) ≡ false) }
     ensures no_larger { OnOk result (merging_bound I.bound [] (heap_items heads.new) ≤ merging_bound I.bound [] (heap_items heads.old)) }
     ensures cause { IfErr result (λ e. IsFaultOr (blames I.refuses) (E.reach env.old) (E.reach env.new) (begun_sources (heap_items heads.old)) (Some key.now) e) }
+    ensures within { (paths : List (List ℕ)) → AreWithin I.within (begun_sources (heap_items heads.old)) paths → ReadsAt paths (E.reach env.old) (E.reach env.new) × OnOk result (AreWithin I.within (begun_sources (heap_items heads.new)) paths) }
     ensures reads { OnlyReads (E.reach env.old) (E.reach env.new) }
     ensures counts { IsStill (E.reach env.old).faults (E.reach env.new).faults result }
 {
@@ -236,6 +241,7 @@ pub fn begin_source<E: Outside, I: RowEntryIterator<E>>(
     ensures ready { AreReady I.refuses (E.reach env.old).meaning (heap_items heads.old) → OnOk result (AreReady I.refuses (E.reach env.old).meaning (heap_items heads.new)) }
     ensures no_larger { (waiting : List I) → OnOk result (merging_bound I.bound waiting (heap_items heads.new) ≤ merging_bound I.bound (source ∷ waiting) (heap_items heads.old)) }
     ensures cause { IfErr result (λ e. IsFaultOr I.refuses (E.reach env.old) (E.reach env.new) source None e) }
+    ensures within { (paths : List (List ℕ)) → I.within source paths → AreWithin I.within (begun_sources (heap_items heads.old)) paths → ReadsAt paths (E.reach env.old) (E.reach env.new) × OnOk result (AreWithin I.within (begun_sources (heap_items heads.new)) paths) }
     ensures reads { OnlyReads (E.reach env.old) (E.reach env.new) }
     ensures counts { IsStill (E.reach env.old).faults (E.reach env.new).faults result }
 {
@@ -264,6 +270,7 @@ pub fn begin_all<E: Outside, I: RowEntryIterator<E>>(
     ensures ready { IfOk result (λ heads. AreReady I.refuses (E.reach env.old).meaning (heap_items heads)) }
     ensures no_larger { IfOk result (λ heads. merging_bound I.bound [] (heap_items heads) ≤ merging_bound I.bound waiting.old.items []) }
     ensures cause { IfErr result (λ e. IsFaultOr (blames I.refuses) (E.reach env.old) (E.reach env.new) (waiting_sources waiting.old.items) None e) }
+    ensures within { (paths : List (List ℕ)) → AreWithin I.within (waiting_sources waiting.old.items) paths → ReadsAt paths (E.reach env.old) (E.reach env.new) × IfOk result (λ heads. AreWithin I.within (begun_sources (heap_items heads)) paths) }
     ensures reads { OnlyReads (E.reach env.old) (E.reach env.new) }
     ensures counts { IsStill (E.reach env.old).faults (E.reach env.new).faults result }
 {
@@ -288,6 +295,7 @@ fn begin_head<E: Outside, I: RowEntryIterator<E>>(
     ensures renewed { OnOk result (JoinsAgain (Renews I.rest I.sound I.refuses I.begins I.bound I.order (E.reach env.old) (E.reach env.new)) head (heap_items done.old) (heap_items done.new)) }
     ensures heap { KeepsHeap head_cmp (heap_items done.old) (heap_items done.new) }
     ensures cause { IfErr result (λ e. IsFaultOr I.refuses (E.reach env.old) (E.reach env.new) head.source None e) }
+    ensures within { (paths : List (List ℕ)) → I.within head.source paths → AreWithin I.within (begun_sources (heap_items done.old)) paths → ReadsAt paths (E.reach env.old) (E.reach env.new) × OnOk result (AreWithin I.within (begun_sources (heap_items done.new)) paths) }
     ensures reads { OnlyReads (E.reach env.old) (E.reach env.new) }
     ensures counts { IsStill (E.reach env.old).faults (E.reach env.new).faults result }
 {
@@ -327,6 +335,7 @@ pub fn begin_again<E: Outside, I: RowEntryIterator<E>>(
     ensures ready { IfOk result (λ done. AreReady I.refuses (E.reach env.old).meaning (heap_items done)) }
     ensures no_larger { IfOk result (λ done. merging_bound I.bound [] (heap_items done) ≤ merging_bound I.bound [] (heap_items heads.old)) }
     ensures cause { IfErr result (λ e. IsFaultOr (blames I.refuses) (E.reach env.old) (E.reach env.new) (begun_sources (heap_items heads.old)) None e) }
+    ensures within { (paths : List (List ℕ)) → AreWithin I.within (begun_sources (heap_items heads.old)) paths → ReadsAt paths (E.reach env.old) (E.reach env.new) × IfOk result (λ done. AreWithin I.within (begun_sources (heap_items done)) paths) }
     ensures reads { OnlyReads (E.reach env.old) (E.reach env.new) }
     ensures counts { IsStill (E.reach env.old).faults (E.reach env.new).faults result }
 {
@@ -357,6 +366,7 @@ pub fn take_row<E: Outside, I: RowEntryIterator<E>>(
     ensures smaller { IfOk result (λ answer. IsSome answer → merging_bound I.bound [] (heap_items heads.new) < merging_bound I.bound [] (heap_items heads.old)) }
     ensures no_larger { OnOk result (merging_bound I.bound [] (heap_items heads.new) ≤ merging_bound I.bound [] (heap_items heads.old)) }
     ensures cause { IfErr result (λ e. IsFaultOr (blames I.refuses) (E.reach env.old) (E.reach env.new) (begun_sources (heap_items heads.old)) None e) }
+    ensures within { (paths : List (List ℕ)) → AreWithin I.within (begun_sources (heap_items heads.old)) paths → ReadsAt paths (E.reach env.old) (E.reach env.new) × OnOk result (AreWithin I.within (begun_sources (heap_items heads.new)) paths) }
     ensures reads { OnlyReads (E.reach env.old) (E.reach env.new) }
     ensures counts { IsStill (E.reach env.old).faults (E.reach env.new).faults result }
 {

@@ -1,19 +1,19 @@
 //! Many iterators as one.
-ghost use Rattle.std.specs.Prelude.{◌≡◌, ◌<◌, ◌≤◌, Bool, List, true, None, Err, IfOk, IfErr, IsSome, OnOk};
+ghost use Rattle.std.specs.Prelude.{◌≡◌, ◌<◌, ◌≤◌, Bool, List, true, None, Err, IfOk, IfErr, IsSome, OnOk, ℕ};
 ghost use Rattle.std.specs.BinaryHeap.{heap_items};
 ghost use Rattle.slate_types.specs.declared.error.SlateDBError.{SlateDBError};
 ghost use Rattle.slate_types.specs.declared.iter.IterationOrder.{IterationOrder};
 ghost use Rattle.slate_types.specs.Iteration.{TakesRow};
 ghost use Rattle.slate_types.specs.Outside.{IsStill, OnlyReads};
-ghost use Rattle.slate_types.specs.World.{World, Checks, Sees};
+ghost use Rattle.slate_types.specs.World.{World, Checks, Sees, ReadsAt};
 ghost use Rattle.slate_types.proofs.Moves.{Moves};
 ghost use Rattle.slate_merge.specs.Answering.{AnswersBy, FailsBy, IsFaultOr};
 ghost use Rattle.slate_merge.specs.NoMoreRows.{AddsNoneByCall};
 ghost use Rattle.slate_merge.specs.Offers.{offers};
-ghost use Rattle.slate_merge.specs.Merging.{AreHeaped, AreReady};
+ghost use Rattle.slate_merge.specs.Merging.{AreHeaped, AreReady, AreWithin, begun_sources};
 ghost use Rattle.slate_merge.specs.MergeStateLaws.{refuses_more, refuses_whole, rest_rises};
 ghost use Rattle.slate_merge.specs.MergeBringing.{merge_offers, IsHeapedIn, KeepsHeads, MergeBegins, MergeSeeks, MergeTakes};
-ghost use Rattle.slate_merge.specs.MergeStates.{bound_in, CopiedIn, IsMergeOf, IsSameMerge, IsSoundIn, IsSoundMerge, IsWaiting, refuses_in, refuses_of_merge, rest_in, rest_of_merge, stays_of_merge, TakesLeft};
+ghost use Rattle.slate_merge.specs.MergeStates.{bound_in, CopiedIn, IsMergeOf, IsSameMerge, IsSoundIn, IsSoundMerge, IsWaiting, refuses_in, refuses_of_merge, rest_in, rest_of_merge, stays_of_merge, TakesLeft, IsWithinIn};
 
 use crate::head::Head;
 use crate::heads::{begin_again, begin_all, seek_heads, take_row};
@@ -95,6 +95,7 @@ impl<I: Drop> MergeIterator<I> {
         ensures smaller { IfOk result (λ answer. IsSome answer → bound_in I.bound self.new.state < bound_in I.bound self.old.state) }
         ensures no_larger { bound_in I.bound self.new.state ≤ bound_in I.bound self.old.state }
         ensures order { self.new.order ≡ self.old.order }
+        ensures within { (paths : List (List ℕ)) → IsWithinIn I.within self.old.state paths → ReadsAt paths (E.reach env.old) (E.reach env.new) × IsWithinIn I.within self.new.state paths }
         ensures reads { OnlyReads (E.reach env.old) (E.reach env.new) }
         ensures counts { IsStill (E.reach env.old).faults (E.reach env.new).faults result }
     {
@@ -146,6 +147,7 @@ fn begin_heads<E: Outside, I: RowEntryIterator<E>>(
     ensures ready { IfOk result (λ heads. AreReady I.refuses (E.reach env.old).meaning (heap_items heads)) }
     ensures no_larger { IfOk result (λ heads. bound_in I.bound (MergeState.Begun heads) ≤ bound_in I.bound state.old) }
     ensures cause { IfErr result (λ e. IsFaultOr (refuses_in I.refuses) (E.reach env.old) (E.reach env.new) state.old None e) }
+    ensures within { (paths : List (List ℕ)) → IsWithinIn I.within state.old paths → ReadsAt paths (E.reach env.old) (E.reach env.new) × IfOk result (λ heads. AreWithin I.within (begun_sources (heap_items heads)) paths) }
     ensures reads { OnlyReads (E.reach env.old) (E.reach env.new) }
     ensures counts { IsStill (E.reach env.old).faults (E.reach env.new).faults result }
 {
@@ -174,6 +176,8 @@ impl<E: Outside, I: RowEntryIterator<E>> RowEntryIterator<E> for MergeIterator<I
     ghost seeks = { λ before m reads key after. MergeSeeks I.begins I.takes I.seeks before m reads key after };
 
     ghost stays = { λ before m reads at e after. stays_of_merge before m reads at e after };
+
+    ghost within = { λ it paths. IsWithinIn I.within it.state paths };
 
     ghost unbegun = { λ it. IsWaiting it.state };
 

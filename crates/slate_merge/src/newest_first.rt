@@ -114,6 +114,8 @@ impl<E: Outside, I: RowEntryIterator<E>> RowEntryIterator<E> for NewestFirst<I> 
 
     ghost stays = { λ before _ _ at e after. Stays before at e after };
 
+    ghost within = { λ it paths. I.within it.iterator paths };
+
     ghost unbegun = { λ it. IsNew it.progress };
 
     ghost rising = { λ it w h. newest_order I.rest I.sound I.order it.iterator it.progress w h };
@@ -126,7 +128,7 @@ impl<E: Outside, I: RowEntryIterator<E>> RowEntryIterator<E> for NewestFirst<I> 
         self.iterator.iteration_order()
     }
 
-    #[tactic(auto, using(slate_types::proofs::Reaching::reads_none))]
+    #[tactic(auto, using(slate_types::proofs::Reaching::reads_none, slate_types::proofs::Calls::reads_at_none))]
     fn init(&mut self, alloc: Global, env: &mut E) -> Result<(), SlateDBError> {
         if let Progress::Refused(error) = &self.progress {
             return Err(copy_of(error));
@@ -140,7 +142,7 @@ impl<E: Outside, I: RowEntryIterator<E>> RowEntryIterator<E> for NewestFirst<I> 
         }
     }
 
-    #[tactic(auto, using(slate_types::proofs::Reaching::reads_none))]
+    #[tactic(auto, using(slate_types::proofs::Reaching::reads_none, slate_types::proofs::Calls::reads_at_none))]
     fn next(&mut self, alloc: Global, env: &mut E) -> Result<Option<RowEntry>, SlateDBError> {
         let answer = match &mut self.progress {
             Progress::New => return Err(SlateDBError::IteratorNotInitialized),
@@ -153,7 +155,7 @@ impl<E: Outside, I: RowEntryIterator<E>> RowEntryIterator<E> for NewestFirst<I> 
         }
     }
 
-    #[tactic(auto, using(slate_types::proofs::Reaching::reads_none))]
+    #[tactic(auto, using(slate_types::proofs::Reaching::reads_none, slate_types::proofs::Calls::reads_at_none))]
     fn seek(&mut self, alloc: Global, key: &[u8], env: &mut E) -> Result<(), SlateDBError> {
         let answer = match &mut self.progress {
             Progress::New => return Err(SlateDBError::IteratorNotInitialized),

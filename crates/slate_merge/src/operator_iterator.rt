@@ -1,10 +1,10 @@
 //! An iterator that folds operands onto what stands below them.
-ghost use Rattle.std.specs.Prelude.{◌≡◌, ◌<◌, ◌≤◌, false, None, Some, Err, IfErr, IfOk, IsOk, IsSome, OnOk};
+ghost use Rattle.std.specs.Prelude.{◌≡◌, ◌<◌, ◌≤◌, false, None, Some, Err, IfErr, IfOk, IsOk, IsSome, OnOk, List, ℕ};
 ghost use Rattle.slate_types.specs.declared.error.SlateDBError.{SlateDBError};
 ghost use Rattle.slate_types.specs.Iteration.{TakesRow, drop_before};
 ghost use Rattle.slate_types.specs.Outside.{IsStill, OnlyReads};
 ghost use Rattle.slate_types.specs.Refusing.{IsReady, NoMore};
-ghost use Rattle.slate_types.specs.World.{World, Checks, Made, Sees};
+ghost use Rattle.slate_types.specs.World.{World, Checks, Made, Sees, ReadsAt};
 ghost use Rattle.slate_merge.specs.Answering.{AnswersBy, FailsBy};
 ghost use Rattle.slate_merge.specs.Offers.{offers};
 ghost use Rattle.slate_merge.specs.OperatorIterators.{Begins, FallsAtFirst, IsFolding, IsGoing, IsOperable, IsOwn, Keeps, Seeks, Stays, Takes, bound_folding, refuses_folding, rest_folding, sound_folding};
@@ -79,7 +79,7 @@ impl<I: Drop> MergeOperatorIterator<I> {
     /// an operator, and no row that is left rises above the operand before it (`IsOperable`), it refuses for a fault or for the
     /// source's own refusal alone (`own`), and that stays so (`operable`). Where it answers, no such row stood among those that
     /// it folded (`falls`). An answer adds nothing to what the source may refuse (`sources`).
-    #[tactic(auto, using(slate_types::proofs::Reaching::reads_none))]
+    #[tactic(auto, using(slate_types::proofs::Reaching::reads_none, slate_types::proofs::Calls::reads_at_none))]
     pub fn next_row<E: Operates>(
         &mut self,
         alloc: Global,
@@ -97,6 +97,7 @@ impl<I: Drop> MergeOperatorIterator<I> {
         ensures smaller { IfOk result (λ answer. IsSome answer → bound_folding I.bound self.new < bound_folding I.bound self.old) }
         ensures no_larger { bound_folding I.bound self.new ≤ bound_folding I.bound self.old }
         ensures order { I.order self.new.iterator ≡ I.order self.old.iterator }
+        ensures within { (paths : List (List ℕ)) → I.within self.old.iterator paths → ReadsAt paths (E.reach env.old) (E.reach env.new) × I.within self.new.iterator paths }
         ensures reads { OnlyReads (E.reach env.old) (E.reach env.new) }
         ensures counts { IsStill (E.reach env.old).faults (E.reach env.new).faults result }
         ensures own { (w : World) → Sees w (E.reach env.old) (E.reach env.new) → IsGoing self.old → sound_folding I.rest I.sound I.order self.old w → IsOperable I.rest self.old w →
@@ -151,6 +152,8 @@ impl<E: Operates, I: RowEntryIterator<E>> RowEntryIterator<E> for MergeOperatorI
 
     ghost stays = { λ before m reads at e after. Stays I.refuses I.takes before m reads at e after };
 
+    ghost within = { λ it paths. I.within it.iterator paths };
+
     ghost unbegun = { λ it. (it.begun ≡ false) × (it.refusal ≡ None) };
 
     ghost rising = { λ it w h. folding_rises I.rest I.sound I.order it w h };
@@ -163,7 +166,7 @@ impl<E: Operates, I: RowEntryIterator<E>> RowEntryIterator<E> for MergeOperatorI
         self.iterator.iteration_order()
     }
 
-    #[tactic(auto, using(slate_types::proofs::Reaching::reads_none))]
+    #[tactic(auto, using(slate_types::proofs::Reaching::reads_none, slate_types::proofs::Calls::reads_at_none))]
     fn init(&mut self, alloc: Global, env: &mut E) -> Result<(), SlateDBError>
         ensures rows { (w : World) → Sees w (E.reach env.old) (E.reach env.new) → sound_folding I.rest I.sound I.order self.old w → OnOk result (rest_folding I.rest self.new w ≡ rest_folding I.rest self.old w) }
         ensures still { (w : World) → Sees w (E.reach env.old) (E.reach env.new) → sound_folding I.rest I.sound I.order self.old w → sound_folding I.rest I.sound I.order self.new w }
@@ -173,6 +176,7 @@ impl<E: Operates, I: RowEntryIterator<E>> RowEntryIterator<E> for MergeOperatorI
         ensures cause { IfErr result (λ e. FailsBy (refuses_folding I.refuses (offers I.begins I.takes I.seeks)) (Stays I.refuses I.takes) (E.reach env.old) (E.reach env.new) self.old None e self.new) }
         ensures no_larger { bound_folding I.bound self.new ≤ bound_folding I.bound self.old }
         ensures order { I.order self.new.iterator ≡ I.order self.old.iterator }
+        ensures within { (paths : List (List ℕ)) → I.within self.old.iterator paths → ReadsAt paths (E.reach env.old) (E.reach env.new) × I.within self.new.iterator paths }
         ensures reads { OnlyReads (E.reach env.old) (E.reach env.new) }
         ensures counts { IsStill (E.reach env.old).faults (E.reach env.new).faults result }
         ensures operable { (w : World) → Sees w (E.reach env.old) (E.reach env.new) → sound_folding I.rest I.sound I.order self.old w → IsOperable I.rest self.old w → OnOk result (IsOperable I.rest self.new w) }
@@ -194,7 +198,7 @@ impl<E: Operates, I: RowEntryIterator<E>> RowEntryIterator<E> for MergeOperatorI
         self.next_row(alloc, env)
     }
 
-    #[tactic(auto, using(slate_types::proofs::Reaching::reads_none))]
+    #[tactic(auto, using(slate_types::proofs::Reaching::reads_none, slate_types::proofs::Calls::reads_at_none))]
     fn seek(&mut self, alloc: Global, key: &[u8], env: &mut E) -> Result<(), SlateDBError>
         ensures rows { (w : World) → Sees w (E.reach env.old) (E.reach env.new) → sound_folding I.rest I.sound I.order self.old w →
             OnOk result (rest_folding I.rest self.new w ≡ drop_before (I.order self.old.iterator) key.now (rest_folding I.rest self.old w)) }
@@ -204,6 +208,7 @@ impl<E: Operates, I: RowEntryIterator<E>> RowEntryIterator<E> for MergeOperatorI
         ensures cause { IfErr result (λ e. FailsBy (refuses_folding I.refuses (offers I.begins I.takes I.seeks)) (Stays I.refuses I.takes) (E.reach env.old) (E.reach env.new) self.old (Some key.now) e self.new) }
         ensures no_larger { bound_folding I.bound self.new ≤ bound_folding I.bound self.old }
         ensures order { I.order self.new.iterator ≡ I.order self.old.iterator }
+        ensures within { (paths : List (List ℕ)) → I.within self.old.iterator paths → ReadsAt paths (E.reach env.old) (E.reach env.new) × I.within self.new.iterator paths }
         ensures reads { OnlyReads (E.reach env.old) (E.reach env.new) }
         ensures counts { IsStill (E.reach env.old).faults (E.reach env.new).faults result }
         ensures operable { (w : World) → Sees w (E.reach env.old) (E.reach env.new) → sound_folding I.rest I.sound I.order self.old w → IsOperable I.rest self.old w → OnOk result (IsOperable I.rest self.new w) }

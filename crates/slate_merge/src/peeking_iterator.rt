@@ -1,7 +1,7 @@
 //! An iterator whose next row can be looked at.
-ghost use Rattle.std.specs.Prelude.{◌≡◌, ◌⊎◌, ◌≤◌, [], None, IfOk, IfErr, IsOk, OnOk, option_copied};
+ghost use Rattle.std.specs.Prelude.{◌≡◌, ◌⊎◌, ◌≤◌, [], None, IfOk, IfErr, IsOk, OnOk, option_copied, List, ℕ};
 ghost use Rattle.slate_types.specs.Outside.{IsStill, OnlyReads};
-ghost use Rattle.slate_types.specs.World.{World, Sees};
+ghost use Rattle.slate_types.specs.World.{World, Sees, ReadsAt};
 ghost use Rattle.slate_types.proofs.Moves.{Moves};
 ghost use Rattle.slate_merge.specs.Answering.{IsFaultOr};
 ghost use Rattle.slate_merge.specs.Peeking.{ahead_of, bound_peeked, head_of, is_kept, IsPeeking, IsSoundPeeked, refuses_peeked, rest_peeked, TakesAhead};
@@ -55,6 +55,7 @@ impl<I: Drop> PeekingIterator<I> {
         ensures still { (w : World) → Sees w (E.reach env.old) (E.reach env.new) → IsSoundPeeked I.rest I.sound I.order self.old w → IsSoundPeeked I.rest I.sound I.order self.new w }
         ensures cause { IfErr result (λ e. IsFaultOr (refuses_peeked I.refuses) (E.reach env.old) (E.reach env.new) self.old None e) }
         ensures no_larger { bound_peeked I.bound self.new ≤ bound_peeked I.bound self.old }
+        ensures within { (paths : List (List ℕ)) → I.within self.old.iterator paths → ReadsAt paths (E.reach env.old) (E.reach env.new) × I.within self.new.iterator paths }
         ensures reads { OnlyReads (E.reach env.old) (E.reach env.new) }
         ensures counts { IsStill (E.reach env.old).faults (E.reach env.new).faults result }
     {
@@ -96,6 +97,8 @@ impl<E: Outside, I: RowEntryIterator<E>> RowEntryIterator<E> for PeekingIterator
     ghost seeks = { λ before m reads key after. ((reads ≡ []) × (after ≡ before)) ⊎ ((after.ahead ≡ None) × I.seeks before.iterator m reads key after.iterator) };
 
     ghost stays = { λ before m reads at e after. I.stays before.iterator m reads at e after.iterator × (after.ahead ≡ None) };
+
+    ghost within = { λ it paths. I.within it.iterator paths };
 
     ghost unbegun = { λ it. I.unbegun it.iterator × (it.ahead ≡ None) };
 

@@ -58,6 +58,8 @@ impl<E: Outside, I: RowEntryIterator<E>> RowEntryIterator<E> for MergeOperatorRe
 
     ghost stays = { λ before m reads at e after. StaysRequired I.takes I.stays before m reads at e after };
 
+    ghost within = { λ it paths. I.within it.iterator paths };
+
     ghost unbegun = { λ it. I.unbegun it.iterator × (it.missing ≡ false) };
 
     ghost rising = { λ it w h. I.rising it.iterator w h };
@@ -70,7 +72,7 @@ impl<E: Outside, I: RowEntryIterator<E>> RowEntryIterator<E> for MergeOperatorRe
         self.iterator.iteration_order()
     }
 
-    #[tactic(auto, using(slate_types::proofs::Reaching::reads_none))]
+    #[tactic(auto, using(slate_types::proofs::Reaching::reads_none, slate_types::proofs::Calls::reads_at_none))]
     fn init(&mut self, alloc: Global, env: &mut E) -> Result<(), SlateDBError> {
         if self.missing {
             return Err(SlateDBError::MergeOperatorMissing);
@@ -81,7 +83,7 @@ impl<E: Outside, I: RowEntryIterator<E>> RowEntryIterator<E> for MergeOperatorRe
         }
     }
 
-    #[tactic(auto, using(slate_types::proofs::Reaching::reads_none))]
+    #[tactic(auto, using(slate_types::proofs::Reaching::reads_none, slate_types::proofs::Calls::reads_at_none))]
     fn next(&mut self, alloc: Global, env: &mut E) -> Result<Option<RowEntry>, SlateDBError> {
         if self.missing {
             return Err(SlateDBError::MergeOperatorMissing);
@@ -100,7 +102,7 @@ impl<E: Outside, I: RowEntryIterator<E>> RowEntryIterator<E> for MergeOperatorRe
         }
     }
 
-    #[tactic(auto, using(slate_types::proofs::Reaching::reads_none))]
+    #[tactic(auto, using(slate_types::proofs::Reaching::reads_none, slate_types::proofs::Calls::reads_at_none))]
     fn seek(&mut self, alloc: Global, key: &[u8], env: &mut E) -> Result<(), SlateDBError> {
         if self.missing {
             return Err(SlateDBError::MergeOperatorMissing);

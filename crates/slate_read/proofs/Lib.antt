@@ -23,3 +23,4 @@ pub mod RunBringings
 pub mod RunRows
 pub mod SegmentRuns
 pub mod SourceBringings
+pub mod Withins

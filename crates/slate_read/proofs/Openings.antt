@@ -65,17 +65,17 @@ call_of a b path start size means same meaning (answer, (given, by_objects, adds
 )
 
 -- and none is one too
+pub call_nothing : (a b : Reach) → b.objects ≡ a.objects → b.meaning ≡ a.meaning → b.acts ≡ a.acts → IsCall a b []
+call_nothing a b same meaning none = record {
+  objects = same;
+  meaning = meaning;
+  adds = λ known began. none ∙ began ∙ ap (λ (l : List Act). Some l) (sym (append-nil known));
+  each = tt;
+  answered = λ os tells. tt;
+}
+
 pub call_once : (a b : Reach) (path : List ℕ) (start size : ℕ) → b.objects ≡ a.objects → b.meaning ≡ a.meaning → (b.acts ≡ a.acts) ⊎ Reads a.objects a.acts b.acts path start size (λ _. Unit {0}) → (reads : List Act) × IsCall a b reads
-call_once a b path start size same meaning (inl none) = (
-  [],
-  record {
-    objects = same;
-    meaning = meaning;
-    adds = λ known began. none ∙ began ∙ ap (λ (l : List Act). Some l) (sym (append-nil known));
-    each = tt;
-    answered = λ os tells. tt;
-  },
-)
+call_once a b path start size same meaning (inl none) = ([], call_nothing a b same meaning none)
 call_once a b path start size same meaning (inr r) =
     let c = call_of a b path start size (λ _. Unit {0}) same meaning r in
     (Act.read path start size c.0 ∷ [], c.1)

@@ -12,7 +12,7 @@ use Rattle.slate_types.proofs.Calls.{call_both, call_none, checks_both, checks_n
 use Rattle.slate_types.proofs.IterationLaws.{taken_in_order}
 use Rattle.slate_types.proofs.Reaching.{fault_earlier}
 use Rattle.slate_table.specs.declared.info.SsTableHandle.{SsTableHandle}
-use Rattle.slate_merge.specs.Answering.{no_words}
+use Rattle.slate_merge.specs.Answering.{no_words, IsFaultOr}
 use Rattle.slate_read.specs.declared.run_state.OpenTable.{OpenTable}
 use Rattle.slate_read.specs.RunWalk.{FindsRow, IsOpenRising, IsSoundOpen, RefusesOpen, refuses_open, rest_open}
 use Rattle.slate_read.specs.TableWalk.{IsSoundCursor, IsSoundRising, Sought, refuses_behind, rest_after}
@@ -33,6 +33,11 @@ open_step order a b x y o p row ex ey same s =
       checked = λ w k. s.checked w k;
       taken = (s.taken.0, s.taken.1, (tt, λ later at e r. s.taken.2.1 later at e (subst (λ (h : SsTableHandle). refuses_behind h order p.cursor a.meaning later at e) same r)));
     }
+
+-- what refused it is the table's
+pub open_cause : (order : IterationOrder) (a b : Reach) (x : Option OpenTable) (o : OpenTable) (e : SlateDBError) → x ≡ Some o →
+    IsFaultOr (refuses_behind o.table order) a b o.cursor None e → IsFaultOr (refuses_open order) a b x None e
+open_cause order a b x o e is c = subst (λ (u : Option OpenTable). IsFaultOr (refuses_open order) a b u None e) (sym is) c
 
 -- the table is spent, and let go of
 pub open_spent : (order : IterationOrder) (a b : Reach) (x y : Option OpenTable) (o p : OpenTable) → x ≡ Some o → y ≡ None →

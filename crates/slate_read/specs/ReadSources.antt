@@ -1,6 +1,9 @@
 -- What a read of many sources takes its rows from.
 --     rest_of, IsSoundSource, order_of, source_bound, source_refuses, source_unbegun      a source as an iterator
+--     IsSourceWithin it paths      it reads objects at these paths alone
 --     source_rising, source_more, source_whole      what it owes as one
+use Rattle.slate_read.specs.TableWalk.{IsWalkWithin}
+use Rattle.slate_read.specs.RunWalk.{IsRunWithin}
 use Rattle.std.specs.Prelude.{ℕ, List, [], ◌++◌, length, Option}
 use Rattle.std.specs.List.{AllByRecursion}
 use Rattle.slate_types.specs.declared.error.SlateDBError.{SlateDBError}
@@ -17,7 +20,7 @@ use Rattle.slate_read.specs.declared.read_source.ReadSource.{ReadSource}
 use Rattle.slate_read.specs.declared.read_source.ReadSource.TheVariants.{Empty, Internal, Table, Run, Segments, Batch, Memory}
 use Rattle.slate_read.specs.RunIterators.{run_iterator_bound, run_refuses, run_rest, run_sound}
 use Rattle.slate_read.specs.RunLaws.{run_iterator_more, run_iterator_rising, run_iterator_whole}
-use Rattle.slate_read.specs.SegmentIterators.{segment_bound, segment_order, segment_refuses, segment_rest, segment_sound}
+use Rattle.slate_read.specs.SegmentIterators.{segment_bound, segment_order, segment_refuses, segment_rest, segment_sound, IsSegmentWithin}
 use Rattle.slate_read.specs.SegmentLaws.{segment_more, segment_rising, segment_whole}
 use Rattle.slate_read.specs.SstIterators.{sst_bound, sst_refuses, sst_rest, sst_sound}
 use Rattle.slate_read.specs.SstLaws.{sst_more, sst_rising, sst_whole}
@@ -48,6 +51,13 @@ order_of (Run it) = it.rows.iterator.iterator.order
 order_of (Segments it) = segment_order it
 order_of (Batch it) = it.order
 order_of (Memory it) = it.order
+
+abbrev pub IsSourceWithin : ReadSource → List (List ℕ) → Type 0
+IsSourceWithin (Internal it) paths = IsWalkWithin it.rows.iterator.iterator paths
+IsSourceWithin (Table it) paths = IsWalkWithin it.rows.iterator.iterator paths
+IsSourceWithin (Run it) paths = IsRunWithin it.rows.iterator.iterator paths
+IsSourceWithin (Segments it) paths = IsSegmentWithin it paths
+IsSourceWithin _ paths = Unit {0}
 
 abbrev pub source_bound : ReadSource → ℕ
 source_bound (Empty it) = 0

@@ -8,6 +8,7 @@
 --     rest_open, IsSoundOpen, refuses_open, bound_open      of the table that is open
 --     RefusesOpen order x m reads e      `refuses_open` in any call
 --     rest_waiting, AreHeld, RefusesWaiting      of the tables that weren't opened
+--     IsCursorWithin x paths, IsRunWithin it paths      a walk over a run reads objects at these paths alone
 --     rest_run, IsSoundRun, refuses_run, bound_run      of all, with the row that was read ahead
 --     rows_ahead ahead      the row that was read ahead, where there is one
 --     rest_of_run it w, IsSoundRunWalk it w, refuses_of_run      of a walk over a run
@@ -120,6 +121,16 @@ pub record IsSoundRun (range : BytesRange) (order : IterationOrder) (x : RunCurs
   pub open_table : IsSoundOpen order x.current w
   pub held : AreHeld w (waiting x)
   pub rising : IsInOrder order (rest_run range order x w)
+
+abbrev pub IsOpenWithin : Option OpenTable → List (List ℕ) → Type 0
+IsOpenWithin None paths = Unit {0}
+IsOpenWithin (Some open_table) paths = Contains paths (path_in open_table.table)
+
+abbrev pub IsCursorWithin : RunCursor → List (List ℕ) → Type 0
+IsCursorWithin x paths = IsOpenWithin x.current paths × AllByRecursion (λ h. Contains paths (path_in h)) (waiting x)
+
+abbrev pub IsRunWithin : RunWalk → List (List ℕ) → Type 0
+IsRunWithin it paths = IsCursorWithin it.cursor paths
 
 -- by the reads from now on, a block of the table that is open, or the index or a block of another one
 abbrev pub refuses_run : IterationOrder → RunCursor → Meaning → List Act → Option (List ℕ) → SlateDBError → Type 0

@@ -2,6 +2,7 @@
 --     meets range prefix      whether a key that begins with the prefix can be in the range
 --     can_begin start prefix      a key that begins with the prefix can be behind the start of a range
 --     source_rest, source_sound, source_order, source_bound, source_refuses      an iterator over one run
+--     IsSegmentWithin it paths      it reads objects at these paths alone
 --     segment_rest, segment_sound, segment_order, segment_bound, segment_refuses      an iterator over the runs of segments
 --     BeginWith prefix rows      each key begins with the prefix
 --     AreRuns range order runs its      new iterators over these runs, one for each
@@ -10,6 +11,7 @@
 --     merged_runs range order kepts      the rows of runs in a range, in an order, those of a key by falling sequence, and of one sequence that of the earlier run first
 --     IsSegmentMerge range runs order it      it is new, and over the runs alone whose prefixes can begin keys of the range; and in each world that has all the runs,
 --                                            their rows in the range are left
+use Rattle.slate_read.specs.RunWalk.{IsRunWithin}
 use Rattle.std.specs.Prelude.{◌≡◌, ℕ, Bool, true, false, ◌&&◌, ◌||◌, List, [], ◌∷◌, map, filter, Option, nat_eq}
 use Rattle.std.specs.List.{starts_with, AllByRecursion}
 use Rattle.std.specs.declared.ops.Bound.{Bound}
@@ -23,7 +25,7 @@ use Rattle.slate_types.specs.Outside.{Act, Meaning}
 use Rattle.slate_types.specs.World.{Kept, World}
 use Rattle.slate_merge.specs.Groups.{in_turn}
 use Rattle.slate_merge.specs.Merge.{merged}
-use Rattle.slate_merge.specs.MergeStates.{IsSoundIn, WaitingAre, bound_in, refuses_in, rest_in}
+use Rattle.slate_merge.specs.MergeStates.{IsSoundIn, WaitingAre, bound_in, refuses_in, rest_in, IsWithinIn}
 use Rattle.slate_read.specs.declared.segment_merge_iterator.SegmentMergeIterator.{SegmentMergeIterator}
 use Rattle.slate_read.specs.declared.sorted_run.SortedRun.{SortedRun}
 use Rattle.slate_read.specs.declared.sorted_run_iterator.SortedRunIterator.{SortedRunIterator}
@@ -62,6 +64,9 @@ segment_sound it w = IsSoundIn source_rest source_sound source_order it.rows.ord
 
 abbrev pub segment_order : SegmentMergeIterator → IterationOrder
 segment_order it = it.rows.order
+
+abbrev pub IsSegmentWithin : SegmentMergeIterator → List (List ℕ) → Type 0
+IsSegmentWithin it paths = IsWithinIn (λ (run : SortedRunIterator) ps. IsRunWithin run.rows.iterator.iterator ps) it.rows.state paths
 
 abbrev pub segment_bound : SegmentMergeIterator → ℕ
 segment_bound it = bound_in source_bound it.rows.state

@@ -21,6 +21,7 @@
 --     rest_in, rest_at, bound_in, refuses_in      the rows of a walk that is new, walks or was refused, how many reads of rows are left, and what it
 --                                                 refuses
 --     rest_after h order cursor w, bound_behind cursor, refuses_behind h order cursor      the same of a cursor
+--     IsWalkWithin it paths      the walk reads an object at one of these paths alone
 --     rest_of it w      the rows of a walk over a table
 --     nth_block order first stop n      the number of a block of a row of neighbours, by how many come before it in the order
 --     IsFetched p h entries first stop reads blocks      neighbouring blocks were read by one read
@@ -174,6 +175,10 @@ rest_at range h order s w = rest_in s range order (w.holds (path_in h))
 
 abbrev pub rest_of : TableWalk → World → List RowEntry
 rest_of it w = rest_at it.range it.table it.order it.state w
+
+-- it reads objects at these paths alone
+abbrev pub IsWalkWithin : TableWalk → List (List ℕ) → Type 0
+IsWalkWithin it paths = Contains paths (path_in it.table)
 
 abbrev pub bound_in : TableState → ℕ
 bound_in New = max_blocks * max_reads

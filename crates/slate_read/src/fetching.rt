@@ -1,15 +1,15 @@
 //! Blocks of a stored table, read ahead.
-ghost use Rattle.std.specs.Prelude.{◌≡◌, ◌<◌, ◌≤◌, ◌+◌, ◌-◌, ◌++◌, length, IfErr, OnOk};
+ghost use Rattle.std.specs.Prelude.{◌≡◌, ◌<◌, ◌≤◌, ◌+◌, ◌-◌, ◌++◌, ℕ, List, length, Contains, IfErr, OnOk};
 ghost use Rattle.slate_types.specs.declared.error.SlateDBError.{SlateDBError};
 ghost use Rattle.slate_types.specs.Iteration.{in_order};
 ghost use Rattle.slate_types.specs.Outside.{IsStill, OnlyReads};
-ghost use Rattle.slate_types.specs.World.{Made};
+ghost use Rattle.slate_types.specs.World.{Made, ReadsAt};
 ghost use Rattle.slate_types.proofs.Moves.{Moves};
 ghost use Rattle.slate_table.specs.IndexValue.{entries_of};
 ghost use Rattle.slate_merge.specs.Answering.{IsFaultOr};
 ghost use Rattle.slate_merge.specs.NoMoreRows.{AddsNoneByCall};
 ghost use Rattle.slate_read.specs.Bringing.{brings_behind};
-ghost use Rattle.slate_read.specs.TableWalk.{Fetches, IsEnough, IsNextFetch, IsSoundCursor, nth_block, refuses_behind, refuses_blocks, rest_after, size_of, start_of, unread_first, unread_size, unread_stop};
+ghost use Rattle.slate_read.specs.TableWalk.{Fetches, IsEnough, IsNextFetch, IsSoundCursor, nth_block, path_in, refuses_behind, refuses_blocks, rest_after, size_of, start_of, unread_first, unread_size, unread_stop};
 
 use crate::fetch_limits::FetchLimits;
 use crate::table_state::Cursor;
@@ -138,6 +138,7 @@ impl Cursor {
         requires { length self.old.ready.items < self.old.stop - self.old.first }
         ensures fetched { let reach = ⟦<EnvOf<S, M, T> as Outside>⟧.reach in OnOk result (Made (reach env.old) (reach env.new) (λ reads. Fetches (reach env.old).meaning table.now order bytes reads self.old self.new)) }
         ensures cause { let reach = ⟦<EnvOf<S, M, T> as Outside>⟧.reach in IfErr result (λ e. IsFaultOr (refuses_blocks table.now order) (reach env.old) (reach env.new) self.old None e) }
+        ensures within { let reach = ⟦<EnvOf<S, M, T> as Outside>⟧.reach in (paths : List (List ℕ)) → Contains paths (path_in table.now) → ReadsAt paths (reach env.old) (reach env.new) }
         ensures reads { let reach = ⟦<EnvOf<S, M, T> as Outside>⟧.reach in OnlyReads (reach env.old) (reach env.new) }
         ensures counts { let reach = ⟦<EnvOf<S, M, T> as Outside>⟧.reach in
             IsStill (reach env.old).faults (reach env.new).faults result }
@@ -158,7 +159,7 @@ impl Cursor {
     }
 
     /// Reads blocks ahead, where none is ready, by as many reads as are made at a time.
-    #[tactic(auto, using(crate::proofs::Bringings::adds_none, slate_types::proofs::Moves::moves_none, slate_types::proofs::Reaching::reads_none))]
+    #[tactic(auto, using(crate::proofs::Bringings::adds_none, slate_types::proofs::Moves::moves_none, slate_types::proofs::Reaching::reads_none, slate_types::proofs::Calls::reads_at_none))]
     pub(crate) fn fill<S: Store, M: MergeOperator, T: BlockTransformer>(
         &mut self,
         alloc: Global,
@@ -175,6 +176,7 @@ impl Cursor {
         ensures rows { OnOk result (self.new.rows ≡ self.old.rows) }
         ensures some { OnOk result (0 < length self.new.ready.items) }
         ensures adds { let reach = ⟦<EnvOf<S, M, T> as Outside>⟧.reach in OnOk result (AddsNoneByCall (brings_behind table.now order) (refuses_behind table.now order) (reach env.old) (reach env.new) self.old self.new) }
+        ensures within { let reach = ⟦<EnvOf<S, M, T> as Outside>⟧.reach in (paths : List (List ℕ)) → Contains paths (path_in table.now) → ReadsAt paths (reach env.old) (reach env.new) }
         ensures reads { let reach = ⟦<EnvOf<S, M, T> as Outside>⟧.reach in OnlyReads (reach env.old) (reach env.new) }
         ensures counts { let reach = ⟦<EnvOf<S, M, T> as Outside>⟧.reach in
             IsStill (reach env.old).faults (reach env.new).faults result }

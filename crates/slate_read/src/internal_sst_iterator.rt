@@ -1,4 +1,5 @@
 //! The rows of a stored table in a range.
+ghost use Rattle.slate_read.specs.TableWalk.{IsWalkWithin};
 ghost use Rattle.std.specs.Prelude.{◌≡◌, IfOk, IfErr, false};
 ghost use Rattle.slate_types.specs.declared.error.SlateDBError.{SlateDBError};
 ghost use Rattle.slate_types.specs.Keys.{is_refused};
@@ -65,6 +66,8 @@ impl<S: Store, M: MergeOperator, T: BlockTransformer> RowEntryIterator<Env<'_, S
     ghost seeks = { λ before m reads key after. sst_seeks before.rows m reads key after.rows };
 
     ghost stays = { λ before _ _ at e after. Stays before.rows at e after.rows };
+
+    ghost within = { λ it paths. IsWalkWithin it.rows.iterator.iterator paths };
 
     ghost unbegun = { λ it. IsNew it.rows.progress };
 

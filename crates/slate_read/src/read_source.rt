@@ -1,6 +1,6 @@
 //! What a read of many sources takes its rows from.
 ghost use Rattle.slate_read.specs.SourceBringing.{source_begins, source_seeks, source_takes};
-ghost use Rattle.slate_read.specs.ReadSources.{IsSoundSource, order_of, rest_of, source_bound, source_more, source_refuses, source_rising, source_unbegun, source_whole};
+ghost use Rattle.slate_read.specs.ReadSources.{IsSoundSource, order_of, rest_of, source_bound, source_more, source_refuses, source_rising, source_unbegun, source_whole, IsSourceWithin};
 
 use crate::internal_sst_iterator::InternalSstIterator;
 use crate::segment_merge_iterator::SegmentMergeIterator;
@@ -45,6 +45,8 @@ impl<S: Store, M: MergeOperator, T: BlockTransformer> RowEntryIterator<Env<'_, S
     ghost seeks = { source_seeks };
 
     ghost stays = { λ _ _ _ _ _ _. Unit {0} };
+
+    ghost within = { IsSourceWithin };
 
     ghost unbegun = { source_unbegun };
 

@@ -1,6 +1,6 @@
 //! The rows of a run of stored tables, as an iterator.
 ghost use Rattle.slate_read.specs.RunBringing.{run_walk_begins, run_walk_seeks, run_walk_takes};
-ghost use Rattle.slate_read.specs.RunWalk.{IsNewRun, IsSoundRunWalk, StaysRun, bound_run_in, refuses_of_run, rest_of_run};
+ghost use Rattle.slate_read.specs.RunWalk.{IsNewRun, IsSoundRunWalk, StaysRun, bound_run_in, refuses_of_run, rest_of_run, IsRunWithin};
 ghost use Rattle.slate_read.specs.RunLaws.{run_more, run_rising, run_whole};
 
 use crate::run_state::{RunState, RunWalk};
@@ -31,6 +31,8 @@ impl<S: Store, M: MergeOperator, T: BlockTransformer> RowEntryIterator<Env<'_, S
     ghost seeks = { run_walk_seeks };
 
     ghost stays = { λ before _ _ at e after. StaysRun before at e after };
+
+    ghost within = { IsRunWithin };
 
     ghost unbegun = { λ it. IsNewRun it.state };
 

@@ -1,19 +1,19 @@
 //! The rows of a run of stored tables, table by table.
-ghost use Rattle.std.specs.Prelude.{◌≡◌, ◌<◌, ◌≤◌, ◌+◌, ◌*◌, length, [], None, false, true, IfOk, IfErr, IsNone, IsSome, OnOk};
+ghost use Rattle.std.specs.Prelude.{◌≡◌, ◌<◌, ◌≤◌, ◌+◌, ◌*◌, ℕ, List, length, Contains, [], None, false, true, IfOk, IfErr, IsNone, IsSome, OnOk};
 ghost use Rattle.slate_types.specs.declared.error.SlateDBError.{SlateDBError};
 ghost use Rattle.slate_types.specs.Keys.{is_refused};
 ghost use Rattle.slate_types.specs.Outside.{IsStill, OnlyReads};
 ghost use Rattle.slate_types.specs.Steps.{Step};
-ghost use Rattle.slate_types.specs.World.{Made};
+ghost use Rattle.slate_types.specs.World.{Made, ReadsAt};
 ghost use Rattle.slate_types.proofs.Moves.{Moves};
 ghost use Rattle.slate_table.specs.IndexValue.{entries_of};
 ghost use Rattle.slate_merge.specs.Answering.{no_words};
 ghost use Rattle.slate_merge.specs.Answering.{IsFaultOr};
 ghost use Rattle.slate_merge.specs.NoMoreRows.{AddsNoneByCall, HandsAwayByCall};
-ghost use Rattle.slate_read.specs.TableWalk.{BeginsAt, Sought, SoughtBehind, StepsBehind, bound_behind, max_blocks, max_reads, refuses_behind, refuses_index};
+ghost use Rattle.slate_read.specs.TableWalk.{BeginsAt, Sought, SoughtBehind, StepsBehind, bound_behind, max_blocks, max_reads, path_in, refuses_behind, refuses_index};
 ghost use Rattle.slate_read.specs.Bringing.{brings_behind};
 ghost use Rattle.slate_read.specs.RunBringing.{BringsOpen, brings_run};
-ghost use Rattle.slate_read.specs.RunWalk.{FindsRow, IsSoundOpen, IsOpenRising, IsSoundRun, IsTableOpened, KeepsRun, OpensNext, PassesOver, bound_open, bound_run, can_reach, end_key, is_next_passed, is_passed, reaches_end, reaches_start, refuses_open, refuses_run, rest_open, rest_run};
+ghost use Rattle.slate_read.specs.RunWalk.{FindsRow, IsCursorWithin, IsOpenWithin, IsSoundOpen, IsOpenRising, IsSoundRun, IsTableOpened, KeepsRun, OpensNext, PassesOver, bound_open, bound_run, can_reach, end_key, is_next_passed, is_passed, reaches_end, reaches_start, refuses_open, refuses_run, rest_open, rest_run};
 
 use crate::fetch_limits::FetchLimits;
 use crate::run_state::{OpenTable, RunCursor, RunState, RunWalk};
@@ -107,6 +107,7 @@ fn open_table<S: Store, M: MergeOperator, T: BlockTransformer>(
     ensures opened { let reach = ⟦<EnvOf<S, M, T> as Outside>⟧.reach in IfOk result (λ found. Made (reach env.old) (reach env.new) (λ reads. IsTableOpened range.now (reach env.old).meaning table reads found)) }
     ensures few { IfOk result (λ found. bound_behind found.cursor ≤ max_blocks * max_reads) }
     ensures cause { let reach = ⟦<EnvOf<S, M, T> as Outside>⟧.reach in IfErr result (λ e. IsFaultOr refuses_index (reach env.old) (reach env.new) table None e) }
+    ensures within { let reach = ⟦<EnvOf<S, M, T> as Outside>⟧.reach in (paths : List (List ℕ)) → Contains paths (path_in table) → ReadsAt paths (reach env.old) (reach env.new) }
     ensures reads { let reach = ⟦<EnvOf<S, M, T> as Outside>⟧.reach in OnlyReads (reach env.old) (reach env.new) }
     ensures counts { let reach = ⟦<EnvOf<S, M, T> as Outside>⟧.reach in
         IsStill (reach env.old).faults (reach env.new).faults result }
@@ -142,6 +143,7 @@ impl OpenTable {
         ensures no_larger { OnOk result (bound_behind self.new.cursor ≤ bound_behind self.old.cursor) }
         ensures hands { let reach = ⟦<EnvOf<S, M, T> as Outside>⟧.reach in
             IfOk result (λ answer. HandsAwayByCall (brings_behind self.old.table order) (refuses_behind self.old.table order) (reach env.old) (reach env.new) self.old.cursor answer self.new.cursor) }
+        ensures within { let reach = ⟦<EnvOf<S, M, T> as Outside>⟧.reach in (paths : List (List ℕ)) → Contains paths (path_in self.old.table) → ReadsAt paths (reach env.old) (reach env.new) }
         ensures reads { let reach = ⟦<EnvOf<S, M, T> as Outside>⟧.reach in OnlyReads (reach env.old) (reach env.new) }
         ensures counts { let reach = ⟦<EnvOf<S, M, T> as Outside>⟧.reach in
             IsStill (reach env.old).faults (reach env.new).faults result }
@@ -163,6 +165,7 @@ impl OpenTable {
         ensures cause { let reach = ⟦<EnvOf<S, M, T> as Outside>⟧.reach in IfErr result (λ e. IsFaultOr (refuses_behind self.old.table order) (reach env.old) (reach env.new) self.old.cursor None e) }
         ensures no_larger { OnOk result (bound_behind self.new.cursor ≤ bound_behind self.old.cursor) }
         ensures adds { let reach = ⟦<EnvOf<S, M, T> as Outside>⟧.reach in OnOk result (AddsNoneByCall (brings_behind self.old.table order) (refuses_behind self.old.table order) (reach env.old) (reach env.new) self.old.cursor self.new.cursor) }
+        ensures within { let reach = ⟦<EnvOf<S, M, T> as Outside>⟧.reach in (paths : List (List ℕ)) → Contains paths (path_in self.old.table) → ReadsAt paths (reach env.old) (reach env.new) }
         ensures reads { let reach = ⟦<EnvOf<S, M, T> as Outside>⟧.reach in OnlyReads (reach env.old) (reach env.new) }
         ensures counts { let reach = ⟦<EnvOf<S, M, T> as Outside>⟧.reach in
             IsStill (reach env.old).faults (reach env.new).faults result }
@@ -186,6 +189,7 @@ fn take_row<S: Store, M: MergeOperator, T: BlockTransformer>(
     ensures smaller { IfOk result (λ answer. IsSome answer → bound_open current.new < bound_open current.old) }
     ensures no_larger { OnOk result (bound_open current.new ≤ bound_open current.old) }
     ensures hands { let reach = ⟦<EnvOf<S, M, T> as Outside>⟧.reach in IfOk result (λ answer. HandsAwayByCall (BringsOpen order) (refuses_open order) (reach env.old) (reach env.new) current.old answer current.new) }
+    ensures within { let reach = ⟦<EnvOf<S, M, T> as Outside>⟧.reach in (paths : List (List ℕ)) → IsOpenWithin current.old paths → ReadsAt paths (reach env.old) (reach env.new) × IsOpenWithin current.new paths }
     ensures reads { let reach = ⟦<EnvOf<S, M, T> as Outside>⟧.reach in OnlyReads (reach env.old) (reach env.new) }
     ensures counts { let reach = ⟦<EnvOf<S, M, T> as Outside>⟧.reach in
         IsStill (reach env.old).faults (reach env.new).faults result }
@@ -215,6 +219,7 @@ fn skip_rows<S: Store, M: MergeOperator, T: BlockTransformer>(
     ensures cause { let reach = ⟦<EnvOf<S, M, T> as Outside>⟧.reach in IfErr result (λ e. IsFaultOr (refuses_open order) (reach env.old) (reach env.new) current.old None e) }
     ensures no_larger { OnOk result (bound_open current.new ≤ bound_open current.old) }
     ensures adds { let reach = ⟦<EnvOf<S, M, T> as Outside>⟧.reach in OnOk result (AddsNoneByCall (BringsOpen order) (refuses_open order) (reach env.old) (reach env.new) current.old current.new) }
+    ensures within { let reach = ⟦<EnvOf<S, M, T> as Outside>⟧.reach in (paths : List (List ℕ)) → IsOpenWithin current.old paths → ReadsAt paths (reach env.old) (reach env.new) × IsOpenWithin current.new paths }
     ensures reads { let reach = ⟦<EnvOf<S, M, T> as Outside>⟧.reach in OnlyReads (reach env.old) (reach env.new) }
     ensures counts { let reach = ⟦<EnvOf<S, M, T> as Outside>⟧.reach in
         IsStill (reach env.old).faults (reach env.new).faults result }
@@ -239,6 +244,7 @@ fn find_row<S: Store, M: MergeOperator, T: BlockTransformer>(
     ensures smaller { IfOk result (λ answer. IsSome answer → bound_open current.new < bound_open current.old) }
     ensures no_larger { OnOk result (bound_open current.new ≤ bound_open current.old) }
     ensures hands { let reach = ⟦<EnvOf<S, M, T> as Outside>⟧.reach in IfOk result (λ answer. HandsAwayByCall (BringsOpen order) (refuses_open order) (reach env.old) (reach env.new) current.old answer current.new) }
+    ensures within { let reach = ⟦<EnvOf<S, M, T> as Outside>⟧.reach in (paths : List (List ℕ)) → IsOpenWithin current.old paths → ReadsAt paths (reach env.old) (reach env.new) × IsOpenWithin current.new paths }
     ensures reads { let reach = ⟦<EnvOf<S, M, T> as Outside>⟧.reach in OnlyReads (reach env.old) (reach env.new) }
     ensures counts { let reach = ⟦<EnvOf<S, M, T> as Outside>⟧.reach in
         IsStill (reach env.old).faults (reach env.new).faults result }
@@ -262,6 +268,7 @@ impl RunCursor {
         ensures cause { let reach = ⟦<EnvOf<S, M, T> as Outside>⟧.reach in (order : IterationOrder) → IfErr result (λ e. IsFaultOr (refuses_run order) (reach env.old) (reach env.new) self.old None e) }
         ensures fewer { IfOk result (λ some. some ≡ true → length self.new.tables.items + 1 ≡ length self.old.tables.items) }
         ensures no_larger { OnOk result (self.old.current ≡ None → bound_run self.new ≤ bound_run self.old) }
+        ensures within { let reach = ⟦<EnvOf<S, M, T> as Outside>⟧.reach in (paths : List (List ℕ)) → IsCursorWithin self.old paths → ReadsAt paths (reach env.old) (reach env.new) × IsCursorWithin self.new paths }
         ensures reads { let reach = ⟦<EnvOf<S, M, T> as Outside>⟧.reach in OnlyReads (reach env.old) (reach env.new) }
         ensures counts { let reach = ⟦<EnvOf<S, M, T> as Outside>⟧.reach in
             IsStill (reach env.old).faults (reach env.new).faults result }
@@ -291,6 +298,7 @@ impl RunCursor {
         ensures cause { let reach = ⟦<EnvOf<S, M, T> as Outside>⟧.reach in IfErr result (λ e. IsFaultOr (refuses_run order) (reach env.old) (reach env.new) self.old None e) }
         ensures no_larger { OnOk result (bound_run self.new ≤ bound_run self.old) }
         ensures adds { let reach = ⟦<EnvOf<S, M, T> as Outside>⟧.reach in OnOk result (AddsNoneByCall (brings_run order) (refuses_run order) (reach env.old) (reach env.new) self.old self.new) }
+        ensures within { let reach = ⟦<EnvOf<S, M, T> as Outside>⟧.reach in (paths : List (List ℕ)) → IsCursorWithin self.old paths → ReadsAt paths (reach env.old) (reach env.new) × IsCursorWithin self.new paths }
         ensures reads { let reach = ⟦<EnvOf<S, M, T> as Outside>⟧.reach in OnlyReads (reach env.old) (reach env.new) }
         ensures counts { let reach = ⟦<EnvOf<S, M, T> as Outside>⟧.reach in
             IsStill (reach env.old).faults (reach env.new).faults result }
@@ -318,6 +326,7 @@ impl RunCursor {
         ensures smaller { IfOk result (λ answer. IsSome answer → bound_run self.new < bound_run self.old) }
         ensures no_larger { OnOk result (bound_run self.new ≤ bound_run self.old) }
         ensures hands { let reach = ⟦<EnvOf<S, M, T> as Outside>⟧.reach in IfOk result (λ answer. HandsAwayByCall (brings_run order) (refuses_run order) (reach env.old) (reach env.new) self.old answer self.new) }
+        ensures within { let reach = ⟦<EnvOf<S, M, T> as Outside>⟧.reach in (paths : List (List ℕ)) → IsCursorWithin self.old paths → ReadsAt paths (reach env.old) (reach env.new) × IsCursorWithin self.new paths }
         ensures reads { let reach = ⟦<EnvOf<S, M, T> as Outside>⟧.reach in OnlyReads (reach env.old) (reach env.new) }
         ensures counts { let reach = ⟦<EnvOf<S, M, T> as Outside>⟧.reach in
             IsStill (reach env.old).faults (reach env.new).faults result }
@@ -369,6 +378,7 @@ impl RunCursor {
         ensures cause { let reach = ⟦<EnvOf<S, M, T> as Outside>⟧.reach in IfErr result (λ e. IsFaultOr (refuses_run order) (reach env.old) (reach env.new) self.old None e) }
         ensures no_larger { OnOk result (bound_run self.new ≤ bound_run self.old) }
         ensures adds { let reach = ⟦<EnvOf<S, M, T> as Outside>⟧.reach in OnOk result (AddsNoneByCall (brings_run order) (refuses_run order) (reach env.old) (reach env.new) self.old self.new) }
+        ensures within { let reach = ⟦<EnvOf<S, M, T> as Outside>⟧.reach in (paths : List (List ℕ)) → IsCursorWithin self.old paths → ReadsAt paths (reach env.old) (reach env.new) × IsCursorWithin self.new paths }
         ensures reads { let reach = ⟦<EnvOf<S, M, T> as Outside>⟧.reach in OnlyReads (reach env.old) (reach env.new) }
         ensures counts { let reach = ⟦<EnvOf<S, M, T> as Outside>⟧.reach in
             IsStill (reach env.old).faults (reach env.new).faults result }
@@ -399,6 +409,7 @@ impl RunCursor {
         ensures cause { let reach = ⟦<EnvOf<S, M, T> as Outside>⟧.reach in IfErr result (λ e. IsFaultOr (refuses_run order) (reach env.old) (reach env.new) self.old None e) }
         ensures no_larger { OnOk result (bound_run self.new ≤ bound_run self.old) }
         ensures adds { let reach = ⟦<EnvOf<S, M, T> as Outside>⟧.reach in OnOk result (AddsNoneByCall (brings_run order) (refuses_run order) (reach env.old) (reach env.new) self.old self.new) }
+        ensures within { let reach = ⟦<EnvOf<S, M, T> as Outside>⟧.reach in (paths : List (List ℕ)) → IsCursorWithin self.old paths → ReadsAt paths (reach env.old) (reach env.new) × IsCursorWithin self.new paths }
         ensures reads { let reach = ⟦<EnvOf<S, M, T> as Outside>⟧.reach in OnlyReads (reach env.old) (reach env.new) }
         ensures counts { let reach = ⟦<EnvOf<S, M, T> as Outside>⟧.reach in
             IsStill (reach env.old).faults (reach env.new).faults result }
@@ -411,7 +422,10 @@ impl RunCursor {
     }
 
     /// Lets go of all that is left.
-    fn close(&mut self) {
+    fn close(&mut self)
+        ensures current { self.new.current ≡ None }
+        ensures tables { self.new.tables.items ≡ [] }
+    {
         drop(self.ahead.take());
         drop(self.current.take());
         self.tables.clear();
@@ -423,6 +437,8 @@ impl RunWalk {
     pub(crate) fn refuse(&mut self, error: SlateDBError) -> SlateDBError
         ensures same { result ≡ error }
         ensures keeps { KeepsRun error self.new.state }
+        ensures current { self.new.cursor.current ≡ None }
+        ensures tables { self.new.cursor.tables.items ≡ [] }
         ensures range { self.new.range ≡ self.old.range }
         ensures order { self.new.order ≡ self.old.order }
     {

@@ -5,7 +5,7 @@ ghost use Rattle.slate_types.specs.declared.error.SlateDBError.{SlateDBError};
 ghost use Rattle.slate_types.specs.Keys.{is_before_end, is_refused, key_le};
 ghost use Rattle.slate_merge.specs.MergeStates.{IsWaiting, Stays};
 ghost use Rattle.slate_read.specs.RunIterators.{IsRunIterator};
-ghost use Rattle.slate_read.specs.SegmentIterators.{AreRuns, IsSegmentMerge, can_begin, meets, met_runs, segment_bound, segment_order, segment_refuses, segment_rest, segment_sound};
+ghost use Rattle.slate_read.specs.SegmentIterators.{AreRuns, IsSegmentMerge, can_begin, meets, met_runs, segment_bound, segment_order, segment_refuses, segment_rest, segment_sound, IsSegmentWithin};
 ghost use Rattle.slate_read.specs.SegmentLaws.{segment_more, segment_rising, segment_whole};
 ghost use Rattle.slate_read.specs.SourceBringing.{segments_begin, segments_seek, segments_take};
 ghost use Rattle.slate_read.specs.SstOptions.{CanFetch};
@@ -175,6 +175,8 @@ impl<S: Store, M: MergeOperator, T: BlockTransformer> RowEntryIterator<Env<'_, S
     ghost seeks = { segments_seek };
 
     ghost stays = { λ before _ _ at e after. Stays before.rows at e after.rows };
+
+    ghost within = { IsSegmentWithin };
 
     ghost unbegun = { λ it. IsWaiting it.rows.state };
 

@@ -1,6 +1,6 @@
 //! The rows of a stored table, as an iterator.
 ghost use Rattle.slate_read.specs.SstBringing.{walk_begins, walk_seeks, walk_takes};
-ghost use Rattle.slate_read.specs.TableWalk.{bound_in, IsSoundWalk, IsUnopened, refuses_in, rest_of, Stays};
+ghost use Rattle.slate_read.specs.TableWalk.{bound_in, IsSoundWalk, IsUnopened, refuses_in, rest_of, Stays, IsWalkWithin};
 ghost use Rattle.slate_read.specs.WalkLaws.{refuses_more, refuses_whole};
 
 use crate::table_state::{TableState, TableWalk};
@@ -31,6 +31,8 @@ impl<S: Store, M: MergeOperator, T: BlockTransformer> RowEntryIterator<Env<'_, S
     ghost seeks = { walk_seeks };
 
     ghost stays = { λ before _ _ at e after. Stays before at e after };
+
+    ghost within = { IsWalkWithin };
 
     ghost unbegun = { λ it. IsUnopened it.state };
 

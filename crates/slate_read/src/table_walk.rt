@@ -1,5 +1,5 @@
 //! The rows of a stored table, block by block.
-ghost use Rattle.std.specs.Prelude.{◌≡◌, ◌⊎◌, ◌<◌, ◌≤◌, ◌+◌, ◌-◌, ◌*◌, ◌++◌, ℕ, List, Option, option_to_list, drop, Some, None, Ok, Err, length, IfOk, IfErr, IsSome, OnOk, OnErr, true, false};
+ghost use Rattle.std.specs.Prelude.{◌≡◌, ◌⊎◌, ◌<◌, ◌≤◌, ◌+◌, ◌-◌, ◌*◌, ◌++◌, ℕ, List, Option, option_to_list, drop, Some, None, Ok, Err, length, Contains, IfOk, IfErr, IsSome, OnOk, OnErr, true, false};
 ghost use Rattle.slate_types.specs.declared.error.SlateDBError.{SlateDBError};
 ghost use Rattle.slate_types.specs.Keys.{is_refused, key_lt};
 ghost use Rattle.slate_types.specs.Partitions.{CanHold, covering_end, covering_start};
@@ -10,7 +10,7 @@ ghost use Rattle.slate_table.specs.IndexReading.{index_keys};
 ghost use Rattle.slate_table.specs.IndexValue.{entries_of};
 ghost use Rattle.slate_types.specs.Outside.{IsStill, OnlyReads};
 ghost use Rattle.slate_types.specs.Refusing.{IsDamage};
-ghost use Rattle.slate_types.specs.World.{Made};
+ghost use Rattle.slate_types.specs.World.{Made, ReadsAt};
 ghost use Rattle.slate_types.proofs.Moves.{Moves};
 ghost use Rattle.slate_merge.specs.Answering.{IsFaultOr};
 ghost use Rattle.slate_merge.specs.NoMoreRows.{AddsNoneByCall, HandsAwayByCall};
@@ -144,6 +144,7 @@ impl Cursor {
         ensures fewer { OnOk result (self.new.stop - self.new.first + 1 ≡ self.old.stop - self.old.first) }
         ensures small { OnOk result (reads_in self.new.rows ≤ max_reads) }
         ensures adds { let reach = ⟦<EnvOf<S, M, T> as Outside>⟧.reach in OnOk result (AddsNoneByCall (brings_behind table.now order) (refuses_behind table.now order) (reach env.old) (reach env.new) self.old self.new) }
+        ensures within { let reach = ⟦<EnvOf<S, M, T> as Outside>⟧.reach in (paths : List (List ℕ)) → Contains paths (path_in table.now) → ReadsAt paths (reach env.old) (reach env.new) }
         ensures reads { let reach = ⟦<EnvOf<S, M, T> as Outside>⟧.reach in OnlyReads (reach env.old) (reach env.new) }
         ensures counts { let reach = ⟦<EnvOf<S, M, T> as Outside>⟧.reach in
             IsStill (reach env.old).faults (reach env.new).faults result }
@@ -167,6 +168,7 @@ impl Cursor {
         ensures smaller { IfOk result (λ answer. IsSome answer → bound_behind self.new < bound_behind self.old) }
         ensures no_larger { OnOk result (bound_behind self.new ≤ bound_behind self.old) }
         ensures hands { let reach = ⟦<EnvOf<S, M, T> as Outside>⟧.reach in IfOk result (λ answer. HandsAwayByCall (brings_behind table.now order) (refuses_behind table.now order) (reach env.old) (reach env.new) self.old answer self.new) }
+        ensures within { let reach = ⟦<EnvOf<S, M, T> as Outside>⟧.reach in (paths : List (List ℕ)) → Contains paths (path_in table.now) → ReadsAt paths (reach env.old) (reach env.new) }
         ensures reads { let reach = ⟦<EnvOf<S, M, T> as Outside>⟧.reach in OnlyReads (reach env.old) (reach env.new) }
         ensures counts { let reach = ⟦<EnvOf<S, M, T> as Outside>⟧.reach in
             IsStill (reach env.old).faults (reach env.new).faults result }
@@ -247,6 +249,7 @@ impl Cursor {
         ensures cause { let reach = ⟦<EnvOf<S, M, T> as Outside>⟧.reach in IfErr result (λ e. IsFaultOr (refuses_behind table.now order) (reach env.old) (reach env.new) self.old (Some key.now) e) }
         ensures no_larger { OnOk result (bound_behind self.new ≤ bound_behind self.old) }
         ensures adds { let reach = ⟦<EnvOf<S, M, T> as Outside>⟧.reach in OnOk result (AddsNoneByCall (brings_behind table.now order) (refuses_behind table.now order) (reach env.old) (reach env.new) self.old self.new) }
+        ensures within { let reach = ⟦<EnvOf<S, M, T> as Outside>⟧.reach in (paths : List (List ℕ)) → Contains paths (path_in table.now) → ReadsAt paths (reach env.old) (reach env.new) }
         ensures reads { let reach = ⟦<EnvOf<S, M, T> as Outside>⟧.reach in OnlyReads (reach env.old) (reach env.new) }
         ensures counts { let reach = ⟦<EnvOf<S, M, T> as Outside>⟧.reach in
             IsStill (reach env.old).faults (reach env.new).faults result }
@@ -276,6 +279,7 @@ impl Cursor {
         ensures cause { let reach = ⟦<EnvOf<S, M, T> as Outside>⟧.reach in IfErr result (λ e. IsFaultOr (refuses_behind table.now order) (reach env.old) (reach env.new) self.old (Some key.now) e) }
         ensures no_larger { OnOk result (bound_behind self.new ≤ bound_behind self.old) }
         ensures adds { let reach = ⟦<EnvOf<S, M, T> as Outside>⟧.reach in OnOk result (AddsNoneByCall (brings_behind table.now order) (refuses_behind table.now order) (reach env.old) (reach env.new) self.old self.new) }
+        ensures within { let reach = ⟦<EnvOf<S, M, T> as Outside>⟧.reach in (paths : List (List ℕ)) → Contains paths (path_in table.now) → ReadsAt paths (reach env.old) (reach env.new) }
         ensures reads { let reach = ⟦<EnvOf<S, M, T> as Outside>⟧.reach in OnlyReads (reach env.old) (reach env.new) }
         ensures counts { let reach = ⟦<EnvOf<S, M, T> as Outside>⟧.reach in
             IsStill (reach env.old).faults (reach env.new).faults result }
@@ -297,6 +301,7 @@ pub(crate) fn open_index<S: Store, M: MergeOperator, T: BlockTransformer>(
     ensures found { let reach = ⟦<EnvOf<S, M, T> as Outside>⟧.reach in IfOk result (λ index. Made (reach env.old) (reach env.new) (λ reads. IsIndexed (reach env.old).meaning table.now reads (entries_of index))) }
     ensures few { IfOk result (λ index. length (entries_of index) ≤ max_blocks) }
     ensures cause { let reach = ⟦<EnvOf<S, M, T> as Outside>⟧.reach in IfErr result (λ e. IsFaultOr refuses_index (reach env.old) (reach env.new) table.now None e) }
+    ensures within { let reach = ⟦<EnvOf<S, M, T> as Outside>⟧.reach in (paths : List (List ℕ)) → Contains paths (path_in table.now) → ReadsAt paths (reach env.old) (reach env.new) }
     ensures reads { let reach = ⟦<EnvOf<S, M, T> as Outside>⟧.reach in OnlyReads (reach env.old) (reach env.new) }
     ensures counts { let reach = ⟦<EnvOf<S, M, T> as Outside>⟧.reach in
         IsStill (reach env.old).faults (reach env.new).faults result }

@@ -1,5 +1,5 @@
 -- What the opening of a transaction's scan answers, and what its steps leave.
-use Rattle.std.proofs.Common.{inl, inr, ◌≡◌, ◌⊎◌, ℕ, ◌-◌, ◌<◌, Bool, true, false, List, [], ◌∷◌, ◌++◌, drop, length, Some, None, Option, refl, sym, ap, subst, ◌∙◌}
+use Rattle.std.proofs.Common.{inl, inr, ◌≡◌, ◌⊎◌, ℕ, ◌-◌, ◌<◌, Bool, true, false, List, [], ◌∷◌, ◌++◌, drop, length, map, Some, None, Option, refl, sym, ap, subst, ◌∙◌}
 use Rattle.std.specs.Prelude.{Result, Ok, Err, IfOk, IfErr, IsOkUnless, OnErr, OnOk, count_by, if◌then◌else◌, nat_eq, slice_get, slice_index}
 use Rattle.std.specs.List.{starts_with}
 use Rattle.std.specs.declared.ops.Bound.{Bound}
@@ -20,6 +20,7 @@ use Rattle.slate_types.specs.World.{World}
 use Rattle.slate_types.proofs.Reaching.{reads_none}
 use Rattle.slate_filter.specs.Policy.{Policy}
 use Rattle.slate_mem.specs.Batch.{Ops}
+use Rattle.slate_read.specs.TableWalk.{path_in}
 use Rattle.slate_txn.specs.declared.event.Event.{Event}
 use Rattle.slate_txn.specs.declared.event.TranscriptStep.{TranscriptStep}
 use Rattle.slate_txn.specs.declared.event.TranscriptStep.TheVariants as steps
@@ -40,9 +41,10 @@ use Rattle.slate_db.specs.OpenScans.{HasRows}
 use Rattle.slate_db.specs.Prefixes.{asked_prefix}
 use Rattle.slate_db.specs.RangeShares.{IsOpened, IsReaderOf}
 use Rattle.slate_db.specs.Scanned.{HasOwn}
-use Rattle.slate_db.specs.Scans.{IsScanOf, IsWorldOf, Leaves, LeavesIn, id_of, number_of, scan_of}
+use Rattle.slate_db.specs.Scans.{IsScanOf, IsScanWithin, IsWorldOf, Leaves, LeavesIn, OpensAlone, id_of, number_of, scan_of}
 use Rattle.slate_db.proofs.BeginsLaws.{begins_in}
 use Rattle.slate_db.proofs.ScanNotes.{get_within}
+use Rattle.slate_db.proofs.ScanWithin.{within_as}
 use Rattle.slate_shared.specs.KeyReads.{IsAnsweredBy, IsCoreOf}
 use Rattle.slate_shared.specs.Passes.{Opened}
 use Rattle.slate_shared.specs.Scans.{IsLeftOf, IsOpening, IsScanOpened, rows_of_range, rows_in, noted_scan, sought_to, noted_next}
@@ -83,7 +85,7 @@ module _ (o : Options) (m : Meaning) (policies : List Policy) (query : Option Fi
       fault d (inr (c, core, io)) = io.undamaged core.above_floor (answered_core o m policies old n.seen a b same c core d)
 
       by : ((no_rows e ≡ Err OutOfMemory) × quiet) ⊎ ((c : CoreModel) × IsCoreOf o m old n.seen c × IsOpened policies query a b c old.tx.begin old.tx.ops range order (Err e)) →
-          ((no_scan e ≡ Err OutOfMemory) × quiet) ⊎ ((c : CoreModel) × IsCoreOf o m old n.seen c × ((no_scan e ≡ Err OutOfMemory) ⊎ IsOpened policies query a b c old.tx.begin old.tx.ops range order (Err e)))
+          ((no_scan e ≡ Err OutOfMemory) × quiet) ⊎ ((c : CoreModel) × IsCoreOf o m old n.seen c × (((no_scan e ≡ Err OutOfMemory) × OpensAlone policies query a b c) ⊎ IsOpened policies query a b c old.tx.begin old.tx.ops range order (Err e)))
       by (inl out) = let same_error : e ≡ OutOfMemory = cc out.0 in inl (ap (λ (d : SlateDBError). Err d) same_error, out.1)
       by (inr (c, core, io)) = inr (c, core, inr io)
 
@@ -108,9 +110,9 @@ module _ (o : Options) (m : Meaning) (policies : List Policy) (query : Option Fi
     }))
       where
         by : ((Ok it ≡ Err OutOfMemory) × quiet) ⊎ ((c : CoreModel) × IsCoreOf o m old n.seen c × IsOpened policies query a b c old.tx.begin old.tx.ops range order (Ok it)) →
-            ((no_scan OutOfMemory ≡ Err OutOfMemory) × quiet) ⊎ ((c : CoreModel) × IsCoreOf o m old n.seen c × ((no_scan OutOfMemory ≡ Err OutOfMemory) ⊎ IsOpened policies query a b c old.tx.begin old.tx.ops range order (Err OutOfMemory)))
+            ((no_scan OutOfMemory ≡ Err OutOfMemory) × quiet) ⊎ ((c : CoreModel) × IsCoreOf o m old n.seen c × (((no_scan OutOfMemory ≡ Err OutOfMemory) × OpensAlone policies query a b c) ⊎ IsOpened policies query a b c old.tx.begin old.tx.ops range order (Err OutOfMemory)))
         by (inl out) = cc out.0
-        by (inr (c, core, io)) = inr (c, core, inl refl)
+        by (inr (c, core, io)) = inr (c, core, inl (refl, within_as policies query a b a.meaning c (λ left. IsScanWithin it (map path_in left)) (λ left. Unit {0}) (λ left h. tt) io.within))
 
     module _ (x : TxnIterator) (noted : z ≡ record n { tx = noted_scan order it.range n.tx }) (named : id_of x ≡ n.id) (number : number_of x ≡ count_by is_scan n.tx.transcript) (rows : scan_of x ≡ it) where
       longer : n.seen ≡ z.seen
@@ -156,7 +158,7 @@ module _ (o : Options) (m : Meaning) (policies : List Policy) (query : Option Fi
               (λ i. (same i, (core.settings i, (commits i, sym rows i)))) (io.opened core.above_floor (answered_core o m policies old z.seen a b same c core d))
 
           by : ((Ok it ≡ Err OutOfMemory) × quiet) ⊎ ((c : CoreModel) × IsCoreOf o m old n.seen c × IsOpened policies query a b c old.tx.begin old.tx.ops range order (Ok it)) →
-              ((Ok x ≡ Err OutOfMemory) × quiet) ⊎ ((c : CoreModel) × IsCoreOf o m old z.seen c × ((Ok x ≡ Err OutOfMemory) ⊎ IsOpened policies query a b c old.tx.begin old.tx.ops range order (rows_in (Ok x))))
+              ((Ok x ≡ Err OutOfMemory) × quiet) ⊎ ((c : CoreModel) × IsCoreOf o m old z.seen c × (((Ok x ≡ Err OutOfMemory) × OpensAlone policies query a b c) ⊎ IsOpened policies query a b c old.tx.begin old.tx.ops range order (rows_in (Ok x))))
           by (inl out) = cc out.0
           by (inr (c, core, io)) = inr (
             c,

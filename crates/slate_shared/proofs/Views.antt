@@ -42,6 +42,7 @@ use Rattle.slate_db.specs.Readable.{IsAnswered, decides_own}
 use Rattle.slate_db.specs.Scanned.{HasOwn}
 use Rattle.slate_db.specs.Scans.{IsWorldOf, Leaves}
 use Rattle.slate_db.specs.Shown.{Asking}
+use Rattle.slate_db.proofs.ScanWithin.{none_within}
 use Rattle.slate_db.proofs.UnderKeys.{read_on, read_refused, read_under, seen_refused}
 use Rattle.slate_shared.specs.KeyReads.{IsAnsweredBy, IsCoreOf}
 use Rattle.slate_shared.specs.Passes.{Opened}
@@ -204,12 +205,21 @@ pub get_memory : (o : Options) (m : Meaning) (t : Opened) (seen : List Event) (a
     IsViewGet o m by k t seen c a a r
 get_memory o m t seen a same c v is k by r out = view_err o m t seen a a same c v is k by OutOfMemory r out (seen_refused by a c k v.begin [] (Err OutOfMemory) refl)
 
-pub scan_memory : (o : Options) (m : Meaning) (t : Opened) (seen : List Event) (a : Reach) (c : CoreModel) (policies : List Policy) (query : Option FilterQuery) (range : BytesRange) (order : IterationOrder) (r : Result DbIterator SlateDBError) → r ≡ Err OutOfMemory →
+pub scan_memory : (o : Options) (m : Meaning) (t : Opened) (seen : List Event) (a : Reach) (c : CoreModel) (v : ViewModel) → IsViewed o m t seen c v → (policies : List Policy) (query : Option FilterQuery) (range : BytesRange) (order : IterationOrder) (r : Result DbIterator SlateDBError) → r ≡ Err OutOfMemory →
     IsViewScan o m policies query t seen c range order a a r
-scan_memory o m t seen a c policies query range order r out = subst (IsViewScan o m policies query t seen c range order a a) (sym out) (record {
+scan_memory o m t seen a c v is policies query range order r out = subst (IsViewScan o m policies query t seen c range order a a) (sym out) (record {
   leaves = λ d. tt;
   undamaged = λ d. tt;
-  opened = record { opened = λ above d. tt; checked = λ above os d. tt; later = tt; hands = tt; undamaged = λ above d. tt; cause = inl tt; still = refl };
+  opened = record {
+    opened = λ above d. tt;
+    checked = λ above os d. tt;
+    later = tt;
+    hands = tt;
+    within = none_within policies query a c is.taken.unseen (λ left. Unit {0}) is.taken.whole tt;
+    undamaged = λ above d. tt;
+    cause = inl tt;
+    still = refl;
+  };
 })
 
 -- the rows of no operations

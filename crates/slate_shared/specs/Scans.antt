@@ -30,7 +30,7 @@ use Rattle.slate_db.specs.declared.scan.TxnIterator.{TxnIterator}
 use Rattle.slate_db.specs.Meaning.{Meaning, rules_of}
 use Rattle.slate_db.specs.Model.{CoreModel}
 use Rattle.slate_db.specs.RangeShares.{IsOpened}
-use Rattle.slate_db.specs.Scans.{IsScanOf, LeavesIn, number_of, scan_of}
+use Rattle.slate_db.specs.Scans.{IsScanOf, LeavesIn, OpensAlone, number_of, scan_of}
 use Rattle.slate_shared.specs.KeyReads.{IsAnsweredBy, IsCoreOf}
 use Rattle.slate_shared.specs.Passes.{Opened}
 
@@ -72,6 +72,6 @@ pub record IsScanOpened (o : Options) (m : Meaning) (policies : List Policy) (qu
   pub left : IfOk result (λ it. IsLeftOf o m new it (rows_of_range o m new.seen old.tx order range))
   pub undamaged : IsAnsweredBy policies m new.seen old.tx.ops before after → IfErr result (IsFault before after)
   pub vouched : IsVouched (rules_of (settings_of o) m) (replay new.seen).commits old.tx → IsVouched (rules_of (settings_of o) m) (replay new.seen).commits new.tx
-  pub opened : ((result ≡ Err OutOfMemory) × quiet) ⊎ ((c : CoreModel) × IsCoreOf o m old new.seen c × ((result ≡ Err OutOfMemory) ⊎ IsOpened policies query before after c old.tx.begin old.tx.ops range order (rows_in result)))
+  pub opened : ((result ≡ Err OutOfMemory) × quiet) ⊎ ((c : CoreModel) × IsCoreOf o m old new.seen c × (((result ≡ Err OutOfMemory) × OpensAlone policies query before after c) ⊎ IsOpened policies query before after c old.tx.begin old.tx.ops range order (rows_in result)))
   pub reads : OnlyReads before after
   pub still : IsStill before.faults after.faults result

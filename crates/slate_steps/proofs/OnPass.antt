@@ -48,7 +48,7 @@ use Rattle.slate_db.specs.Model.{CoreModel}
 use Rattle.slate_db.specs.RangeShares.{IsOpened, LeavesSeen}
 use Rattle.slate_db.specs.Readable.{decides_own, keeps_merge}
 use Rattle.slate_db.specs.Readable as gets
-use Rattle.slate_db.specs.Scans.{IsScanOf, IsWorldOf, Leaves, LeavesIn, ScanRefuses, number_of, scan_of}
+use Rattle.slate_db.specs.Scans.{IsScanOf, IsWorldOf, Leaves, LeavesIn, OpensAlone, ScanRefuses, number_of, scan_of}
 use Rattle.slate_db.specs.Segmented.{recorded_by}
 use Rattle.slate_db.specs.Shown.{Asking}
 use Rattle.slate_db.proofs.Readers.{reads_open}
@@ -197,10 +197,10 @@ module _ (o : Options) (m : Meaning) (policies : List Policy) (query : Option Fi
           (λ i. (same i, (core.settings i, commits i))) left
 
       leaves : IsUnslipped m s.os before after → (◌≡◌ {A = Result TxnIterator SlateDBError} (Ok it) (Err OutOfMemory) × quiet) ⊎
-          ((c : CoreModel) × IsCoreOf o m old new.seen c × (◌≡◌ {A = Result TxnIterator SlateDBError} (Ok it) (Err OutOfMemory) ⊎ IsOpened policies query before after c old.tx.begin old.tx.ops range order (rows_in (Ok it)))) →
+          ((c : CoreModel) × IsCoreOf o m old new.seen c × ((◌≡◌ {A = Result TxnIterator SlateDBError} (Ok it) (Err OutOfMemory) × OpensAlone policies query before after c) ⊎ IsOpened policies query before after c old.tx.begin old.tx.ops range order (rows_in (Ok it)))) →
           LeavesIn s.os m it (rows_of_range o m new.seen old.tx order range)
       leaves u (inl nothing) = cc nothing.0
-      leaves u (inr (c, core, inl is)) = cc is
+      leaves u (inr (c, core, inl is)) = cc is.0
       leaves u (inr (c, core, inr is)) = on (is.checked core.above_floor s.os (readable_core o m policies old new.seen before after same c core (attempt_plain o from level ts old a) s) u.known u.tells)
         where
           on : LeavesSeen s.os before.meaning c old.tx.begin old.tx.ops range order (scan_of it) ⊎ SlipsFrom before.meaning.encode s.os before.acts after.acts → LeavesIn s.os m it (rows_of_range o m new.seen old.tx order range)
@@ -226,10 +226,10 @@ module _ (o : Options) (m : Meaning) (policies : List Policy) (query : Option Fi
   scan_since (Ok it) h from level ts a meant = by h.opened
     where
       by : (◌≡◌ {A = Result TxnIterator SlateDBError} (Ok it) (Err OutOfMemory) × quiet) ⊎
-          ((c : CoreModel) × IsCoreOf o m old new.seen c × (◌≡◌ {A = Result TxnIterator SlateDBError} (Ok it) (Err OutOfMemory) ⊎ IsOpened policies query before after c old.tx.begin old.tx.ops range order (rows_in (Ok it)))) →
+          ((c : CoreModel) × IsCoreOf o m old new.seen c × ((◌≡◌ {A = Result TxnIterator SlateDBError} (Ok it) (Err OutOfMemory) × OpensAlone policies query before after c) ⊎ IsOpened policies query before after c old.tx.begin old.tx.ops range order (rows_in (Ok it)))) →
           IsScanSinceOn o before after new.seen it
       by (inl nothing) = since_memory it nothing.0
-      by (inr (c, core, inl is)) = since_memory it is
+      by (inr (c, core, inl is)) = since_memory it is.0
       by (inr (c, core, inr is)) = since_core it c (read_core o m before.meaning old new.seen c meant (attempt_plain o from level ts old a) core) is
 
   pub scan_cause : (r : Result TxnIterator SlateDBError) → Opens r → (from : List Event) (level : IsolationLevel) (ts : List TranscriptStep) → IsAttempt o from level ts old → m ≡ before.meaning → IfErr r (IsReadErrorOn o policies before after new.seen)
@@ -240,10 +240,10 @@ module _ (o : Options) (m : Meaning) (policies : List Policy) (query : Option Fi
       memory is = let out : e ≡ OutOfMemory = cc is in inl (subst (IsCounted before.faults after.faults) (sym out) tt)
 
       by : (◌≡◌ {A = Result TxnIterator SlateDBError} (Err e) (Err OutOfMemory) × quiet) ⊎
-          ((c : CoreModel) × IsCoreOf o m old new.seen c × (◌≡◌ {A = Result TxnIterator SlateDBError} (Err e) (Err OutOfMemory) ⊎ IsOpened policies query before after c old.tx.begin old.tx.ops range order (rows_in (Err e)))) →
+          ((c : CoreModel) × IsCoreOf o m old new.seen c × ((◌≡◌ {A = Result TxnIterator SlateDBError} (Err e) (Err OutOfMemory) × OpensAlone policies query before after c) ⊎ IsOpened policies query before after c old.tx.begin old.tx.ops range order (rows_in (Err e)))) →
           IsReadErrorOn o policies before after new.seen e
       by (inl nothing) = memory nothing.0
-      by (inr (c, core, inl is)) = memory is
+      by (inr (c, core, inl is)) = memory is.0
       by (inr (c, core, inr is)) = inr (c, read_core o m before.meaning old new.seen c meant (attempt_plain o from level ts old a) core, scan_error {A = TxnIterator} (Err e) policies query before after c is.cause)
 
 -- ---- a next

@@ -43,3 +43,5 @@ pub mod FilteredLaws
 mod FiltersReads
 mod FilterAnswers
 mod FiltersCalls
+mod ChangedBytes
+pub mod ChangedSections

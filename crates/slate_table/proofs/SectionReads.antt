@@ -25,7 +25,7 @@ bit_below c lt = by (eqb (c % 2) 1)
     by true = xor_lt 32 (c / 2) 0xedb88320 (omega arith) (omega arith)
     by false = omega arith
 
-bits_below : (n c : ℕ) → c < 2 ^ 32 → crc_bits n c < 2 ^ 32
+pub bits_below : (n c : ℕ) → c < 2 ^ 32 → crc_bits n c < 2 ^ 32
 bits_below zero c lt = lt
 bits_below (suc n) c lt = bits_below n (crc_bit c) (bit_below c lt)
 

@@ -7,7 +7,7 @@ use Rattle.std.proofs.lemmas.List.Elements.{Contains-append_left, Contains-appen
 use Rattle.std.proofs.lemmas.Option.{same_Some}
 use Rattle.slate_types.specs.declared.error.SlateDBError.{SlateDBError}
 use Rattle.slate_types.specs.Outside.{Objects, Act, object_at, part_of, no_reach, IsLater, OnlyReads, PutsNothing, Reach}
-use Rattle.slate_types.specs.World.{Kept, World, nothing, IsReadAct, AnswersObjects, AnswersWorld, IsCall, Made, HoldsWorld, Honest, Answered, Sees, IsSlip, Slips, Checks}
+use Rattle.slate_types.specs.World.{Kept, World, nothing, IsReadAct, AnswersObjects, AnswersWorld, IsCall, IsReadAt, Made, ReadsAt, HoldsWorld, Honest, Answered, Sees, IsSlip, Slips, Checks}
 use Rattle.slate_types.specs.Refusing.{Refusals, NoMore, NoMoreBut}
 use Rattle.slate_types.proofs.Lists.{AllByRecursion_append, AllByRecursion_front, AllByRecursion_behind}
 
@@ -30,6 +30,18 @@ call_both a b c r s f l = record {
   each = AllByRecursion_append IsReadAct r s f.each l.each;
   answered = λ os is. AllByRecursion_append (AnswersObjects os) r s (f.answered os is) (l.answered os (f.objects ∙ is));
 }
+
+-- ---- where a call reads
+
+pub reads_at_none : (paths : List (List ℕ)) (a : Reach) → ReadsAt paths a a
+reads_at_none paths a = ([], call_none a, tt)
+
+-- nothing is read
+pub reads_at_call : (paths : List (List ℕ)) (a b : Reach) → IsCall a b [] → ReadsAt paths a b
+reads_at_call paths a b call = ([], call, tt)
+
+pub reads_at_then : (paths : List (List ℕ)) (a b c : Reach) → ReadsAt paths a b → ReadsAt paths b c → ReadsAt paths a c
+reads_at_then paths a b c f l = (f.0 ++ l.0, call_both a b c f.0 l.0 f.1 l.1, AllByRecursion_append (IsReadAt paths) f.0 l.0 f.2 l.2)
 
 -- ---- worlds
 

@@ -7,6 +7,7 @@
 --     AnswersObjects os act, AnswersWorld w act      a read was answered by these objects, or by the object that the world has
 --     IsCall before after reads      a call made these reads, and nothing else; of a store that tells its objects each was answered by them
 --     Made before after means      a call made some reads, and they mean this
+--     IsReadAt paths act, ReadsAt paths before after      a read is of an object at one of these paths; so is each read of a call
 --     HoldsWorld os w      the objects hold those of the world
 --     Sees w before after      a call met the world: the store tells that it holds these objects, or that it answered each read by them
 --     IsSlip w act      a read returned a section that isn't the world's, and whose checksum fits
@@ -59,6 +60,13 @@ pub record IsCall (before after : Reach) (reads : List Act) : Type 0 where
 
 abbrev pub Made : Reach → Reach → (List Act → Type 0) → Type 0
 Made before after means = (reads : List Act) × IsCall before after reads × means reads
+
+abbrev pub IsReadAt : List (List ℕ) → Act → Type 0
+IsReadAt paths (Act.read path start len answer) = Contains paths path
+IsReadAt paths _ = Unit {0}
+
+abbrev pub ReadsAt : List (List ℕ) → Reach → Reach → Type 0
+ReadsAt paths before after = Made before after (λ reads. AllByRecursion (IsReadAt paths) reads)
 
 -- ---- what a call met
 

@@ -8,7 +8,7 @@ ghost use Rattle.slate_types.specs.Iteration.{comes_before, drop_before, IsInOrd
 ghost use Rattle.slate_types.specs.Outside.{Act, Meaning, Reach, no_reach, IsFault, IsStill, OnlyReads};
 ghost use Rattle.slate_types.specs.Refusing.{IsDamage, IsReady, NoMore, NoMoreBut};
 ghost use Rattle.slate_types.specs.Steps.{TakesAll};
-ghost use Rattle.slate_types.specs.World.{World, AnswersWorld, Checks, Made, Sees};
+ghost use Rattle.slate_types.specs.World.{World, AnswersWorld, Checks, Made, ReadsAt, Sees};
 
 use crate::bytes_range::is_before;
 use crate::error::SlateDBError;
@@ -53,7 +53,8 @@ impl Outside for () {
 /// The rest is that of a world: of the objects that the store is taken to hold. It is what comes where the meaning is sound in
 /// that world and each call met it, so a caller fixes the world once, and other objects may come and go meanwhile. A call that
 /// answers `Ok` over a store that tells its reads met the world, or what it read slipped through a checksum. What a call
-/// reads and does else, each type says by `begins`, `takes`, `seeks` and `stays`, which hold always.
+/// reads and does else, each type says by `begins`, `takes`, `seeks` and `stays`, which hold always, and in which objects it
+/// reads, by `within`.
 ///
 /// After a refusal an iterator stands where it stood, or it answers the same refusal again: each type says which. So a refusal
 /// adds no cause of a later one but itself.
@@ -86,6 +87,9 @@ pub trait RowEntryIterator<E: Outside>: Drop {
     /// calls.
     ghost stays: { Self → Meaning → List Act → Option (List ℕ) → SlateDBError → Self → Type 0 };
 
+    /// That it reads objects at these paths alone.
+    ghost within: { Self → List (List ℕ) → Type 0 };
+
     /// That `next` waits for `init`, and answers that alone.
     ghost unbegun: { Self → Type 0 };
 
@@ -103,6 +107,7 @@ pub trait RowEntryIterator<E: Outside>: Drop {
         ensures cause { IfErr result (λ e. Made (E.reach env.old) (E.reach env.new) (λ reads. (IsFault (E.reach env.old) (E.reach env.new) e ⊎ refuses self.old (E.reach env.old).meaning reads None e) × stays self.old (E.reach env.old).meaning reads None e self.new × NoMoreBut e (refuses self.old (E.reach env.old).meaning) reads (refuses self.new (E.reach env.old).meaning))) }
         ensures no_larger { bound self.new ≤ bound self.old }
         ensures order { order self.new ≡ order self.old }
+        ensures within { (paths : List (List ℕ)) → within self.old paths → ReadsAt paths (E.reach env.old) (E.reach env.new) × within self.new paths }
         ensures reads { OnlyReads (E.reach env.old) (E.reach env.new) }
         ensures counts { IsStill (E.reach env.old).faults (E.reach env.new).faults result };
 
@@ -118,6 +123,7 @@ pub trait RowEntryIterator<E: Outside>: Drop {
         ensures smaller { IfOk result (λ answer. IsSome answer → bound self.new < bound self.old) }
         ensures no_larger { bound self.new ≤ bound self.old }
         ensures order { order self.new ≡ order self.old }
+        ensures within { (paths : List (List ℕ)) → within self.old paths → ReadsAt paths (E.reach env.old) (E.reach env.new) × within self.new paths }
         ensures reads { OnlyReads (E.reach env.old) (E.reach env.new) }
         ensures counts { IsStill (E.reach env.old).faults (E.reach env.new).faults result };
 
@@ -130,6 +136,7 @@ pub trait RowEntryIterator<E: Outside>: Drop {
         ensures cause { IfErr result (λ e. Made (E.reach env.old) (E.reach env.new) (λ reads. (IsFault (E.reach env.old) (E.reach env.new) e ⊎ refuses self.old (E.reach env.old).meaning reads (Some key.now) e) × stays self.old (E.reach env.old).meaning reads (Some key.now) e self.new × NoMoreBut e (refuses self.old (E.reach env.old).meaning) reads (refuses self.new (E.reach env.old).meaning))) }
         ensures no_larger { bound self.new ≤ bound self.old }
         ensures order { order self.new ≡ order self.old }
+        ensures within { (paths : List (List ℕ)) → within self.old paths → ReadsAt paths (E.reach env.old) (E.reach env.new) × within self.new paths }
         ensures reads { OnlyReads (E.reach env.old) (E.reach env.new) }
         ensures counts { IsStill (E.reach env.old).faults (E.reach env.new).faults result };
 

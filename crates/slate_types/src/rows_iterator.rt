@@ -74,6 +74,8 @@ impl<E: Outside> RowEntryIterator<E> for RowsIterator {
 
     ghost stays = { λ _ _ _ _ _ _. ⊥ };
 
+    ghost within = { λ _ _. Unit {0} };
+
     ghost unbegun = { λ _. ⊥ };
 
     ghost rising = { λ _ _ h. h };
@@ -86,17 +88,17 @@ impl<E: Outside> RowEntryIterator<E> for RowsIterator {
         self.order
     }
 
-    #[tactic(auto, using(crate::proofs::Reaching::reads_none))]
+    #[tactic(auto, using(crate::proofs::Reaching::reads_none, crate::proofs::Calls::reads_at_none))]
     fn init(&mut self, _alloc: Global, _env: &mut E) -> Result<(), SlateDBError> {
         Ok(())
     }
 
-    #[tactic(auto, using(crate::proofs::Reaching::reads_none))]
+    #[tactic(auto, using(crate::proofs::Reaching::reads_none, crate::proofs::Calls::reads_at_none))]
     fn next(&mut self, _alloc: Global, _env: &mut E) -> Result<Option<RowEntry>, SlateDBError> {
         Ok(self.rows.pop_front())
     }
 
-    #[tactic(auto, using(crate::proofs::Reaching::reads_none, crate::proofs::IterationLaws::drops_first, crate::proofs::IterationLaws::fewer_behind, crate::proofs::IterationLaws::drops_none, crate::proofs::IterationLaws::in_order_dropped))]
+    #[tactic(auto, using(crate::proofs::Reaching::reads_none, crate::proofs::Calls::reads_at_none, crate::proofs::IterationLaws::drops_first, crate::proofs::IterationLaws::fewer_behind, crate::proofs::IterationLaws::drops_none, crate::proofs::IterationLaws::in_order_dropped))]
     fn seek(&mut self, _alloc: Global, key: &[u8], _env: &mut E) -> Result<(), SlateDBError> {
         while self.begins_before(key) {
             self.drop_first();

@@ -1,4 +1,5 @@
 //! The reads of a core: gets, and scans.
+ghost use Rattle.slate_read.specs.TableWalk.{path_in};
 ghost use Rattle.std.specs.Prelude.{◌≡◌, ℕ, ◌≢◌, ◌⊎◌, ◌+◌, ◌-◌, ◌≤◌, ◌<◌, ◌∷◌, List, [], ◌++◌, IfOk, IfErr, IfSome, OnOk, OnErr, Err, IsSome, Option, None, Some, true, false, map, reverse, option_map, drop, nat_eq};
 ghost use Rattle.std.specs.List.{AllByRecursion, starts_with};
 ghost use Rattle.slate_types.specs.Config.{IsValid};
@@ -13,7 +14,7 @@ ghost use Rattle.slate_types.specs.Iteration.{drop_before};
 ghost use Rattle.slate_types.specs.Keys.{in_range, is_refused};
 ghost use Rattle.slate_types.specs.Outside.{Act, IsFault, IsStill, Objects, OnlyReads};
 ghost use Rattle.slate_types.specs.Refusing.{NoMore};
-ghost use Rattle.slate_types.specs.World.{World, Checks, IsCall, Made, Sees};
+ghost use Rattle.slate_types.specs.World.{World, Checks, IsCall, Made, Sees, ReadsAt};
 ghost use Rattle.slate_mem.specs.Lookup.{is_merge_among, newest_first};
 ghost use Rattle.slate_mem.specs.Table.{newest};
 ghost use Rattle.slate_merge.specs.NoMoreRows.{NoMoreRows};
@@ -38,7 +39,7 @@ ghost use Rattle.slate_db.specs.Readable.{IsAnswered, IsOwnRow, IsOwnRead, IsRea
 ghost use Rattle.slate_db.specs.Model.{Rows, at, memory};
 ghost use Rattle.slate_db.specs.Sound.{IsKept};
 ghost use Rattle.slate_db.specs.ScanFilters.{scan_query};
-ghost use Rattle.slate_db.specs.Scans.{AnswersAgain, HasLeft, IsFor, IsHandedByScan, IsOpenScan, IsOpeningError, IsRefusedByScan, IsRefusedScan, IsScanOf, IsUnrefused, IsWorldOf, Keeps, Leaves, LeavesIn, ScanHands, ScanRefuses, id_of, number_of, scan_of};
+ghost use Rattle.slate_db.specs.Scans.{AnswersAgain, HasLeft, IsFor, IsHandedByScan, IsOpenScan, IsOpeningError, IsRefusedByScan, IsRefusedScan, IsScanOf, IsUnrefused, IsWorldOf, Keeps, Leaves, LeavesIn, ScanHands, ScanRefuses, id_of, number_of, scan_of, IsScanWithin, OpensWithin};
 ghost use Rattle.slate_read.specs.SstOptions.{CanFetch};
 ghost use Rattle.slate_db.specs.Opened.{StayOpen};
 ghost use Rattle.slate_db.specs.Vouched.{IsVouchedFor};
@@ -314,6 +315,7 @@ impl Core {
         ensures cause { let reach = ⟦<EnvOf<S, M, T> as Outside>⟧.reach in IfErr result (IsOpeningError (map (λ p. meaning p) policies.now) (scan_query range how.prefix how.filter_context) (reach env.old) (reach env.new) self.now) }
         ensures range { IfOk result (λ it. it.range ≡ range) }
         ensures order { IfOk result (λ it. it.order ≡ how.order) }
+        ensures within { let reach = ⟦<EnvOf<S, M, T> as Outside>⟧.reach in Made (reach env.old) (reach env.new) (λ reads. OpensWithin (map (λ p. meaning p) policies.now) (scan_query range how.prefix how.filter_context) (reach env.old).meaning self.now reads (λ left. IfOk result (λ it. IsScanWithin it (map path_in left)))) }
         ensures reads { let reach = ⟦<EnvOf<S, M, T> as Outside>⟧.reach in OnlyReads (reach env.old) (reach env.new) }
         ensures still { let reach = ⟦<EnvOf<S, M, T> as Outside>⟧.reach in
             IsStill (reach env.old).faults (reach env.new).faults result }
@@ -393,6 +395,7 @@ impl Core {
         ensures same { OnErr result (self.new ≡ self.old) }
         ensures kept { (m : Meaning) → IsKept m self.old → IsKept m self.new }
         ensures settings { self.new.settings ≡ self.old.settings }
+        ensures within { let reach = ⟦<EnvOf<S, M, T> as Outside>⟧.reach in Made (reach env.old) (reach env.new) (λ reads. OpensWithin (map (λ p. meaning p) laws.now.policies.items) (scan_query range prefix options.now.filter_context) (reach env.old).meaning self.old reads (λ left. IfOk result (λ it. IsScanWithin (scan_of it) (map path_in left)))) }
         ensures reads { let reach = ⟦<EnvOf<S, M, T> as Outside>⟧.reach in OnlyReads (reach env.old) (reach env.new) }
         ensures still { let reach = ⟦<EnvOf<S, M, T> as Outside>⟧.reach in
             IsStill (reach env.old).faults (reach env.new).faults result }
@@ -447,6 +450,7 @@ impl Core {
         ensures same { OnErr result (self.new ≡ self.old) }
         ensures kept { (m : Meaning) → IsKept m self.old → IsKept m self.new }
         ensures settings { self.new.settings ≡ self.old.settings }
+        ensures within { let reach = ⟦<EnvOf<S, M, T> as Outside>⟧.reach in (paths : List (List ℕ)) → IsScanWithin (scan_of it.old) paths → ReadsAt paths (reach env.old) (reach env.new) × IsScanWithin (scan_of it.new) paths }
         ensures reads { let reach = ⟦<EnvOf<S, M, T> as Outside>⟧.reach in OnlyReads (reach env.old) (reach env.new) }
         ensures still { let reach = ⟦<EnvOf<S, M, T> as Outside>⟧.reach in
             IsStill (reach env.old).faults (reach env.new).faults result }
@@ -492,6 +496,7 @@ impl Core {
         ensures same { OnErr result (self.new ≡ self.old) }
         ensures kept { (m : Meaning) → IsKept m self.old → IsKept m self.new }
         ensures settings { self.new.settings ≡ self.old.settings }
+        ensures within { let reach = ⟦<EnvOf<S, M, T> as Outside>⟧.reach in (paths : List (List ℕ)) → IsScanWithin (scan_of it.old) paths → ReadsAt paths (reach env.old) (reach env.new) × IsScanWithin (scan_of it.new) paths }
         ensures reads { let reach = ⟦<EnvOf<S, M, T> as Outside>⟧.reach in OnlyReads (reach env.old) (reach env.new) }
         ensures still { let reach = ⟦<EnvOf<S, M, T> as Outside>⟧.reach in
             IsStill (reach env.old).faults (reach env.new).faults result }

@@ -1,6 +1,7 @@
-use Rattle.std.proofs.Common.{◌∷◌, List, Option, map, reverse, subst, sym, refl, ap}
+use Rattle.std.proofs.Common.{[], ◌∷◌, List, Option, map, reverse, subst, sym, refl, ap}
 use Rattle.std.proofs.lemmas.Result.{err_from_is_err_and, IfOk-from_err}
 use Rattle.slate_types.specs.declared.filter_policy.FilterQuery.{FilterQuery}
+use Rattle.slate_types.proofs.Calls.{call_none}
 use Rattle.slate_types.proofs.Exits.{err_exit}
 use Rattle.slate_types.proofs.Reaching.{reads_none}
 use Rattle.slate_mem.specs.Table.{MemTableModel}
@@ -20,7 +21,7 @@ runs_left-requires g c = subst (λ (q : Option FilterQuery). Covers q c.args.ran
 pub returns-in_err-query : goal.returns-in_err-query
 returns-in_err-query g c = record {
   sources = IfOk-from_err c.from_residual.result _ c.from_residual.ensures.0;
-  refused = err_exit c.from_residual.result _ c.from_residual.ensures.1 _ (fails_memory _ _ _ _ _ _ c.in_err-query.ensures.cause);
+  refused = err_exit c.from_residual.result _ c.from_residual.ensures.1 _ (fails_memory _ _ _ _ _ _ ([], call_none _, tt) c.in_err-query.ensures.cause);
   reads = reads_none _;
   still = refl;
 }
@@ -37,7 +38,7 @@ returns-in_err-left g c = record {
 pub returns-in_err-sources : goal.returns-in_err-sources
 returns-in_err-sources g c = record {
   sources = IfOk-from_err c.from_residual-in_err-sources.result _ c.from_residual-in_err-sources.ensures.0;
-  refused = err_exit c.from_residual-in_err-sources.result _ c.from_residual-in_err-sources.ensures.1 _ (fails_memory _ _ _ _ _ _ c.in_err-sources.ensures.cause);
+  refused = err_exit c.from_residual-in_err-sources.result _ c.from_residual-in_err-sources.ensures.1 _ (let asked = c.in_ok-left.ensures.left.let_in in fails_memory _ _ _ _ _ _ (asked.0, asked.1, asked.2.0) c.in_err-sources.ensures.cause);
   reads = c.runs_left.ensures.reads;
   still = ap (unblamed_by c.from_residual-in_err-sources.result) c.in_ok-left.ensures.still;
 }

@@ -4,7 +4,7 @@ use Rattle.slate_types.specs.declared.error.SlateDBError.TheVariants.{IteratorNo
 use Rattle.slate_types.specs.Outside.{Counts, unblamed}
 use Rattle.slate_store.specs.Reach.{reach_of}
 use Rattle.slate_db.specs.Scans.{MergedSources, merge_takes, source_refuses}
-use Rattle.slate_db.proofs.ScanMerges.{fresh_operable, fresh_rows, fresh_sound, fresh_waits, opened_brought, opened_folds, opened_later, opened_offers, opened_operable, opening_own, refusal_blamed}
+use Rattle.slate_db.proofs.ScanMerges.{fresh_operable, fresh_rows, fresh_sound, fresh_waits, fresh_within, opened_brought, opened_folds, opened_later, opened_offers, opened_operable, opening_own, refusal_blamed}
 use Rattle.slate_db.proofs.open_scan.merged.Goals as goal
 
 -- the counts by what is answered in place of a refusal
@@ -38,6 +38,7 @@ returns-in-Ok-init g c =
       brought = (e.begun.0, e.begun.1, opened_brought sources order merge made it new v m e.begun.0 e.ready e.begun.2.1);
       offered = (e.begun.0, e.begun.1, opened_offers sources order merge made it new v m e.begun.0 begun.3 begun.4);
       cause = tt;
+      within = λ paths h. e.within paths (fresh_within sources order merge made it new paths h);
       reads = e.reads;
       still = e.counts;
     }
@@ -55,6 +56,10 @@ returns-clause-cause g c =
     let cause = c.in-Err.ensures.cause in
     refusal_blamed source_refuses sources it.iterator.state (fresh_waits sources order merge made it new) a b c.in-Err.error c.refusal_of_opening.result c.refusal_of_opening.ensures.refusal cause.0 cause.1
     (opening_own sources order merge made it new (λ u k reads answer x. merge_takes u k reads answer x) (λ u x k reads answer t. t.0.0) c.init.new.self a b cause.0 c.in-Err.error cause.2.1 cause.2.0)
+
+pub returns-clause-within : goal.returns-clause-within
+returns-clause-within g c = λ paths h.
+    ((c.in-Err.ensures.within paths (fresh_within c.args.sources.items c.args.order c.new_with_order-merge.result c.new_with_order-merge.ensures.merge c.in-Ok.rows c.in-Ok.ensures.folding paths h)).0, tt)
 
 pub returns-clause-still : goal.returns-clause-still
 returns-clause-still g c = opening_still _ _ c.in-Err.error c.refusal_of_opening.result c.refusal_of_opening.ensures.waits c.in-Err.ensures.counts

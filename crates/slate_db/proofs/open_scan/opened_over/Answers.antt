@@ -35,7 +35,7 @@ returns-in_err-rows g c =
       opened = λ v id from st mine.
           rows_refused policies (scan_query c.args.range c.args.how.prefix c.args.how.filter_context) before middle after v c.args.range c.args.at c.args.how.order
           c.args.active.now.rows (map (λ (t : MemTableModel). t.rows) c.args.frozen.now) c.args.runs.now c.args.own c.in_ok-sources.sources.items c.asked_sources.ensures.reads c.merged.ensures.reads c.in_ok-sources.ensures.sources id from st mine
-          c.in_err-rows.field-0.0 c.from_residual-in_err-rows.result (p.1 ∙ ap (λ e. Err e) p.2) c.in_err-rows.ensures.cause (c.in_err-rows.ensures.still ∙ ap (unblamed c.in_err-rows.field-0.0) c.in_ok-sources.ensures.still);
+          c.in_err-rows.field-0.0 c.from_residual-in_err-rows.result (p.1 ∙ ap (λ e. Err e) p.2) c.in_err-rows.ensures.cause (λ paths h. (c.in_err-rows.ensures.within paths h).0) (c.in_err-rows.ensures.still ∙ ap (unblamed c.in_err-rows.field-0.0) c.in_ok-sources.ensures.still);
       range = IfOk-from_err c.from_residual-in_err-rows.result _ c.from_residual-in_err-rows.ensures.0;
       order = IfOk-from_err c.from_residual-in_err-rows.result _ c.from_residual-in_err-rows.ensures.0;
       reads = reads_then before middle after c.asked_sources.ensures.reads c.merged.ensures.reads;
@@ -54,7 +54,7 @@ returns g c =
       opened = λ v id from st mine.
           sources_open policies (scan_query c.args.range c.args.how.prefix c.args.how.filter_context) before middle after v c.args.range c.args.at c.args.how.order
           c.args.active.now.rows (map (λ (t : MemTableModel). t.rows) c.args.frozen.now) c.args.runs.now c.args.own c.in_ok-sources.sources.items c.asked_sources.ensures.reads c.merged.ensures.reads c.in_ok-sources.ensures.sources id from st mine
-          c.in_ok-rows.rows c.new.result made.state made.range made.order rows.going rows.sound rows.rows rows.operable rows.checked rows.later rows.brought rows.offered (rows.still ∙ c.in_ok-sources.ensures.still);
+          c.in_ok-rows.rows c.new.result made.state made.range made.order rows.going rows.sound rows.rows rows.operable rows.checked rows.later rows.brought rows.offered rows.within (rows.still ∙ c.in_ok-sources.ensures.still);
       range = made.range;
       order = made.order;
       reads = reads_then before middle after c.asked_sources.ensures.reads c.merged.ensures.reads;

@@ -1,11 +1,11 @@
 use Rattle.std.proofs.Common.{[], None, subst, refl}
 use Rattle.slate_types.specs.World.{Checks}
-use Rattle.slate_types.proofs.Calls.{call_none, checks_none}
+use Rattle.slate_types.proofs.Calls.{call_none, checks_none, reads_at_none}
 use Rattle.slate_types.proofs.Reaching.{reads_none}
 use Rattle.slate_store.specs.Reach.{reach_of}
 use Rattle.slate_db.specs.declared.scan.ScanState.{ScanState}
 use Rattle.slate_db.specs.Scans.{IsOperableIn}
-use Rattle.slate_db.proofs.ScanStates.{bases_walk, cause_walk, checked_walk, hands_walk, later_walk, next_walk, none_left, operable_in, operable_walk, sound_walk, sources_walk, undamaged_walk}
+use Rattle.slate_db.proofs.ScanStates.{bases_walk, cause_walk, checked_walk, hands_walk, later_walk, next_walk, none_left, operable_in, operable_walk, sound_walk, sources_walk, undamaged_walk, within_walk}
 use Rattle.slate_db.proofs.scan.next_in.Goals as goal
 
 pub returns-in-Walking : goal.returns-in-Walking
@@ -30,6 +30,7 @@ returns-in-Walking g c =
       bases = λ none. bases_walk r a b x u is (n.bases none);
       hands = hands_walk r a b x u v is n.going n.offered;
       cause = λ range. cause_walk r range None a b x u is tt n.cause;
+      within = λ paths h. within_walk paths a b x u v is (n.within paths) h;
       reads = n.reads;
       still = n.counts;
     }
@@ -45,6 +46,7 @@ returns-in-Done g c = record {
   bases = λ none. ([], call_none _, tt);
   hands = ([], call_none _, λ later a h. h);
   cause = λ range. tt;
+  within = λ paths h. (reads_at_none paths _, h);
   reads = reads_none _;
   still = refl;
 }

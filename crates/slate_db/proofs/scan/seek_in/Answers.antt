@@ -1,9 +1,9 @@
 use Rattle.std.proofs.Common.{[], Some, refl}
 use Rattle.slate_types.specs.World.{Checks}
-use Rattle.slate_types.proofs.Calls.{call_none, checks_none}
+use Rattle.slate_types.proofs.Calls.{call_none, checks_none, reads_at_none}
 use Rattle.slate_types.proofs.Reaching.{reads_none}
 use Rattle.slate_store.specs.Reach.{reach_of}
-use Rattle.slate_db.proofs.ScanStates.{cause_walk, checked_walk, hands_walk, later_walk, none_sought, operable_walk, seek_walk, sound_walk, sources_walk, undamaged_walk}
+use Rattle.slate_db.proofs.ScanStates.{cause_walk, checked_walk, hands_walk, later_walk, none_sought, operable_walk, seek_walk, sound_walk, sources_walk, undamaged_walk, within_walk}
 use Rattle.slate_db.proofs.scan.seek_in.Goals as goal
 
 pub returns-in-Walking : goal.returns-in-Walking
@@ -28,6 +28,7 @@ returns-in-Walking g c =
       later = λ range. later_walk r range a b x u v is n.going n.later;
       hands = hands_walk r a b x u v is n.going n.offered;
       cause = λ range past. cause_walk r range (Some key) a b x u is past n.cause;
+      within = λ paths h. within_walk paths a b x u v is (n.within paths) h;
       reads = n.reads;
       still = n.counts;
     }
@@ -42,6 +43,7 @@ returns-in-Done g c = record {
   later = λ range. ([], call_none _, λ later at e h. h);
   hands = ([], call_none _, λ later a h. h);
   cause = λ range past. tt;
+  within = λ paths h. (reads_at_none paths _, h);
   reads = reads_none _;
   still = refl;
 }

@@ -3,12 +3,11 @@ use Rattle.std.specs.Prelude.{IfErr, IfOk}
 use Rattle.slate_types.specs.declared.filter_policy.FilterQuery.{FilterQuery}
 use Rattle.slate_types.specs.Faults.{faults_of}
 use Rattle.slate_types.specs.Outside.{Reach}
-use Rattle.slate_types.specs.World.{Made}
 use Rattle.slate_types.proofs.Calls.{call_none}
 use Rattle.slate_types.proofs.Reaching.{reads_of}
 use Rattle.slate_store.specs.Reach.{reach_of}
 use Rattle.slate_table.specs.SectionReading.{changed_by}
-use Rattle.slate_db.specs.ScanFilters.{Covers, FailsAsking, IsLetIn}
+use Rattle.slate_db.specs.ScanFilters.{AsksOf, Covers, FailsAsking, IsLetIn}
 use Rattle.slate_db.specs.Shown.{Asking}
 use Rattle.slate_db.proofs.Checks.{checks_none}
 use Rattle.slate_db.proofs.Filters.{IsAsking, asked_adds}
@@ -25,12 +24,12 @@ pub returns-then-not-can_reach-clause-checked : goal.returns-then-not-can_reach-
 returns-then-not-can_reach-clause-checked g c = λ rows os stored. checks_none os (reach_of g.S.Store g.M.MergeOperator g.T.BlockTransformer c.args.env.now)
 
 pub returns-then-not-can_reach-clause-let_in : goal.returns-then-not-can_reach-clause-let_in
-returns-then-not-can_reach-clause-let_in g c = ([], call_none (reach_of g.S.Store g.M.MergeOperator g.T.BlockTransformer c.args.env.now), λ yes. cc)
+returns-then-not-can_reach-clause-let_in g c = ([], call_none (reach_of g.S.Store g.M.MergeOperator g.T.BlockTransformer c.args.env.now), (tt, λ yes. cc))
 
 pub returns-in_default-clause-let_in : goal.returns-in_default-clause-let_in
 returns-in_default-clause-let_in g c =
     let none : c.args.query.now ≡ None = search rules in
-    ([], call_none (reach_of g.S.Store g.M.MergeOperator g.T.BlockTransformer c.args.env.now), λ yes asked is. let clash : None ≡ Some asked = sym none ∙ is in cc)
+    ([], call_none (reach_of g.S.Store g.M.MergeOperator g.T.BlockTransformer c.args.env.now), (tt, λ yes asked is. let clash : None ≡ Some asked = sym none ∙ is in cc))
 
 pub returns-in_default-clause-checked : goal.returns-in_default-clause-checked
 returns-in_default-clause-checked g c = λ rows os stored. checks_none os (reach_of g.S.Store g.M.MergeOperator g.T.BlockTransformer c.args.env.now)
@@ -60,7 +59,7 @@ returns g c =
     record {
       denied = λ rows os stored filtered answers. left_denied asking c.args.table.now before after c.might_match.result c.args.range.now rows os known matches stored filtered answers;
       checked = λ rows os stored. filters_checked asking c.args.table.now before after c.might_match.result rows os known stored;
-      let_in = subst (λ (q : Option FilterQuery). IfOk c.might_match.result (λ passes. Made before after (λ reads. passes ≡ true → IsLetIn before.meaning.decode asking.policies q c.args.table.now reads))) (sym asked) (left_let_in asking c.args.table.now before after c.might_match.result known);
+      let_in = subst (λ (q : Option FilterQuery). IfOk c.might_match.result (λ passes. AsksOf (c.args.table.now ∷ []) before after (λ reads. passes ≡ true → IsLetIn before.meaning.decode asking.policies q c.args.table.now reads))) (sym asked) (left_let_in asking c.args.table.now before after c.might_match.result known);
       refused = subst (λ (q : Option FilterQuery). IfErr c.might_match.result (FailsAsking asking.policies q before after (c.args.table.now ∷ []))) (sym asked) (left_refused asking c.args.table.now before after c.might_match.result c.args.range.now known matches);
       reads = reads_of _ _ c.might_match.ensures.objects refl c.might_match.ensures.same_encoded c.might_match.ensures.same_decoded
           (asked_adds _ _ _ _ _ _ _ _ c.might_match.result (λ no. let n = c.might_match.ensures.none no in (n.0, ap g.S.Store.acts n.1)) c.might_match.ensures.asked c.might_match.ensures.once)

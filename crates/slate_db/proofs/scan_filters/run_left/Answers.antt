@@ -1,9 +1,17 @@
-use Rattle.std.proofs.Common.{List, map, subst}
+use Rattle.std.proofs.Common.{[], List, map, refl, subst}
+use Rattle.std.proofs.lemmas.Result.{err_from_is_err_and}
+use Rattle.slate_types.proofs.Calls.{call_none}
 use Rattle.slate_types.proofs.Exits.{err_exit}
 use Rattle.slate_store.specs.Reach.{reach_of}
 use Rattle.slate_table.specs.declared.info.SsTableHandle.{SsTableHandle}
 use Rattle.slate_db.specs.ScanFilters.{FailsAsking, TablesAreLeft}
+use Rattle.slate_db.proofs.ScanFilters.{fails_memory}
 use Rattle.slate_db.proofs.scan_filters.run_left.Goals as goal
+
+pub returns-in_err-prefix-clause-refused : goal.returns-in_err-prefix-clause-refused
+returns-in_err-prefix-clause-refused g c =
+    let p = err_from_is_err_and c.from_residual.result c.from_residual.ensures.1 in
+    rw (p.1, p.2) (fails_memory _ _ _ _ _ _ ([], call_none _, tt) refl)
 
 pub returns-in_err-tables-clause-refused : goal.returns-in_err-tables-clause-refused
 returns-in_err-tables-clause-refused g c =

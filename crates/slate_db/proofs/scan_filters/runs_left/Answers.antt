@@ -7,13 +7,13 @@ use Rattle.slate_store.specs.Reach.{reach_of}
 use Rattle.slate_db.specs.Installs.{handles_of}
 use Rattle.slate_db.proofs.Checks.{checks_none}
 use Rattle.slate_db.proofs.RunReads.{handle_among}
-use Rattle.slate_db.proofs.ScanFilters.{among_none, fails_memory, fails_more, let_in_none, runs_among, runs_checked_more, runs_let_in, runs_so_far_all, runs_so_far_more, runs_so_far_none}
+use Rattle.slate_db.proofs.ScanFilters.{among_none, asks_then, fails_memory, fails_more, let_in_none, runs_among, runs_checked_more, runs_let_in, runs_so_far_all, runs_so_far_more, runs_so_far_none}
 use Rattle.slate_types.specs.Outside.{unblamed, unblamed_by}
 use Rattle.slate_db.proofs.scan_filters.runs_left.Goals as goal
 
 pub loop-run-init : goal.loop-run-init
 loop-run-init g c = record {
-  let_in = ([], call_none _, let_in_none (reach_of g.S.Store g.M.MergeOperator g.T.BlockTransformer c.args.env.now).meaning.decode (map (λ p. (goal.FilterPolicy-dyn g (p.vtable, p.value)).meaning p.value) c.args.policies.now) c.args.query.now (handles_of c.new-left.result.items) [] (ap handles_of c.new-left.ensures.items));
+  let_in = ([], call_none _, (tt, let_in_none (reach_of g.S.Store g.M.MergeOperator g.T.BlockTransformer c.args.env.now).meaning.decode (map (λ p. (goal.FilterPolicy-dyn g (p.vtable, p.value)).meaning p.value) c.args.policies.now) c.args.query.now (handles_of c.new-left.result.items) [] (ap handles_of c.new-left.ensures.items)));
   reads = reads_none _;
   still = refl;
   among = among_none (handles_of c.args.runs.now) (handles_of c.new-left.result.items) (ap handles_of c.new-left.ensures.items);
@@ -26,7 +26,7 @@ loop-run-preserved g c =
     let i = c.loop-run.invariant in
     let one = c.in_ok-one.ensures.left in
     record {
-      let_in = runs_let_in (map (λ p. (goal.FilterPolicy-dyn g (p.vtable, p.value)).meaning p.value) c.args.policies.now) c.args.query.now (reach_of g.S.Store g.M.MergeOperator g.T.BlockTransformer c.args.env.now) (reach_of g.S.Store g.M.MergeOperator g.T.BlockTransformer c.loop-run.env) (reach_of g.S.Store g.M.MergeOperator g.T.BlockTransformer c.run_left.new.env) c.in_ok-one.one c.loop-run.left.items c.push_run.new.runs.items i.reads c.in_ok-push_run.ensures i.let_in one.let_in;
+      let_in = runs_let_in (map (λ p. (goal.FilterPolicy-dyn g (p.vtable, p.value)).meaning p.value) c.args.policies.now) c.args.query.now (reach_of g.S.Store g.M.MergeOperator g.T.BlockTransformer c.args.env.now) (reach_of g.S.Store g.M.MergeOperator g.T.BlockTransformer c.loop-run.env) (reach_of g.S.Store g.M.MergeOperator g.T.BlockTransformer c.run_left.new.env) c.run-item.result.tables.items (handles_of c.args.runs.now) c.in_ok-one.one c.loop-run.left.items c.push_run.new.runs.items (handle_among c.args.runs.now c.loop-run.run-index c.run-item.result c.loop-run-test.true c.run-item.is) i.reads c.in_ok-push_run.ensures i.let_in one.let_in;
       reads = reads_then _ _ _ i.reads c.run_left.ensures.reads;
       still = c.in_ok-one.ensures.still ∙ i.still;
       among = runs_among c.args.runs.now c.loop-run.run-index c.run-item.result c.in_ok-one.one c.loop-run.left.items c.push_run.new.runs.items c.loop-run-test.true c.run-item.is c.in_ok-push_run.ensures one.among i.among;
@@ -50,7 +50,7 @@ returns-in_err-one g c =
     record {
       left = IfOk-from_err c.from_residual.result _ c.from_residual.ensures.0;
       refused = err_exit c.from_residual.result _ c.from_residual.ensures.1 _
-          (fails_more (map (λ p. (goal.FilterPolicy-dyn g (p.vtable, p.value)).meaning p.value) c.args.policies.now) c.args.query.now (reach_of g.S.Store g.M.MergeOperator g.T.BlockTransformer c.args.env.now) (reach_of g.S.Store g.M.MergeOperator g.T.BlockTransformer c.loop-run.env) (reach_of g.S.Store g.M.MergeOperator g.T.BlockTransformer c.run_left.new.env) c.run-item.result.tables.items (handles_of c.args.runs.now) _ (handle_among c.args.runs.now c.loop-run.run-index c.run-item.result c.loop-run-test.true c.run-item.is) (i.let_in.0, i.let_in.1, tt) i.reads c.run_left.ensures.reads c.in_err-one.ensures.refused);
+          (fails_more (map (λ p. (goal.FilterPolicy-dyn g (p.vtable, p.value)).meaning p.value) c.args.policies.now) c.args.query.now (reach_of g.S.Store g.M.MergeOperator g.T.BlockTransformer c.args.env.now) (reach_of g.S.Store g.M.MergeOperator g.T.BlockTransformer c.loop-run.env) (reach_of g.S.Store g.M.MergeOperator g.T.BlockTransformer c.run_left.new.env) c.run-item.result.tables.items (handles_of c.args.runs.now) _ (handle_among c.args.runs.now c.loop-run.run-index c.run-item.result c.loop-run-test.true c.run-item.is) (i.let_in.0, i.let_in.1, i.let_in.2.0) i.reads c.run_left.ensures.reads c.in_err-one.ensures.refused);
       reads = reads_then _ _ _ i.reads c.run_left.ensures.reads;
       still = (let p = err_from_is_err_and c.from_residual.result c.from_residual.ensures.1 in rw (p.1, p.2) (c.in_err-one.ensures.still ∙ ap (unblamed c.in_err-one.field-0.0) i.still));
     }
@@ -58,9 +58,12 @@ returns-in_err-one g c =
 pub returns-in_err-push_run : goal.returns-in_err-push_run
 returns-in_err-push_run g c =
     let p = err_from_is_err_and c.from_residual-in_err-push_run.result c.from_residual-in_err-push_run.ensures.1 in
+    let before = c.loop-run.invariant.let_in in
+    let one = c.in_ok-one.ensures.left.let_in in
     record {
       left = IfOk-from_err c.from_residual-in_err-push_run.result _ c.from_residual-in_err-push_run.ensures.0;
-      refused = rw (p.1, p.2) (fails_memory _ _ _ _ _ _ refl);
+      refused = rw (p.1, p.2) (fails_memory _ _ _ _ _ _
+          (asks_then _ _ _ c.run-item.result.tables.items (handles_of c.args.runs.now) (handle_among c.args.runs.now c.loop-run.run-index c.run-item.result c.loop-run-test.true c.run-item.is) (before.0, before.1, before.2.0) (one.0, one.1, one.2.0)) refl);
       reads = reads_then _ _ _ c.loop-run.invariant.reads c.run_left.ensures.reads;
       still = ap (unblamed_by c.from_residual-in_err-push_run.result) (c.in_ok-one.ensures.still ∙ c.loop-run.invariant.still);
     }

@@ -11,7 +11,7 @@ use Rattle.slate_db.proofs.scan_filters.tables_left.Goals as goal
 
 pub loop-table-init : goal.loop-table-init
 loop-table-init g c = record {
-  let_in = ([], call_none _, let_in_none (reach_of g.S.Store g.M.MergeOperator g.T.BlockTransformer c.args.env.now).meaning.decode (map (λ p. (goal.FilterPolicy-dyn g (p.vtable, p.value)).meaning p.value) c.args.policies.now) c.args.query.now c.new-left.result.items [] c.new-left.ensures.items);
+  let_in = ([], call_none _, (tt, let_in_none (reach_of g.S.Store g.M.MergeOperator g.T.BlockTransformer c.args.env.now).meaning.decode (map (λ p. (goal.FilterPolicy-dyn g (p.vtable, p.value)).meaning p.value) c.args.policies.now) c.args.query.now c.new-left.result.items [] c.new-left.ensures.items));
   reads = reads_none _;
   still = refl;
   among = among_none c.args.tables.now c.new-left.result.items c.new-left.ensures.items;
@@ -24,7 +24,7 @@ loop-table-preserved g c =
     let i = c.loop-table.invariant in
     let added = c.in_ok-add_left.ensures.added in
     record {
-      let_in = let_in_more (map (λ p. (goal.FilterPolicy-dyn g (p.vtable, p.value)).meaning p.value) c.args.policies.now) c.args.query.now (reach_of g.S.Store g.M.MergeOperator g.T.BlockTransformer c.args.env.now) (reach_of g.S.Store g.M.MergeOperator g.T.BlockTransformer c.loop-table.env) (reach_of g.S.Store g.M.MergeOperator g.T.BlockTransformer c.add_left.new.env) c.table-item.result c.loop-table.left.items c.add_left.new.left.items added.kept i.reads added.are i.let_in added.let_in;
+      let_in = let_in_more (map (λ p. (goal.FilterPolicy-dyn g (p.vtable, p.value)).meaning p.value) c.args.policies.now) c.args.query.now (reach_of g.S.Store g.M.MergeOperator g.T.BlockTransformer c.args.env.now) (reach_of g.S.Store g.M.MergeOperator g.T.BlockTransformer c.loop-table.env) (reach_of g.S.Store g.M.MergeOperator g.T.BlockTransformer c.add_left.new.env) c.args.tables.now c.table-item.result c.loop-table.left.items c.add_left.new.left.items added.kept (one_among c.args.tables.now c.loop-table.table-index c.table-item.result c.loop-table-test.true c.table-item.is) i.reads added.are i.let_in added.let_in;
       reads = reads_then _ _ _ i.reads c.add_left.ensures.reads;
       still = c.in_ok-add_left.ensures.still ∙ i.still;
       among = among_more c.args.tables.now c.loop-table.table-index c.table-item.result c.loop-table.left.items c.add_left.new.left.items added.kept c.loop-table-test.true c.table-item.is added.are i.among;
@@ -48,7 +48,7 @@ returns-in_err-add_left g c =
     record {
       left = IfOk-from_err c.from_residual.result _ c.from_residual.ensures.0;
       refused = err_exit c.from_residual.result _ c.from_residual.ensures.1 _
-          (fails_more (map (λ p. (goal.FilterPolicy-dyn g (p.vtable, p.value)).meaning p.value) c.args.policies.now) c.args.query.now (reach_of g.S.Store g.M.MergeOperator g.T.BlockTransformer c.args.env.now) (reach_of g.S.Store g.M.MergeOperator g.T.BlockTransformer c.loop-table.env) (reach_of g.S.Store g.M.MergeOperator g.T.BlockTransformer c.add_left.new.env) _ c.args.tables.now _ (one_among c.args.tables.now c.loop-table.table-index c.table-item.result c.loop-table-test.true c.table-item.is) (i.let_in.0, i.let_in.1, tt) i.reads c.add_left.ensures.reads c.in_err-add_left.ensures.refused);
+          (fails_more (map (λ p. (goal.FilterPolicy-dyn g (p.vtable, p.value)).meaning p.value) c.args.policies.now) c.args.query.now (reach_of g.S.Store g.M.MergeOperator g.T.BlockTransformer c.args.env.now) (reach_of g.S.Store g.M.MergeOperator g.T.BlockTransformer c.loop-table.env) (reach_of g.S.Store g.M.MergeOperator g.T.BlockTransformer c.add_left.new.env) _ c.args.tables.now _ (one_among c.args.tables.now c.loop-table.table-index c.table-item.result c.loop-table-test.true c.table-item.is) (i.let_in.0, i.let_in.1, i.let_in.2.0) i.reads c.add_left.ensures.reads c.in_err-add_left.ensures.refused);
       reads = reads_then _ _ _ i.reads c.add_left.ensures.reads;
       still = (let p = err_from_is_err_and c.from_residual.result c.from_residual.ensures.1 in rw (p.1, p.2) (c.in_err-add_left.ensures.still ∙ ap (unblamed c.in_err-add_left.field-0.0) i.still));
     }

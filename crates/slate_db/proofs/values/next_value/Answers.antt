@@ -3,7 +3,7 @@ use Rattle.std.proofs.lemmas.Result.{err_from_is_err_and, IfOk-from_err}
 use Rattle.slate_types.specs.declared.types.KeyValue.{KeyValue}
 use Rattle.slate_types.specs.Rows.{key_value}
 use Rattle.slate_types.specs.Steps.{Step}
-use Rattle.slate_types.proofs.Calls.{call_none}
+use Rattle.slate_types.proofs.Calls.{call_none, reads_at_none, reads_at_then}
 use Rattle.slate_types.proofs.Reaching.{reads_none, reads_then}
 use Rattle.slate_merge.specs.Offers.{offers}
 use Rattle.slate_merge.specs.OperatorIterators.{IsOperable, Takes, refuses_folding, rest_folding, sound_folding}
@@ -23,6 +23,7 @@ loop-row-init g c = record {
   went = λ h. h;
   folding = refl;
   order = refl;
+  within = λ paths h. (reads_at_none paths _, h);
   reads = reads_none _;
   counts = refl;
 }
@@ -42,6 +43,7 @@ loop-row-preserved g c =
       went = λ h. i.went t.0;
       folding = t.2 ∙ i.folding;
       order = n.order ∙ i.order;
+      within = λ paths h. let f = i.within paths h in let l = n.within paths f.1 in (reads_at_then paths _ _ _ f.0 l.0, l.1);
       reads = reads_then _ _ _ i.reads n.reads;
       counts = n.counts ∙ i.counts;
     }
@@ -70,6 +72,7 @@ returns-in_err-row g c =
           (whole_going it.rest it.sound it.order c.args.rows.now w it.refuses g.met.I.RowEntryIterator.whole going h None e) (n.own w now (i.goes going) (i.passed.still w then h) (i.passed.keeps w then h k))));
       cause = rw (p.1, p.2) (passed_fails _ _ (refuses_folding it.refuses (offers it.begins it.takes it.seeks)) _ _ _ _ _ _ c.next_row.new.self i.passed None e i.reads.later (n.cause.0, n.cause.1, n.cause.2.0));
       order = n.order ∙ i.order;
+      within = λ paths h. let f = i.within paths h in let l = n.within paths f.1 in (reads_at_then paths _ _ _ f.0 l.0, l.1);
       reads = reads_then _ _ _ i.reads n.reads;
       counts = rw (p.1, p.2) (n.counts ∙ ap (unblamed e) i.counts);
     }
@@ -99,6 +102,7 @@ returns-in-Some-value_of g c =
       undamaged = λ w sees going h k. tt;
       cause = tt;
       order = n.order ∙ i.order;
+      within = λ paths h. let f = i.within paths h in let l = n.within paths f.1 in (reads_at_then paths _ _ _ f.0 l.0, l.1);
       reads = reads_then _ _ _ i.reads n.reads;
       counts = n.counts ∙ i.counts;
     }
@@ -124,6 +128,7 @@ returns g c =
       undamaged = λ w sees going h k. tt;
       cause = tt;
       order = n.order ∙ i.order;
+      within = λ paths h. let f = i.within paths h in let l = n.within paths f.1 in (reads_at_then paths _ _ _ f.0 l.0, l.1);
       reads = reads_then _ _ _ i.reads n.reads;
       counts = n.counts ∙ i.counts;
     }

@@ -1,6 +1,6 @@
-use Rattle.std.proofs.Common.{◌≡◌}
+use Rattle.std.proofs.Common.{◌≡◌, ℕ, List}
 use Rattle.slate_types.specs.Outside.{OnlyReads}
-use Rattle.slate_types.specs.World.{Made}
+use Rattle.slate_types.specs.World.{Made, ReadsAt}
 use Rattle.slate_merge.specs.NoMoreRows.{NoMoreRows}
 use Rattle.slate_merge.specs.Offers.{offers}
 use Rattle.slate_merge.specs.OperatorIterators.{IsGoing, IsOperable, bound_folding, refuses_folding, rest_folding, sound_folding}
@@ -21,6 +21,7 @@ invariant-loop-row g l =
       went : IsGoing l.rows → IsGoing l.initial.rows;
       folding : l.rows.folding ≡ l.initial.rows.folding;
       order : i.order l.rows.iterator ≡ i.order l.initial.rows.iterator;
+      within : (paths : List (List ℕ)) → i.within l.initial.rows.iterator paths → ReadsAt paths a b × i.within l.rows.iterator paths;
       reads : OnlyReads a b;
       counts : b.faults ≡ a.faults;
     }

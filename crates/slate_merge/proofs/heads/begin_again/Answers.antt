@@ -3,6 +3,7 @@ use Rattle.std.specs.BinaryHeap.{heap_items}
 use Rattle.std.proofs.lemmas.List.Sorted.{length_permutation}
 use Rattle.slate_types.specs.declared.iter.IterationOrder.TheVariants.{Ascending}
 use Rattle.slate_types.specs.declared.types.RowEntry.{RowEntry}
+use Rattle.slate_types.proofs.Calls.{reads_at_none, reads_at_then}
 use Rattle.slate_types.proofs.Moves.{Moves, moves_none, moves_both}
 use Rattle.slate_types.proofs.Reaching.{reads_none, reads_then}
 use Rattle.slate_merge.specs.declared.head.Head.{Head}
@@ -13,11 +14,12 @@ use Rattle.slate_merge.proofs.Heaps.{AreOrdered, ordered_again, rows_again}
 use Rattle.slate_merge.proofs.MergeBringings.{SourcesAdd, sources_both, sources_none}
 use Rattle.slate_merge.proofs.MergeLoops.{heads_left, AreSoundHeads, heads_blame, renew_made, renew_moves, renew_ready, again_moves}
 use Rattle.slate_merge.proofs.Goings.{then_fails, head_fails}
+use Rattle.slate_merge.proofs.SourcesWithin.{within_out}
 use Rattle.slate_merge.proofs.heads.begin_again.Goals as goal
 use Rattle.std.proofs.lemmas.List.{nil_from_length}
 
 pub heads-init : goal.heads-init
-heads-init g c = rw c.new-done.ensures.items (record { moves = λ o. moves_none _ _ _ _ _; brought = sources_none (offers g.I.RowEntryIterator.begins g.I.RowEntryIterator.takes g.I.RowEntryIterator.seeks) g.I.RowEntryIterator.refuses (g.E.Outside.reach c.args.env.now) (begun_sources (heap_items c.args.heads.now)); heap = rw c.new-done.ensures.items at c.new-done.ensures.heap_order; ordered = λ o h. h; same_rows = λ r has. has; ready = tt; no_larger = omega arith; reads = reads_none _; counts = refl })
+heads-init g c = rw c.new-done.ensures.items (record { moves = λ o. moves_none _ _ _ _ _; brought = sources_none (offers g.I.RowEntryIterator.begins g.I.RowEntryIterator.takes g.I.RowEntryIterator.seeks) g.I.RowEntryIterator.refuses (g.E.Outside.reach c.args.env.now) (begun_sources (heap_items c.args.heads.now)); heap = rw c.new-done.ensures.items at c.new-done.ensures.heap_order; ordered = λ o h. h; same_rows = λ r has. has; ready = tt; no_larger = omega arith; within = λ paths h. (reads_at_none paths _, (tt, tt), h); reads = reads_none _; counts = refl })
 
 pub heads-preserved : goal.heads-preserved
 heads-preserved g c =
@@ -41,6 +43,10 @@ heads-preserved g c =
       same_rows = λ r has. inv.same_rows r (rows_again done left others new x s out within r has);
       ready = renew_ready g.I.RowEntryIterator.rest g.I.RowEntryIterator.sound g.I.RowEntryIterator.refuses g.I.RowEntryIterator.bound g.I.RowEntryIterator.order g.I.RowEntryIterator.begins (g.E.Outside.reach c.heads.env) (g.E.Outside.reach c.begin_head.new.env) done new x s (g.E.Outside.reach c.args.env.now).meaning within renews (inv.moves Ascending).made.1.meaning inv.ready;
       no_larger = (let less = renewed_bound g.I.RowEntryIterator.bound done left others new x y out within renews.no_larger [] in omega (arith, less, inv.no_larger));
+      within = λ paths h. (let first = inv.within paths h in
+          let gone = within_out g.I.RowEntryIterator.within paths left others x out first.2 in
+          let last = n.within paths gone.0 first.1 in
+          (reads_at_then paths (g.E.Outside.reach c.args.env.now) (g.E.Outside.reach c.heads.env) (g.E.Outside.reach c.begin_head.new.env) first.0 last.0, last.1, gone.1));
       reads = reads_then (g.E.Outside.reach c.args.env.now) (g.E.Outside.reach c.heads.env) (g.E.Outside.reach c.begin_head.new.env) inv.reads n.reads;
       counts = n.counts ∙ inv.counts;
     }
@@ -60,6 +66,18 @@ returns-in-Err-clause-cause g c =
 
 pub returns-in-Err-clause-reads : goal.returns-in-Err-clause-reads
 returns-in-Err-clause-reads g c = reads_then _ _ _ c.heads.invariant.reads c.in-Err.ensures.reads
+
+pub returns-in-Err-clause-within : goal.returns-in-Err-clause-within
+returns-in-Err-clause-within g c = λ paths h.
+    let first = c.heads.invariant.within paths h in
+    let out = within_out g.I.RowEntryIterator.within paths (heap_items c.heads.heads) (heap_items c.pop.new.self) c.in-Some.head c.in-Some.ensures.permutation first.2 in
+    let last = c.in-Err.ensures.within paths out.0 first.1 in
+    (reads_at_then paths _ _ _ first.0 last.0, tt)
+
+pub returns-clause-within : goal.returns-clause-within
+returns-clause-within g c = λ paths h.
+    let first = c.heads.invariant.within paths h in
+    (first.0, first.1)
 
 pub returns-clause-moved : goal.returns-clause-moved
 returns-clause-moved g c = λ order.

@@ -1,12 +1,13 @@
-use Rattle.std.proofs.Common.{◌≡◌, ◌≤◌, ◌++◌, [], length}
+use Rattle.std.proofs.Common.{ℕ, ◌≡◌, ◌≤◌, ◌++◌, List, [], length}
 use Rattle.std.specs.BinaryHeap.{heap_items, IsHeap}
 use Rattle.slate_types.specs.declared.iter.IterationOrder.{IterationOrder}
 use Rattle.slate_types.specs.declared.types.RowEntry.{RowEntry}
 use Rattle.slate_types.specs.Outside.{OnlyReads}
+use Rattle.slate_types.specs.World.{ReadsAt}
 use Rattle.slate_types.proofs.Moves.{Moves}
 use Rattle.slate_merge.specs.Heads.{head_cmp}
 use Rattle.slate_merge.specs.Offers.{offers}
-use Rattle.slate_merge.specs.Merging.{AreReady, HasRow, begun_sources, merging_bound}
+use Rattle.slate_merge.specs.Merging.{AreReady, AreWithin, HasRow, begun_sources, merging_bound}
 use Rattle.slate_merge.proofs.Heaps.{AreOrdered}
 use Rattle.slate_merge.proofs.MergeBringings.{SourcesAdd}
 use Rattle.slate_merge.proofs.MergeLoops.{heads_left, AreSoundHeads, heads_blame}
@@ -18,6 +19,7 @@ invariant-heads g l =
     let sound = g.I.RowEntryIterator.sound in
     let refuses = g.I.RowEntryIterator.refuses in
     let bound = g.I.RowEntryIterator.bound in
+    let within = g.I.RowEntryIterator.within in
     let order_of = g.I.RowEntryIterator.order in
     let a = g.E.Outside.reach l.initial.env in
     let b = g.E.Outside.reach l.env in
@@ -31,6 +33,7 @@ invariant-heads g l =
       same_rows : (r : RowEntry) → HasRow now r → HasRow before r;
       ready : AreReady refuses a.meaning (heap_items l.done);
       no_larger : merging_bound bound [] now ≤ merging_bound bound [] before;
+      within : (paths : List (List ℕ)) → AreWithin within (begun_sources before) paths → ReadsAt paths a b × AreWithin within (begun_sources (heap_items l.done)) paths × AreWithin within (begun_sources (heap_items l.heads)) paths;
       reads : OnlyReads a b;
       counts : b.faults ≡ a.faults;
     }

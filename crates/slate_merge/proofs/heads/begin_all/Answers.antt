@@ -1,17 +1,19 @@
 use Rattle.std.proofs.Common.{◌≡◌, ◌∙◌, sym, ap, subst, arith, None, [], ◌∷◌, List, length, refl}
 use Rattle.std.specs.BinaryHeap.{heap_items}
 use Rattle.slate_types.specs.Outside.{Meaning}
+use Rattle.slate_types.proofs.Calls.{reads_at_none, reads_at_then}
 use Rattle.slate_types.proofs.Moves.{Moves, moves_none, moves_both}
 use Rattle.slate_types.proofs.Reaching.{reads_none, reads_then}
 use Rattle.slate_merge.specs.Offers.{offers}
 use Rattle.slate_merge.specs.Merging.{left_in, IsMergingIn, blames, waiting_sources, merging_bound, AreReady}
 use Rattle.slate_merge.proofs.Goings.{then_fails, source_fails}
 use Rattle.slate_merge.proofs.MergeBringings.{SourcesAdd, sources_both, sources_none}
+use Rattle.slate_merge.proofs.SourcesWithin.{within_begun}
 use Rattle.slate_merge.proofs.heads.begin_all.Goals as goal
 use Rattle.std.proofs.lemmas.List.{nil_from_length}
 
 pub sources-init : goal.sources-init
-sources-init g c = rw c.new-heads.ensures.items (record { moves = moves_none _ _ _ _ _; brought = sources_none (offers g.I.RowEntryIterator.begins g.I.RowEntryIterator.takes g.I.RowEntryIterator.seeks) g.I.RowEntryIterator.refuses (g.E.Outside.reach c.args.env.now) (waiting_sources c.args.waiting.now.items); heaped = record { heap = rw c.new-heads.ensures.items at c.new-heads.ensures.heap_order; ordered = tt }; ready = tt; no_larger = omega arith; reads = reads_none _; counts = refl })
+sources-init g c = rw c.new-heads.ensures.items (record { moves = moves_none _ _ _ _ _; brought = sources_none (offers g.I.RowEntryIterator.begins g.I.RowEntryIterator.takes g.I.RowEntryIterator.seeks) g.I.RowEntryIterator.refuses (g.E.Outside.reach c.args.env.now) (waiting_sources c.args.waiting.now.items); heaped = record { heap = rw c.new-heads.ensures.items at c.new-heads.ensures.heap_order; ordered = tt }; ready = tt; no_larger = omega arith; within = λ paths h. (reads_at_none paths _, h); reads = reads_none _; counts = refl })
 
 pub sources-preserved : goal.sources-preserved
 sources-preserved g c =
@@ -38,6 +40,10 @@ sources-preserved g c =
       no_larger = (let less = n.no_larger others in
           let same : merging_bound g.I.RowEntryIterator.bound (c.in-Some.source ∷ others) old ≡ merging_bound g.I.RowEntryIterator.bound c.sources.waiting.items old = ap (λ (l : List g.row.I.Denot). merging_bound g.I.RowEntryIterator.bound l old) (sym popped) in
           omega (arith, less, same, inv.no_larger));
+      within = λ paths h. (let first = inv.within paths h in
+          let out = within_begun g.I.RowEntryIterator.within paths c.sources.waiting.items c.in-Some.source others old popped first.1 in
+          let last = n.within paths out.0 out.2 in
+          (reads_at_then paths (g.E.Outside.reach c.args.env.now) (g.E.Outside.reach c.sources.env) (g.E.Outside.reach c.begin_source.new.env) first.0 last.0, (out.1, last.1.1)));
       reads = reads_then (g.E.Outside.reach c.args.env.now) (g.E.Outside.reach c.sources.env) (g.E.Outside.reach c.begin_source.new.env) inv.reads n.reads;
       counts = n.counts ∙ inv.counts;
     }
@@ -53,6 +59,18 @@ returns-in-Err-clause-cause g c =
 
 pub returns-in-Err-clause-reads : goal.returns-in-Err-clause-reads
 returns-in-Err-clause-reads g c = reads_then _ _ _ c.sources.invariant.reads c.in-Err.ensures.reads
+
+pub returns-in-Err-clause-within : goal.returns-in-Err-clause-within
+returns-in-Err-clause-within g c = λ paths h.
+    let first = c.sources.invariant.within paths h in
+    let out = within_begun g.I.RowEntryIterator.within paths c.sources.waiting.items c.in-Some.source c.pop_front.new.self.items (heap_items c.sources.heads) c.in-Some.ensures.items first.1 in
+    let last = c.in-Err.ensures.within paths out.0 out.2 in
+    (reads_at_then paths _ _ _ first.0 last.0, tt)
+
+pub returns-clause-within : goal.returns-clause-within
+returns-clause-within g c = λ paths h.
+    let first = c.sources.invariant.within paths h in
+    (first.0, (tt, first.1.1))
 
 pub returns-clause-brought : goal.returns-clause-brought
 returns-clause-brought g c =

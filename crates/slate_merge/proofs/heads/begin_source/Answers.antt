@@ -1,5 +1,6 @@
 use Rattle.std.proofs.Common.{None, refl}
 use Rattle.std.specs.BinaryHeap.{heap_items}
+use Rattle.slate_types.proofs.Calls.{reads_at_then}
 use Rattle.slate_merge.proofs.Goings.{then_fails, begin_moves, begin_ready, begin_bound, begun_made}
 use Rattle.slate_merge.specs.MergeSteps.{Goes}
 use Rattle.slate_merge.proofs.Heaps.{heaped_joins}
@@ -32,3 +33,15 @@ returns-in-Err-put_back-clause-cause g c =
 pub returns-in-Ok-put_back-clause-heaped : goal.returns-in-Ok-put_back-clause-heaped
 returns-in-Ok-put_back-clause-heaped g c = λ h.
     heaped_joins c.args.order (Goes g.I.RowEntryIterator.rest g.I.RowEntryIterator.sound g.I.RowEntryIterator.refuses g.I.RowEntryIterator.takes g.I.RowEntryIterator.bound g.I.RowEntryIterator.order (g.E.Outside.reach c.init.new.env) (g.E.Outside.reach c.put_back.new.env)) c.init.new.self c.args.behind c.args.order (heap_items c.args.heads.now) (heap_items c.put_back.new.heads) c.in-Ok-put_back.ensures.heap (rw c.in-Ok-new.ensures.source at c.in-Ok-put_back.ensures.joins) refl h
+
+pub returns-in-Ok-put_back-clause-within : goal.returns-in-Ok-put_back-clause-within
+returns-in-Ok-put_back-clause-within g c = λ paths one all.
+    let begun = c.in-Ok.ensures.within paths one in
+    let back = (rw c.in-Ok-new.ensures.source at c.in-Ok-put_back.ensures.within) paths begun.1 all in
+    (reads_at_then paths _ _ _ begun.0 back.0, back.1)
+
+pub returns-in-Err-put_back-clause-within : goal.returns-in-Err-put_back-clause-within
+returns-in-Err-put_back-clause-within g c = λ paths one all.
+    let begun = c.in-Ok.ensures.within paths one in
+    let back = (rw c.in-Ok-new.ensures.source at c.in-Err-put_back.ensures.within) paths begun.1 all in
+    (reads_at_then paths _ _ _ begun.0 back.0, back.1)

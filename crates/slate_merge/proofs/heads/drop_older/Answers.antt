@@ -4,6 +4,7 @@ use Rattle.std.specs.BinaryHeap.{heap_items}
 use Rattle.slate_types.specs.declared.iter.IterationOrder.{IterationOrder}
 use Rattle.slate_types.specs.declared.iter.IterationOrder.TheVariants.{Ascending}
 use Rattle.slate_types.specs.World.{World}
+use Rattle.slate_types.proofs.Calls.{reads_at_none, reads_at_then}
 use Rattle.slate_types.proofs.Moves.{moves_none}
 use Rattle.slate_types.proofs.Reaching.{reads_none, reads_then}
 use Rattle.slate_merge.specs.Merge.{begins_with}
@@ -17,7 +18,7 @@ use Rattle.slate_merge.proofs.MergeLoops.{top_some, front_key, counts_none, coun
 use Rattle.slate_merge.proofs.heads.drop_older.Goals as goal
 
 pub older-init : goal.older-init
-older-init g c = record { moves = λ o. moves_none _ _ _ _ _; brought = sources_none (offers g.I.RowEntryIterator.begins g.I.RowEntryIterator.takes g.I.RowEntryIterator.seeks) g.I.RowEntryIterator.refuses (g.E.Outside.reach c.args.env.now) (begun_sources (heap_items c.args.heads.now)); heaped = λ o h. h; count = λ _ _ _ _. refl; counts = counts_none _ _; no_larger = omega arith; reads = reads_none _; faults = refl }
+older-init g c = record { moves = λ o. moves_none _ _ _ _ _; brought = sources_none (offers g.I.RowEntryIterator.begins g.I.RowEntryIterator.takes g.I.RowEntryIterator.seeks) g.I.RowEntryIterator.refuses (g.E.Outside.reach c.args.env.now) (begun_sources (heap_items c.args.heads.now)); heaped = λ o h. h; count = λ _ _ _ _. refl; counts = counts_none _ _; no_larger = omega arith; within = λ paths h. (reads_at_none paths _, h); reads = reads_none _; faults = refl }
 
 pub older-preserved : goal.older-preserved
 older-preserved g c =
@@ -37,6 +38,7 @@ older-preserved g c =
       heaped = λ o h. n.heaped o (inv.heaped o h);
       counts = counts_more c.args.key.now _ _ _ c.in-Ok-Some.row inv.counts (front_key c.args.key.now (heap_items c.older.heads) top.0 c.in-Ok-Some.row top.1 (sym top.2 ∙ c.older-test.true) (n.step Ascending).taken.2.0.0) more;
       no_larger = omega (arith, n.no_larger, inv.no_larger);
+      within = λ paths h. (let first = inv.within paths h in let last = n.within paths first.1 in (reads_at_then paths _ _ _ first.0 last.0, last.1));
       reads = reads_then _ _ _ inv.reads n.reads;
       faults = n.counts ∙ inv.faults;
     }
@@ -63,6 +65,7 @@ returns-in-Err g c =
       counted = tt;
       no_larger = tt;
       cause = then_fails (blames g.I.RowEntryIterator.refuses (begun_sources (heap_items c.args.heads.now))) (blames g.I.RowEntryIterator.refuses (begun_sources (heap_items c.older.heads))) (g.E.Outside.reach c.args.env.now) (g.E.Outside.reach c.older.env) (g.E.Outside.reach c.take_first.new.env) None c.in-Err.error inv.reads.later (inv.moves Ascending).made n.cause;
+      within = λ paths h. (let first = inv.within paths h in let last = n.within paths first.1 in (reads_at_then paths _ _ _ first.0 last.0, last.1));
       reads = reads_then _ _ _ inv.reads n.reads;
       counts = n.counts ∙ ap (unblamed c.in-Err.error) inv.faults;
     }
@@ -83,6 +86,7 @@ returns g c =
       counted = inv.counts;
       no_larger = inv.no_larger;
       cause = tt;
+      within = inv.within;
       reads = inv.reads;
       counts = inv.faults;
     }

@@ -1,12 +1,12 @@
-use Rattle.std.proofs.Common.{◌≡◌, ◌≤◌, []}
+use Rattle.std.proofs.Common.{ℕ, ◌≡◌, ◌≤◌, List, []}
 use Rattle.std.specs.BinaryHeap.{heap_items}
 use Rattle.slate_types.specs.declared.iter.IterationOrder.{IterationOrder}
 use Rattle.slate_types.specs.Outside.{OnlyReads}
-use Rattle.slate_types.specs.World.{World, Sees}
+use Rattle.slate_types.specs.World.{World, ReadsAt, Sees}
 use Rattle.slate_types.proofs.Moves.{Moves}
 use Rattle.slate_merge.specs.Merge.{past_key, with_key, counted}
 use Rattle.slate_merge.specs.Offers.{offers}
-use Rattle.slate_merge.specs.Merging.{AreHeaped, left_in, IsMergingIn, blames, begun_sources, merging_bound}
+use Rattle.slate_merge.specs.Merging.{AreHeaped, AreWithin, left_in, IsMergingIn, blames, begun_sources, merging_bound}
 use Rattle.slate_merge.specs.MergeSteps.{CountsKey}
 use Rattle.slate_merge.proofs.MergeBringings.{SourcesAdd}
 use Rattle.slate_merge.proofs.heads.drop_older.Given as goal
@@ -26,6 +26,7 @@ invariant-older g l =
       count : (o : IterationOrder) (w : World) → Sees w a b → merging o x w → counted l.processed (with_key l.fn.key (left_in rest o y w)) ≡ counted l.initial.processed (with_key l.fn.key (left_in rest o x w));
       counts : CountsKey l.fn.key l.initial.processed l.processed;
       no_larger : merging_bound g.I.RowEntryIterator.bound [] (heap_items l.heads) ≤ merging_bound g.I.RowEntryIterator.bound [] (heap_items l.initial.heads);
+      within : (paths : List (List ℕ)) → AreWithin g.I.RowEntryIterator.within x paths → ReadsAt paths a b × AreWithin g.I.RowEntryIterator.within y paths;
       reads : OnlyReads a b;
       faults : b.faults ≡ a.faults;
     }

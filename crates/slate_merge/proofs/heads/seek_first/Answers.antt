@@ -1,9 +1,11 @@
 use Rattle.std.proofs.Common.{◌≡◌, ◌∙◌, sym, arith, None, Some, []}
 use Rattle.std.specs.BinaryHeap.{heap_items}
+use Rattle.slate_types.proofs.Calls.{reads_at_none, reads_at_then}
 use Rattle.slate_merge.proofs.SeekLaws.{top_before, popped_before}
 use Rattle.slate_merge.proofs.Goings.{then_fails, head_fails, next_fails, seek_made, seek_moves, first_smaller}
 use Rattle.slate_merge.specs.MergeSteps.{Goes}
 use Rattle.slate_merge.proofs.Heaps.{heaped_on}
+use Rattle.slate_merge.proofs.SourcesWithin.{within_out}
 use Rattle.slate_merge.proofs.heads.seek_first.Goals as goal
 
 pub returns-then-not-top_is_before-clause-done : goal.returns-then-not-top_is_before-clause-done
@@ -47,3 +49,25 @@ returns-in-Err-clause-cause g c =
 pub returns-in-Ok-put_back-clause-heaped : goal.returns-in-Ok-put_back-clause-heaped
 returns-in-Ok-put_back-clause-heaped g c = λ order h.
     heaped_on order (Goes g.I.RowEntryIterator.rest g.I.RowEntryIterator.sound g.I.RowEntryIterator.refuses g.I.RowEntryIterator.takes g.I.RowEntryIterator.bound g.I.RowEntryIterator.order (g.E.Outside.reach c.seek.new.env) (g.E.Outside.reach c.put_back.new.env)) c.seek.new.self (heap_items c.args.heads.now) (heap_items c.pop.new.self) (heap_items c.put_back.new.heads) c.in-Some.head c.in-Some.ensures.permutation (λ k. (c.in-Some.ensures.heap_order k).0) c.in-Ok-put_back.ensures.heap c.in-Ok-put_back.ensures.joins h
+
+pub returns-in-Ok-put_back-clause-within : goal.returns-in-Ok-put_back-clause-within
+returns-in-Ok-put_back-clause-within g c = λ paths h.
+    let out = within_out g.I.RowEntryIterator.within paths (heap_items c.args.heads.now) (heap_items c.pop.new.self) c.in-Some.head c.in-Some.ensures.permutation h in
+    let sought = c.in-Ok.ensures.within paths out.0 in
+    let back = c.in-Ok-put_back.ensures.within paths sought.1 out.1 in
+    (reads_at_then paths _ _ _ sought.0 back.0, back.1)
+
+pub returns-in-Err-put_back-clause-within : goal.returns-in-Err-put_back-clause-within
+returns-in-Err-put_back-clause-within g c = λ paths h.
+    let out = within_out g.I.RowEntryIterator.within paths (heap_items c.args.heads.now) (heap_items c.pop.new.self) c.in-Some.head c.in-Some.ensures.permutation h in
+    let sought = c.in-Ok.ensures.within paths out.0 in
+    let back = c.in-Err-put_back.ensures.within paths sought.1 out.1 in
+    (reads_at_then paths _ _ _ sought.0 back.0, back.1)
+
+pub returns-in-Err-clause-within : goal.returns-in-Err-clause-within
+returns-in-Err-clause-within g c = λ paths h.
+    let out = within_out g.I.RowEntryIterator.within paths (heap_items c.args.heads.now) (heap_items c.pop.new.self) c.in-Some.head c.in-Some.ensures.permutation h in
+    ((c.in-Err.ensures.within paths out.0).0, tt)
+
+pub returns-then-not-top_is_before-clause-within : goal.returns-then-not-top_is_before-clause-within
+returns-then-not-top_is_before-clause-within g c = λ paths h. (reads_at_none paths _, h)

@@ -2,6 +2,7 @@ use Rattle.std.proofs.Common.{arith, Some, ◌∙◌, ap, refl}
 use Rattle.slate_types.specs.Outside.{unblamed}
 use Rattle.std.specs.BinaryHeap.{heap_items}
 use Rattle.slate_types.specs.declared.iter.IterationOrder.TheVariants.{Ascending}
+use Rattle.slate_types.proofs.Calls.{reads_at_none, reads_at_then}
 use Rattle.slate_types.proofs.Moves.{moves_none, moves_both}
 use Rattle.slate_types.proofs.Reaching.{reads_none, reads_then}
 use Rattle.slate_merge.specs.Offers.{offers}
@@ -11,7 +12,7 @@ use Rattle.slate_merge.proofs.MergeBringings.{sources_both, sources_none}
 use Rattle.slate_merge.proofs.heads.seek_heads.Goals as goal
 
 pub sources-init : goal.sources-init
-sources-init g c = record { moves = λ o. moves_none _ _ _ _ _; brought = sources_none (offers g.I.RowEntryIterator.begins g.I.RowEntryIterator.takes g.I.RowEntryIterator.seeks) g.I.RowEntryIterator.refuses (g.E.Outside.reach c.args.env.now) (begun_sources (heap_items c.args.heads.now)); heaped = λ o h. h; no_larger = omega arith; reads = reads_none _; counts = refl }
+sources-init g c = record { moves = λ o. moves_none _ _ _ _ _; brought = sources_none (offers g.I.RowEntryIterator.begins g.I.RowEntryIterator.takes g.I.RowEntryIterator.seeks) g.I.RowEntryIterator.refuses (g.E.Outside.reach c.args.env.now) (begun_sources (heap_items c.args.heads.now)); heaped = λ o h. h; no_larger = omega arith; within = λ paths h. (reads_at_none paths _, h); reads = reads_none _; counts = refl }
 
 pub sources-preserved : goal.sources-preserved
 sources-preserved g c =
@@ -22,6 +23,7 @@ sources-preserved g c =
       brought = sources_both (offers g.I.RowEntryIterator.begins g.I.RowEntryIterator.takes g.I.RowEntryIterator.seeks) g.I.RowEntryIterator.refuses (g.E.Outside.reach c.args.env.now) (g.E.Outside.reach c.sources.env) (g.E.Outside.reach c.seek_first.new.env) (begun_sources (heap_items c.args.heads.now)) (begun_sources (heap_items c.sources.heads)) (begun_sources (heap_items c.seek_first.new.heads)) inv.brought n.brought;
       heaped = λ o h. n.heaped o (inv.heaped o h);
       no_larger = omega (arith, n.no_larger, inv.no_larger);
+      within = λ paths h. (let first = inv.within paths h in let last = n.within paths first.1 in (reads_at_then paths _ _ _ first.0 last.0, last.1));
       reads = reads_then _ _ _ inv.reads n.reads;
       counts = n.counts ∙ inv.counts;
     }
@@ -40,6 +42,7 @@ returns-in-Ok-false g c =
       heaped = λ o h. n.heaped o (inv.heaped o h);
       no_larger = omega (arith, n.no_larger, inv.no_larger);
       cause = tt;
+      within = λ paths h. (let first = inv.within paths h in let last = n.within paths first.1 in (reads_at_then paths _ _ _ first.0 last.0, last.1));
       reads = reads_then _ _ _ inv.reads n.reads;
       counts = n.counts ∙ inv.counts;
     }
@@ -55,6 +58,7 @@ returns-in-Err g c =
       done = λ _ _ _. tt;
       no_larger = tt;
       cause = then_fails (blames g.I.RowEntryIterator.refuses (begun_sources (heap_items c.args.heads.now))) (blames g.I.RowEntryIterator.refuses (begun_sources (heap_items c.sources.heads))) (g.E.Outside.reach c.args.env.now) (g.E.Outside.reach c.sources.env) (g.E.Outside.reach c.seek_first.new.env) (Some c.args.key.now) c.in-Err.error inv.reads.later (inv.moves Ascending).made n.cause;
+      within = λ paths h. (let first = inv.within paths h in let last = n.within paths first.1 in (reads_at_then paths _ _ _ first.0 last.0, last.1));
       reads = reads_then _ _ _ inv.reads n.reads;
       counts = n.counts ∙ ap (unblamed c.in-Err.error) inv.counts;
     }

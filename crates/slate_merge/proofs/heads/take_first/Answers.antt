@@ -1,11 +1,13 @@
 use Rattle.std.proofs.Common.{◌∙◌, List, sym, subst, arith}
 use Rattle.std.specs.BinaryHeap.{heap_items}
+use Rattle.slate_types.proofs.Calls.{reads_at_none}
 use Rattle.slate_merge.specs.Offers.{offers}
 use Rattle.slate_merge.specs.declared.head.Head.{Head}
-use Rattle.slate_merge.specs.Merging.{AreHeaped}
+use Rattle.slate_merge.specs.Merging.{AreHeaped, AreWithin, begun_sources}
 use Rattle.slate_merge.specs.MergeSteps.{Goes}
 use Rattle.slate_merge.proofs.Heaps.{heaped_on}
 use Rattle.slate_merge.proofs.Goings.{none_step, first_step, first_smaller}
+use Rattle.slate_merge.proofs.SourcesWithin.{within_out}
 use Rattle.slate_merge.proofs.heads.take_first.Goals as goal
 
 pub returns-in_default-clause-step : goal.returns-in_default-clause-step
@@ -32,3 +34,16 @@ pub returns-in-Ok-clause-heaped : goal.returns-in-Ok-clause-heaped
 returns-in-Ok-clause-heaped g c = λ order h.
     let s = c.in-Some.ensures in
     heaped_on order (Goes g.I.RowEntryIterator.rest g.I.RowEntryIterator.sound g.I.RowEntryIterator.refuses g.I.RowEntryIterator.takes g.I.RowEntryIterator.bound g.I.RowEntryIterator.order (g.E.Outside.reach c.args.env.now) (g.E.Outside.reach c.put_back.new.env)) c.in-Some.head.source (heap_items c.args.heads.now) (heap_items c.pop.new.self) (heap_items c.put_back.new.heads) c.in-Some.head s.permutation (λ k. (s.heap_order k).0) c.in-Ok.ensures.heap c.in-Ok.ensures.joins h
+
+pub returns-in_default-clause-within : goal.returns-in_default-clause-within
+returns-in_default-clause-within g c = λ paths h. (reads_at_none paths _, subst (λ (l : List (Head g.row.I.Denot)). AreWithin g.I.RowEntryIterator.within (begun_sources l) paths) (sym c.in_default.ensures.unchanged.0) h)
+
+pub returns-in-Ok-clause-within : goal.returns-in-Ok-clause-within
+returns-in-Ok-clause-within g c = λ paths h.
+    let out = within_out g.I.RowEntryIterator.within paths (heap_items c.args.heads.now) (heap_items c.pop.new.self) c.in-Some.head c.in-Some.ensures.permutation h in
+    c.in-Ok.ensures.within paths out.0 out.1
+
+pub returns-in-Err-clause-within : goal.returns-in-Err-clause-within
+returns-in-Err-clause-within g c = λ paths h.
+    let out = within_out g.I.RowEntryIterator.within paths (heap_items c.args.heads.now) (heap_items c.pop.new.self) c.in-Some.head c.in-Some.ensures.permutation h in
+    c.in-Err.ensures.within paths out.0 out.1

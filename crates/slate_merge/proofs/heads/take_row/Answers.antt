@@ -1,6 +1,7 @@
 use Rattle.std.proofs.Common.{◌∙◌, sym, None}
 use Rattle.std.specs.BinaryHeap.{heap_items}
 use Rattle.slate_types.specs.declared.iter.IterationOrder.TheVariants.{Ascending}
+use Rattle.slate_types.proofs.Calls.{reads_at_then}
 use Rattle.slate_merge.specs.Merging.{left_in, IsMergingIn, blames, begun_sources}
 use Rattle.slate_merge.specs.NoMoreRows.{NoMoreRows}
 use Rattle.slate_merge.specs.Offers.{offers}
@@ -66,3 +67,15 @@ pub returns-in-Ok-clause-heaped : goal.returns-in-Ok-clause-heaped
 returns-in-Ok-clause-heaped g c = λ order h.
     let n = rw c.in-Ok-Some.field-0-is at c.in-Ok-Some.ensures in
     c.in-Ok.ensures.heaped order (n.heaped order h)
+
+pub returns-in-Ok-clause-within : goal.returns-in-Ok-clause-within
+returns-in-Ok-clause-within g c = λ paths h.
+    let first = c.in-Ok-Some.ensures.within paths h in
+    let last = c.in-Ok.ensures.within paths first.1 in
+    (reads_at_then paths _ _ _ first.0 last.0, last.1)
+
+pub returns-in-Err-drop_older-clause-within : goal.returns-in-Err-drop_older-clause-within
+returns-in-Err-drop_older-clause-within g c = λ paths h.
+    let first = c.in-Ok-Some.ensures.within paths h in
+    let last = c.in-Err-drop_older.ensures.within paths first.1 in
+    (reads_at_then paths _ _ _ first.0 last.0, tt)

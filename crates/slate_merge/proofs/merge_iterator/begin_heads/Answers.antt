@@ -1,6 +1,7 @@
 use Rattle.std.proofs.Common.{◌≤◌, None, sym, subst, [], refl}
 use Rattle.std.specs.BinaryHeap.{heap_items}
 use Rattle.std.proofs.lemmas.Result.{IfOk-weaker, IfErr-weaker}
+use Rattle.slate_types.proofs.Calls.{reads_at_none}
 use Rattle.slate_types.proofs.Moves.{Moves}
 use Rattle.slate_types.proofs.Reaching.{reads_none}
 use Rattle.slate_merge.specs.declared.merge_iterator.MergeState.{MergeState}
@@ -10,7 +11,7 @@ use Rattle.slate_merge.specs.NoMoreRows.{AddsNoneByCall}
 use Rattle.slate_merge.specs.Offers.{offers}
 use Rattle.slate_merge.specs.MergeBringing.{IsHeapedIn, KeepsHeads, merge_offers}
 use Rattle.slate_merge.specs.Merging.{merging_bound}
-use Rattle.slate_merge.specs.MergeStates.{IsSoundIn, bound_in, refuses_in, rest_in}
+use Rattle.slate_merge.specs.MergeStates.{IsSoundIn, IsWithinIn, bound_in, refuses_in, rest_in}
 use Rattle.slate_merge.proofs.MergeStateSteps.{begun_adds, state_begins, state_again, begun_fails, waiting_adds, waiting_fails, again_fails}
 use Rattle.slate_merge.proofs.merge_iterator.begin_heads.Goals as goal
 
@@ -30,6 +31,7 @@ returns-in-New g c =
       no_larger = IfOk-weaker c.begin_all.result _ (λ heads. merging_bound bound [] (heap_items heads) ≤ bound_in bound x) (λ heads less. subst (λ (s : MergeState g.row.I.Denot). merging_bound bound [] (heap_items heads) ≤ bound_in bound s) (sym c.in-New.is) less) c.begin_all.ensures.no_larger;
       cause = IfErr-weaker c.begin_all.result _ (λ e. IsFaultOr (refuses_in g.I.RowEntryIterator.refuses) (g.E.Outside.reach c.args.env.now) (g.E.Outside.reach c.begin_all.new.env) x None e)
           (λ e m. waiting_fails g.I.RowEntryIterator.refuses (g.E.Outside.reach c.args.env.now) (g.E.Outside.reach c.begin_all.new.env) None e x z c.in-New.is tt m) c.begin_all.ensures.cause;
+      within = λ paths h. c.begin_all.ensures.within paths (subst (λ (s : MergeState g.row.I.Denot). IsWithinIn g.I.RowEntryIterator.within s paths) c.in-New.is h);
       reads = c.begin_all.ensures.reads;
       counts = c.begin_all.ensures.counts;
     }
@@ -50,6 +52,7 @@ returns-in-Begun g c =
       no_larger = IfOk-weaker c.begin_again.result _ (λ heads. merging_bound bound [] (heap_items heads) ≤ bound_in bound x) (λ heads less. subst (λ (s : MergeState g.row.I.Denot). merging_bound bound [] (heap_items heads) ≤ bound_in bound s) (sym c.in-Begun.is) less) c.begin_again.ensures.no_larger;
       cause = IfErr-weaker c.begin_again.result _ (λ e. IsFaultOr (refuses_in g.I.RowEntryIterator.refuses) (g.E.Outside.reach c.args.env.now) (g.E.Outside.reach c.begin_again.new.env) x None e)
           (λ e m. begun_fails g.I.RowEntryIterator.refuses (g.E.Outside.reach c.args.env.now) (g.E.Outside.reach c.begin_again.new.env) None e x z c.in-Begun.is tt m) c.begin_again.ensures.cause;
+      within = λ paths h. c.begin_again.ensures.within paths (subst (λ (s : MergeState g.row.I.Denot). IsWithinIn g.I.RowEntryIterator.within s paths) c.in-Begun.is h);
       reads = c.begin_again.ensures.reads;
       counts = c.begin_again.ensures.counts;
     }
@@ -63,6 +66,7 @@ returns-in-Refused g c = record {
   ready = tt;
   no_larger = tt;
   cause = again_fails g.I.RowEntryIterator.refuses (g.E.Outside.reach c.args.env.now) None c.in-Refused.refusal _ c.args.state.now c.in-Refused.is c.copy_of.ensures;
+  within = λ paths _. (reads_at_none paths _, tt);
   reads = reads_none _;
   counts = refl;
 }

@@ -4,8 +4,9 @@ use Rattle.std.proofs.lemmas.Result.{IfErr-weaker, IfOk-weaker, on_ok_weaker}
 use Rattle.slate_types.proofs.Reaching.{reads_then}
 use Rattle.slate_merge.proofs.NoMoreRows.{added_hands}
 use Rattle.slate_read.specs.RunBringing.{BringsOpen}
-use Rattle.slate_read.specs.RunWalk.{refuses_open}
+use Rattle.slate_read.specs.RunWalk.{IsOpenWithin, refuses_open}
 use Rattle.slate_read.proofs.RunOpen.{find_fails, finds}
+use Rattle.slate_read.proofs.Withins.{within_then}
 use Rattle.slate_read.proofs.run_walk.find_row.Goals as goal
 
 pub returns-in-Ok : goal.returns-in-Ok
@@ -19,6 +20,7 @@ returns-in-Ok g c =
       smaller = IfOk-weaker c.take_row.result _ _ (λ answer k some. (let less = k some in let first = s.no_larger in omega (arith, less, first))) t.smaller;
       no_larger = on_ok_weaker c.take_row.result (λ k. (let first = s.no_larger in omega (arith, k, first))) t.no_larger;
       hands = IfOk-weaker c.take_row.result _ _ (λ answer k. added_hands (BringsOpen c.args.order) (refuses_open c.args.order) _ _ _ c.args.current.now c.skip_rows.new.current c.take_row.new.current answer s.adds k) t.hands;
+      within = within_then IsOpenWithin _ _ _ c.args.current.now c.skip_rows.new.current c.take_row.new.current s.within t.within;
       reads = reads_then _ _ _ s.reads t.reads;
       counts = t.counts ∙ ap (unblamed_by c.take_row.result) s.counts;
     }
@@ -31,6 +33,7 @@ returns-in-Err g c = record {
   smaller = tt;
   no_larger = tt;
   hands = tt;
+  within = c.in-Err.ensures.within;
   reads = c.in-Err.ensures.reads;
   counts = c.in-Err.ensures.counts;
 }

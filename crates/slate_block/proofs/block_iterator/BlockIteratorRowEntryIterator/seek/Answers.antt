@@ -1,4 +1,5 @@
 use Rattle.std.proofs.Common.{refl}
+use Rattle.slate_types.proofs.Calls.{reads_at_none}
 use Rattle.slate_types.proofs.Reaching.{reads_none}
 use Rattle.slate_block.proofs.StepLaws.{all_checked, on_ok_both, seek_cause, sought_made, sought_rows, sought_still, sought_no_larger}
 use Rattle.slate_block.proofs.block_iterator.BlockIteratorRowEntryIterator.seek.Goals as goal
@@ -12,6 +13,7 @@ returns g c = record {
   sought = sought_made c.skip_before.result _ c.args.key.now c.args.self.now c.skip_before.new.self _ (on_ok_both c.skip_before.result _ _ c.skip_before.ensures.past c.skip_before.ensures.stops) c.skip_before.ensures.past;
   no_larger = sought_no_larger c.skip_before.result c.args.key.now c.args.self.now c.skip_before.new.self c.skip_before.ensures.past c.skip_before.ensures.unchanged;
   order = c.skip_before.ensures.order;
+  within = λ paths _. (reads_at_none paths _, tt);
   reads = reads_none _;
   counts = refl;
 }

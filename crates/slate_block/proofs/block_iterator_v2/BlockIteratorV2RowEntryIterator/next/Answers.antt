@@ -1,4 +1,5 @@
 use Rattle.std.proofs.Common.{refl}
+use Rattle.slate_types.proofs.Calls.{reads_at_none}
 use Rattle.slate_types.proofs.Reaching.{reads_none}
 use Rattle.slate_block.proofs.StepLaws.{all_checked, step_cause, taken_made, taken_rows, taken_rising, taken_smaller, taken_no_larger}
 use Rattle.slate_block.proofs.block_iterator_v2.BlockIteratorV2RowEntryIterator.next.Goals as goal
@@ -13,6 +14,7 @@ returns g c = record {
   smaller = taken_smaller c.next_row.result c.args.self.now c.next_row.new.self c.next_row.ensures.read;
   no_larger = taken_no_larger c.next_row.result c.args.self.now c.next_row.new.self c.next_row.ensures.read c.next_row.ensures.unchanged;
   order = c.next_row.ensures.order;
+  within = λ paths _. (reads_at_none paths _, tt);
   reads = reads_none _;
   counts = refl;
   unbegun = λ never. absurd never;

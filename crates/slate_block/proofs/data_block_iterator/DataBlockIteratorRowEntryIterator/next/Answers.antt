@@ -1,6 +1,7 @@
 use Rattle.std.proofs.Common.{ap, refl}
 use Rattle.std.proofs.lemmas.Result.{on_err_weaker}
 use Rattle.slate_block.specs.EitherVersion.{left_of}
+use Rattle.slate_types.proofs.Calls.{reads_at_none}
 use Rattle.slate_types.proofs.Reaching.{reads_none}
 use Rattle.slate_block.proofs.StepLaws.{all_checked, step_cause, taken_made, taken_rows, taken_rising, taken_smaller, taken_no_larger}
 use Rattle.slate_block.proofs.data_block_iterator.DataBlockIteratorRowEntryIterator.next.Goals as goal
@@ -15,6 +16,7 @@ returns g c = record {
   smaller = taken_smaller c.next_row.result (left_of c.args.self.now) (left_of c.next_row.new.self) c.next_row.ensures.read;
   no_larger = taken_no_larger c.next_row.result (left_of c.args.self.now) (left_of c.next_row.new.self) c.next_row.ensures.read (on_err_weaker c.next_row.result (ap left_of) c.next_row.ensures.unchanged);
   order = c.next_row.ensures.order;
+  within = λ paths _. (reads_at_none paths _, tt);
   reads = reads_none _;
   counts = refl;
   unbegun = λ never. absurd never;

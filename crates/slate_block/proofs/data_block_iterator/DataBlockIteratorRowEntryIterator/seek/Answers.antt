@@ -1,6 +1,7 @@
 use Rattle.std.proofs.Common.{ap, refl}
 use Rattle.std.proofs.lemmas.Result.{on_err_weaker}
 use Rattle.slate_block.specs.EitherVersion.{left_of}
+use Rattle.slate_types.proofs.Calls.{reads_at_none}
 use Rattle.slate_types.proofs.Reaching.{reads_none}
 use Rattle.slate_block.proofs.StepLaws.{all_checked, on_ok_both, seek_cause, sought_made, sought_rows, sought_still, sought_no_larger}
 use Rattle.slate_block.proofs.data_block_iterator.DataBlockIteratorRowEntryIterator.seek.Goals as goal
@@ -14,6 +15,7 @@ returns g c = record {
   sought = sought_made c.skip_before.result _ c.args.key.now (left_of c.args.self.now) (left_of c.skip_before.new.self) _ (on_ok_both c.skip_before.result _ _ c.skip_before.ensures.past c.skip_before.ensures.stops) c.skip_before.ensures.past;
   no_larger = sought_no_larger c.skip_before.result c.args.key.now (left_of c.args.self.now) (left_of c.skip_before.new.self) c.skip_before.ensures.past (on_err_weaker c.skip_before.result (ap left_of) c.skip_before.ensures.unchanged);
   order = c.skip_before.ensures.order;
+  within = λ paths _. (reads_at_none paths _, tt);
   reads = reads_none _;
   counts = refl;
 }

@@ -18,7 +18,7 @@ use Rattle.slate_db.proofs.Keeps.{kept_event}
 use Rattle.slate_db.proofs.Opened.{stay_noted, stay_same}
 use Rattle.slate_db.proofs.Operands.{own_updated}
 use Rattle.slate_db.proofs.ScanNotes.{next_left, vouched_next}
-use Rattle.slate_db.proofs.ScanStates.{answered_once}
+use Rattle.slate_db.proofs.ScanStates.{answered_once, keeps_within}
 use Rattle.slate_db.proofs.Wholes.{after_note, whole_note}
 use Rattle.slate_db.proofs.engine.Core.next.Goals as goal
 use Rattle.slate_db.proofs.engine.Core.next.Given as given
@@ -55,6 +55,7 @@ returns-in-Err g c =
       opened = c.requires;
       kept = λ m k. k;
       settings = refl;
+      within = n.within;
       reads = n.reads;
       still = n.still;
     }
@@ -83,6 +84,7 @@ returns-in-Err-note_next g c =
       opened = (stay_same c.args.self.now _ (ap view_of unmoved ∙ c.self.view_is) c.args.it.now.id).scans c.args.it.now.scan c.requires;
       kept = λ m k. subst (λ (s : Inside). IsKept m (view_of s)) (sym unmoved) (subst (λ (v : CoreModel). IsKept m v) (sym c.self.view_is) k);
       settings = ap (λ (v : CoreModel). v.settings) c.self.view_is;
+      within = λ paths h. ((n.within paths h).0, keeps_within _ c.refuse.new.self paths r.again);
       reads = n.reads;
       still = ap (unblamed _) n.still;
     }
@@ -129,6 +131,7 @@ returns g c =
           (λ none own. own_updated it.id (λ (t : Tx). record t { transcript = t.transcript ++ (noted_step g c ∷ []) }) (view_of c.self.inside).state.txns (λ t h. h) own)
           (subst (λ (v : CoreModel). IsKept p v) (sym c.self.view_is) k));
       settings = ap (λ (v : CoreModel). v.settings) c.self.view_is;
+      within = n.within;
       reads = n.reads;
       still = n.still;
     }

@@ -15,6 +15,7 @@ use Rattle.slate_db.specs.Whole.{IsWhole}
 use Rattle.slate_db.proofs.RangeRows.{has_all}
 use Rattle.slate_db.proofs.Readers.{own_range_of}
 use Rattle.slate_db.proofs.ScanReaders.{fine_reader}
+use Rattle.slate_db.proofs.ScanWithin.{none_within}
 use Rattle.slate_db.proofs.engine.Core.opened.Goals as goal
 use Rattle.slate_db.proofs.engine.Core.opened.Given as given
 
@@ -53,6 +54,7 @@ returns g c =
       cause = o.cause;
       range = c.opened_over.ensures.range;
       order = c.opened_over.ensures.order;
+      within = o.within;
       reads = c.opened_over.ensures.reads;
       still = c.opened_over.ensures.still;
     }
@@ -69,6 +71,7 @@ returns-in_err-own g c =
       cause = err_exit c.from_residual.result _ c.from_residual.ensures.1 _ (inl fault);
       range = IfOk-from_err c.from_residual.result _ c.from_residual.ensures.0;
       order = IfOk-from_err c.from_residual.result _ c.from_residual.ensures.0;
+      within = none_within _ _ _ c.args.self.now (unseen_of c.self.inside) _ (subst (λ (v : CoreModel). IsWhole v (unseen_of c.self.inside)) c.self.view_is c.self.invariant) (IfOk-from_err c.from_residual.result _ c.from_residual.ensures.0);
       reads = reads_none _;
       still = refl;
     }

@@ -1,4 +1,4 @@
-use Rattle.std.proofs.Common.{inl, inr, true, false, ◌≡◌, ◌≤◌, ℕ, [], ◌∷◌, ◌++◌, List, Option, Some, refl, ap, sym, subst, ◌∙◌}
+use Rattle.std.proofs.Common.{inl, inr, true, false, ◌≡◌, ◌≤◌, ℕ, [], ◌∷◌, ◌++◌, List, map, Option, Some, refl, ap, sym, subst, ◌∙◌}
 use Rattle.std.specs.Prelude.{Ok, slice_get}
 use Rattle.std.proofs.lemmas.Result.{IfOk-from_err, err_from_is_err_and}
 use Rattle.slate_types.specs.declared.bytes_range.BytesRange.{BytesRange}
@@ -11,6 +11,7 @@ use Rattle.slate_types.specs.World.{Made}
 use Rattle.slate_types.proofs.Exits.{err_exit}
 use Rattle.slate_types.proofs.Reaching.{reads_none}
 use Rattle.slate_store.specs.Reach.{reach_of}
+use Rattle.slate_read.specs.TableWalk.{path_in}
 use Rattle.slate_txn.specs.declared.event.TranscriptStep.{TranscriptStep}
 use Rattle.slate_txn.specs.declared.event.TranscriptStep.TheVariants as steps
 use Rattle.slate_txn.specs.Alone.{scans_left}
@@ -26,16 +27,18 @@ use Rattle.slate_db.specs.Checked.{OrSlips}
 use Rattle.slate_db.specs.Meaning.{Meaning, rules_of}
 use Rattle.slate_db.specs.Model.{CoreModel}
 use Rattle.slate_db.specs.RangeShares.{LeavesSeen}
-use Rattle.slate_db.specs.Scans.{IsFor, IsHandedByScan, IsOpeningError, IsRefusedByScan, ScanHands, ScanRefuses}
+use Rattle.slate_db.specs.Scans.{IsFor, IsHandedByScan, IsOpeningError, IsRefusedByScan, IsScanWithin, OpensWithin, ScanHands, ScanRefuses}
 use Rattle.slate_db.specs.Sound.{IsKept}
 use Rattle.slate_db.specs.View.{view_of, unseen_of, IsWholeInside}
 use Rattle.slate_db.specs.Vouched.{IsVouchedFor}
+use Rattle.slate_db.specs.Whole.{IsWhole}
 use Rattle.slate_db.proofs.Keeps.{kept_event}
 use Rattle.slate_db.proofs.OpenNotes.{step_scan, vouched_scan}
 use Rattle.slate_db.proofs.Opened.{opened_scan, stay_noted, stay_same}
 use Rattle.slate_db.proofs.Operands.{own_updated}
 use Rattle.slate_db.proofs.ScanMerges.{answered_as, query_as, readable_as}
 use Rattle.slate_db.proofs.Readers.{floor_at, own_at, scan_left, scans_of, start_at}
+use Rattle.slate_db.proofs.ScanWithin.{none_within, within_as}
 use Rattle.slate_db.proofs.Wholes.{after_note, whole_note}
 use Rattle.slate_db.proofs.engine.Core.scan.Goals as goal
 use Rattle.slate_db.proofs.engine.Core.scan.Given as given
@@ -66,6 +69,7 @@ returns-then-leaves_none g c = record {
   opens = tt;
   kept = λ m k. k;
   settings = refl;
+  within = none_within _ _ _ c.args.self.now (unseen_of c.self.inside) (λ left. Unit {0}) (subst (λ (v : CoreModel). IsWhole v (unseen_of c.self.inside)) c.self.view_is c.self.invariant) tt;
   reads = reads_none _;
   still = refl;
 }
@@ -91,6 +95,7 @@ returns-in_err-how g c =
       opens = IfOk-from_err c.from_residual.result _ c.from_residual.ensures.0;
       kept = λ m k. k;
       settings = refl;
+      within = none_within _ _ _ c.args.self.now (unseen_of c.self.inside) _ (subst (λ (v : CoreModel). IsWhole v (unseen_of c.self.inside)) c.self.view_is c.self.invariant) (IfOk-from_err c.from_residual.result _ c.from_residual.ensures.0);
       reads = reads_none _;
       still = refl;
     }
@@ -122,6 +127,9 @@ returns-in_err-rows g c =
       opens = IfOk-from_err c.from_residual-in_err-rows.result _ c.from_residual-in_err-rows.ensures.0;
       kept = λ m k. k;
       settings = refl;
+      within = within_as _ _ _ _ _ _ (λ left. Unit {0}) _ (λ left h. IfOk-from_err c.from_residual-in_err-rows.result _ c.from_residual-in_err-rows.ensures.0)
+          (query_as (λ p. (goal.FilterPolicy-dyn g (p.vtable, p.value)).meaning p.value) c.as_slice.result.now c.args.laws.now.policies.items c.as_slice.ensures.value c.args.range c.in_ok-how.how.prefix c.args.prefix c.in_ok-how.ensures.prefix c.in_ok-how.how.filter_context c.args.options.now.filter_context c.in_ok-how.ensures.context
+          (λ policies query. Made (reach_of g.S.Store g.M.MergeOperator g.T.BlockTransformer c.args.env.now) (reach_of g.S.Store g.M.MergeOperator g.T.BlockTransformer c.opened.new.env) (λ reads. OpensWithin policies query (reach_of g.S.Store g.M.MergeOperator g.T.BlockTransformer c.args.env.now).meaning c.args.self.now reads (λ left. Unit {0}))) c.in_err-rows.ensures.within);
       reads = c.opened.ensures.reads;
       still = rw (p.1, p.2) c.in_err-rows.ensures.still;
     }
@@ -150,6 +158,9 @@ returns-in-Err g c = record {
       subst (λ (s : Inside). IsKept m (view_of s)) (sym (unnoted c.self.inside c.note_scan.new.self c.in-Err.ensures.err))
       (subst (λ (v : CoreModel). IsKept m v) (sym c.self.view_is) kept_m));
   settings = ap (λ (v : CoreModel). v.settings) c.self.view_is;
+  within = within_as _ _ _ _ _ _ (λ left. IsScanWithin c.in_ok-rows.rows (map path_in left)) _ (λ left h. tt)
+      (query_as (λ p. (goal.FilterPolicy-dyn g (p.vtable, p.value)).meaning p.value) c.as_slice.result.now c.args.laws.now.policies.items c.as_slice.ensures.value c.args.range c.in_ok-how.how.prefix c.args.prefix c.in_ok-how.ensures.prefix c.in_ok-how.how.filter_context c.args.options.now.filter_context c.in_ok-how.ensures.context
+      (λ policies query. Made (reach_of g.S.Store g.M.MergeOperator g.T.BlockTransformer c.args.env.now) (reach_of g.S.Store g.M.MergeOperator g.T.BlockTransformer c.opened.new.env) (λ reads. OpensWithin policies query (reach_of g.S.Store g.M.MergeOperator g.T.BlockTransformer c.args.env.now).meaning c.args.self.now reads (λ left. IsScanWithin c.in_ok-rows.rows (map path_in left)))) c.in_ok-rows.ensures.within);
   reads = c.opened.ensures.reads;
   still = ap (unblamed _) c.in_ok-rows.ensures.still;
 }
@@ -226,6 +237,8 @@ returns g c =
           (λ none own. own_updated c.args.id.now (λ (t : Tx). record t { transcript = t.transcript ++ (opening g c ∷ []) }) (view_of s).state.txns (λ t h. h) own)
           (subst (λ (v : CoreModel). IsKept k v) (sym c.self.view_is) kept_k)));
       settings = ap (λ (v : CoreModel). v.settings) c.self.view_is;
+      within = query_as (λ p. (goal.FilterPolicy-dyn g (p.vtable, p.value)).meaning p.value) c.as_slice.result.now c.args.laws.now.policies.items c.as_slice.ensures.value c.args.range c.in_ok-how.how.prefix c.args.prefix c.in_ok-how.ensures.prefix c.in_ok-how.how.filter_context c.args.options.now.filter_context c.in_ok-how.ensures.context
+          (λ policies query. Made before after (λ reads. OpensWithin policies query m old reads (λ left. IsScanWithin rows (map path_in left)))) e.within;
       reads = c.opened.ensures.reads;
       still = c.in_ok-rows.ensures.still;
     }

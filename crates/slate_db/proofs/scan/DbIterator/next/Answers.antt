@@ -1,8 +1,9 @@
 use Rattle.std.proofs.Common.{None, refl}
 use Rattle.std.specs.Prelude.{Ok}
 use Rattle.slate_store.specs.Reach.{reach_of}
+use Rattle.slate_types.proofs.Calls.{reads_at_none}
 use Rattle.slate_types.proofs.Reaching.{reads_none}
-use Rattle.slate_db.proofs.ScanStates.{kept_answer, never_sound, next_leaves, refused_again, values_of}
+use Rattle.slate_db.proofs.ScanStates.{keeps_within, kept_answer, never_sound, next_leaves, refused_again, values_of}
 use Rattle.slate_db.proofs.scan.DbIterator.next.Goals as goal
 
 pub returns-in-Refused : goal.returns-in-Refused
@@ -22,6 +23,7 @@ returns-in-Refused g c =
       refused = λ kept was. (kept_answer _ it.state c.in-Refused.error kept c.copy_of.result refl is copies was, refl, refl);
       range = refl;
       order = refl;
+      within = λ paths h. (reads_at_none paths _, h);
       reads = reads_none _;
       still = refl;
     }
@@ -47,6 +49,7 @@ returns-in-Ok g c =
       refused = λ kept was. absurd (c.in_default.not-Refused kept was);
       range = refl;
       order = refl;
+      within = n.within;
       reads = n.reads;
       still = n.still;
     }
@@ -68,6 +71,7 @@ returns-in-Err g c =
       refused = λ kept was. absurd (c.in_default.not-Refused kept was);
       range = r.range;
       order = r.order;
+      within = λ paths h. ((n.within paths h).0, keeps_within _ c.refuse.new.self paths r.again);
       reads = n.reads;
       still = rw r.same n.still;
     }

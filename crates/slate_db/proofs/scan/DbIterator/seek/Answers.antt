@@ -2,10 +2,10 @@ use Rattle.std.proofs.Common.{◌≡◌, true, false, [], Some, refl, arith}
 use Rattle.std.specs.Prelude.{Ok}
 use Rattle.slate_types.specs.Iteration.{drop_before}
 use Rattle.slate_types.specs.Keys.{is_past_start}
-use Rattle.slate_types.proofs.Calls.{call_none, checks_none}
+use Rattle.slate_types.proofs.Calls.{call_none, checks_none, reads_at_none}
 use Rattle.slate_types.proofs.Reaching.{reads_none}
 use Rattle.slate_store.specs.Reach.{reach_of}
-use Rattle.slate_db.proofs.ScanStates.{kept_answer, never_sound, refused_again, seek_leaves, start_hands, start_later, start_leaves, start_range, values_of}
+use Rattle.slate_db.proofs.ScanStates.{keeps_within, kept_answer, never_sound, refused_again, seek_leaves, start_hands, start_later, start_leaves, start_range, start_within, values_of}
 use Rattle.slate_db.proofs.scan.DbIterator.seek.Goals as goal
 
 pub returns-in-Refused : goal.returns-in-Refused
@@ -24,6 +24,7 @@ returns-in-Refused g c =
       refused = λ kept was. (kept_answer _ it.state c.in-Refused.kept kept c.copy_of.result refl is copies was, refl, refl);
       range = refl;
       order = refl;
+      within = λ paths h. (reads_at_none paths _, h);
       reads = reads_none _;
       still = refl;
     }
@@ -45,6 +46,7 @@ returns-then-not-is_past_start g c =
       refused = λ kept was. absurd (c.in_default.not-Refused kept was);
       range = start_range (λ d. d.range) it after (λ x. refl) s.none s.all;
       order = start_range (λ d. d.order) it after (λ x. refl) s.none s.all;
+      within = λ paths h. (reads_at_none paths _, start_within it after paths s.none s.all h);
       reads = reads_none _;
       still = refl;
     }
@@ -69,6 +71,7 @@ returns-in-Ok g c =
       refused = λ kept was. absurd (c.in_default.not-Refused kept was);
       range = refl;
       order = refl;
+      within = n.within;
       reads = n.reads;
       still = n.still;
     }
@@ -90,6 +93,7 @@ returns-in-Err g c =
       refused = λ kept was. absurd (c.in_default.not-Refused kept was);
       range = r.range;
       order = r.order;
+      within = λ paths h. ((n.within paths h).0, keeps_within _ c.refuse.new.self paths r.again);
       reads = n.reads;
       still = rw r.same n.still;
     }

@@ -1,7 +1,7 @@
 use Rattle.std.proofs.Common.{inl, refl, ap, sym, subst, ◌∙◌}
 use Rattle.slate_types.specs.Outside.{IsCounted, unblamed}
 use Rattle.slate_db.specs.declared.scan.DbIterator.{DbIterator}
-use Rattle.slate_db.proofs.ScanStates.{answered_once}
+use Rattle.slate_db.proofs.ScanStates.{answered_once, keeps_within}
 use Rattle.slate_db.proofs.scan.TxnIterator.seek_noted.Goals as goal
 
 pub returns-in-Err : goal.returns-in-Err
@@ -20,6 +20,7 @@ returns-in-Err g c =
         again = n.again;
         refused = λ kept was. let r = n.refused kept was in (r.0, ap (λ (d : DbIterator). record c.args.self.now { rows = d }) r.1, r.2);
         names = record { named = refl; number = refl; ordered = n.order; ranged = n.range };
+        within = n.within;
         reads = n.reads;
         still = n.still;
       };
@@ -43,6 +44,7 @@ returns-in-Err-note_seek g c =
         again = λ unrefused. rw r.same r.again;
         refused = λ kept was. answered_once tt kept (n.refused kept was).0;
         names = record { named = refl; number = refl; ordered = r.order ∙ n.order; ranged = r.range ∙ n.range };
+        within = λ paths h. ((n.within paths h).0, keeps_within _ c.refuse.new.self paths r.again);
         reads = n.reads;
         still = ap (unblamed _) n.still;
       };
@@ -65,6 +67,7 @@ returns g c =
         again = λ unrefused. tt;
         refused = λ kept was. answered_once tt kept (n.refused kept was).0;
         names = record { named = refl; number = refl; ordered = n.order; ranged = n.range };
+        within = n.within;
         reads = n.reads;
         still = n.still;
       };

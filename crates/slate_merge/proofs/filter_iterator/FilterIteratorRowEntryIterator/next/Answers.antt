@@ -4,6 +4,7 @@ use Rattle.std.proofs.lemmas.Result.{err_from_is_err_and, IfOk-from_err}
 use Rattle.slate_types.proofs.Reaching.{reads_none, reads_then}
 use Rattle.slate_merge.proofs.Filters.{went_none, went_on, went_step, went_still, went_fails}
 use Rattle.slate_merge.proofs.Waitings.{ok_waits}
+use Rattle.slate_merge.proofs.Withins.{within_none, within_then}
 use Rattle.slate_merge.proofs.filter_iterator.FilterIteratorRowEntryIterator.next.Goals as goal
 
 pub loop-row-init : goal.loop-row-init
@@ -12,6 +13,7 @@ loop-row-init g c = record {
   predicate = refl;
   bound = omega arith;
   order = refl;
+  within = within_none g.I.RowEntryIterator.within _ _;
   reads = reads_none _;
   counts = refl;
   unbegun = λ waits. (refl, refl);
@@ -27,6 +29,7 @@ loop-row-preserved g c =
       predicate = i.predicate;
       bound = omega (arith, i.bound, n.no_larger);
       order = n.order ∙ i.order;
+      within = within_then g.I.RowEntryIterator.within _ _ _ _ _ _ i.within n.within;
       reads = reads_then _ _ _ i.reads n.reads;
       counts = n.counts ∙ i.counts;
       unbegun = λ waits. ok_waits _ _ (n.unbegun (subst (λ s. g.I.RowEntryIterator.unbegun s.iterator) (sym (i.unbegun waits).0) waits)).0;
@@ -47,6 +50,7 @@ returns-in_err-row g c =
       smaller = IfOk-from_err c.from_residual.result _ c.from_residual.ensures.0;
       no_larger = omega (arith, i.bound, n.no_larger);
       order = n.order ∙ i.order;
+      within = within_then g.I.RowEntryIterator.within _ _ _ _ _ _ i.within n.within;
       reads = reads_then _ _ _ i.reads n.reads;
       counts = rw (p.1, p.2) (n.counts ∙ ap (unblamed c.in_err-row.field-0.0) i.counts);
     }
@@ -67,6 +71,7 @@ returns-then-keep g c =
       smaller = λ some. omega (arith, i.bound, n.smaller refl);
       no_larger = omega (arith, i.bound, n.no_larger);
       order = n.order ∙ i.order;
+      within = within_then g.I.RowEntryIterator.within _ _ _ _ _ _ i.within n.within;
       reads = reads_then _ _ _ i.reads n.reads;
       counts = n.counts ∙ i.counts;
     }
@@ -86,6 +91,7 @@ returns g c =
       smaller = λ some. cc;
       no_larger = omega (arith, i.bound, n.no_larger);
       order = n.order ∙ i.order;
+      within = within_then g.I.RowEntryIterator.within _ _ _ _ _ _ i.within n.within;
       reads = reads_then _ _ _ i.reads n.reads;
       counts = n.counts ∙ i.counts;
     }

@@ -11,6 +11,7 @@ use Rattle.slate_merge.specs.Peeking.{with_ahead}
 use Rattle.slate_merge.proofs.FoldSteps.{ahead_moves, is_linked, row_moves, spent_moves}
 use Rattle.slate_merge.proofs.Operables.{own_of}
 use Rattle.slate_merge.proofs.Risings.{Gathering, gathering_ahead, gathering_came, gathering_on, gathering_rises, gathering_spent, never_rises, none_rises_more, not_risen, or_rising, spent_rest}
+use Rattle.slate_merge.proofs.Withins.{within_then}
 use Rattle.slate_merge.proofs.folding.Folding.gather.Goals as goal
 
 pub returns-then-not-follows-clause-moved : goal.returns-then-not-follows-clause-moved
@@ -42,6 +43,7 @@ linked-preserved g c =
       empty = i.empty;
       bound = omega (arith, i.bound, n.no_larger);
       order = n.order ∙ i.order;
+      within = within_then g.I.RowEntryIterator.within _ _ _ _ _ _ i.within n.within;
       reads = reads_then _ _ _ i.reads n.reads;
       counts = n.counts ∙ i.counts;
     }
@@ -120,3 +122,15 @@ pub returns-clause-came : goal.returns-clause-came
 returns-clause-came g c =
     let i = c.linked.invariant in
     gathering_came g.I.RowEntryIterator.rest g.I.RowEntryIterator.sound g.I.RowEntryIterator.refuses g.I.RowEntryIterator.takes _ _ _ c.linked.iterator' _ _ _ i.empty i.gathered
+
+pub returns-then-not-follows-clause-within : goal.returns-then-not-follows-clause-within
+returns-then-not-follows-clause-within g c = within_then g.I.RowEntryIterator.within _ _ _ _ _ _ c.linked.invariant.within c.in-Ok-Some.ensures.within
+
+pub returns-then-oldest-row-clause-within : goal.returns-then-oldest-row-clause-within
+returns-then-oldest-row-clause-within g c = within_then g.I.RowEntryIterator.within _ _ _ _ _ _ c.linked.invariant.within c.in-Ok-Some.ensures.within
+
+pub returns-in-Ok-None-clause-within : goal.returns-in-Ok-None-clause-within
+returns-in-Ok-None-clause-within g c = within_then g.I.RowEntryIterator.within _ _ _ _ _ _ c.linked.invariant.within c.in-Ok-None.ensures.within
+
+pub returns-in-Err-clause-within : goal.returns-in-Err-clause-within
+returns-in-Err-clause-within g c = within_then g.I.RowEntryIterator.within _ _ _ _ _ _ c.linked.invariant.within c.in-Err.ensures.within

@@ -4,6 +4,7 @@ use Rattle.slate_types.proofs.Moves.{Moves}
 use Rattle.slate_merge.specs.Folding.{AreLinked, NoneRises, links}
 use Rattle.slate_merge.specs.Folds.{refuses_taken, rest_taken, sound_taken}
 use Rattle.slate_merge.proofs.Risings.{Gathering}
+use Rattle.slate_merge.proofs.Withins.{ReadsWithin}
 use Rattle.slate_merge.proofs.folding.Folding.gather.Given as goal
 
 abbrev pub invariant-linked : goal.invariant-linked
@@ -16,6 +17,7 @@ invariant-linked g l = record {
   empty : l.ahead ≡ None;
   bound : g.I.RowEntryIterator.bound l.iterator' ≤ g.I.RowEntryIterator.bound l.fn.iterator;
   order : g.I.RowEntryIterator.order l.iterator' ≡ g.I.RowEntryIterator.order l.fn.iterator;
+  within : ReadsWithin g.I.RowEntryIterator.within (g.E.Outside.reach l.fn.env) (g.E.Outside.reach l.env) l.fn.iterator l.iterator';
   reads : OnlyReads (g.E.Outside.reach l.fn.env) (g.E.Outside.reach l.env);
   counts : (g.E.Outside.reach l.env).faults ≡ (g.E.Outside.reach l.fn.env).faults;
 }

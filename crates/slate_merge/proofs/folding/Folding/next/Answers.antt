@@ -14,6 +14,7 @@ use Rattle.slate_merge.proofs.FoldSteps.{call_moves, first_moves, folded_none, f
 use Rattle.slate_merge.proofs.FoldBringings.{first_came, still_came}
 use Rattle.slate_merge.proofs.Operables.{moved_operable, not_operable, operator_own, own_of, step_operable}
 use Rattle.slate_merge.proofs.Risings.{gathered_blames, gathered_falls, own_behind, through_falls}
+use Rattle.slate_merge.proofs.Withins.{within_call, within_then}
 use Rattle.slate_merge.proofs.folding.Folding.next.Goals as goal
 
 pub returns-in-Ok-None-clause-step : goal.returns-in-Ok-None-clause-step
@@ -200,3 +201,16 @@ returns-in-Ok-fold_group-clause-sources g c =
     let reach = g.E.Outside.reach in
     let first = first_moves g.I.RowEntryIterator.rest g.I.RowEntryIterator.sound g.I.RowEntryIterator.refuses g.I.RowEntryIterator.order _ _ _ c.args.iterator.now c.take_ahead.new.iterator c.args.ahead.now c.in-Ok-Some.first t.order t.step in
     (moves_both _ _ _ _ _ _ _ _ _ (moves_both _ _ _ _ _ _ _ _ _ first c.in-Ok.ensures.moved) (call_moves _ _ _ (reach c.gather.new.env) (reach c.fold_group.new.env) _ c.in-Ok-fold_group.ensures.call)).made
+
+pub returns-in-Ok-fold_group-clause-within : goal.returns-in-Ok-fold_group-clause-within
+returns-in-Ok-fold_group-clause-within g c =
+    let within = g.I.RowEntryIterator.within in
+    within_call within _ _ _ _ _ (within_then within _ _ _ _ _ _ c.in-Ok-Some.ensures.within c.in-Ok.ensures.within) c.in-Ok-fold_group.ensures.call
+
+pub returns-in-Err-fold_group-clause-within : goal.returns-in-Err-fold_group-clause-within
+returns-in-Err-fold_group-clause-within g c =
+    let within = g.I.RowEntryIterator.within in
+    within_call within _ _ _ _ _ (within_then within _ _ _ _ _ _ c.in-Ok-Some.ensures.within c.in-Ok.ensures.within) c.in-Err-fold_group.ensures.call
+
+pub returns-in-Err-gather-clause-within : goal.returns-in-Err-gather-clause-within
+returns-in-Err-gather-clause-within g c = within_then g.I.RowEntryIterator.within _ _ _ _ _ _ c.in-Ok-Some.ensures.within c.in-Err-gather.ensures.within

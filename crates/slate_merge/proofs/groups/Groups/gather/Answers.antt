@@ -6,6 +6,7 @@ use Rattle.slate_types.proofs.Moves.{moves_both, moves_fails}
 use Rattle.slate_merge.specs.Groups.{IsOneKey, StandsApart}
 use Rattle.slate_merge.proofs.Grouping.{gathered_moves, same_moves, source_spent, spent_moves, spent_rest, stands_of, turned_moves}
 use Rattle.slate_merge.proofs.Handings.{gathers_end, gathers_more, gathers_turn}
+use Rattle.slate_merge.proofs.Withins.{within_then}
 use Rattle.slate_merge.proofs.groups.Groups.gather.Goals as goal
 
 pub returns-then-is_apart-clause-came : goal.returns-then-is_apart-clause-came
@@ -58,6 +59,7 @@ loop-iterator-preserved g c =
       room = i.room;
       bound = omega (arith, i.bound, less, size);
       order = n.order ∙ i.order;
+      within = within_then g.I.RowEntryIterator.within _ _ _ _ _ _ i.within n.within;
       reads = reads_then _ _ _ i.reads n.reads;
       counts = n.counts ∙ i.counts;
     }
@@ -81,3 +83,12 @@ returns-in-None-clause-spent g c = λ w sees sound empty.
     (n.order ∙ i.order ∙ c.requires.downwards) empty (ap (λ v. v.items) c.swap.ensures.y_after ∙ i.none)
     (source_spent g.I.RowEntryIterator.rest g.I.RowEntryIterator.sound g.I.RowEntryIterator.order g.I.RowEntryIterator.refuses g.I.RowEntryIterator.takes _ _ _ _ (c.loop-iterator.iterator', c.loop-iterator.self) c.next.new.self (moves_both _ _ _ _ _ _ _ _ _ begun i.moves)
     (record { rows = n.rows; still = n.still; checked = n.checked; taken = n.taken }) w sees sound)
+
+pub returns-in_err-row-clause-within : goal.returns-in_err-row-clause-within
+returns-in_err-row-clause-within g c = within_then g.I.RowEntryIterator.within _ _ _ _ _ _ c.loop-iterator.invariant.within c.in_err-row.ensures.within
+
+pub returns-then-is_apart-clause-within : goal.returns-then-is_apart-clause-within
+returns-then-is_apart-clause-within g c = within_then g.I.RowEntryIterator.within _ _ _ _ _ _ c.loop-iterator.invariant.within c.in_ok-row.ensures.within
+
+pub returns-in-None-clause-within : goal.returns-in-None-clause-within
+returns-in-None-clause-within g c = within_then g.I.RowEntryIterator.within _ _ _ _ _ _ c.loop-iterator.invariant.within c.in_ok-row.ensures.within

@@ -4,6 +4,7 @@ use Rattle.slate_types.proofs.Moves.{Moves}
 use Rattle.std.specs.Prelude.{vec_len, vec_capacity, ◌<◌}
 use Rattle.slate_merge.specs.Groups.{refuses_grouped, rest_grouped, rows_in_groups, sound_grouped}
 use Rattle.slate_merge.proofs.Handings.{Gathers}
+use Rattle.slate_merge.proofs.Withins.{ReadsWithin}
 use Rattle.slate_merge.proofs.groups.Groups.gather.Given as goal
 
 abbrev pub invariant-loop-iterator : goal.invariant-loop-iterator
@@ -15,6 +16,7 @@ invariant-loop-iterator g l = record {
   room : vec_len l.self.ready < vec_capacity l.self.ready;
   bound : g.I.RowEntryIterator.bound l.iterator' + rows_in_groups l.self ≤ g.I.RowEntryIterator.bound l.initial.iterator' + rows_in_groups l.initial.self;
   order : g.I.RowEntryIterator.order l.iterator' ≡ g.I.RowEntryIterator.order l.initial.iterator';
+  within : ReadsWithin g.I.RowEntryIterator.within (g.E.Outside.reach l.initial.env) (g.E.Outside.reach l.env) l.initial.iterator' l.iterator';
   reads : OnlyReads (g.E.Outside.reach l.initial.env) (g.E.Outside.reach l.env);
   counts : (g.E.Outside.reach l.env).faults ≡ (g.E.Outside.reach l.initial.env).faults;
 }

@@ -1,12 +1,14 @@
 use Rattle.std.proofs.Common.{◌≤◌, ◌<◌, [], refl, sym, subst, arith, None}
 use Rattle.std.specs.BinaryHeap.{heap_items}
+use Rattle.slate_types.proofs.Calls.{reads_at_none}
 use Rattle.slate_types.proofs.Reaching.{reads_none}
 use Rattle.slate_merge.specs.declared.merge_iterator.MergeState.{MergeState}
 use Rattle.slate_merge.specs.declared.merge_iterator.MergeState.TheVariants.{Begun, Refused}
 use Rattle.slate_merge.specs.MergeBringing.{IsHeapedIn}
 use Rattle.slate_merge.specs.Merging.{merging_bound}
-use Rattle.slate_merge.specs.MergeStates.{IsWaiting, bound_in}
+use Rattle.slate_merge.specs.MergeStates.{IsWaiting, IsWithinIn, bound_in}
 use Rattle.slate_merge.proofs.MergeStateSteps.{again_stays, begun_fails, copied_bound, fails_still, not_waiting, refused_stays, state_step, state_takes, unbegun_stays}
+use Rattle.slate_merge.proofs.SourcesWithin.{copied_within}
 use Rattle.slate_merge.proofs.merge_iterator.MergeIterator.next_row.Goals as goal
 
 pub returns-in-New : goal.returns-in-New
@@ -21,6 +23,7 @@ returns-in-New g c = record {
   smaller = tt;
   no_larger = omega arith;
   order = refl;
+  within = λ paths h. (reads_at_none paths _, h);
   reads = reads_none _;
   counts = refl;
 }
@@ -37,6 +40,7 @@ returns-in-Refused g c = record {
   smaller = tt;
   no_larger = omega arith;
   order = refl;
+  within = λ paths _. (reads_at_none paths _, tt);
   reads = reads_none _;
   counts = refl;
 }
@@ -57,6 +61,7 @@ returns-in-Ok g c =
       smaller = λ some. subst (λ (x : MergeState g.row.I.Denot). merging_bound bound [] (heap_items c.take_row-answer.new.heads) < bound_in bound x) (sym c.in-Begun.is) (n.smaller some);
       no_larger = subst (λ (x : MergeState g.row.I.Denot). merging_bound bound [] (heap_items c.take_row-answer.new.heads) ≤ bound_in bound x) (sym c.in-Begun.is) n.no_larger;
       order = refl;
+      within = λ paths h. n.within paths (subst (λ (x : MergeState g.row.I.Denot). IsWithinIn g.I.RowEntryIterator.within x paths) c.in-Begun.is h);
       reads = n.reads;
       counts = n.counts;
     }
@@ -77,6 +82,7 @@ returns-in-Err g c =
       smaller = tt;
       no_larger = copied_bound g.I.RowEntryIterator.bound c.in-Err.error c.refuse.new.self.state (bound_in g.I.RowEntryIterator.bound c.args.self.now.state) r.copied;
       order = r.merge.order;
+      within = λ paths h. ((n.within paths (subst (λ (x : MergeState g.row.I.Denot). IsWithinIn g.I.RowEntryIterator.within x paths) c.in-Begun.is h)).0, copied_within g.I.RowEntryIterator.within paths c.in-Err.error c.refuse.new.self.state r.copied);
       reads = n.reads;
       counts = rw r.same n.counts;
     }

@@ -1,9 +1,11 @@
 use Rattle.std.proofs.Common.{refl, arith, None}
+use Rattle.slate_types.proofs.Calls.{reads_at_none}
 use Rattle.slate_types.proofs.Reaching.{reads_none}
 use Rattle.slate_merge.specs.declared.merge_iterator.MergeState.TheVariants.{Begun}
 use Rattle.slate_merge.specs.MergeStates.{bound_in}
 use Rattle.slate_merge.proofs.MergeBringings.{rows_less}
 use Rattle.slate_merge.proofs.MergeStateSteps.{again_stays, copied_bound, fails_still, refused_stays, state_ready, unrefused_of}
+use Rattle.slate_merge.proofs.SourcesWithin.{copied_within}
 use Rattle.slate_merge.proofs.merge_iterator.MergeIteratorRowEntryIterator.init.Goals as goal
 
 pub returns-in-Refused : goal.returns-in-Refused
@@ -16,6 +18,7 @@ returns-in-Refused g c = record {
   cause = again_stays g.I.RowEntryIterator.refuses (g.E.Outside.reach c.args.env.now) None c.in-Refused.refusal c.copy_of.result c.args.self.now c.args.self.now c.in-Refused.is c.in-Refused.is c.copy_of.ensures;
   no_larger = omega arith;
   order = refl;
+  within = λ paths h. (reads_at_none paths _, h);
   reads = reads_none _;
   counts = refl;
 }
@@ -35,6 +38,7 @@ returns-in-Ok g c =
       cause = tt;
       no_larger = rw b.state n.no_larger;
       order = b.merge.order;
+      within = λ paths h. (let w = n.within paths h in (w.0, rw b.state w.1));
       reads = n.reads;
       counts = n.counts;
     }
@@ -52,6 +56,7 @@ returns-in-Err g c =
       cause = rw r.same (refused_stays g.I.RowEntryIterator.refuses (g.E.Outside.reach c.args.env.now) (g.E.Outside.reach c.begin_heads.new.env) None c.in-Err.error c.args.self.now c.refuse.new.self (λ _ some. cc) r.copied n.cause);
       no_larger = copied_bound g.I.RowEntryIterator.bound c.in-Err.error c.refuse.new.self.state (bound_in g.I.RowEntryIterator.bound c.args.self.now.state) r.copied;
       order = r.merge.order;
+      within = λ paths h. ((n.within paths h).0, copied_within g.I.RowEntryIterator.within paths c.in-Err.error c.refuse.new.self.state r.copied);
       reads = n.reads;
       counts = rw r.same n.counts;
     }

@@ -1,13 +1,15 @@
 use Rattle.std.proofs.Common.{◌≤◌, [], refl, sym, subst, arith, Some}
 use Rattle.std.specs.BinaryHeap.{heap_items}
+use Rattle.slate_types.proofs.Calls.{reads_at_none}
 use Rattle.slate_types.proofs.Reaching.{reads_none}
 use Rattle.slate_merge.specs.declared.merge_iterator.MergeState.{MergeState}
 use Rattle.slate_merge.specs.declared.merge_iterator.MergeState.TheVariants.{Begun, Refused}
 use Rattle.slate_merge.specs.MergeBringing.{IsHeapedIn}
 use Rattle.slate_merge.proofs.MergeBringings.{rows_less}
 use Rattle.slate_merge.specs.Merging.{merging_bound}
-use Rattle.slate_merge.specs.MergeStates.{bound_in}
+use Rattle.slate_merge.specs.MergeStates.{IsWithinIn, bound_in}
 use Rattle.slate_merge.proofs.MergeStateSteps.{again_stays, begun_adds, begun_fails, copied_bound, fails_still, not_waiting, refused_stays, state_seek, unbegun_stays}
+use Rattle.slate_merge.proofs.SourcesWithin.{copied_within}
 use Rattle.slate_merge.proofs.merge_iterator.MergeIteratorRowEntryIterator.seek.Goals as goal
 
 pub returns-in-New : goal.returns-in-New
@@ -19,6 +21,7 @@ returns-in-New g c = record {
   cause = unbegun_stays g.I.RowEntryIterator.refuses (g.E.Outside.reach c.args.env.now) (Some c.args.key.now) c.args.self.now _ c.in-New.is tt;
   no_larger = omega arith;
   order = refl;
+  within = λ paths h. (reads_at_none paths _, h);
   reads = reads_none _;
   counts = refl;
 }
@@ -32,6 +35,7 @@ returns-in-Refused g c = record {
   cause = again_stays g.I.RowEntryIterator.refuses (g.E.Outside.reach c.args.env.now) (Some c.args.key.now) c.in-Refused.refusal c.copy_of.result c.args.self.now (record c.args.self.now { state = Refused c.in-Refused.refusal }) c.in-Refused.is refl c.copy_of.ensures;
   no_larger = omega arith;
   order = refl;
+  within = λ paths _. (reads_at_none paths _, tt);
   reads = reads_none _;
   counts = refl;
 }
@@ -50,6 +54,7 @@ returns-in-Ok g c =
       cause = tt;
       no_larger = subst (λ (x : MergeState g.row.I.Denot). merging_bound bound [] (heap_items c.seek_heads-answer.new.heads) ≤ bound_in bound x) (sym c.in-Begun.is) n.no_larger;
       order = refl;
+      within = λ paths h. n.within paths (subst (λ (x : MergeState g.row.I.Denot). IsWithinIn g.I.RowEntryIterator.within x paths) c.in-Begun.is h);
       reads = n.reads;
       counts = n.counts;
     }
@@ -67,6 +72,7 @@ returns-in-Err g c =
       cause = rw r.same (refused_stays g.I.RowEntryIterator.refuses (g.E.Outside.reach c.args.env.now) (g.E.Outside.reach c.seek_heads-answer.new.env) (Some c.args.key.now) c.in-Err.error c.args.self.now c.refuse.new.self (λ w. not_waiting c.args.self.now.state (Begun c.in-Begun.heads) c.in-Begun.is tt w) r.copied cause);
       no_larger = copied_bound g.I.RowEntryIterator.bound c.in-Err.error c.refuse.new.self.state (bound_in g.I.RowEntryIterator.bound c.args.self.now.state) r.copied;
       order = r.merge.order;
+      within = λ paths h. ((n.within paths (subst (λ (x : MergeState g.row.I.Denot). IsWithinIn g.I.RowEntryIterator.within x paths) c.in-Begun.is h)).0, copied_within g.I.RowEntryIterator.within paths c.in-Err.error c.refuse.new.self.state r.copied);
       reads = n.reads;
       counts = rw r.same n.counts;
     }

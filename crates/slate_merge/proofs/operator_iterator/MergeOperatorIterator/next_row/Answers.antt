@@ -1,4 +1,5 @@
 use Rattle.std.proofs.Common.{◌∙◌, ap, refl, arith, None}
+use Rattle.slate_types.proofs.Calls.{reads_at_none}
 use Rattle.slate_types.proofs.Reaching.{reads_none}
 use Rattle.slate_merge.specs.Offers.{offers}
 use Rattle.slate_merge.proofs.Operators.{again_refused, by_begun, folding_less, keeps_refused, kept_no_larger, kept_still, new_refused, some_going, sound_of, sound_unless, unless_no_larger, unless_smaller, unless_takes}
@@ -16,6 +17,7 @@ returns-in-Some g c = record {
   smaller = tt;
   no_larger = omega arith;
   order = refl;
+  within = λ paths h. (reads_at_none paths _, h);
   reads = reads_none _;
   counts = refl;
   own = λ w sees going h op. some_going c.args.self.now c.in-Some.refusal c.in-Some.is going;
@@ -35,6 +37,7 @@ returns-then-not-self g c = record {
   smaller = tt;
   no_larger = omega arith;
   order = refl;
+  within = λ paths h. (reads_at_none paths _, h);
   reads = reads_none _;
   counts = refl;
   own = λ w sees going h op. by_begun c.if-not-self.true going.0;
@@ -60,6 +63,7 @@ returns-in-Ok g c =
       smaller = λ some. unless_smaller it.refusal _ _ none (n.smaller some);
       no_larger = unless_no_larger it.refusal _ _ none n.no_larger;
       order = n.order;
+      within = n.within;
       reads = n.reads;
       counts = n.counts;
       own = λ w sees going h op. tt;
@@ -84,6 +88,7 @@ returns-in-Err g c =
       smaller = tt;
       no_larger = kept_no_larger c.in-Err.error c.refuse.new.self.refusal _ _ r.keeps;
       order = ap g.I.RowEntryIterator.order r.iterator ∙ n.order;
+      within = rw r.iterator n.within;
       reads = n.reads;
       counts = rw r.same n.counts;
       own = λ w sees going h op. rw r.same (n.own w sees (sound_of it.refusal _ c.in_default.is h) op);

@@ -3,6 +3,7 @@ use Rattle.slate_types.specs.declared.iter.IterationOrder.{IterationOrder}
 use Rattle.slate_types.specs.declared.types.RowEntry.{RowEntry}
 use Rattle.slate_types.specs.Fold.{operator_at}
 use Rattle.slate_types.specs.Iteration.{IsInOrder}
+use Rattle.slate_types.proofs.Calls.{reads_at_none}
 use Rattle.slate_types.proofs.Reaching.{reads_none}
 use Rattle.slate_merge.specs.Folding.{NoneRises, folded}
 use Rattle.slate_merge.specs.Folds.{NoneOpen}
@@ -22,6 +23,7 @@ returns-in-Some g c = record {
   cause = again_refused g.I.RowEntryIterator.refuses (offers g.I.RowEntryIterator.begins g.I.RowEntryIterator.takes g.I.RowEntryIterator.seeks) g.I.RowEntryIterator.takes _ c.args.self.now None c.in-Some.refusal c.copy_of.result c.in-Some.is c.copy_of.ensures;
   no_larger = omega arith;
   order = refl;
+  within = λ paths h. (reads_at_none paths _, h);
   reads = reads_none _;
   counts = refl;
   operable = λ w sees h op. tt;
@@ -51,6 +53,7 @@ returns-in-Ok g c =
       cause = tt;
       no_larger = unless_no_larger it.refusal _ _ none (omega (arith, n.no_larger));
       order = n.order;
+      within = n.within;
       reads = n.reads;
       counts = n.counts;
       operable = λ w sees h op. subst (λ (l : List RowEntry). (w.meaning.combine ≡ None → NoneOpen it.folding.snapshot_barrier_seq (with_ahead it.ahead l)) × NoneRises it.folding.merge_different_expire_ts it.folding.snapshot_barrier_seq (with_ahead it.ahead l)) (sym (n.rows w sees (sound_of it.refusal _ none h).0)) op;
@@ -73,6 +76,7 @@ returns-in-Err g c =
       cause = rw r.same refused;
       no_larger = kept_no_larger c.in-Err.error c.refuse.new.self.refusal _ _ r.keeps;
       order = ap g.I.RowEntryIterator.order r.iterator ∙ n.order;
+      within = rw r.iterator n.within;
       reads = n.reads;
       counts = rw r.same n.counts;
       operable = λ w sees h op. tt;

@@ -2,7 +2,7 @@ use Rattle.std.proofs.Common.{◌≡◌, ◌∙◌, List, [], ap, inl, inr, refl
 use Rattle.slate_types.specs.declared.types.RowEntry.{RowEntry}
 use Rattle.slate_types.specs.Fold.{operator_at}
 use Rattle.slate_types.specs.Iteration.{IsInOrder}
-use Rattle.slate_types.proofs.Calls.{call_none, checks_none}
+use Rattle.slate_types.proofs.Calls.{call_none, checks_none, reads_at_none}
 use Rattle.slate_types.proofs.Reaching.{reads_none}
 use Rattle.slate_merge.specs.Folding.{NoneRises, folded}
 use Rattle.slate_merge.specs.FoldedLaws.{folded_dropped}
@@ -25,6 +25,7 @@ returns-in-Some g c = record {
   cause = again_refused g.I.RowEntryIterator.refuses (offers g.I.RowEntryIterator.begins g.I.RowEntryIterator.takes g.I.RowEntryIterator.seeks) g.I.RowEntryIterator.takes _ c.args.self.now (Some c.args.key.now) c.in-Some.refusal c.copy_of.result c.in-Some.is c.copy_of.ensures;
   no_larger = omega arith;
   order = refl;
+  within = λ paths h. (reads_at_none paths _, h);
   reads = reads_none _;
   counts = refl;
   operable = λ w sees h op. tt;
@@ -40,6 +41,7 @@ returns-then-not-self g c = record {
   cause = new_refused g.I.RowEntryIterator.refuses (offers g.I.RowEntryIterator.begins g.I.RowEntryIterator.takes g.I.RowEntryIterator.seeks) g.I.RowEntryIterator.takes _ c.args.self.now (Some c.args.key.now) c.in_default.is c.if-not-self.true;
   no_larger = omega arith;
   order = refl;
+  within = λ paths h. (reads_at_none paths _, h);
   reads = reads_none _;
   counts = refl;
   operable = λ w sees h op. tt;
@@ -61,6 +63,7 @@ returns-then-is_ahead_kept g c =
       cause = tt;
       no_larger = omega arith;
       order = refl;
+      within = λ paths h. (reads_at_none paths _, h);
       reads = reads_none _;
       counts = refl;
       operable = λ w sees h op. op;
@@ -96,6 +99,7 @@ returns-in-Ok g c =
       cause = tt;
       no_larger = unless_no_larger it.refusal _ _ none (rw after (omega (arith, n.no_larger)));
       order = n.order;
+      within = n.within;
       reads = n.reads;
       counts = n.counts;
       operable = λ w sees h op. (let different = it.folding.merge_different_expire_ts in let barrier = it.folding.snapshot_barrier_seq in
@@ -119,6 +123,7 @@ returns-in-Err g c =
       cause = rw r.same refused;
       no_larger = kept_no_larger c.in-Err.error c.refuse.new.self.refusal _ _ r.keeps;
       order = ap g.I.RowEntryIterator.order r.iterator ∙ n.order;
+      within = rw r.iterator n.within;
       reads = n.reads;
       counts = rw r.same n.counts;
       operable = λ w sees h op. tt;

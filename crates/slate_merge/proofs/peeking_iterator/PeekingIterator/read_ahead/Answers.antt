@@ -1,4 +1,5 @@
 use Rattle.std.proofs.Common.{◌∙◌, sym, arith, refl}
+use Rattle.slate_types.proofs.Calls.{reads_at_none}
 use Rattle.slate_types.proofs.Moves.{moves_none}
 use Rattle.slate_types.proofs.Reaching.{reads_none}
 use Rattle.slate_merge.proofs.Peeks.{ahead_moves, first_kept, head_taken, none_of, none_sound, taken_bound}
@@ -11,6 +12,7 @@ returns-then-is_some g c = record {
   still = λ w sees h. h;
   cause = tt;
   no_larger = omega arith;
+  within = λ paths h. (reads_at_none paths _, h);
   reads = reads_none _;
   counts = refl;
 }
@@ -25,6 +27,7 @@ returns-in-Ok g c =
       still = (ahead_moves g.I.RowEntryIterator.rest g.I.RowEntryIterator.sound g.I.RowEntryIterator.refuses g.I.RowEntryIterator.order (g.E.Outside.reach c.args.env.now) (g.E.Outside.reach c.next.new.env) c.args.self.now c.next.new.self c.in-Ok.answer none (record { rows = n.rows; still = n.still; checked = n.checked; taken = (n.taken.0, n.taken.1, (tt, n.taken.2.1)) }) n.order).still;
       cause = tt;
       no_larger = taken_bound c.args.self.now.ahead c.in-Ok.answer (g.I.RowEntryIterator.bound c.args.self.now.iterator) (g.I.RowEntryIterator.bound c.next.new.self) none n.smaller n.no_larger;
+      within = n.within;
       reads = n.reads;
       counts = n.counts;
     }
@@ -39,6 +42,7 @@ returns-in-Err g c =
       still = λ w sees h. none_sound g.I.RowEntryIterator.rest g.I.RowEntryIterator.sound g.I.RowEntryIterator.refuses g.I.RowEntryIterator.order g.met.I.RowEntryIterator.rising (record c.args.self.now { iterator = c.next.new.self }) w none (n.still w sees h.0);
       cause = (n.cause.0, n.cause.1, n.cause.2.0);
       no_larger = omega (arith, n.no_larger);
+      within = n.within;
       reads = n.reads;
       counts = n.counts;
     }

@@ -16,6 +16,7 @@ returns-in-Ok g c =
       cause = tt;
       no_larger = omega (arith, n.no_larger);
       order = n.order;
+      within = n.within;
       reads = n.reads;
       counts = n.counts;
     }
@@ -33,6 +34,7 @@ returns-in-Err g c =
       cause = (n.cause.0, n.cause.1, (n.cause.2.0, (n.cause.2.1, after), n.cause.2.2));
       no_larger = rw after (omega (arith, n.no_larger));
       order = n.order;
+      within = n.within;
       reads = n.reads;
       counts = n.counts;
     }

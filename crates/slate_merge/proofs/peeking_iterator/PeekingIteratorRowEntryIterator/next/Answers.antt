@@ -1,6 +1,6 @@
 use Rattle.std.proofs.Common.{◌∙◌, ◌∷◌, [], List, refl, sym, ap, arith}
 use Rattle.slate_types.specs.declared.types.RowEntry.{RowEntry}
-use Rattle.slate_types.proofs.Calls.{call_none, checks_none}
+use Rattle.slate_types.proofs.Calls.{call_none, checks_none, reads_at_none}
 use Rattle.slate_types.proofs.Reaching.{reads_none}
 use Rattle.slate_merge.proofs.Peeks.{ahead_taken, none_rest, none_sound, taken_ahead}
 use Rattle.slate_merge.proofs.Waitings.{ok_waits, some_waits}
@@ -22,6 +22,7 @@ returns-in-Some g c =
       smaller = λ some. rw (after, is) (omega arith);
       no_larger = rw (after, is) (omega arith);
       order = refl;
+      within = λ paths h. (reads_at_none paths _, h);
       reads = reads_none _;
       counts = refl;
     }
@@ -41,6 +42,7 @@ returns-in-Ok g c =
       smaller = λ some. (let less = n.smaller some in rw (none, after) (omega (arith, less)));
       no_larger = rw (none, after) (omega (arith, n.no_larger));
       order = n.order;
+      within = n.within;
       reads = n.reads;
       counts = n.counts;
     }
@@ -59,6 +61,7 @@ returns-in-Err g c =
       smaller = tt;
       no_larger = rw after (omega (arith, n.no_larger));
       order = n.order;
+      within = n.within;
       reads = n.reads;
       counts = n.counts;
     }

@@ -1,5 +1,5 @@
 use Rattle.std.proofs.Common.{◌∙◌, [], inl, inr, refl, sym, arith}
-use Rattle.slate_types.proofs.Calls.{call_none, checks_none}
+use Rattle.slate_types.proofs.Calls.{call_none, checks_none, reads_at_none}
 use Rattle.slate_types.proofs.Reaching.{reads_none}
 use Rattle.slate_merge.proofs.Peeks.{kept_rows, none_sound, sought_rows}
 use Rattle.slate_merge.proofs.peeking_iterator.PeekingIteratorRowEntryIterator.seek.Goals as goal
@@ -16,6 +16,7 @@ returns-then-is_ahead_kept g c =
       cause = tt;
       no_larger = omega arith;
       order = refl;
+      within = λ paths h. (reads_at_none paths _, h);
       reads = reads_none _;
       counts = refl;
     }
@@ -34,6 +35,7 @@ returns-in-Ok g c =
       cause = tt;
       no_larger = rw after (omega (arith, n.no_larger));
       order = n.order;
+      within = n.within;
       reads = n.reads;
       counts = n.counts;
     }
@@ -50,6 +52,7 @@ returns-in-Err g c =
       cause = (n.cause.0, n.cause.1, (n.cause.2.0, (n.cause.2.1, after), n.cause.2.2));
       no_larger = rw after (omega (arith, n.no_larger));
       order = n.order;
+      within = n.within;
       reads = n.reads;
       counts = n.counts;
     }

@@ -1,7 +1,7 @@
 use Rattle.std.proofs.Common.{◌∙◌, [], inl, inr, refl, sym, arith, ap}
 use Rattle.slate_types.specs.declared.error.SlateDBError.TheVariants.{MergeOperatorMissing}
 use Rattle.slate_types.specs.Outside.{unblamed}
-use Rattle.slate_types.proofs.Calls.{call_none}
+use Rattle.slate_types.proofs.Calls.{call_none, reads_at_none}
 use Rattle.slate_types.proofs.Reaching.{reads_none}
 use Rattle.slate_merge.proofs.Requires.{or_no_more, or_but, or_why}
 use Rattle.slate_merge.proofs.Waitings.{ok_waits, true_waits}
@@ -18,6 +18,7 @@ returns-then-self g c = record {
   smaller = tt;
   no_larger = omega arith;
   order = refl;
+  within = λ paths h. (reads_at_none paths _, h);
   reads = reads_none _;
   counts = refl;
 }
@@ -35,6 +36,7 @@ returns-then-not-is_operand g c =
       smaller = n.smaller;
       no_larger = n.no_larger;
       order = n.order;
+      within = n.within;
       reads = n.reads;
       counts = n.counts;
     }
@@ -52,6 +54,7 @@ returns-else-not-is_operand g c =
       smaller = tt;
       no_larger = n.no_larger;
       order = n.order;
+      within = n.within;
       reads = n.reads;
       counts = ap (unblamed MergeOperatorMissing) n.counts;
     }
@@ -69,6 +72,7 @@ returns-in-Ok-None g c =
       smaller = λ some. cc;
       no_larger = n.no_larger;
       order = n.order;
+      within = n.within;
       reads = n.reads;
       counts = n.counts;
     }
@@ -86,6 +90,7 @@ returns-in-Err g c =
       smaller = tt;
       no_larger = n.no_larger;
       order = n.order;
+      within = n.within;
       reads = n.reads;
       counts = n.counts;
     }

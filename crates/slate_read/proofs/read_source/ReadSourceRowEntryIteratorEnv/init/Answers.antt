@@ -14,6 +14,7 @@ returns-in-Internal g c = record {
   cause = rw c.in-Internal.is (IfErr-weaker c.init-in-Internal.result _ _ (λ e k. (k.0, k.1, (k.2.0, tt, k.2.2))) c.init-in-Internal.ensures.cause);
   no_larger = rw c.in-Internal.is c.init-in-Internal.ensures.no_larger;
   order = rw c.in-Internal.is c.init-in-Internal.ensures.order;
+  within = rw c.in-Internal.is c.init-in-Internal.ensures.within;
   reads = c.init-in-Internal.ensures.reads;
   counts = c.init-in-Internal.ensures.counts;
 }
@@ -28,6 +29,7 @@ returns-in-Table g c = record {
   cause = rw c.in-Table.is (IfErr-weaker c.init-in-Table.result _ _ (λ e k. (k.0, k.1, (k.2.0, tt, k.2.2))) c.init-in-Table.ensures.cause);
   no_larger = rw c.in-Table.is c.init-in-Table.ensures.no_larger;
   order = rw c.in-Table.is c.init-in-Table.ensures.order;
+  within = rw c.in-Table.is c.init-in-Table.ensures.within;
   reads = c.init-in-Table.ensures.reads;
   counts = c.init-in-Table.ensures.counts;
 }
@@ -42,6 +44,7 @@ returns-in-Run g c = record {
   cause = rw c.in-Run.is (IfErr-weaker c.init-in-Run.result _ _ (λ e k. (k.0, k.1, (k.2.0, tt, k.2.2))) c.init-in-Run.ensures.cause);
   no_larger = rw c.in-Run.is c.init-in-Run.ensures.no_larger;
   order = rw c.in-Run.is c.init-in-Run.ensures.order;
+  within = rw c.in-Run.is c.init-in-Run.ensures.within;
   reads = c.init-in-Run.ensures.reads;
   counts = c.init-in-Run.ensures.counts;
 }
@@ -56,6 +59,7 @@ returns-in-Segments g c = record {
   cause = rw c.in-Segments.is (IfErr-weaker c.init-in-Segments.result _ _ (λ e k. (k.0, k.1, (k.2.0, tt, k.2.2))) c.init-in-Segments.ensures.cause);
   no_larger = rw c.in-Segments.is c.init-in-Segments.ensures.no_larger;
   order = rw c.in-Segments.is c.init-in-Segments.ensures.order;
+  within = rw c.in-Segments.is c.init-in-Segments.ensures.within;
   reads = c.init-in-Segments.ensures.reads;
   counts = c.init-in-Segments.ensures.counts;
 }
@@ -77,3 +81,9 @@ returns-in-Memory-clause-begun g c = rw c.in-Memory.is (on_ok_weaker c.init-in-M
 
 pub returns-in-Memory-clause-cause : goal.returns-in-Memory-clause-cause
 returns-in-Memory-clause-cause g c = rw c.in-Memory.is (IfErr-weaker c.init-in-Memory.result _ _ (λ e k. (k.0, k.1, (k.2.0, tt, k.2.2))) c.init-in-Memory.ensures.cause)
+
+pub returns-in-Batch-clause-within : goal.returns-in-Batch-clause-within
+returns-in-Batch-clause-within g c = rw c.in-Batch.is c.init-in-Batch.ensures.within
+
+pub returns-in-Memory-clause-within : goal.returns-in-Memory-clause-within
+returns-in-Memory-clause-within g c = rw c.in-Memory.is c.init-in-Memory.ensures.within

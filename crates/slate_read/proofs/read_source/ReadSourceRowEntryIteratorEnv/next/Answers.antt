@@ -15,6 +15,7 @@ returns-in-Internal g c = record {
   smaller = rw c.in-Internal.is c.next-in-Internal.ensures.smaller;
   no_larger = rw c.in-Internal.is c.next-in-Internal.ensures.no_larger;
   order = rw c.in-Internal.is c.next-in-Internal.ensures.order;
+  within = rw c.in-Internal.is c.next-in-Internal.ensures.within;
   reads = c.next-in-Internal.ensures.reads;
   counts = c.next-in-Internal.ensures.counts;
 }
@@ -30,6 +31,7 @@ returns-in-Table g c = record {
   smaller = rw c.in-Table.is c.next-in-Table.ensures.smaller;
   no_larger = rw c.in-Table.is c.next-in-Table.ensures.no_larger;
   order = rw c.in-Table.is c.next-in-Table.ensures.order;
+  within = rw c.in-Table.is c.next-in-Table.ensures.within;
   reads = c.next-in-Table.ensures.reads;
   counts = c.next-in-Table.ensures.counts;
 }
@@ -45,6 +47,7 @@ returns-in-Run g c = record {
   smaller = rw c.in-Run.is c.next-in-Run.ensures.smaller;
   no_larger = rw c.in-Run.is c.next-in-Run.ensures.no_larger;
   order = rw c.in-Run.is c.next-in-Run.ensures.order;
+  within = rw c.in-Run.is c.next-in-Run.ensures.within;
   reads = c.next-in-Run.ensures.reads;
   counts = c.next-in-Run.ensures.counts;
 }
@@ -60,6 +63,7 @@ returns-in-Segments g c = record {
   smaller = rw c.in-Segments.is c.next-in-Segments.ensures.smaller;
   no_larger = rw c.in-Segments.is c.next-in-Segments.ensures.no_larger;
   order = rw c.in-Segments.is c.next-in-Segments.ensures.order;
+  within = rw c.in-Segments.is c.next-in-Segments.ensures.within;
   reads = c.next-in-Segments.ensures.reads;
   counts = c.next-in-Segments.ensures.counts;
 }
@@ -90,3 +94,9 @@ returns-in-Batch-clause-unbegun g c = rw c.in-Batch.is (λ never. absurd never)
 
 pub returns-in-Memory-clause-unbegun : goal.returns-in-Memory-clause-unbegun
 returns-in-Memory-clause-unbegun g c = rw c.in-Memory.is (λ never. absurd never)
+
+pub returns-in-Batch-clause-within : goal.returns-in-Batch-clause-within
+returns-in-Batch-clause-within g c = rw c.in-Batch.is c.next-in-Batch.ensures.within
+
+pub returns-in-Memory-clause-within : goal.returns-in-Memory-clause-within
+returns-in-Memory-clause-within g c = rw c.in-Memory.is c.next-in-Memory.ensures.within

@@ -11,6 +11,7 @@ returns-in-Internal g c = record {
   cause = rw c.in-Internal.is (IfErr-weaker c.seek-in-Internal.result _ _ (λ e k. (k.0, k.1, (k.2.0, tt, k.2.2))) c.seek-in-Internal.ensures.cause);
   no_larger = rw c.in-Internal.is c.seek-in-Internal.ensures.no_larger;
   order = rw c.in-Internal.is c.seek-in-Internal.ensures.order;
+  within = rw c.in-Internal.is c.seek-in-Internal.ensures.within;
   reads = c.seek-in-Internal.ensures.reads;
   counts = c.seek-in-Internal.ensures.counts;
 }
@@ -24,6 +25,7 @@ returns-in-Table g c = record {
   cause = rw c.in-Table.is (IfErr-weaker c.seek-in-Table.result _ _ (λ e k. (k.0, k.1, (k.2.0, tt, k.2.2))) c.seek-in-Table.ensures.cause);
   no_larger = rw c.in-Table.is c.seek-in-Table.ensures.no_larger;
   order = rw c.in-Table.is c.seek-in-Table.ensures.order;
+  within = rw c.in-Table.is c.seek-in-Table.ensures.within;
   reads = c.seek-in-Table.ensures.reads;
   counts = c.seek-in-Table.ensures.counts;
 }
@@ -37,6 +39,7 @@ returns-in-Run g c = record {
   cause = rw c.in-Run.is (IfErr-weaker c.seek-in-Run.result _ _ (λ e k. (k.0, k.1, (k.2.0, tt, k.2.2))) c.seek-in-Run.ensures.cause);
   no_larger = rw c.in-Run.is c.seek-in-Run.ensures.no_larger;
   order = rw c.in-Run.is c.seek-in-Run.ensures.order;
+  within = rw c.in-Run.is c.seek-in-Run.ensures.within;
   reads = c.seek-in-Run.ensures.reads;
   counts = c.seek-in-Run.ensures.counts;
 }
@@ -50,6 +53,7 @@ returns-in-Segments g c = record {
   cause = rw c.in-Segments.is (IfErr-weaker c.seek-in-Segments.result _ _ (λ e k. (k.0, k.1, (k.2.0, tt, k.2.2))) c.seek-in-Segments.ensures.cause);
   no_larger = rw c.in-Segments.is c.seek-in-Segments.ensures.no_larger;
   order = rw c.in-Segments.is c.seek-in-Segments.ensures.order;
+  within = rw c.in-Segments.is c.seek-in-Segments.ensures.within;
   reads = c.seek-in-Segments.ensures.reads;
   counts = c.seek-in-Segments.ensures.counts;
 }
@@ -77,3 +81,9 @@ returns-in-Memory-clause-sought g c = rw c.in-Memory.is (on_ok_weaker c.seek-in-
 
 pub returns-in-Memory-clause-cause : goal.returns-in-Memory-clause-cause
 returns-in-Memory-clause-cause g c = rw c.in-Memory.is (IfErr-weaker c.seek-in-Memory.result _ _ (λ e k. (k.0, k.1, (k.2.0, tt, k.2.2))) c.seek-in-Memory.ensures.cause)
+
+pub returns-in-Batch-clause-within : goal.returns-in-Batch-clause-within
+returns-in-Batch-clause-within g c = rw c.in-Batch.is c.seek-in-Batch.ensures.within
+
+pub returns-in-Memory-clause-within : goal.returns-in-Memory-clause-within
+returns-in-Memory-clause-within g c = rw c.in-Memory.is c.seek-in-Memory.ensures.within

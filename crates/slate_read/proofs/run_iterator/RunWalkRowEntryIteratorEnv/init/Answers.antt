@@ -1,8 +1,10 @@
 use Rattle.std.proofs.Common.{refl, None, [], arith}
 use Rattle.slate_types.proofs.Calls.{call_none, checks_none}
 use Rattle.slate_types.proofs.Reaching.{reads_none}
+use Rattle.slate_read.specs.RunWalk.{IsRunWithin}
 use Rattle.slate_read.proofs.RunBringings.{begun_adds}
 use Rattle.slate_read.proofs.RunCalls.{again_refused, begun, begun_bound, going_ready, new_fails, refused_bound, refused_still, run_refused, stays_begun, stays_same, unrefused_going, unrefused_new}
+use Rattle.slate_read.proofs.Withins.{closed_within, none_within}
 use Rattle.slate_read.proofs.run_iterator.RunWalkRowEntryIteratorEnv.init.Goals as goal
 
 pub returns-in-Going : goal.returns-in-Going
@@ -17,6 +19,7 @@ returns-in-Going g c =
       cause = tt;
       no_larger = omega arith;
       order = refl;
+      within = none_within IsRunWithin _ c.args.self.now;
       reads = reads_none _;
       counts = refl;
     }
@@ -33,6 +36,7 @@ returns-in-Refused g c =
       cause = again_refused (stays_same c.args.self.now.state None c.in-Refused.error c.copy_of.result is c.copy_of.ensures, (refl, refl)) c.args.self.now.order _ c.args.self.now.state c.args.self.now.cursor c.in-Refused.error c.copy_of.result None is c.copy_of.ensures;
       no_larger = omega arith;
       order = refl;
+      within = none_within IsRunWithin _ c.args.self.now;
       reads = reads_none _;
       counts = refl;
     }
@@ -53,6 +57,7 @@ returns-in-Ok g c =
       cause = tt;
       no_larger = begun_bound c.args.self.now.state c.replace.new.dest c.args.self.now.cursor c.begin.new.self new going n.no_larger;
       order = refl;
+      within = n.within;
       reads = n.reads;
       counts = n.counts;
     }
@@ -73,6 +78,7 @@ returns-in-Err g c =
       cause = rw (r.same, r.order) (run_refused (stays, (r.range, refl)) c.args.self.now.order _ _ c.args.self.now.state c.refuse.new.self.state c.args.self.now.cursor c.refuse.new.self.cursor None c.in-Err.error r.keeps made);
       no_larger = refused_bound c.refuse.new.self.state c.refuse.new.self.cursor c.in-Err.error _ r.keeps;
       order = r.order;
+      within = λ paths h. ((n.within paths h).0, closed_within paths c.refuse.new.self.cursor r.current r.tables);
       reads = n.reads;
       counts = rw r.same n.counts;
     }

@@ -1,7 +1,9 @@
 use Rattle.std.proofs.Common.{refl, None, arith, ◌∙◌, sym}
 use Rattle.slate_types.proofs.Reaching.{reads_none}
+use Rattle.slate_read.specs.RunWalk.{IsRunWithin}
 use Rattle.slate_read.proofs.RunBringings.{going_hands}
 use Rattle.slate_read.proofs.RunCalls.{again_refused, going_bound, going_fails, going_less, going_step, refused_bound, refused_still, run_refused, stays_going, stays_new, stays_same, unbegun_refused}
+use Rattle.slate_read.proofs.Withins.{closed_within, none_within}
 use Rattle.slate_read.proofs.run_iterator.RunWalkRowEntryIteratorEnv.next.Goals as goal
 
 pub returns-in-New : goal.returns-in-New
@@ -17,6 +19,7 @@ returns-in-New g c =
       smaller = tt;
       no_larger = omega arith;
       order = refl;
+      within = none_within IsRunWithin _ c.args.self.now;
       reads = reads_none _;
       counts = refl;
     }
@@ -34,6 +37,7 @@ returns-in-Refused g c =
       smaller = tt;
       no_larger = omega arith;
       order = refl;
+      within = none_within IsRunWithin _ c.args.self.now;
       reads = reads_none _;
       counts = refl;
     }
@@ -54,6 +58,7 @@ returns-in-Ok g c =
       smaller = λ some. going_less c.args.self.now.state c.args.self.now.cursor c.advance.new.self is (n.smaller some);
       no_larger = going_bound c.args.self.now.state c.args.self.now.cursor c.advance.new.self is n.no_larger;
       order = refl;
+      within = n.within;
       reads = n.reads;
       counts = n.counts;
     }
@@ -75,6 +80,7 @@ returns-in-Err g c =
       smaller = tt;
       no_larger = refused_bound c.refuse.new.self.state c.refuse.new.self.cursor c.in-Err.error _ r.keeps;
       order = r.order;
+      within = λ paths h. ((n.within paths h).0, closed_within paths c.refuse.new.self.cursor r.current r.tables);
       reads = n.reads;
       counts = rw r.same n.counts;
     }

@@ -1,7 +1,9 @@
 use Rattle.std.proofs.Common.{refl, Some, arith}
 use Rattle.slate_types.proofs.Reaching.{reads_none}
+use Rattle.slate_read.specs.RunWalk.{IsRunWithin}
 use Rattle.slate_read.proofs.RunBringings.{going_adds}
 use Rattle.slate_read.proofs.RunCalls.{again_refused, going_bound, going_fails, going_sought, refused_bound, refused_still, run_refused, stays_going, stays_new, stays_same, unbegun_refused}
+use Rattle.slate_read.proofs.Withins.{closed_within, none_within}
 use Rattle.slate_read.proofs.run_iterator.RunWalkRowEntryIteratorEnv.seek.Goals as goal
 
 pub returns-in-New : goal.returns-in-New
@@ -15,6 +17,7 @@ returns-in-New g c =
       cause = unbegun_refused (stays_new c.args.self.now.state (Some c.args.key.now) is, (refl, refl)) c.args.self.now.order _ c.args.self.now.state c.args.self.now.cursor (Some c.args.key.now) is;
       no_larger = omega arith;
       order = refl;
+      within = none_within IsRunWithin _ c.args.self.now;
       reads = reads_none _;
       counts = refl;
     }
@@ -30,6 +33,7 @@ returns-in-Refused g c =
       cause = again_refused (stays_same c.args.self.now.state (Some c.args.key.now) c.in-Refused.error c.copy_of.result is c.copy_of.ensures, (refl, refl)) c.args.self.now.order _ c.args.self.now.state c.args.self.now.cursor c.in-Refused.error c.copy_of.result (Some c.args.key.now) is c.copy_of.ensures;
       no_larger = omega arith;
       order = refl;
+      within = none_within IsRunWithin _ c.args.self.now;
       reads = reads_none _;
       counts = refl;
     }
@@ -48,6 +52,7 @@ returns-in-Ok g c =
       cause = tt;
       no_larger = going_bound c.args.self.now.state c.args.self.now.cursor c.seek.new.self is n.no_larger;
       order = refl;
+      within = n.within;
       reads = n.reads;
       counts = n.counts;
     }
@@ -67,6 +72,7 @@ returns-in-Err g c =
       cause = rw (r.same, r.order) (run_refused (stays, (r.range, refl)) c.args.self.now.order _ _ c.args.self.now.state c.refuse.new.self.state c.args.self.now.cursor c.refuse.new.self.cursor (Some c.args.key.now) c.in-Err.error r.keeps made);
       no_larger = refused_bound c.refuse.new.self.state c.refuse.new.self.cursor c.in-Err.error _ r.keeps;
       order = r.order;
+      within = λ paths h. ((n.within paths h).0, closed_within paths c.refuse.new.self.cursor r.current r.tables);
       reads = n.reads;
       counts = rw r.same n.counts;
     }

@@ -4,9 +4,10 @@ use Rattle.slate_types.proofs.Moves.{moves_fails}
 use Rattle.slate_types.proofs.Reaching.{later_none, reads_none}
 use Rattle.slate_merge.proofs.NoMoreRows.{both_added, none_added}
 use Rattle.slate_read.specs.RunBringing.{brings_run}
-use Rattle.slate_read.specs.RunWalk.{refuses_run, rows_ahead}
+use Rattle.slate_read.specs.RunWalk.{IsCursorWithin, refuses_run, rows_ahead}
 use Rattle.slate_read.proofs.RunBringings.{let_go_adds}
 use Rattle.slate_read.proofs.RunSeeks.{ahead_kept, ahead_passed, run_sought}
+use Rattle.slate_read.proofs.Withins.{none_within}
 use Rattle.slate_read.proofs.run_state.RunCursor.seek.Goals as goal
 
 pub returns-then-is_ahead_kept : goal.returns-then-is_ahead_kept
@@ -15,6 +16,7 @@ returns-then-is_ahead_kept g c = record {
   cause = tt;
   no_larger = omega arith;
   adds = none_added (brings_run c.args.order) (refuses_run c.args.order) _ c.args.self.now;
+  within = none_within IsCursorWithin _ c.args.self.now;
   reads = reads_none _;
   counts = refl;
 }
@@ -29,6 +31,7 @@ returns g c =
       cause = IfErr-weaker c.seek_tables.result _ _ (λ e made. moves_fails _ _ _ _ _ _ _ _ None e moved (later_none _) made) o.cause;
       no_larger = on_ok_weaker c.seek_tables.result (λ k. omega (arith, k, none)) o.no_larger;
       adds = on_ok_weaker c.seek_tables.result (λ k. both_added (brings_run c.args.order) (refuses_run c.args.order) _ _ _ c.args.self.now (record c.args.self.now { ahead = c.take.new.self }) c.seek_tables.new.self (let_go_adds c.args.order _ c.args.self.now (record c.args.self.now { ahead = c.take.new.self }) c.take.ensures.after refl refl) k) o.adds;
+      within = o.within;
       reads = o.reads;
       counts = o.counts;
     }

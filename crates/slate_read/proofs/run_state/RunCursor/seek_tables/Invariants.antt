@@ -3,9 +3,10 @@ use Rattle.slate_types.specs.Outside.{OnlyReads}
 use Rattle.slate_types.proofs.Moves.{Moves}
 use Rattle.slate_store.specs.Reach.{reach_of}
 use Rattle.slate_merge.proofs.NoMoreRows.{AddsBy}
-use Rattle.slate_read.specs.RunWalk.{IsSoundRun, bound_run, refuses_run}
+use Rattle.slate_read.specs.RunWalk.{IsCursorWithin, IsSoundRun, bound_run, refuses_run}
 use Rattle.slate_read.specs.RunBringing.{brings_run}
 use Rattle.slate_read.proofs.RunSeeks.{rest_run_sought}
+use Rattle.slate_read.proofs.Withins.{StaysWithin}
 use Rattle.slate_read.proofs.run_state.RunCursor.seek_tables.Given as goal
 
 abbrev pub invariant-loop-row : goal.invariant-loop-row
@@ -18,6 +19,9 @@ invariant-loop-row g l = record {
       (reach_of g.S.Store g.M.MergeOperator g.T.BlockTransformer l.env) l.initial.self l.self;
   none : l.self.ahead ≡ None;
   bound : bound_run l.self ≤ bound_run l.initial.self;
+  within : StaysWithin IsCursorWithin
+      (reach_of g.S.Store g.M.MergeOperator g.T.BlockTransformer l.initial.env)
+      (reach_of g.S.Store g.M.MergeOperator g.T.BlockTransformer l.env) l.initial.self l.self;
   reads : OnlyReads (reach_of g.S.Store g.M.MergeOperator g.T.BlockTransformer l.initial.env) (reach_of g.S.Store g.M.MergeOperator g.T.BlockTransformer l.env);
   counts : (reach_of g.S.Store g.M.MergeOperator g.T.BlockTransformer l.env).faults ≡ (reach_of g.S.Store g.M.MergeOperator g.T.BlockTransformer l.initial.env).faults;
 }

@@ -1,6 +1,8 @@
 use Rattle.std.proofs.Common.{refl, None}
+use Rattle.slate_read.specs.TableWalk.{IsWalkWithin}
 use Rattle.slate_read.proofs.Bringings.{walk_hands}
 use Rattle.slate_read.proofs.Walks.{again_fails, behind_fails, fails_still, stays_again, stays_new, stays_walking, unbegun_fails, walk_fails, walk_step, walking_of}
+use Rattle.slate_read.proofs.Withins.{none_within, walk_stays}
 use Rattle.slate_read.proofs.table_iterator.TableWalkRowEntryIteratorEnv.next.Goals as goal
 
 pub returns-in-Refused-clause-cause : goal.returns-in-Refused-clause-cause
@@ -36,3 +38,15 @@ returns-in-Err-clause-cause g c =
     let stays = stays_walking c.args.self.now.state c.refuse.new.self.state _ None c.in-Err.error c.in-Walking.is r.keeps in
     rw (r.same, r.table, r.order) (walk_fails (stays, (r.range, refl, refl)) c.args.self.now.table c.args.self.now.order _ _ _ _ c.args.self.now.state c.refuse.new.self.state None c.in-Err.error r.keeps
     (behind_fails c.args.self.now.table c.args.self.now.order _ _ _ _ c.args.self.now.state _ None c.in-Err.error c.in-Walking.is c.in-Err.ensures.cause))
+
+pub returns-in-Ok-clause-within : goal.returns-in-Ok-clause-within
+returns-in-Ok-clause-within g c = λ paths h. (c.in-Ok.ensures.within paths h, h)
+
+pub returns-in-Err-clause-within : goal.returns-in-Err-clause-within
+returns-in-Err-clause-within g c = λ paths h. (c.in-Err.ensures.within paths h, walk_stays paths _ _ c.refuse.ensures.table h)
+
+pub returns-in-New-clause-within : goal.returns-in-New-clause-within
+returns-in-New-clause-within g c = none_within IsWalkWithin _ c.args.self.now
+
+pub returns-in-Refused-clause-within : goal.returns-in-Refused-clause-within
+returns-in-Refused-clause-within g c = none_within IsWalkWithin _ c.args.self.now

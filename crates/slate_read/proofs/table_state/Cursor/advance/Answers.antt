@@ -1,6 +1,7 @@
 use Rattle.std.proofs.Common.{◌≡◌, ◌-◌, None, Some, arith, ◌∙◌, ap, refl}
 use Rattle.slate_types.specs.Outside.{unblamed}
 use Rattle.std.proofs.lemmas.Result.{err_from_is_err_and, IfOk-from_err}
+use Rattle.slate_types.proofs.Calls.{reads_at_none, reads_at_then}
 use Rattle.slate_types.proofs.Reaching.{reads_none, reads_then}
 use Rattle.slate_read.proofs.Bringings.{adds_both, adds_hands, adds_none, end_hands, row_hands, spent_adds}
 use Rattle.slate_read.proofs.Cursors.{end_step, row_fails, row_moves, row_step, took_fewer, took_none}
@@ -12,6 +13,7 @@ loop-row-init g c = record {
   moves = moves_none _ _ _ _ _;
   adds = adds_none c.args.table.now c.args.order _ c.args.self.now;
   bound = omega arith;
+  within = λ paths here. reads_at_none paths _;
   reads = reads_none _;
   counts = refl;
 }
@@ -28,6 +30,7 @@ loop-row-preserved g c =
       moves = moves_both _ _ _ _ _ _ _ _ _ i.moves (moves_both _ _ _ _ _ _ _ _ _ moved o.moved);
       adds = adds_both c.args.table.now c.args.order _ _ _ c.args.self.now c.loop-row.self c.open.new.self i.adds (adds_both c.args.table.now c.args.order _ _ _ c.loop-row.self c.row.new.self c.open.new.self (spent_adds c.args.table.now c.args.order _ c.loop-row.self c.row.new.self took r.index r.ready) o.adds);
       bound = omega (arith, i.bound, o.small, o.fewer, d);
+      within = λ paths here. reads_at_then paths _ _ _ (i.within paths here) (o.within paths here);
       reads = reads_then _ _ _ i.reads o.reads;
       counts = o.counts ∙ i.counts;
     }
@@ -49,6 +52,7 @@ returns-in_err-row g c =
       smaller = IfOk-from_err c.from_residual.result _ c.from_residual.ensures.0;
       hands = IfOk-from_err c.from_residual.result _ c.from_residual.ensures.0;
       no_larger = rw p.1 tt;
+      within = i.within;
       reads = i.reads;
       counts = rw (p.1, p.2) (ap (unblamed c.in_err-row.field-0.0) i.counts);
     }
@@ -66,6 +70,7 @@ returns-in-Some g c =
       smaller = λ some. omega (arith, i.bound, less, d);
       hands = adds_hands c.args.table.now c.args.order _ _ _ c.args.self.now c.loop-row.self c.row.new.self (Some c.in-Some.row) i.adds (row_hands c.args.table.now c.args.order _ c.loop-row.self c.row.new.self c.in-Some.row took r.index r.ready);
       no_larger = omega (arith, i.bound, less, d);
+      within = i.within;
       reads = i.reads;
       counts = i.counts;
     }
@@ -84,6 +89,7 @@ returns-then-self g c =
       smaller = λ some. cc;
       hands = adds_hands c.args.table.now c.args.order _ _ _ c.args.self.now c.loop-row.self c.row.new.self None i.adds (adds_hands c.args.table.now c.args.order _ _ _ c.loop-row.self c.row.new.self c.row.new.self None (spent_adds c.args.table.now c.args.order _ c.loop-row.self c.row.new.self took r.index r.ready) (end_hands c.args.table.now c.args.order _ c.row.new.self));
       no_larger = omega (arith, i.bound, none, d);
+      within = i.within;
       reads = i.reads;
       counts = i.counts;
     }
@@ -102,6 +108,7 @@ returns-in_err-open g c =
       smaller = IfOk-from_err c.from_residual-in_err-open.result _ c.from_residual-in_err-open.ensures.0;
       hands = IfOk-from_err c.from_residual-in_err-open.result _ c.from_residual-in_err-open.ensures.0;
       no_larger = rw p.1 tt;
+      within = λ paths here. reads_at_then paths _ _ _ (i.within paths here) (o.within paths here);
       reads = reads_then _ _ _ i.reads o.reads;
       counts = rw (p.1, p.2) (o.counts ∙ ap (unblamed c.in_err-open.field-0.0) i.counts);
     }

@@ -2,6 +2,7 @@ use Rattle.std.proofs.Common.{◌∙◌, None, ap}
 use Rattle.slate_types.specs.Outside.{unblamed}
 use Rattle.std.proofs.lemmas.Result.{err_from_is_err_and}
 use Rattle.slate_types.proofs.Moves.{moves_both, moves_fails}
+use Rattle.slate_types.proofs.Calls.{reads_at_then}
 use Rattle.slate_types.proofs.Reaching.{reads_then}
 use Rattle.slate_read.proofs.Bringings.{adds_both, fetches_adds}
 use Rattle.slate_read.proofs.Cursors.{some_fails}
@@ -20,6 +21,7 @@ returns-in_err-read_ahead g c =
       rows = rw p.1 tt;
       some = rw p.1 tt;
       adds = rw p.1 tt;
+      within = e.within;
       reads = e.reads;
       counts = rw (p.1, p.2) (e.counts);
     }
@@ -35,6 +37,7 @@ loop-init g c =
       stop = f.stop;
       rows = f.rows;
       some = fetched_some _ c.args.table.now c.args.order c.args.limits.bytes e.fetched.0 c.args.self.now c.read_ahead.new.self f;
+      within = e.within;
       reads = e.reads;
       counts = e.counts;
     }
@@ -51,6 +54,7 @@ loop-preserved g c =
       stop = f.stop ∙ i.stop;
       rows = f.rows ∙ i.rows;
       some = fetched_some _ c.args.table.now c.args.order c.args.limits.bytes e.fetched.0 c.loop.self c.read_ahead-in-loop.new.self f;
+      within = λ paths here. reads_at_then paths _ _ _ (i.within paths here) (e.within paths here);
       reads = reads_then _ _ _ i.reads e.reads;
       counts = e.counts ∙ i.counts;
     }
@@ -68,6 +72,7 @@ returns-in_err-read_ahead-2 g c =
       rows = rw p.1 tt;
       some = rw p.1 tt;
       adds = rw p.1 tt;
+      within = λ paths here. reads_at_then paths _ _ _ (i.within paths here) (e.within paths here);
       reads = reads_then _ _ _ i.reads e.reads;
       counts = rw (p.1, p.2) (e.counts ∙ ap (unblamed c.in_err-read_ahead-2.field-0.0) i.counts);
     }

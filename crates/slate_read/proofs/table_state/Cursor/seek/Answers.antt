@@ -1,5 +1,6 @@
 use Rattle.std.proofs.Common.{◌≡◌, ◌≤◌, ◌-◌, ap, Some, arith, refl}
 use Rattle.std.proofs.lemmas.Result.{err_from_is_err_and, on_ok_weaker, IfErr-weaker}
+use Rattle.slate_types.proofs.Calls.{reads_at_none}
 use Rattle.slate_types.proofs.Reaching.{later_none, reads_none}
 use Rattle.slate_types.proofs.Moves.{moves_both, moves_fails, moves_none}
 use Rattle.slate_read.specs.TableWalk.{bound_behind, reads_in}
@@ -17,6 +18,7 @@ returns-in_err-skip g c =
       cause = rw (p.1, p.2) (row_fails c.args.table.now c.args.order _ _ c.args.self.now _ c.in_err-skip.ensures.cause);
       no_larger = rw p.1 tt;
       adds = rw p.1 tt;
+      within = λ paths here. reads_at_none paths _;
       reads = reads_none _;
       counts = refl;
     }
@@ -32,6 +34,7 @@ returns-then-branch g c =
       cause = tt;
       no_larger = omega (arith, less, d);
       adds = skip_adds c.args.table.now c.args.order c.args.key.now _ c.args.self.now c.skip.new.self _ skips r.index r.ready;
+      within = λ paths here. reads_at_none paths _;
       reads = reads_none _;
       counts = refl;
     }
@@ -56,6 +59,7 @@ returns g c =
       cause = IfErr-weaker c.walk_to.result _ _ (λ e made. moves_fails _ _ _ _ _ _ _ _ (Some c.args.key.now) e moved (later_none _) made) o.cause;
       no_larger = on_ok_weaker c.walk_to.result (λ k. omega (arith, k, smaller)) o.no_larger;
       adds = on_ok_weaker c.walk_to.result (λ k. adds_both c.args.table.now c.args.order _ _ _ c.args.self.now c.jump.new.self c.walk_to.new.self (adds_both c.args.table.now c.args.order _ _ _ c.args.self.now c.skip.new.self c.jump.new.self (skip_adds c.args.table.now c.args.order c.args.key.now _ c.args.self.now c.skip.new.self _ skips r.index r.ready) (jump_adds c.args.table.now c.args.order c.args.key.now _ c.skip.new.self c.jump.new.self j)) k) o.adds;
+      within = o.within;
       reads = o.reads;
       counts = o.counts;
     }

@@ -1,6 +1,7 @@
 use Rattle.std.proofs.Common.{◌≡◌, ◌-◌, Some, arith, ◌∙◌, ap, refl}
 use Rattle.slate_types.specs.Outside.{unblamed}
 use Rattle.std.proofs.lemmas.Result.{err_from_is_err_and}
+use Rattle.slate_types.proofs.Calls.{reads_at_none, reads_at_then}
 use Rattle.slate_types.proofs.Reaching.{reads_none, reads_then}
 use Rattle.slate_read.proofs.Bringings.{adds_both, adds_none, skip_adds}
 use Rattle.slate_read.proofs.Cursors.{row_fails}
@@ -13,6 +14,7 @@ loop-self-init g c = record {
   moves = moves_none _ _ _ _ _;
   adds = adds_none c.args.table.now c.args.order _ c.args.self.now;
   bound = omega arith;
+  within = λ paths here. reads_at_none paths _;
   reads = reads_none _;
   counts = refl;
 }
@@ -31,6 +33,7 @@ loop-self-preserved g c =
       moves = moves_both _ _ _ _ _ _ _ _ _ i.moves (moves_both _ _ _ _ _ _ _ _ _ moved opened);
       adds = adds_both c.args.table.now c.args.order _ _ _ c.args.self.now c.loop-self.self c.open.new.self i.adds (adds_both c.args.table.now c.args.order _ _ _ c.loop-self.self c.skip.new.self c.open.new.self (skip_adds c.args.table.now c.args.order c.args.key.now _ c.loop-self.self c.skip.new.self _ skips r.index r.ready) o.adds);
       bound = omega (arith, i.bound, o.small, o.fewer, d);
+      within = λ paths here. reads_at_then paths _ _ _ (i.within paths here) (o.within paths here);
       reads = reads_then _ _ _ i.reads o.reads;
       counts = o.counts ∙ i.counts;
     }
@@ -51,6 +54,7 @@ returns-in_err-skip g c =
       cause = rw (p.1, p.2) (moves_fails _ _ _ _ _ _ _ _ (Some c.args.key.now) _ i.moves i.reads.later (row_fails c.args.table.now c.args.order _ _ c.loop-self.self _ c.in_err-skip.ensures.cause));
       no_larger = rw p.1 tt;
       adds = rw p.1 tt;
+      within = i.within;
       reads = i.reads;
       counts = rw (p.1, p.2) (ap (unblamed c.in_err-skip.field-0.0) i.counts);
     }
@@ -67,6 +71,7 @@ returns-then-branch g c =
       cause = tt;
       no_larger = omega (arith, i.bound, less, d);
       adds = adds_both c.args.table.now c.args.order _ _ _ c.args.self.now c.loop-self.self c.skip.new.self i.adds (skip_adds c.args.table.now c.args.order c.args.key.now _ c.loop-self.self c.skip.new.self _ skips r.index r.ready);
+      within = i.within;
       reads = i.reads;
       counts = i.counts;
     }
@@ -83,6 +88,7 @@ returns-then-self g c =
       cause = tt;
       no_larger = omega (arith, i.bound, less, d);
       adds = adds_both c.args.table.now c.args.order _ _ _ c.args.self.now c.loop-self.self c.skip.new.self i.adds (skip_adds c.args.table.now c.args.order c.args.key.now _ c.loop-self.self c.skip.new.self _ skips r.index r.ready);
+      within = i.within;
       reads = i.reads;
       counts = i.counts;
     }
@@ -100,6 +106,7 @@ returns-in_err-open g c =
       cause = rw (p.1, p.2) (moves_fails _ _ _ _ _ _ _ _ (Some c.args.key.now) _ (moves_both _ _ _ _ _ _ _ _ _ i.moves moved) i.reads.later o.cause);
       no_larger = rw p.1 tt;
       adds = rw p.1 tt;
+      within = λ paths here. reads_at_then paths _ _ _ (i.within paths here) (o.within paths here);
       reads = reads_then _ _ _ i.reads o.reads;
       counts = rw (p.1, p.2) (o.counts ∙ ap (unblamed c.in_err-open.field-0.0) i.counts);
     }

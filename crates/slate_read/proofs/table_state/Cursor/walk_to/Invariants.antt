@@ -1,7 +1,9 @@
-use Rattle.std.proofs.Common.{◌≤◌, ◌-◌, ◌≡◌}
+use Rattle.std.proofs.Common.{◌≤◌, ◌-◌, ◌≡◌, ℕ, List}
+use Rattle.std.specs.Prelude.{Contains}
 use Rattle.slate_types.specs.Outside.{OnlyReads}
+use Rattle.slate_types.specs.World.{ReadsAt}
 use Rattle.slate_store.specs.Reach.{reach_of}
-use Rattle.slate_read.specs.TableWalk.{IsSoundRising, bound_behind, refuses_behind}
+use Rattle.slate_read.specs.TableWalk.{IsSoundRising, bound_behind, path_in, refuses_behind}
 use Rattle.slate_types.proofs.Moves.{Moves}
 use Rattle.slate_read.proofs.Bringings.{Adds}
 use Rattle.slate_read.proofs.Seeks.{rest_sought}
@@ -16,6 +18,7 @@ invariant-loop-self g l = record {
       (reach_of g.S.Store g.M.MergeOperator g.T.BlockTransformer l.initial.env)
       (reach_of g.S.Store g.M.MergeOperator g.T.BlockTransformer l.env) l.initial.self l.self;
   bound : bound_behind l.self ≤ bound_behind l.initial.self;
+  within : (paths : List (List ℕ)) → Contains paths (path_in l.table) → ReadsAt paths (reach_of g.S.Store g.M.MergeOperator g.T.BlockTransformer l.initial.env) (reach_of g.S.Store g.M.MergeOperator g.T.BlockTransformer l.env);
   reads : OnlyReads (reach_of g.S.Store g.M.MergeOperator g.T.BlockTransformer l.initial.env) (reach_of g.S.Store g.M.MergeOperator g.T.BlockTransformer l.env);
   counts : (reach_of g.S.Store g.M.MergeOperator g.T.BlockTransformer l.env).faults ≡ (reach_of g.S.Store g.M.MergeOperator g.T.BlockTransformer l.initial.env).faults;
 }

@@ -39,7 +39,7 @@ returns-in_err-how g c =
     let p = err_from_is_err_and c.from_residual.result c.from_residual.ensures.1 in
     record {
       opened = λ fits t seen v is.
-          scan_memory g.P.Parts.options g.P.Parts.meaning t seen (reach_of g.S.Store g.M.MergeOperator g.T.BlockTransformer c.args.env.now) v g.P.Parts.policies (scan_query c.args.range c.args.prefix c.args.options.now.filter_context) c.args.range c.args.options.now.order
+          scan_memory g.P.Parts.options g.P.Parts.meaning t seen (reach_of g.S.Store g.M.MergeOperator g.T.BlockTransformer c.args.env.now) v c.args.self.now is g.P.Parts.policies (scan_query c.args.range c.args.prefix c.args.options.now.filter_context) c.args.range c.args.options.now.order
           c.from_residual.result (p.1 ∙ ap (λ e. Err e) (p.2 ∙ c.in_err-how.ensures.cause));
       invalid = λ is. let never : true ≡ false = sym is ∙ sym c.leaves_none.ensures ∙ c.if-leaves_none.false in absurd cc;
       range = IfOk-from_err c.from_residual.result _ c.from_residual.ensures.0;
@@ -51,7 +51,7 @@ returns-in_err-own g c =
     let p = err_from_is_err_and c.from_residual-in_err-own.result c.from_residual-in_err-own.ensures.1 in
     record {
       opened = λ fits t seen v is.
-          scan_memory g.P.Parts.options g.P.Parts.meaning t seen (reach_of g.S.Store g.M.MergeOperator g.T.BlockTransformer c.args.env.now) v g.P.Parts.policies (scan_query c.args.range c.args.prefix c.args.options.now.filter_context) c.args.range c.args.options.now.order
+          scan_memory g.P.Parts.options g.P.Parts.meaning t seen (reach_of g.S.Store g.M.MergeOperator g.T.BlockTransformer c.args.env.now) v c.args.self.now is g.P.Parts.policies (scan_query c.args.range c.args.prefix c.args.options.now.filter_context) c.args.range c.args.options.now.order
           c.from_residual-in_err-own.result (p.1 ∙ ap (λ e. Err e) (p.2 ∙ c.in_err-own.ensures.cause));
       invalid = λ is. let never : true ≡ false = sym is ∙ sym c.leaves_none.ensures ∙ c.if-leaves_none.false in absurd cc;
       range = IfOk-from_err c.from_residual-in_err-own.result _ c.from_residual-in_err-own.ensures.0;
