@@ -1,5 +1,12 @@
-# The public calls of one crate, from its files, its root first: for .ci/contracts, which hands in crate, names, named, clauses and reaching. Where `rest`
-# is set, the others than those of these names are printed, each by the names of its clauses, and they go to `reaching` too.
+# The public calls of one crate, from its files, its root first: for .ci/contracts.
+#
+# Without `names` it lists them: a line 'NUMBER KIND NAME CLAUSES' for each call, trait and type that
+# shows what it is made of, whose text goes to the file NUMBER of the folder `texts`, blanks folded.
+# What clauses name goes to the file `named`, as lines 'SPEC WORD'; each call and clause to the file
+# `clauses`, as lines 'CALL' and 'CALL CLAUSE'; and each call that is given an object with a count of
+# faults, or an environment, to the file `reaching`.
+# With `names` it prints what has one of these names: a call, a type with its calls, or the crate. What
+# their clauses name goes to `named`, and each name that it found to the file `found`.
 
 # The paragraphs of what stands above an item, each one line, behind `head`.
 function told(head, doc,    lines, n, i, text, out) {
@@ -41,17 +48,24 @@ function read_import(line,    file, words, n, i) {
     for (i = 1; i <= n; i++) from[words[i]] = file
 }
 
-# Notes what a clause of this owner names of specs.
-function note_words(owner, text,    words, n, i) {
+# Notes what a clause of this item names of specs.
+function note_words(item, text,    words, n, i) {
     gsub(/[^A-Za-z0-9_]/, " ", text)
     n = split(text, words, " ")
-    for (i = 1; i <= n; i++) if (words[i] in from) need[owner, from[words[i]] " " words[i]] = 1
+    for (i = 1; i <= n; i++) {
+        if (words[i] in from) need[item] = need[item] from[words[i]] " " words[i] "\n"
+    }
 }
 
-# Writes a text down under a type, a trait or a function.
-function add(owner, text) {
-    if (!(owner in body)) order[++count] = owner
-    body[owner] = body[owner] text
+# Writes an item down under its type, its trait or its module: a call, or what the type shows.
+function add(owner, name, kind, head, text) {
+    if (!(owner in seen)) order[++count] = owner
+    seen[owner] = 1
+    items[owner] = items[owner] " " ++last
+    name_of[last] = name
+    kind_of[last] = kind
+    head_of[last] = head
+    text_of[last] = text
 }
 
 # The name of the function whose header the line begins.
@@ -70,17 +84,16 @@ function take_call(line, owner, name,    indent, text, part, clause, in_clauses,
             in_clauses = 1
             clause = part
             sub(/^    (requires|ensures) /, "", clause)
-            if (clause ~ /^\{/) clause = "one without a name"
+            if (clause ~ /^\{/) clause = "_"
             else {
                 sub(/ .*/, "", clause)
                 said[name " " clause] = 1
-                clause = "`" clause "`"
             }
-            if (part ~ /^    requires/) needs = needs (needs == "" ? "needs " : ", ") clause
-            else gives = gives (gives == "" ? "" : ", ") clause
+            if (part ~ /^    requires/) needs = needs " " clause
+            else gives = gives " " clause
         }
-        if (!in_clauses && part ~ /: (Store|Source|Sink|MergeOperator|BlockTransformer)([^A-Za-z]|$)|[( ]env: &mut /) reaches[owner, name] = 1
-        if (in_clauses) note_words(owner, part)
+        if (!in_clauses && part ~ /: (Store|Source|Sink|MergeOperator|BlockTransformer)([^A-Za-z]|$)|[( ]env: &mut /) reaches[last + 1] = 1
+        if (in_clauses) note_words(last + 1, part)
         else if (sub(/ *\{\}?$/, "", part)) {
             text = text "    " part "\n"
             break
@@ -88,9 +101,8 @@ function take_call(line, owner, name,    indent, text, part, clause, in_clauses,
         if (part !~ /^( *| *\/\/ .*)$/) text = text "    " part "\n"
         if (part ~ /;$/ && (!in_clauses || part ~ /\};$/)) break
     } while ((getline line) > 0)
-    add(owner, told("**`" name "`.**", doc) text "\n")
-    if (needs == "" && gives == "") gives = "no clause"
-    brief[owner] = brief[owner] "- `" name "`: " gives (needs == "" || gives == "" ? "" : "; ") needs "\n"
+    add(owner, name, "fn", told("**`" name "`.**", doc), text)
+    given[last] = gives (needs == "" ? "" : " requires" needs)
 }
 
 FNR == 1 {
@@ -171,7 +183,7 @@ is_root && /^pub use [a-z_]+::/ {
     if (!(name in passed_on) || passed_on[name] == module) {
         type_doc[name] = doc
         is_public[name] = is_open || name in passed_on
-        if (shows) add(name, text "\n")
+        if (shows) add(name, name, "type", "", text)
     }
 }
 
@@ -180,8 +192,10 @@ is_root && /^pub use [a-z_]+::/ {
 trait != "" && /^    ghost [a-z_]+:/ {
     text = $0
     while (text !~ /;$/ && (getline line) > 0) text = text "\n" line
-    note_words(trait, text)
-    add(trait, raw text "\n\n")
+    note_words(last + 1, text)
+    add(trait, trait, "trait", "", raw text "\n")
+    match(text, /ghost [a-z_]+/)
+    given[last] = " " substr(text, RSTART + 6, RLENGTH - 6)
 }
 
 trait != "" && /^    fn / { take_call($0, trait, trait "::" name_in($0)) }
@@ -197,47 +211,55 @@ current != "" && /^    pub (const )?fn / { take_call($0, current, current "::" n
 
 { doc = raw = "" }
 
-function print_item(owner,    text, k, part) {
-    if (owner in printed) return
-    printed[owner] = 1
-    text = body[owner]
-    sub(/\n+$/, "\n", text)
-    printf "\n### %s\n\n%s%s", owner, owner in type_doc ? told("", type_doc[owner]) : "", text
-    for (k in need) {
-        split(k, part, SUBSEP)
-        if (part[1] == owner) print part[2] >> named
+# The item goes to the list.
+function list_item(item,    number, text) {
+    number = sprintf("%s.%05d", crate, item)
+    text = text_of[item]
+    gsub(/[ \n]+/, " ", text)
+    print text > (texts "/" number)
+    close(texts "/" number)
+    print number, kind_of[item], name_of[item] given[item]
+    if (item in need) printf "%s", need[item] >> named
+    if (item in reaches) print name_of[item] >> reaching
+}
+
+function print_item(item) {
+    printf "%s%s\n", head_of[item], text_of[item]
+    if (item in need) printf "%s", need[item] >> named
+}
+
+# Prints those items of a type that are asked for.
+function print_owner(owner, whole,    list, n, i, shown, item) {
+    n = split(items[owner], list, " ")
+    for (i = 1; i <= n; i++) {
+        item = list[i]
+        if (!whole && !(name_of[item] in asked)) continue
+        if (!shown++) {
+            if (!begun++) printf "\n## %s\n", crate
+            printf "\n### %s\n\n", owner
+            if (whole && owner in type_doc) printf "%s", told("", type_doc[owner])
+        }
+        print_item(item)
+        print name_of[item] >> found
     }
-    for (k in reaches) {
-        split(k, part, SUBSEP)
-        if (part[1] == owner) print part[2] >> reaching
-    }
+    if (shown) print owner >> found
 }
 
 END {
-    n = split(names, list, " ")
-    if (rest) {
-        for (i = 1; i <= n; i++) printed[list[i]] = 1
-        if ("*" in printed) exit
-        text = ""
-        for (j = 1; j <= count; j++) if (is_public[order[j]] && !(order[j] in printed)) text = text brief[order[j]]
-        if (text != "") printf "\n**%s.**\n\n%s", crate, text
-        for (k in reaches) {
-            split(k, part, SUBSEP)
-            if (is_public[part[1]] && !(part[1] in printed)) print part[2] >> reaching
+    if (names == "") {
+        for (k in said) print k >> clauses
+        for (j = 1; j <= count; j++) {
+            if (!is_public[order[j]]) continue
+            n = split(items[order[j]], list, " ")
+            for (i = 1; i <= n; i++) list_item(list[i])
         }
         exit
     }
-    for (k in said) print k >> clauses
-    printf "\n## %s\n", crate
-    for (i = 1; i <= n; i++) {
-        if (list[i] == "*") {
-            for (j = 1; j <= count; j++) if (is_public[order[j]]) print_item(order[j])
-        } else if (list[i] in body) {
-            print_item(list[i])
-        } else {
-            printf "contracts: %s has no public call of the name %s\n", crate, list[i] > "/dev/stderr"
-            missing = 1
-        }
+    n = split(names, list, " ")
+    for (i = 1; i <= n; i++) asked[list[i]] = 1
+    if (crate in asked) print crate >> found
+    for (j = 1; j <= count; j++) {
+        owner = order[j]
+        if (is_public[owner]) print_owner(owner, crate in asked || owner in asked)
     }
-    exit missing
 }

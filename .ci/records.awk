@@ -1,5 +1,9 @@
-# The records of specs that clauses name, from lines 'SPEC WORD', and those that these name: for .ci/contracts, which hands in clauses. A list of cases
-# counts as a record, and so does a word whose meaning begins with one. A record without parameters is a type of values, and isn't printed.
+# The records of specs that clauses name, from lines 'SPEC WORD', and those that these name: for
+# .ci/contracts. A list of cases counts as a record, and so does a word whose meaning begins with one.
+# A record without parameters is a type of values, and isn't printed.
+#
+# Where `texts` is set it lists them, a line 'NUMBER record SPEC WORD' each, whose text goes to the file
+# NUMBER of this folder, blanks folded. Fields go to the file `clauses`, as lines 'WORD FIELD'.
 
 # The words of specs that a line of imports of the file brings.
 function read_import(file, line,    path, words, n, i) {
@@ -68,7 +72,7 @@ function follow(file, name,    lines, n, i, words, m, j) {
     for (i = 1; i <= n; i++) {
         if (lines[i] ~ /^ *--/) continue
         m = split(lines[i], words, " ")
-        if (words[1] == "pub" && words[3] == ":") print name, words[2] >> clauses
+        if (clauses != "" && words[1] == "pub" && words[3] == ":") print name, words[2] >> clauses
         gsub(/[^A-Za-z0-9_]/, " ", lines[i])
         m = split(lines[i], words, " ")
         for (j = 1; j <= m; j++) want(home(file, words[j]), words[j])
@@ -85,6 +89,16 @@ function show(file,    i) {
 
 { want($1, $2) }
 
+# The record goes to the list.
+function list_record(file, name,    number, told) {
+    number = sprintf("records.%05d", ++listed)
+    told = text[file, name]
+    gsub(/[ \n]+/, " ", told)
+    print told > (texts "/" number)
+    close(texts "/" number)
+    print number, "record", file, name
+}
+
 END {
     for (at = 1; at <= last; at++) {
         if (!is_record(ahead[at], word[at])) continue
@@ -92,10 +106,14 @@ END {
         follow(ahead[at], word[at])
         show(ahead[at])
     }
-    print "\n## The records that clauses name"
+    if (texts == "" && files) print "\n## The records that these clauses name"
     for (at = 1; at <= files; at++) {
-        printf "\n**Of `%s`.**\n", sorted[at]
+        if (texts == "") printf "\n**Of `%s`.**\n", sorted[at]
         n = split(names[sorted[at]], list, " ")
-        for (i = 1; i <= n; i++) if ((sorted[at], list[i]) in printed) printf "\n%s", text[sorted[at], list[i]]
+        for (i = 1; i <= n; i++) {
+            if (!((sorted[at], list[i]) in printed)) continue
+            if (texts == "") printf "\n%s", text[sorted[at], list[i]]
+            else list_record(sorted[at], list[i])
+        }
     }
 }
