@@ -12,14 +12,15 @@ use slatedb::{
 use std::alloc::Global;
 use std::sync::Wait;
 
-/// Keeps the value that is there, so that of several operands the first counts. It has no faults.
+/// Keeps the value that is there, so that of several operands the first counts. It has no
+/// faults.
 #[derive(Clone, Copy)]
 pub struct First;
 
 impl MergeOperator for First {
-    ghost combine = { λ _ _. first.kept };
+    ghost combine = { λ _ _. first.first_of };
 
-    ghost short = { λ _ _. first.kept_short };
+    ghost short = { λ _ _. first.first_short };
 
     ghost faults = { λ _. 0 };
 
@@ -37,10 +38,11 @@ impl MergeOperator for First {
 
 /// The operator keeps a first operand and is associative: so promises on answers hold with it.
 pub fn first_is_lawful()
-    ensures { IsLawful first.kept }
+    ensures { IsLawful first.first_of }
 {}
 
-/// What all calls on a database of claims are given: the default options, the operator, no segments and no filters.
+/// What all calls on a database of claims are given: the default options, the operator, no
+/// segments and no filters.
 #[derive(Drop)]
 pub struct Claiming;
 

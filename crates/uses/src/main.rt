@@ -1,5 +1,5 @@
-//! Whole callers of the store, as docs/EMBEDDING.md prints them: a shop by one thread, visits by two threads over a folder, and claims by
-//! an operator of one's own.
+//! Whole callers of the store, as docs/EMBEDDING.md prints them: a shop by one thread, visits by
+//! two threads over a folder, and claims by an operator of one's own.
 #![tactic(auto)]
 
 mod claims;
@@ -16,7 +16,8 @@ use std::thread::Threads;
 const FOLDER: &str = "uses-visits";
 
 fn main(rt: HostRuntime) -> ExitCode {
-    // Threads and locks are reached by a type parameter's handle, files by the program's own: so it is handed over twice.
+    // Threads and locks are reached by a type parameter's handle, files by the program's own: so
+    // it is handed over twice.
     match run(&rt, &rt) {
         Ok(()) => ExitCode::from(0),
         Err(error) => {

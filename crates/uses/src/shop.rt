@@ -13,7 +13,7 @@ type Lent<'a, S> = Env<'a, S, Add, NoTransformer>;
 
 /// Takes in goods, sells one, and gives what is there then, with when it goes off.
 pub fn run<S: Store>(alloc: Global, store: &mut S) -> Result<String, SlateDBError> {
-    // What all calls on one core are given alike: here the default options, no segments and no filters.
+    // What all calls on one core are given alike: the default options, no segments, no filters.
     let laws = Plain::laws(alloc);
     let mut core = Core::new(alloc, &laws.options);
     let mut env: Lent<'_, S> = Env {
@@ -105,7 +105,7 @@ fn left_of<S: Store>(
     found
 }
 
-/// The fields of a row: key, value, sequence, and the moments of creation and expiry, which may be missing.
+/// The fields of a row: key, value, sequence, and when it expires, which may be missing.
 fn line_of(alloc: Global, row: Option<KeyValue>) -> Result<String, SlateDBError> {
     let Some(row) = row else {
         return Ok(format!(in alloc; "none")?);

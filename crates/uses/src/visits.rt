@@ -30,7 +30,7 @@ pub fn serve<R: Threads + Wait + Sync>(
     let ((mut pass, counted), (other, stored)) = serve_by_two(
         rt, files, folder, &db, passes, &laws,
     );
-    // All passes are one again: so each commit and each flush of the journal is one of this pass's own.
+    // All passes are one again: so this pass owns each commit and each flush of the journal.
     pass.join(&db, other);
     db.close(rt, pass).close();
     stored.and(counted)
@@ -53,14 +53,16 @@ fn serve_by_two<R: Threads + Wait + Sync>(
     thread::join(
         rt,
         move || -> Ended<u64>
-            requires { (pass.table ≡ db.now) × ArePlain laws.now.options laws.now.segments laws.now.policies.items }
+            requires { (pass.table ≡ db.now)
+                × ArePlain laws.now.options laws.now.segments laws.now.policies.items }
             ensures { result.0.table ≡ db.entry.now }
         {
             let counted = count_visits(rt, files, folder, db, &mut pass, laws);
             (pass, counted)
         },
         move || -> Ended<()>
-            requires { (other.table ≡ db.now) × ArePlain laws.now.options laws.now.segments laws.now.policies.items }
+            requires { (other.table ≡ db.now)
+                × ArePlain laws.now.options laws.now.segments laws.now.policies.items }
             ensures { result.0.table ≡ db.entry.now }
         {
             let stored = store_rows(rt, files, folder, db, &mut other, laws);
@@ -111,7 +113,8 @@ fn store_rows<R: Wait>(
     Ok(())
 }
 
-/// Counts a visit. A conflict with another thread's commit is no failure: it begins again, and reads again.
+/// Counts a visit. A conflict with another thread's commit is no failure: it begins again, and
+/// reads again.
 fn visit<R: Wait, S: Store>(
     rt: &R,
     db: &Database<Plain>,
@@ -132,7 +135,8 @@ fn visit<R: Wait, S: Store>(
     unreachable!()
 }
 
-/// One transaction. It ends on every way out: one that is neither committed nor rolled back doesn't compile.
+/// One transaction. It ends on every way out: one that is neither committed nor rolled back
+/// doesn't compile.
 fn try_visit<R: Wait, S: Store>(
     rt: &R,
     db: &Database<Plain>,
