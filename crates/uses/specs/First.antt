@@ -15,4 +15,8 @@ first_short None v h hv = hv
 first_short (Some u) v h hv = h
 
 abbrev pub claiming : Meaning
-claiming = record { combine = Some (λ _ existing value. first_of existing value); encode = λ bytes. bytes; decode = λ bytes. bytes }
+claiming = record {
+  combine = Some (λ _ existing value. first_of existing value);
+  encode = λ bytes. bytes;
+  decode = λ bytes. bytes;
+}
