@@ -1,11 +1,14 @@
 // Ranges of keys with sequences, the prefixes that an extractor gives, and the partitions of keys.
+ghost use Rattle.std.specs.Prelude.{[]};
+ghost use Rattle.slate_call_tests.specs.Nowhere.{nowhere_rises};
+
 use bytes::Bytes;
 use slate_filter::LastColonExtractor;
 use slate_mem::KVTableInternalKeyRange;
 use slate_table::SstIndex;
 use slate_types::{
-    BytesRange, PrefixExtractor, PrefixTarget, SequencedKey, first_partition_including_key,
-    last_partition_including_key,
+    BytesRange, PrefixExtractor, PrefixTarget, RangePartitionedKeySpace, SequencedKey,
+    first_partition_including_key, last_partition_including_key,
 };
 use std::alloc::Global;
 use std::ops::Bound;
@@ -56,45 +59,56 @@ const INDEX: &[u8] = b"\x00\x00\x00\x02\
 \x00\x00\x00\x00\x00\x00\x00\x00\x00\x04aaaa\
 \x00\x00\x00\x00\x00\x00\x00\x09\x00\x04bbbb";
 
-const NO_BLOCKS: &[u8] = b"\x00\x00\x00\x00";
-
-// An index and where its blocks end, a key, and the first and the last block that can hold the key.
-type Case = (
-    &'static [u8],
-    u64,
-    &'static [u8],
-    Option<usize>,
-    Option<usize>,
-);
+// A key, and the first and the last of these blocks that can hold it.
+type Case = (&'static [u8], Option<usize>, Option<usize>);
 
 const CASES: &[Case] = &[
-    (INDEX, 20, b"\x00\x00\x00", None, None),
-    (INDEX, 20, b"aaaa", Some(0), Some(0)),
-    (INDEX, 20, b"bbbb", Some(0), Some(1)),
-    (INDEX, 20, b"bbbbbla", Some(1), Some(1)),
-    (NO_BLOCKS, 0, b"aaaa", None, None),
+    (b"\x00\x00\x00", None, None),
+    (b"aaaa", Some(0), Some(0)),
+    (b"bbbb", Some(0), Some(1)),
+    (b"bbbbbla", Some(1), Some(1)),
 ];
 
-fn is_found(alloc: Global, case: &Case) -> bool {
-    let Some(index) = SstIndex::decode(alloc, Bytes::from_static(case.0), case.1).ok() else {
-        return false;
-    };
-    let first = first_partition_including_key(&index, case.2);
-    let last = last_partition_including_key(&index, case.2);
-    drop(index);
-    first == case.3 && last == case.4
+fn is_found<K: RangePartitionedKeySpace>(space: &K, case: &Case) -> bool {
+    first_partition_including_key(space, case.0) == case.1
+        && last_partition_including_key(space, case.0) == case.2
 }
 
 fn are_found(alloc: Global) -> bool {
+    let Some(index) = SstIndex::decode(alloc, Bytes::from_static(INDEX), 20).ok() else {
+        return false;
+    };
+    let mut are_found = true;
     for case in CASES {
-        if !is_found(alloc, case) {
-            return false;
-        }
+        are_found = are_found && is_found(&index, case);
     }
-    true
+    drop(index);
+    are_found
 }
 
 #[test]
 fn blocks_of_keys_are_found(rt: HostRuntime) {
     assert!(rt; are_found(rt.alloc()));
+}
+
+// A space that has no partition.
+struct Nowhere;
+
+impl RangePartitionedKeySpace for Nowhere {
+    ghost first_keys = { λ _. [] };
+
+    ghost rising = { λ _. nowhere_rises };
+
+    fn partitions(&self) -> usize {
+        0
+    }
+
+    fn partition_first_key(&self, _partition: usize) -> &[u8] {
+        unreachable!()
+    }
+}
+
+#[test]
+fn without_partitions_no_key_is_found(rt: HostRuntime) {
+    assert!(rt; is_found(&Nowhere, &(b"aaaa", None, None)));
 }
