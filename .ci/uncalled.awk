@@ -1,11 +1,11 @@
 # The public calls that nothing reaches, from all source files, the root of each crate before its
-# other files: for .ci/uncalled, which hands in `sees` (lines 'CRATE CRATE ..' of what a crate stands
-# on, itself among them).
+# other files: for .ci/uncalled, which hands in `sees`, lines 'CRATE CRATE ..' of what a crate stands
+# on, itself among them.
 #
-# A function is reached if it is a test or the `main` of a program, or if the body of a reached
-# function calls it by its name:
-#     T::f(..)   the functions f of the type T, of a type that the alias T names, or of the trait T
-#     x.f(..)    the methods f of all types that a reached body or a reached result names
+# A test is reached, and the `main` of a program, and what the body of a reached function calls:
+#     T::f(..)   the functions f of the type T, or of the type that the alias T names
+#     x.f(..)    the method f of the type of x, if a parameter, a field or a call says which it is;
+#                else the methods f of all types that reached bodies and results name
 #     f(..)      the function f of the file, or the one that the file imports
 # What std calls by itself, as `drop` and `fmt`, is reached with its type.
 
@@ -138,10 +138,8 @@ FNR == 1 {
     gsub(/\//, "::", module)
     is_root = module == "lib" || module == "main"
     if (is_root) module = ""
-    owner = trait = ""
+    owner = trait = struct = ""
     is_test = in_text = 0
-    if (!(crate in known)) known[crate] = ++crates
-    is_program[crate] = is_program[crate] || FILENAME ~ /main\.rt$/
 }
 
 { line = code_of($0) }
@@ -165,6 +163,7 @@ line ~ /^(pub(\([a-z]+\))? )?type / {
     text = whole(line, ";")
     name = text
     sub(/^(pub(\([a-z]+\))? )?type /, "", name)
+    sub(/ =.*/, "", name)
     name = bare(name)
     sub(/^[^=]*=/, "", text)
     alias[crate, name] = alias[crate, name] " " text
@@ -178,13 +177,11 @@ line ~ /^(pub(\([a-z]+\))? )?trait / {
     owner = ""
     trait = bare(text)
     is_trait[trait] = 1
-    in_trait = 1
     next
 }
 
 line ~ /^impl/ {
     text = whole(line, "[{][}]?$")
-    in_trait = 0
     trait = owner = ""
     if (text ~ /\{\}$/) next
     sub(/^impl/, "", text)
@@ -196,18 +193,29 @@ line ~ /^impl/ {
     next
 }
 
-line ~ /^\}/ { owner = trait = ""; in_trait = 0; next }
+line ~ /^\}/ { owner = trait = struct = ""; next }
 
 line ~ /^(    )?(pub(\([a-z]+\))? )?(final |const |unsafe )*fn / {
     read_function(line)
     is_test = 0
 }
 
-# Types are public by the list of their file's crate.
-line ~ /^pub (struct|enum) / {
+line ~ /^(pub(\([a-z]+\))? )?(struct|enum) / {
     name = line
-    sub(/^pub (struct|enum) /, "", name)
-    type_module[crate, bare(name)] = module
+    sub(/^(pub(\([a-z]+\))? )?(struct|enum) /, "", name)
+    sub(/[^A-Za-z0-9_].*/, "", name)
+    is_type[name] = 1
+    if (line ~ /^pub /) type_module[crate, name] = module
+    if (line ~ /\{$/) struct = name
+}
+
+struct != "" && line ~ /^    (pub(\([a-z]+\))? )?[a-z_0-9]+: / {
+    text = line
+    sub(/^ *(pub(\([a-z]+\))? )?/, "", text)
+    name = text
+    sub(/:.*/, "", name)
+    sub(/^[^:]*: /, "", text)
+    field[struct, name] = text
 }
 
 # --- Calls ---
@@ -237,7 +245,7 @@ function read_body(i,    text, rest, before, word, next_part, type, seen, from) 
         if (word ~ /^[a-z_]/) {
             next_part = substr(rest, 1, 1)
             if (before ~ /\.$/ && before !~ /\.\.$/) {
-                if (next_part == "(") note_call(i, ".", word)
+                if (next_part == "(") note_call(i, match(before, /[a-z_][a-z_0-9.]*\.$/) && substr(before, 1, RSTART - 1) !~ /[)?\].]$/ ? "." substr(before, RSTART, RLENGTH - 1) : ".", word)
             } else if (before ~ /::$/) {
                 type = before
                 sub(/::$/, "", type)
@@ -329,6 +337,139 @@ function call_of_type(i, type, name,    list, n, k, text, first, hit) {
     if (!hit) call_method(crate_of[i], name)
 }
 
+# A method of the receiver's type, if that is known.
+function call_of_receiver(i, path, name,    type, list, n, k) {
+    type = path == "" ? "" : type_of(i, path, 0)
+    if (type == "" || is_trait[type] || type ~ /^[A-Z]$/) { call_method(crate_of[i], name); return }
+    if (!(type in is_type)) return
+    n = split(functions_of[type], list, " ")
+    for (k = 1; k <= n; k++) if (name_of[list[k]] == name) { call_of_type(i, type, name); return }
+    # A default of a trait, or a method of what holds the value.
+    n = split(methods_named[name], list, " ")
+    for (k = 1; k <= n; k++) if (owner_of[list[k]] == "") reach(list[k])
+}
+
+# --- Types ---
+
+# The type within references, results and the like; "" where it isn't one name.
+function core_type(i, text,    more) {
+    for (;;) {
+        sub(/^ +/, "", text)
+        if (sub(/^&('[a-z_]+ )?(mut )?/, "", text)) continue
+        if (sub(/^(Result|Option|Box|Arc)</, "", text)) continue
+        if (sub(/^dyn /, "", text)) continue
+        break
+    }
+    if (text !~ /^[A-Z]/) return text ~ /^(u8|u16|u32|u64|usize|i64|bool|\[)/ ? "[]" : ""
+    sub(/[^A-Za-z0-9_].*/, "", text)
+    if (text == "Self") return owner_of[i]
+    more = aliased(i, text)
+    if (more != "") return core_type(i, more)
+    return text
+}
+
+# The type that a function's header says of a parameter.
+function parameter_type(i, name,    text, c, k, depth) {
+    text = header_of[i]
+    if (!match(text, "[( ]" name ": ")) return ""
+    text = substr(text, RSTART + RLENGTH)
+    depth = 0
+    for (k = 1; k <= length(text); k++) {
+        c = substr(text, k, 1)
+        if (c ~ /[<(\[]/) depth++
+        if (c ~ /[>)\]]/ && --depth < 0) break
+        if (c == "," && depth == 0) break
+    }
+    return core_type(i, substr(text, 1, k - 1))
+}
+
+function result_type(i,    text) {
+    text = header_of[i]
+    if (!sub(/^.*\) -> /, "", text)) return "[]"
+    return core_type(i, text)
+}
+
+# What the functions of this name answer, of a type or, where it is "", of none.
+function answer_type(i, type, name,    list, n, k, found, one) {
+    n = split(type == "" ? free_named[name] : functions_of[type], list, " ")
+    found = ""
+    for (k = 1; k <= n; k++) {
+        if (name_of[list[k]] != name || (type == "" && file_of[list[k]] != file_of[i] && !((file_of[i], name) in import_crate))) continue
+        one = result_type(list[k])
+        if (found != "" && one != found) return ""
+        found = one
+    }
+    return found
+}
+
+# The type of an expression, by its first call and the methods behind it.
+function expression_type(i, text, depth,    type, name, path) {
+    gsub(/[\n ]+/, " ", text)
+    while (sub(/^ *(&(mut )?|\*)/, "", text)) {}
+    sub(/^ +/, "", text)
+    while (gsub(/::<[A-Za-z_0-9:, &'+]*>/, "", text)) {}
+    if (match(text, /^[A-Z][A-Za-z_0-9]*::[a-z_0-9]+\(/)) {
+        type = name = substr(text, 1, RLENGTH - 1)
+        sub(/::.*/, "", type)
+        sub(/^.*::/, "", name)
+        type = answer_type(i, core_type(i, type), name)
+    } else if (match(text, /^[A-Z][A-Za-z_0-9]* \{/)) {
+        return core_type(i, text)
+    } else if (match(text, /^[a-z_][a-z_0-9.]*\.[a-z_0-9]+\(/)) {
+        path = name = substr(text, 1, RLENGTH - 1)
+        sub(/\.[a-z_0-9]+$/, "", path)
+        sub(/^.*\./, "", name)
+        type = type_of(i, path, depth + 1)
+        if (type != "") type = answer_type(i, type, name)
+    } else if (match(text, /^[a-z_][a-z_0-9]*\(/)) {
+        type = answer_type(i, "", substr(text, 1, RLENGTH - 1))
+    } else return ""
+    text = after_call(substr(text, RLENGTH))
+    gsub(/^(\?|\.(ok|flatten)\(\))+/, "", text)
+    return text ~ /^ ?(;|else|$)/ ? type : ""
+}
+
+# What stands behind a balanced (..).
+function after_call(text,    depth, k, c) {
+    for (k = 1; k <= length(text); k++) {
+        c = substr(text, k, 1)
+        if (c ~ /[(\[{]/) depth++
+        if (c ~ /[)\]}]/ && --depth == 0) return substr(text, k + 1)
+    }
+    return ""
+}
+
+# The type of a parameter, a variable, or a field of one.
+function type_of(i, path, depth,    name, rest, type, text, lets) {
+    if (depth > 4) return ""
+    name = path
+    rest = ""
+    if (match(path, /\./)) {
+        name = substr(path, 1, RSTART - 1)
+        rest = substr(path, RSTART + 1)
+    }
+    if (name == "self") type = trait_of[i] != "" && owner_of[i] == "" ? "" : owner_of[i]
+    else {
+        text = body_of[i]
+        lets = "let ((Some|Ok)\\()?(mut )?" name "\\)?(: [^=]*)? ="
+        if (match(text, lets)) {
+            text = substr(text, RSTART + RLENGTH)
+            # Two of one name may differ.
+            if (text ~ lets) return ""
+            sub(/;.*/, ";", text)
+            type = expression_type(i, text, depth)
+        } else if (body_of[i] ~ ("[|(, ]" name "[|),]") && body_of[i] ~ ("(Some|Ok|Err|for|\\|)[( ]?(mut )?" name "[), |]") && parameter_type(i, name) == "") return ""
+        else type = parameter_type(i, name)
+    }
+    while (rest != "" && type != "") {
+        name = rest
+        sub(/\..*/, "", name)
+        if (!sub(/^[^.]*\./, "", rest)) rest = ""
+        type = (type, name) in field ? core_type(i, field[type, name]) : ""
+    }
+    return type
+}
+
 # A function of the file, of the module before its name, or one that the file imports.
 function call_function(i, type, name,    list, n, k, f, at, from, best) {
     n = split(free_named[name], list, " ")
@@ -362,7 +503,7 @@ function step(i,    list, n, k, part) {
         match(list[k], /:[^:]*$/)
         part = substr(list[k], 1, RSTART - 1)
         name = substr(list[k], RSTART + 1)
-        if (part == ".") call_method(crate_of[i], name)
+        if (part ~ /^\./) call_of_receiver(i, substr(part, 2), name)
         else if (part == "" || part ~ /^[a-z_]/) call_function(i, part, name)
         else call_of_type(i, part, name)
     }
@@ -386,13 +527,15 @@ function is_public(i,    type) {
     return (crate_of[i], type) in passed_on || is_open(crate_of[i], type_module[crate_of[i], type])
 }
 
-# Whether it does nothing: a law, a vector, or a list of types that cross threads.
+# Whether it does nothing, as a law, a vector, or a list of types that cross threads. Such a function
+# may call others of its kind.
 function is_empty(i,    text) {
     text = body_of[i]
-    gsub(/crosses::<[^;]*;/, "", text)
+    gsub(/(crosses|goes)::<[^;]*;/, "", text)
     gsub(/let _[a-z_]* = [a-z_0-9.]+;/, "", text)
+    gsub(/[a-z_0-9:]+\(\);?/, "", text)
     gsub(/[ \n]/, "", text)
-    return text == "" || text == "()"
+    return text == ""
 }
 
 END {

@@ -1,7 +1,8 @@
 // The probes of a hash, bits that are set, and Bloom filters of keys and of prefixes.
 use bytes::Bytes;
 use slate_filter::{
-    BloomFilter, BloomFilterBuilder, FixedExtractor, optimal_num_probes, probes_for_key, set_bit,
+    BloomFilter, BloomFilterBuilder, BloomFilterPolicy, FilterPolicy, FixedExtractor,
+    optimal_num_probes, probes_for_key, set_bit,
 };
 use slate_types::{FilterQuery, SlateDBError};
 use std::alloc::Global;
@@ -152,4 +153,20 @@ fn are_counts() -> bool {
 #[test]
 fn filters_are_estimated(rt: HostRuntime) {
     assert!(rt; are_sizes() && are_counts());
+}
+
+type Policy = BloomFilterPolicy<FixedExtractor>;
+
+fn is_estimated(alloc: Global) -> bool {
+    let Some(policy) = Policy::new(alloc, 10).ok() else {
+        return false;
+    };
+    let is_estimated = policy.bits_per_key() == 10 && policy.estimate_size(100) == 127;
+    drop(policy);
+    is_estimated
+}
+
+#[test]
+fn a_policy_estimates_its_filters(rt: HostRuntime) {
+    assert!(rt; is_estimated(rt.alloc()));
 }

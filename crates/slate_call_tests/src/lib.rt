@@ -11,6 +11,8 @@ mod iterators;
 #[cfg(test)]
 mod keys;
 #[cfg(test)]
-mod snapshots;
+mod managers;
+#[cfg(test)]
+mod stores;
 #[cfg(test)]
 mod tables;

@@ -146,20 +146,25 @@ pub fn four_rows(alloc: Global) -> Option<Stored> {
     stored(alloc, of_four_rows(alloc), &[])
 }
 
+fn is_out_of_blocks(rows: Result<Vec<RowEntry>, SlateDBError>) -> bool {
+    matches!(
+        rows,
+        Err(SlateDBError::BlockOutOfRange {
+            block: 1,
+            blocks: 1
+        })
+    )
+}
+
 // Checks that the block behind the only one is refused by its number and the number of blocks.
 fn is_out_of_range(alloc: Global) -> Option<bool> {
     let (store, handle) = stored(alloc, of_one_row(alloc), &[])?;
     let mut reader = SstReader::new(alloc, ROOT, store, None::<NoTransformer>).ok()?;
     let file = reader.open_with_handle(handle);
     let rows = file.read_block(alloc, &mut reader, 1);
+    let is_same = file.id().0 == ID.0;
     drop((file, reader));
-    Some(matches!(
-        rows,
-        Err(SlateDBError::BlockOutOfRange {
-            block: 1,
-            blocks: 1
-        })
-    ))
+    Some(is_same && is_out_of_blocks(rows))
 }
 
 #[test]

@@ -1,5 +1,5 @@
-// The least sequence that an open snapshot shows.
-use slate_txn::SnapshotManager;
+// The least sequence that an open snapshot shows, and at which an open transaction began.
+use slate_txn::{SnapshotManager, TransactionManager};
 use slate_types::SlateDBError;
 use std::alloc::Global;
 
@@ -34,4 +34,19 @@ fn are_least(alloc: Global) -> bool {
 #[test]
 fn snapshots_have_a_least_sequence(rt: HostRuntime) {
     assert!(rt; are_least(rt.alloc()));
+}
+
+// Checks that a transaction begins at the sequence of its manager, which is the least then.
+fn begins_at_seven(alloc: Global) -> bool {
+    let mut transactions = TransactionManager::new(alloc, 7);
+    let of_none = transactions.min_active_seq();
+    let is_begun = transactions.new_transaction().is_ok();
+    let of_one = transactions.min_active_seq();
+    drop(transactions);
+    of_none.is_none() && is_begun && of_one == Some(7)
+}
+
+#[test]
+fn transactions_have_a_least_sequence(rt: HostRuntime) {
+    assert!(rt; begins_at_seven(rt.alloc()));
 }
