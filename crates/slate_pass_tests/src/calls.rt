@@ -3,6 +3,7 @@ ghost use Rattle.std.specs.Prelude.{◌≡◌, None, IfSome};
 ghost use Rattle.slate_shared.specs.Shared.{all_parts};
 ghost use Rattle.slate_shared.specs.Given.{ArePlain};
 
+use crate::parts::Full;
 use slate_db::laws::Laws;
 use slate_shared::{Database, Pass, Plain};
 use slate_store::{Env, Store};
@@ -10,7 +11,7 @@ use slate_types::{KeyValue, NoExtractor, NoOperator, NoTransformer, SlateDBError
 use std::alloc::Global;
 
 /// A pass that comes back from a thread, and what the thread answers.
-pub type Ended<P, V> = (Pass<P>, V);
+pub type Ended<V> = (Pass<Full>, V);
 
 /// A row that is expected: its key, its value and its sequence.
 pub type Row<'a> = (&'a [u8], &'a [u8], u64);

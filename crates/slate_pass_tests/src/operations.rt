@@ -1,10 +1,9 @@
 // Operations, marks and scans of a transaction, and its commit at the moment of its options.
-ghost use Rattle.std.specs.Prelude.{◌≡◌, map, IfSome};
-ghost use Rattle.slate_types.specs.Config.{defaults};
+ghost use Rattle.std.specs.Prelude.{◌≡◌, ◌<◌, count_by, map, IfSome};
+ghost use Rattle.slate_txn.specs.Step.{is_scan};
 ghost use Rattle.slate_db.specs.Meaning.{segments_by};
+ghost use Rattle.slate_db.specs.Scans.{id_of, number_of};
 ghost use Rattle.slate_shared.specs.Given.{AreGiven};
-ghost use Rattle.slate_pass_tests.specs.Parts.{colon_filters, colon_segments};
-ghost use Rattle.slate_pass_tests.specs.Scanning.{IsScanIn};
 
 use crate::calls::{Row, is_row};
 use crate::parts::{Full, laws, opened, outer};
@@ -13,7 +12,7 @@ use slate_db::laws::Laws;
 use slate_db::scan::TxnIterator;
 use slate_filter::{ColonExtractor, FilterPolicy};
 use slate_mem::WriteBatch;
-use slate_shared::{Database, DbTransaction, Pass, WriteHandle};
+use slate_shared::{Database, DbTransaction, Parts, Pass, WriteHandle};
 use slate_store::MemoryStore;
 use slate_types::{IsolationLevel, MergeOptions, PrefixExtractor, SlateDBError, WriteOptions};
 use std::alloc::Global;
@@ -47,12 +46,14 @@ fn scan<'a, R: Wait>(
     laws: &'a Laws<ColonExtractor>,
 ) -> Option<TxnIterator<'a>>
     requires table { txn.old.table ≡ db.now }
-    requires laws { AreGiven defaults colon_segments colon_filters laws.now.options
+    requires laws { AreGiven ⟦<Full as Parts>⟧.options ⟦<Full as Parts>⟧.segments
+        ⟦<Full as Parts>⟧.policies laws.now.options
         (segments_by ⟦<ColonExtractor as PrefixExtractor>⟧.lengths laws.now.segments)
         (map (λ p. (⟦<dyn FilterPolicy as FilterPolicy>⟧ p.vtable).meaning p.value)
         laws.now.policies.items) }
     ensures same { txn.new.table ≡ txn.old.table }
-    ensures within { IfSome result (IsScanIn txn.new) }
+    ensures within { IfSome result (λ it.
+        (id_of it ≡ txn.new.id) × (number_of it < count_by is_scan txn.new.tx.transcript)) }
 {
     let mut env = outer(store);
     txn.scan(rt, db, &(..), &mut env, laws).ok()
@@ -65,7 +66,8 @@ fn is_next(
     store: &mut MemoryStore,
     row: Row<'_>,
 ) -> bool
-    requires { IsScanIn txn.old it.old }
+    requires id { id_of it.old ≡ txn.old.id }
+    requires number { number_of it.old < count_by is_scan txn.old.tx.transcript }
     ensures { txn.new.table ≡ txn.old.table }
 {
     let mut env = outer(store);
@@ -75,19 +77,18 @@ fn is_next(
 // Checks that a scan finds the row first.
 fn scans<R: Wait>(
     rt: &R,
+    alloc: Global,
     db: &Database<Full>,
     txn: &mut DbTransaction<Full>,
     store: &mut MemoryStore,
-    laws: &Laws<ColonExtractor>,
 ) -> bool
     requires table { txn.old.table ≡ db.now }
-    requires laws { AreGiven defaults colon_segments colon_filters laws.now.options
-        (segments_by ⟦<ColonExtractor as PrefixExtractor>⟧.lengths laws.now.segments)
-        (map (λ p. (⟦<dyn FilterPolicy as FilterPolicy>⟧ p.vtable).meaning p.value)
-        laws.now.policies.items) }
     ensures same { txn.new.table ≡ txn.old.table }
 {
-    let Some(mut it) = scan(rt, db, txn, store, laws) else {
+    let Some(laws) = laws(alloc) else {
+        return false;
+    };
+    let Some(mut it) = scan(rt, db, txn, store, &laws) else {
         return false;
     };
     let is_found = is_next(txn, &mut it, store, OWN);
@@ -98,42 +99,41 @@ fn scans<R: Wait>(
 // Commits at the moment 7.
 fn commit<R: Wait>(
     rt: &R,
+    alloc: Global,
     db: &Database<Full>,
     pass: &mut Pass<Full>,
     txn: DbTransaction<Full>,
     store: &mut MemoryStore,
-    laws: &Laws<ColonExtractor>,
 ) -> Result<Option<WriteHandle<Full>>, SlateDBError>
     requires table { (pass.old.table ≡ db.now) × (txn.table ≡ db.now) }
-    requires laws { AreGiven defaults colon_segments colon_filters laws.now.options
-        (segments_by ⟦<ColonExtractor as PrefixExtractor>⟧.lengths laws.now.segments)
-        (map (λ p. (⟦<dyn FilterPolicy as FilterPolicy>⟧ p.vtable).meaning p.value)
-        laws.now.policies.items) }
-    ensures same { (pass.new.table ≡ pass.old.table) × (pass.new.parts ≡ pass.old.parts) }
+    ensures same { pass.new.table ≡ pass.old.table }
 {
+    let Some(laws) = laws(alloc) else {
+        txn.rollback(rt, db, pass);
+        return Err(SlateDBError::OutOfMemory);
+    };
     let mut env = outer(store);
-    txn.commit_with_options(rt, db, pass, &WriteOptions { now: 7 }, &mut env, laws)
+    txn.commit_with_options(rt, db, pass, &WriteOptions { now: 7 }, &mut env, &laws)
 }
 
 // Checks that a transaction that begins now gets the row.
 fn sees<R: Wait>(
     rt: &R,
+    alloc: Global,
     db: &Database<Full>,
     pass: &mut Pass<Full>,
     store: &mut MemoryStore,
-    laws: &Laws<ColonExtractor>,
 ) -> bool
     requires table { pass.old.table ≡ db.now }
-    requires laws { AreGiven defaults colon_segments colon_filters laws.now.options
-        (segments_by ⟦<ColonExtractor as PrefixExtractor>⟧.lengths laws.now.segments)
-        (map (λ p. (⟦<dyn FilterPolicy as FilterPolicy>⟧ p.vtable).meaning p.value)
-        laws.now.policies.items) }
 {
+    let Some(laws) = laws(alloc) else {
+        return false;
+    };
     let Some(mut txn) = pass.begin(rt, db, IsolationLevel::Snapshot).ok() else {
         return false;
     };
     let mut env = outer(store);
-    let is_found = is_row(txn.get_key_value(rt, db, b"k:", &mut env, laws), COMMITTED);
+    let is_found = is_row(txn.get_key_value(rt, db, b"k:", &mut env, &laws), COMMITTED);
     txn.rollback(rt, db, pass);
     is_found
 }
@@ -145,37 +145,18 @@ fn is_first(ended: Result<Option<WriteHandle<Full>>, SlateDBError>) -> bool {
     }
 }
 
-fn is_scanned_and_committed<R: Wait>(
-    rt: &R,
-    db: &Database<Full>,
-    pass: &mut Pass<Full>,
-    store: &mut MemoryStore,
-    laws: &Laws<ColonExtractor>,
-) -> bool
-    requires table { pass.old.table ≡ db.now }
-    requires laws { AreGiven defaults colon_segments colon_filters laws.now.options
-        (segments_by ⟦<ColonExtractor as PrefixExtractor>⟧.lengths laws.now.segments)
-        (map (λ p. (⟦<dyn FilterPolicy as FilterPolicy>⟧ p.vtable).meaning p.value)
-        laws.now.policies.items) }
-{
-    let Some(mut txn) = pass.begin(rt, db, IsolationLevel::Snapshot).ok() else {
-        return false;
-    };
-    let has_operated = operates(&mut txn, store);
-    let is_scanned = scans(rt, db, &mut txn, store, laws);
-    let ended = commit(rt, db, pass, txn, store, laws);
-    has_operated && is_scanned && is_first(ended) && sees(rt, db, pass, store, laws)
-}
-
 fn operands_are_committed<R: Wait>(rt: &R, alloc: Global) -> bool {
-    let Some(laws) = laws(alloc) else {
+    let Some((db, mut pass)) = opened(alloc) else {
         return false;
     };
-    let Some((db, mut pass)) = opened(alloc, &laws) else {
+    let Some(mut txn) = pass.begin(rt, &db, IsolationLevel::Snapshot).ok() else {
         return false;
     };
     let mut store = MemoryStore::new(alloc, Vec::new(alloc));
-    is_scanned_and_committed(rt, &db, &mut pass, &mut store, &laws)
+    let has_operated = operates(&mut txn, &mut store);
+    let is_scanned = scans(rt, alloc, &db, &mut txn, &mut store);
+    let ended = commit(rt, alloc, &db, &mut pass, txn, &mut store);
+    has_operated && is_scanned && is_first(ended) && sees(rt, alloc, &db, &mut pass, &mut store)
 }
 
 #[test]
@@ -184,25 +165,23 @@ fn operands_of_a_transaction_are_scanned_and_committed(rt: HostRuntime) {
 }
 
 // Writes a value at the key a:.
-fn write<R: Wait>(
+fn writes<R: Wait>(
     rt: &R,
     alloc: Global,
     db: &Database<Full>,
     pass: &mut Pass<Full>,
     store: &mut MemoryStore,
-    laws: &Laws<ColonExtractor>,
 ) -> bool
     requires table { pass.old.table ≡ db.now }
-    requires laws { AreGiven defaults colon_segments colon_filters laws.now.options
-        (segments_by ⟦<ColonExtractor as PrefixExtractor>⟧.lengths laws.now.segments)
-        (map (λ p. (⟦<dyn FilterPolicy as FilterPolicy>⟧ p.vtable).meaning p.value)
-        laws.now.policies.items) }
-    ensures same { (pass.new.table ≡ pass.old.table) × (pass.new.parts ≡ pass.old.parts) }
+    ensures same { pass.new.table ≡ pass.old.table }
 {
+    let Some(laws) = laws(alloc) else {
+        return false;
+    };
     let mut batch = WriteBatch::new(alloc);
     let is_put = batch.put(b"a:", b"1").is_ok();
     let mut env = outer(store);
-    let written = pass.write(rt, db, batch, 0, &mut env, laws);
+    let written = pass.write(rt, db, batch, 0, &mut env, &laws);
     is_put && is_first(written)
 }
 
@@ -212,19 +191,16 @@ fn is_conflict(ended: Result<Option<WriteHandle<Full>>, SlateDBError>) -> bool {
 
 // Checks that a transaction which marks a key conflicts with a write there.
 fn mark_conflicts<R: Wait>(rt: &R, alloc: Global) -> bool {
-    let Some(laws) = laws(alloc) else {
+    let Some((db, mut pass)) = opened(alloc) else {
         return false;
     };
-    let Some((db, mut pass)) = opened(alloc, &laws) else {
-        return false;
-    };
-    let mut store = MemoryStore::new(alloc, Vec::new(alloc));
     let Some(mut txn) = pass.begin(rt, &db, IsolationLevel::Snapshot).ok() else {
         return false;
     };
+    let mut store = MemoryStore::new(alloc, Vec::new(alloc));
     let is_marked = txn.mark_read(&[Bytes::from_static(b"a:")]).is_ok();
-    let is_written = write(rt, alloc, &db, &mut pass, &mut store, &laws);
-    let ended = commit(rt, &db, &mut pass, txn, &mut store, &laws);
+    let is_written = writes(rt, alloc, &db, &mut pass, &mut store);
+    let ended = commit(rt, alloc, &db, &mut pass, txn, &mut store);
     is_marked && is_written && is_conflict(ended)
 }
 

@@ -1,10 +1,8 @@
 // A database with an operator, a transformer, segments and filters.
 ghost use Rattle.std.specs.Prelude.{◌≡◌, Some, map, IfOk, IfSome};
-ghost use Rattle.slate_types.specs.Config.{defaults};
 ghost use Rattle.slate_db.specs.Meaning.{segments_by};
 ghost use Rattle.slate_shared.specs.Given.{AreGiven};
 ghost use Rattle.slate_shared.specs.Shared.{all_parts};
-ghost use Rattle.slate_pass_tests.specs.Parts.{colon_filter, colon_filters, colon_segments, full_parts};
 
 use slate_db::laws::Laws;
 use slate_filter::{BloomFilterPolicy, ColonExtractor, FilterPolicy};
@@ -14,18 +12,31 @@ use slate_store::{Env, Store};
 use slate_types::{Options, PrefixExtractor, SlateDBError};
 use std::alloc::Global;
 
-/// The default options, and each part.
+/// The default options, an operator that appends, a transformer that turns each bit, segments that
+/// end with a key's first colon, and filters of whole keys and of what ends with their first colon.
 #[derive(Drop)]
 pub struct Full;
 
 impl Parts for Full {
+    ghost use Rattle.std.specs.Prelude.{true, [], ◌∷◌, Some, codes};
+    ghost use Rattle.slate_types.specs.Config.{defaults};
+    ghost use Rattle.slate_filter.specs.BloomPolicies.{bloom_name, bloom_policy};
+    ghost use Rattle.slate_filter.specs.Extractors.{colon};
+    ghost use Rattle.slate_mem.specs.KeyTests.{point_lengths};
+    ghost use Rattle.slate_language.specs.Parts.{concat, xored};
+
     ghost options = { defaults };
 
-    ghost meaning = { full_parts };
+    ghost meaning = { record {
+      combine = Some (λ key existing value. concat key existing value);
+      encode = xored 255;
+      decode = xored 255;
+    } };
 
-    ghost segments = { colon_segments };
+    ghost segments = { point_lengths (Some colon) };
 
-    ghost policies = { colon_filters };
+    ghost policies = { bloom_policy (bloom_name (Some (codes "colon")) true)
+        (record { bits_per_key = 10; whole = true; lengths = Some colon }) ∷ [] };
 }
 
 /// What a call reaches outside.
@@ -43,38 +54,37 @@ pub fn outer<S: Store>(store: &mut S) -> Outer<'_, S>
     }
 }
 
-// Returns the policy of filters of whole keys and of what ends with their first colon.
-fn policy(alloc: Global) -> Result<BloomFilterPolicy<ColonExtractor>, SlateDBError>
-    ensures { IfOk result (λ made. ⟦<BloomFilterPolicy<ColonExtractor> as FilterPolicy>⟧.meaning made ≡ colon_filter) }
+fn policies(alloc: Global) -> Result<Vec<Box<dyn FilterPolicy>>, SlateDBError>
+    ensures { IfOk result (λ policies.
+        map (λ p. (⟦<dyn FilterPolicy as FilterPolicy>⟧ p.vtable).meaning p.value) policies.items
+        ≡ ⟦<Full as Parts>⟧.policies) }
 {
-    BloomFilterPolicy::new(alloc, 10)?.with_prefix_extractor(alloc, ColonExtractor::new())
+    let policy = BloomFilterPolicy::new(alloc, 10)?;
+    let policy = policy.with_prefix_extractor(alloc, ColonExtractor::new())?;
+    let policy: Box<dyn FilterPolicy> = Box::new(alloc, policy)?;
+    let mut policies = Vec::new(alloc);
+    policies.push(policy)?;
+    Ok(policies)
 }
 
-/// Returns the laws of the calls on such a database, or none if memory is wanting.
+/// Returns the laws of each call on such a database, or none if memory is wanting.
 pub fn laws(alloc: Global) -> Option<Laws<ColonExtractor>>
     ensures { IfSome result (λ laws.
-        AreGiven defaults colon_segments colon_filters laws.options
-        (segments_by ⟦<ColonExtractor as PrefixExtractor>⟧.lengths laws.segments)
-        (map (λ p. (⟦<dyn FilterPolicy as FilterPolicy>⟧ p.vtable).meaning p.value) laws.policies.items)) }
+        AreGiven ⟦<Full as Parts>⟧.options ⟦<Full as Parts>⟧.segments ⟦<Full as Parts>⟧.policies
+        laws.options (segments_by ⟦<ColonExtractor as PrefixExtractor>⟧.lengths laws.segments)
+        (map (λ p. (⟦<dyn FilterPolicy as FilterPolicy>⟧ p.vtable).meaning p.value)
+        laws.policies.items)) }
 {
-    let policy = policy(alloc).ok()?;
-    let boxed: Box<dyn FilterPolicy> = Box::new(alloc, policy).ok()?;
-    let mut policies = Vec::new(alloc);
-    policies.push(boxed).ok()?;
     Some(Laws {
         options: Options::new(),
         segments: Some(ColonExtractor::new()),
-        policies,
+        policies: policies(alloc).ok()?,
     })
 }
 
 /// Opens a database with all parts.
-pub fn opened(alloc: Global, laws: &Laws<ColonExtractor>) -> Option<(Database<Full>, Pass<Full>)>
-    requires laws { AreGiven defaults colon_segments colon_filters laws.now.options
-        (segments_by ⟦<ColonExtractor as PrefixExtractor>⟧.lengths laws.now.segments)
-        (map (λ p. (⟦<dyn FilterPolicy as FilterPolicy>⟧ p.vtable).meaning p.value)
-        laws.now.policies.items) }
+pub fn opened(alloc: Global) -> Option<(Database<Full>, Pass<Full>)>
     ensures { IfSome result (λ r. (r.1.table ≡ r.0) × (r.1.parts ≡ all_parts)) }
 {
-    Database::new(alloc, &laws.options).ok()
+    Database::new(alloc, &Options::new()).ok()
 }

@@ -5,4 +5,6 @@ pub next-requires : goal.next-requires
 next-requires c = (c.requires.id, c.requires.number)
 
 pub returns : goal.returns
-returns c = same_next c.args.txn.now c.next.new.self c.args.it.now c.next.result c.next.ensures.noted c.next.ensures.same
+returns c =
+    let e = c.next.ensures in
+    same_next c.args.txn.now c.next.new.self c.args.it.now c.next.result e.noted e.same
