@@ -1,4 +1,6 @@
 // The probes of a hash, bits that are set, and Bloom filters of keys and of prefixes.
+ghost use Rattle.std.specs.Prelude.{◌<◌};
+
 use bytes::Bytes;
 use slate_filter::{
     BloomFilter, BloomFilterBuilder, BloomFilterPolicy, FilterPolicy, FixedExtractor,
