@@ -95,7 +95,7 @@ function call_function(i, name,    list, n, k, f, at, from, here) {
         if (here) {
             if (file_of[f] == file_of[i]) reach(f)
         } else if (at == crate_of[f]) {
-            # Where its module doesn't have it, that passes it on.
+            # If its module has no such function, that module passes it on.
             if (from == "" || from == module_of[f] || !((at, from, name) in free_at)) reach(f)
         }
     }

@@ -63,10 +63,10 @@ const ROW: &[u8] = b"\x03\x03\x03abcxyz\x00\x00\x00\x00\x00\x00\x00\x01\x00";
 fn takes_the_key() -> bool {
     let mut input = Bytes::from_static(ROW);
     let front = SstRowCodecV2::decode_key_only(&mut input).ok();
-    let is_behind = input.as_slice() == b"xyz\x00\x00\x00\x00\x00\x00\x00\x01\x00".as_slice();
+    let is_left = input.as_slice() == b"xyz\x00\x00\x00\x00\x00\x00\x00\x01\x00".as_slice();
     drop(input);
     match front {
-        Some((shared, suffix)) => is_bytes(Some(suffix), b"abc") && shared == 3 && is_behind,
+        Some((shared, suffix)) => is_bytes(Some(suffix), b"abc") && shared == 3 && is_left,
         None => false,
     }
 }

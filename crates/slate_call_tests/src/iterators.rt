@@ -97,7 +97,7 @@ fn needs_operator(answer: Result<Option<RowEntry>, SlateDBError>) -> bool {
     matches!(answer, Err(SlateDBError::MergeOperatorMissing))
 }
 
-// Checks that a row that is no operand comes after a seek, and the operand behind it is refused.
+// Checks that a row that is no operand comes after a seek, and the operand after it is refused.
 fn refuses_operands(alloc: Global) -> bool {
     let rows = Required::new(source(alloc, &[A_1, B_2, OPERAND]));
     let Some(mut rows) = rows.ok() else {

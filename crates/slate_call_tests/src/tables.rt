@@ -156,7 +156,7 @@ fn is_out_of_blocks(rows: Result<Vec<RowEntry>, SlateDBError>) -> bool {
     )
 }
 
-// Checks that the block behind the only one is refused by its number and the number of blocks.
+// Checks that the block past the only one is refused by its number and the number of blocks.
 fn is_out_of_range(alloc: Global) -> Option<bool> {
     let (store, handle) = stored(alloc, of_one_row(alloc), &[])?;
     let mut reader = SstReader::new(alloc, ROOT, store, None::<NoTransformer>).ok()?;
@@ -168,7 +168,7 @@ fn is_out_of_range(alloc: Global) -> Option<bool> {
 }
 
 #[test]
-fn a_block_behind_the_last_is_refused(rt: HostRuntime) {
+fn a_block_past_the_last_is_refused(rt: HostRuntime) {
     assert!(rt; is_out_of_range(rt.alloc()) == Some(true));
 }
 
