@@ -18,8 +18,8 @@ The words are one of
 
   -              the store is in memory, as without a word
   FOLDER         the store is in this folder, which is one run's while it lives;
-                 a name that begins with -, has = before its first slash or is
-                 help is written with ./ before it
+                 a name that begins with -, has = before its first slash, or
+                 is help, shell or tell is written with ./ before it
   --help, -h     this page
   --version      the version
 

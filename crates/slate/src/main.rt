@@ -1,7 +1,7 @@
 //! Runs a script from standard input, with its replies to standard output.
 #![tactic(auto)]
 
-ghost use Rattle.std.specs.Prelude.{◌≡◌, [], ◌∷◌, ◌||◌, List, None, is_some, map, IfOk, IsOkUnless};
+ghost use Rattle.std.specs.Prelude.{◌≡◌, [], ◌∷◌, ◌||◌, List, None, String, is_some, map, IfOk, IsOkUnless};
 ghost use Rattle.std.specs.String.{string_bytes};
 ghost use Rattle.slate_store.specs.Store.{IsEmpty};
 ghost use Rattle.slate_filter.specs.Laws.{AreValidNames};
@@ -11,9 +11,7 @@ ghost use Rattle.slate_script.specs.Program.{IsDamageStatus};
 ghost use Rattle.slate_script.specs.Told.{IsUntrue};
 ghost use Rattle.slate_table.specs.Filtered.{AreLawful};
 
-mod filters;
-
-use slate_command::{FirstWord, hold, print, words};
+use slate_command::{FirstWord, filters, hold, print, words};
 use slate_filter::FilterPolicy;
 use slate_language::{parse_generated, parse_words};
 use slate_script::run_main;
@@ -29,8 +27,8 @@ Usage: slate - [WORDS] < SCRIPT
        slate FOLDER gen N S [WORDS]
 
 A store begins empty, so the folder must have no tables yet, and it is one run's
-while that lives. A name that begins with -, has = before its first slash or is
-help is written with ./ before it.
+while that lives. A name that begins with -, has = before its first slash, or is
+help, shell or tell is written with ./ before it.
 
 With gen the script is made: N rounds of a read and a write, at most 100000, of
 keys drawn from the number S. Its replies are counted, and one line is written.

@@ -1,7 +1,8 @@
-//! The command line of a program: its first word, and the folder that this names.
+//! What programs share: their first word, the folder that it names, and the filters that they come with.
 #![tactic(auto)]
 
 pub mod arguments;
+pub mod filters;
 pub mod first_word;
 pub mod folder;
 pub mod line_program;

@@ -1,5 +1,5 @@
 //! Programs that answer lines, and take no words but the first.
-ghost use Rattle.std.specs.Prelude.{◌≡◌, ◌∷◌, List, None};
+ghost use Rattle.std.specs.Prelude.{◌≡◌, ◌∷◌, List, None, String};
 ghost use Rattle.std.specs.String.{string_bytes};
 ghost use Rattle.slate_command.specs.FirstWord.{first_word};
 
