@@ -108,18 +108,20 @@ stamp() {
 
 # is_unchanged: the program that stands there fitted its source, and no file of these was changed since. One process is started.
 is_unchanged() {
-    local paths newer
+    local paths below newer
     [[ -x $program && -r $seen_file ]] || return 1
     mapfile -t paths <"$seen_file"
-    newer=$(cd "$top" && find -H "${paths[@]}" \( -name out -o -name edits \) -prune -o -cnewer "$seen_file" -print -quit 2>&1)
+    below=("${paths[@]:1}")
+    newer=$(find -H "${paths[0]}" "${below[@]/#/$top/}" \( -name out -o -name edits \) -prune -o -cnewer "$seen_file" -print -quit 2>&1)
     [[ -z $newer ]]
 }
 
-# begin_comparison: what is changed from here on is newer than `seen_file` will be.
+# begin_comparison: what is changed from here on is newer than `seen_file` will be. Its first line is the path of rt, and the others go from
+# the repository's folder.
 begin_comparison() {
     mkdir -p "$out" && {
-        printf '%s\n' crates.txt HANDLES "$program"
         type -P rt
+        printf '%s\n' crates.txt HANDLES "${program#"$top/"}"
         crates_of_program | sed 's:^:crates/:'
     } >"$seen_file.$$"
 }

@@ -1,6 +1,7 @@
 # shellcheck shell=bash disable=SC2154
 # Functions of ./slate and the other programs: how their program is run where a person is told what its status means. Source this file behind
-# program.sh, with `call` set. What is told is found out by looking again: the program itself says its status alone.
+# program.sh, with `call` set. What is told is found out by looking again: the program itself says its status, and with SLATE_TELL in its
+# environment the path of a table that couldn't be read or written, or is damaged.
 . "$top/.ci/lines.sh"
 
 # The words of a run behind the first one, an expression for each program that has some.
@@ -120,13 +121,13 @@ run_watched() {
     if [[ -p /dev/stdin && ${2-} != gen ]] && kept=$(mktemp); then
         trap 'rm -f "$kept"' EXIT
         exec 6< <(exec 5>&1 >"$kept" && exec tee /dev/fd/5)
-        "$program" "$@" <&6
+        SLATE_TELL=1 "$program" "$@" <&6
         status=$?
         kill "$!" 2>/dev/null
     else
         # A file is read anew, where the script was all of it.
         [[ ! -f /dev/stdin ]] || ! grep -qx 'pos:[[:space:]]*0' /proc/self/fdinfo/0 || kept=/dev/stdin
-        "$program" "$@"
+        SLATE_TELL=1 "$program" "$@"
         status=$?
     fi
     if text=$(meaning_of "$status" "$@"); then

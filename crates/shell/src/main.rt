@@ -1,12 +1,12 @@
 //! A shell over a store: answers lines as they are typed, and goes on after a wrong one.
 #![tactic(auto)]
 
-ghost use Rattle.std.specs.Prelude.{◌≡◌, [], ◌∷◌, List, None, String, map, IfOk, IsOkUnless};
+ghost use Rattle.std.specs.Prelude.{◌≡◌, ◌∷◌, None, map, IsOkUnless};
 ghost use Rattle.std.specs.String.{string_bytes};
 ghost use Rattle.slate_filter.specs.Laws.{AreValidNames};
 ghost use Rattle.slate_command.specs.FirstWord.{first_word};
 
-use slate_command::{FirstWord, filters, hold, print, words};
+use slate_command::{FirstWord, Watched, filters, hold, print, words};
 use slate_filter::FilterPolicy;
 use slate_language::parse_words;
 use slate_shell::{Pages, run_by_words};
@@ -97,7 +97,7 @@ fn main(rt: HostRuntime) -> ExitCode {
 
 /// Without a word the store is in memory. If the first word asks for nothing, nothing is read, written, printed or made.
 fn run(rt: &HostRuntime, words: &[String]) -> u8
-    ensures unknown { (w : String) (ws : List String) → words.now ≡ w ∷ ws →
+    ensures unknown { (w : _) (ws : _) → words.now ≡ w ∷ ws →
         first_word (string_bytes w) ≡ None → result ≡ 2 }
 {
     match words {
@@ -132,7 +132,12 @@ fn run_in_memory(rt: &HostRuntime, words: &[String]) -> u8 {
 
 fn run_over_folder(rt: &HostRuntime, folder: &str, words: &[String]) -> u8 {
     match FileStore::new(rt.alloc(), rt, folder) {
-        Ok(mut store) => run_with(rt, Some(folder), words, &mut store),
+        Ok(store) => {
+            let mut store = Watched::new(rt.alloc(), store);
+            let status = run_with(rt, Some(folder), words, &mut store);
+            store.tell(rt, status);
+            status
+        }
         Err(_) => 20,
     }
 }

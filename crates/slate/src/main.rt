@@ -1,7 +1,7 @@
 //! Runs a script from standard input, with its replies to standard output.
 #![tactic(auto)]
 
-ghost use Rattle.std.specs.Prelude.{◌≡◌, [], ◌∷◌, ◌||◌, List, None, String, is_some, map, IfOk, IsOkUnless};
+ghost use Rattle.std.specs.Prelude.{◌≡◌, [], ◌∷◌, ◌||◌, None, is_some, map, IfOk, IsOkUnless};
 ghost use Rattle.std.specs.String.{string_bytes};
 ghost use Rattle.slate_store.specs.Store.{IsEmpty};
 ghost use Rattle.slate_filter.specs.Laws.{AreValidNames};
@@ -11,7 +11,7 @@ ghost use Rattle.slate_script.specs.Program.{IsDamageStatus};
 ghost use Rattle.slate_script.specs.Told.{IsUntrue};
 ghost use Rattle.slate_table.specs.Filtered.{AreLawful};
 
-use slate_command::{FirstWord, filters, hold, print, words};
+use slate_command::{FirstWord, Watched, filters, hold, print, words};
 use slate_filter::FilterPolicy;
 use slate_language::{parse_generated, parse_words};
 use slate_script::run_main;
@@ -100,7 +100,7 @@ fn main(rt: HostRuntime) -> ExitCode {
 /// Without a word, and where the first one asks for nothing, nothing is read, written, printed or made.
 fn run(rt: &HostRuntime, words: &[String]) -> u8
     ensures none { words.now ≡ [] → result ≡ 2 }
-    ensures unknown { (w : String) (ws : List String) → words.now ≡ w ∷ ws → first_word (string_bytes w) ≡ None → result ≡ 2 }
+    ensures unknown { (w : _) (ws : _) → words.now ≡ w ∷ ws → first_word (string_bytes w) ≡ None → result ≡ 2 }
 {
     match words {
         [first, rest @ ..] => run_by(rt, FirstWord::read(first.as_bytes()), first.as_str(), rest),
@@ -127,7 +127,12 @@ fn run_by(rt: &HostRuntime, asks: Option<FirstWord>, first: &str, words: &[Strin
 /// Runs over a store in the folder.
 fn run_over_folder(rt: &HostRuntime, folder: &str, words: &[String]) -> u8 {
     match FileStore::new(rt.alloc(), rt, folder) {
-        Ok(mut store) => run_with(rt, Some(folder), words, &mut store),
+        Ok(store) => {
+            let mut store = Watched::new(rt.alloc(), store);
+            let status = run_with(rt, Some(folder), words, &mut store);
+            store.tell(rt, status);
+            status
+        }
         Err(_) => 20,
     }
 }

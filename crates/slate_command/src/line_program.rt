@@ -1,11 +1,12 @@
 //! Programs that answer lines, and take no words but the first.
-ghost use Rattle.std.specs.Prelude.{◌≡◌, ◌∷◌, List, None, String};
+ghost use Rattle.std.specs.Prelude.{◌≡◌, ◌∷◌, None};
 ghost use Rattle.std.specs.String.{string_bytes};
 ghost use Rattle.slate_command.specs.FirstWord.{first_word};
 
 use crate::arguments::print;
 use crate::first_word::FirstWord;
 use crate::folder::hold;
+use crate::watched::Watched;
 use slate_store::{FileStore, MemoryStore, Store};
 
 /// A program that answers lines of standard input, over a store that is empty at the start.
@@ -23,9 +24,9 @@ pub trait LineProgram {
 /// Does what the program's words ask for, and returns the status to end with. Without a word the store is in memory, as by `-`. Where the
 /// first word asks for nothing, or another one follows it, nothing is read, written, printed or made.
 pub fn run_words<P: LineProgram>(rt: &HostRuntime, program: &P, words: &[String]) -> u8
-    ensures unknown { (w : String) (ws : List String) → words.now ≡ w ∷ ws →
+    ensures unknown { (w : _) (ws : _) → words.now ≡ w ∷ ws →
         first_word (string_bytes w) ≡ None → result ≡ 2 }
-    ensures more { (v w : String) (ws : List String) → words.now ≡ v ∷ w ∷ ws → result ≡ 2 }
+    ensures more { (v w : _) (ws : _) → words.now ≡ v ∷ w ∷ ws → result ≡ 2 }
 {
     match words {
         [] => run_in_memory(rt, program),
@@ -70,7 +71,12 @@ fn run_over_folder<P: LineProgram>(rt: &HostRuntime, program: &P, folder: &str) 
 
 fn run_in<P: LineProgram>(rt: &HostRuntime, program: &P, folder: &str) -> u8 {
     match FileStore::new(rt.alloc(), rt, folder) {
-        Ok(mut store) => program.run(rt, &mut store),
+        Ok(store) => {
+            let mut store = Watched::new(rt.alloc(), store);
+            let status = program.run(rt, &mut store);
+            store.tell(rt, status);
+            status
+        }
         Err(_) => 20,
     }
 }

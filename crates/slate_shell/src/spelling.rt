@@ -47,7 +47,7 @@ fn push_line(alloc: Global, line: &mut Vec<u8>, typed: &[u8]) -> Result<(), Spel
         if *byte == b'"' && begins_text(line) {
             left = push_quoted(alloc, line, rest)?;
         } else {
-            line.push(*byte)?;
+            line.extend_from_slice(&[*byte])?;
         }
     }
     Ok(())
@@ -93,8 +93,7 @@ fn push_escaped<'a>(line: &mut Vec<u8>, escape: &'a [u8]) -> Result<&'a [u8], Sp
             Ok(rest)
         }
         [b'x', high, low, rest @ ..] if is_digit(*high) && is_digit(*low) => {
-            line.push(high.to_ascii_lowercase())?;
-            line.push(low.to_ascii_lowercase())?;
+            line.extend_from_slice(&[high.to_ascii_lowercase(), low.to_ascii_lowercase()])?;
             Ok(rest)
         }
         _ => Err(SpellingError::Escape),
@@ -106,8 +105,7 @@ fn is_digit(byte: u8) -> bool {
 }
 
 fn push_hex(line: &mut Vec<u8>, byte: u8) -> Result<(), AllocError> {
-    line.push(digit(byte / 16))?;
-    line.push(digit(byte % 16))
+    line.extend_from_slice(&[digit(byte / 16), digit(byte % 16)])
 }
 
 fn digit(number: u8) -> u8
