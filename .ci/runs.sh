@@ -4,8 +4,14 @@
 # environment the path of a table that couldn't be read or written, or is damaged.
 . "$top/.ci/lines.sh"
 
-# The words of a run behind the first one, an expression for each program that has some.
-setting='(block|table|ttl|seq|xor|min)=[0-9]+|format=(v1|v2|v3|latest)|op=(none|concat|max)|seg=(none|fixed[0-9]+|colon|lastcolon)|filter=.+'
+# The words of a run behind the first one, an expression.
+settings() {
+    local text
+    text="block=$(below 65535)|table=$(below 18446744073709551615)|ttl=$(below 18446744073709551615)|seq=$(below 18446744073709551614)"
+    text+="|xor=$(below 255)|min=$(below 4294967295)|format=(v1|v2|v3|latest)|op=(none|concat|max)"
+    text+="|seg=(none|fixed$(below 65535)|colon|lastcolon)|filter=(none|_bf|_bf:p=colon|_bf:p=colon:wh=0|_bf:p=fixed4:wh=0)"
+    printf '%s' "$text"
+}
 
 # why_first WORD: why the first word asks for nothing, where that is so.
 why_first() {
@@ -30,22 +36,30 @@ why_first() {
 
 # why_word WORDS..: which word behind the first isn't known, where there is one.
 why_word() {
-    local word
+    local word name setting='' filters=''
     local -A seen=()
     if [[ $program_name == slate && ${1-} == gen ]]; then
-        [[ ${2-} =~ ^(0|[1-9][0-9]{0,4}|100000)$ ]] || { echo "gen wants a number of rounds up to 100000 behind it"; return; }
-        [[ ${3-} =~ ^[0-9]+$ ]] || { echo "gen wants a number of rounds and a number to begin at behind it"; return; }
-        shift 3
-    fi
-    for word; do
-        if [[ $program_name != slate && $program_name != shell || ! $word =~ ^($setting)$ ]]; then
-            echo "$word isn't known behind the first word; --help has the words"
-            return
-        elif [[ -n ${seen[${word%%=*}]-} && $word != filter=* ]]; then
-            echo "$word: ${word%%=*}= is there twice"
+        if [[ ! ${2-} =~ ^$(below 100000)$ || ! ${3-} =~ ^$(below 18446744073709551615)$ ]]; then
+            echo "gen wants a number of rounds up to 100000 and a number below 2^64 behind it"
             return
         fi
-        seen[${word%%=*}]=1
+        shift 3
+    fi
+    [[ $program_name != slate && $program_name != shell ]] || setting=$(settings)
+    for word; do
+        name=${word%%=*}
+        [[ $name != filter ]] || filters+=" ${word#*=} "
+        if [[ ! $word =~ ^($setting)$ || $word =~ ^(block=|table=|seg=fixed)0$ ]]; then
+            echo "$word isn't known behind the first word; --help has the words and their values"
+        elif [[ -n ${seen[$name]-} && $name != filter || -n ${seen[$word]-} ]]; then
+            echo "$word comes behind another word $name="
+        elif [[ $filters == *' none '?* || $filters == ?*' none ' ]]; then
+            echo "$word stands beside another word filter="
+        else
+            seen[$name]=1 seen[$word]=1
+            continue
+        fi
+        return
     done
     return 1
 }
@@ -63,7 +77,7 @@ why_not() {
     elif [[ -d $1 ]] && command -v flock >/dev/null && ! flock -n "$1" true; then
         echo "the folder $1 is in use by another run; it is free when that ends"
     else
-        echo "the values of the words ${*:2} aren't those of a run; --help has them"
+        echo "nothing was run; --help has the words"
     fi
 }
 
@@ -81,7 +95,7 @@ why_failed() {
     elif ! said=$(ls "$1" 2>&1 >/dev/null); then
         echo "$1: ${said##*: }"
     else
-        echo "the folder $1 couldn't be read or written, and can be now"
+        echo "the folder $1 couldn't be read or written, and can be now, with $(df -k --output=avail "$at" | tail -n 1 | tr -d ' ') KiB free"
     fi
     rm -f "$at/told.tmp" 2>/dev/null
 }

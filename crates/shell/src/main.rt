@@ -25,7 +25,8 @@ the folder must have no tables yet, and it is one run's while that lives. A name
 that begins with -, has = before its first slash, or is help, shell or tell is
 written with ./ before it.";
 
-const LINES: &str = "Lines, each answered at once. A wrong one is told, and the run goes on. Rows are
+const LINES: &str =
+    "Lines, each answered at once. A wrong one is told, and the run goes on. Rows are
 shown one a line. The lines are those of slate:
 
   begin T si             opens a transaction at snapshot isolation
@@ -95,7 +96,8 @@ fn main(rt: HostRuntime) -> ExitCode {
     ExitCode::from(status)
 }
 
-/// Without a word the store is in memory. If the first word asks for nothing, nothing is read, written, printed or made.
+/// Without a word the store is in memory. If the first word asks for nothing, nothing is read,
+/// written, printed or made.
 fn run(rt: &HostRuntime, words: &[String]) -> u8
     ensures unknown { (w : _) (ws : _) → words.now ≡ w ∷ ws →
         first_word (string_bytes w) ≡ None → result ≡ 2 }
@@ -201,7 +203,8 @@ fn run_held<S: Store>(
     }
 }
 
-/// Runs over standard input and standard output. If both are a terminal's, a prompt is written before each line.
+/// Runs over standard input and standard output. If both are a terminal's, a prompt is written
+/// before each line.
 fn run_typed<S: Store>(
     rt: &HostRuntime,
     words: &[String],
@@ -218,5 +221,13 @@ fn run_typed<S: Store>(
     };
     let mut source = ReaderSource::new(rt.stdin());
     let mut sink = WriterSink::new(rt.stdout());
-    run_by_words(rt.alloc(), words, &mut source, &mut sink, store, policies, pages)
+    run_by_words(
+        rt.alloc(),
+        words,
+        &mut source,
+        &mut sink,
+        store,
+        policies,
+        pages,
+    )
 }

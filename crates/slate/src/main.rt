@@ -97,10 +97,12 @@ fn main(rt: HostRuntime) -> ExitCode {
     ExitCode::from(status)
 }
 
-/// Without a word, and where the first one asks for nothing, nothing is read, written, printed or made.
+/// Without a word, and where the first one asks for nothing, nothing is read, written, printed or
+/// made.
 fn run(rt: &HostRuntime, words: &[String]) -> u8
     ensures none { words.now ≡ [] → result ≡ 2 }
-    ensures unknown { (w : _) (ws : _) → words.now ≡ w ∷ ws → first_word (string_bytes w) ≡ None → result ≡ 2 }
+    ensures unknown { (w : _) (ws : _) → words.now ≡ w ∷ ws →
+        first_word (string_bytes w) ≡ None → result ≡ 2 }
 {
     match words {
         [first, rest @ ..] => run_by(rt, FirstWord::read(first.as_bytes()), first.as_str(), rest),
@@ -152,9 +154,9 @@ fn run_with<S: Store>(
     }
 }
 
-/// Runs with the policies of filters that the program comes with, of which the words use some. Over a store that was empty and is
-/// honest no table is damaged, and over one that tells its acts only where a read was answered otherwise than by what the run had
-/// put.
+/// Runs with the policies of filters that the program comes with, of which the words use some. Over
+/// a store that was empty and is honest no table is damaged, and over one that tells its acts only
+/// where a read was answered otherwise than by what the run had put.
 fn run_filtered<S: Store>(
     rt: &HostRuntime,
     folder: Option<&str>,
@@ -174,7 +176,8 @@ fn run_filtered<S: Store>(
     Ok(run_held(rt, folder, words, store, policies))
 }
 
-/// Runs with lawful policies of filters. A store in a folder is run over by words of a run alone, and while no other run holds the folder.
+/// Runs with lawful policies of filters. A store in a folder is run over by words of a run alone,
+/// and while no other run holds the folder.
 fn run_held<S: Store>(
     rt: &HostRuntime,
     folder: Option<&str>,

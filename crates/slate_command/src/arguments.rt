@@ -2,8 +2,8 @@
 use std::env;
 use std::io::ErrorKind;
 
-/// Returns the words that the program was called with, without its name. At an error the status to end with: 2 where they are no text, and
-/// 20 for want of memory.
+/// Returns the words that the program was called with, without its name. At an error the status to
+/// end with: 2 where they are no text, and 20 for want of memory.
 pub fn words(rt: &HostRuntime) -> Result<Vec<String>, u8> {
     let words = match env::args(rt) {
         Ok(words) => words,
@@ -13,7 +13,8 @@ pub fn words(rt: &HostRuntime) -> Result<Vec<String>, u8> {
     words.skip(1).collect(rt.alloc()).map_err(|_| 20)
 }
 
-/// Prints the text and a line's end, and returns the status to end with: 6 where standard output failed.
+/// Prints the text and a line's end, and returns the status to end with: 6 where standard output
+/// failed.
 pub fn print(rt: &HostRuntime, text: &str) -> u8 {
     match println!(rt; "{text}") {
         Ok(()) => 0,

@@ -1,6 +1,6 @@
 //! What a program's first word asks for.
 ghost use Rattle.std.specs.Prelude.{◌≡◌, bytes_eq};
-ghost use Rattle.slate_command.specs.FirstWord.{first_word, is_kept, is_mark, names_folder, sets_option};
+ghost use Rattle.slate_command.specs.FirstWord.{first_word, is_reserved, is_mark, names_folder, sets_option};
 
 /// What a program's first word asks for.
 #[derive(Clone, Copy, Debug, PartialEq, Eq)]
@@ -16,9 +16,10 @@ pub enum FirstWord {
 }
 
 impl FirstWord {
-    /// Reads the first word: `--help` or `-h`, `--version`, `-` for memory, and else the name of a folder.
-    /// `None` exactly if it can't be meant as one: it is empty, `help`, `shell` or `tell`, begins with `-`,
-    /// or has `=` before its first slash, as an option has. Such a folder is named with `./` before it.
+    /// Reads the first word: `--help` or `-h`, `--version`, `-` for memory, and else the name of a
+    /// folder. `None` exactly if it can't be meant as one: it is empty, `help`, `shell` or `tell`,
+    /// begins with `-`, or has `=` before its first slash, as an option has. Such a folder is named
+    /// with `./` before it.
     pub fn read(word: &[u8]) -> Option<FirstWord>
         ensures { result ≡ first_word word.now }
     {
@@ -46,14 +47,14 @@ fn names_folder(word: &[u8]) -> bool
     ensures { result ≡ names_folder word.now }
 {
     match word.first() {
-        Some(first) => *first != b'-' && !is_kept(word) && !sets_option(word),
+        Some(first) => *first != b'-' && !is_reserved(word) && !sets_option(word),
         None => false,
     }
 }
 
 /// Whether it is a word for which the files that start programs, or a person, mean something else.
-fn is_kept(word: &[u8]) -> bool
-    ensures { result ≡ is_kept word.now }
+fn is_reserved(word: &[u8]) -> bool
+    ensures { result ≡ is_reserved word.now }
 {
     is(word, b"help") || is(word, b"shell") || is(word, b"tell")
 }

@@ -1,4 +1,5 @@
-//! The folder of a run. What these calls do with files is trusted: the kit's files have no contract.
+//! The folder of a run. What these calls do with files is trusted: the kit's files have no
+//! contract.
 ghost use Rattle.std.specs.Prelude.{◌≡◌};
 ghost use Rattle.slate_command.specs.FolderStatus.{folder_status};
 
@@ -29,8 +30,8 @@ pub enum FolderError {
 }
 
 impl FolderError {
-    /// Returns the status that a program ends with by it: 2 where the folder isn't one for a run, 7 where it failed, and 20 for want of
-    /// memory.
+    /// Returns the status that a program ends with by it: 2 where the folder isn't one for a run, 7
+    /// where it failed, and 20 for want of memory.
     pub fn status(self) -> u8
         ensures { result ≡ folder_status self }
     {
@@ -42,12 +43,15 @@ impl FolderError {
     }
 }
 
-/// Makes the folder where it is missing, and holds it for one run: while the file that it answers is there, which ends with its process in
-/// whatever way, each other call is refused by `InUse`. A folder that has tables is refused, and one that can't be written, as far as a
-/// file shows that is made beside them and taken away.
+/// Makes the folder where it is missing, and holds it for one run: while the file that it answers
+/// is there, which ends with its process in whatever way, each other call is refused by `InUse`. A
+/// folder that has tables is refused, and one that can't be written, as far as a file shows that is
+/// made beside them and taken away.
 pub fn hold(rt: &HostRuntime, folder: &str) -> Result<File, FolderError> {
     test_kind(rt, folder)?;
-    let tables = format!(in rt.alloc(); "{folder}/db/compacted").map_err(|_| FolderError::OutOfMemory)?;
+    let tables = format!(in rt.alloc(); "{folder}/db/compacted").map_err(
+        |_| FolderError::OutOfMemory,
+    )?;
     let held = hold_for(rt, folder, &tables);
     drop(tables);
     held
@@ -92,7 +96,8 @@ fn test_empty(rt: &HostRuntime, tables: &str) -> Result<(), FolderError> {
     }
 }
 
-/// Makes a file beside the tables, and takes it away. Its name is none of an object's, as that of a table that is being written.
+/// Makes a file beside the tables, and takes it away. Its name is none of an object's, as that of a
+/// table that is being written.
 fn test_writing(rt: &HostRuntime, tables: &str) -> Result<(), FolderError> {
     let trial = format!(in rt.alloc(); "{tables}/trial.tmp").map_err(|_| FolderError::OutOfMemory)?;
     let written = fs::write(rt, &trial, "trial").and_then(|()| fs::remove_file(rt, &trial));

@@ -1,4 +1,5 @@
-//! What programs share: their first word, the folder that it names, and the filters that they come with.
+//! What programs share: their first word, the folder that it names, and the filters that they come
+//! with.
 #![tactic(auto)]
 
 pub mod arguments;

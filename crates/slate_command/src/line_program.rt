@@ -21,8 +21,9 @@ pub trait LineProgram {
     fn run<S: Store>(&self, rt: &HostRuntime, store: &mut S) -> u8;
 }
 
-/// Does what the program's words ask for, and returns the status to end with. Without a word the store is in memory, as by `-`. Where the
-/// first word asks for nothing, or another one follows it, nothing is read, written, printed or made.
+/// Does what the program's words ask for, and returns the status to end with. Without a word the
+/// store is in memory, as by `-`. Where the first word asks for nothing, or another one follows it,
+/// nothing is read, written, printed or made.
 pub fn run_words<P: LineProgram>(rt: &HostRuntime, program: &P, words: &[String]) -> u8
     ensures unknown { (w : _) (ws : _) → words.now ≡ w ∷ ws →
         first_word (string_bytes w) ≡ None → result ≡ 2 }
@@ -35,12 +36,7 @@ pub fn run_words<P: LineProgram>(rt: &HostRuntime, program: &P, words: &[String]
     }
 }
 
-fn run_by<P: LineProgram>(
-    rt: &HostRuntime,
-    program: &P,
-    asks: Option<FirstWord>,
-    word: &str,
-) -> u8
+fn run_by<P: LineProgram>(rt: &HostRuntime, program: &P, asks: Option<FirstWord>, word: &str) -> u8
     ensures { asks ≡ None → result ≡ 2 }
 {
     match asks {
@@ -57,7 +53,8 @@ fn run_in_memory<P: LineProgram>(rt: &HostRuntime, program: &P) -> u8 {
     program.run(rt, &mut store)
 }
 
-/// Runs over a store in the folder, which is made where it is missing, and held while the run lives.
+/// Runs over a store in the folder, which is made where it is missing, and held while the run
+/// lives.
 fn run_over_folder<P: LineProgram>(rt: &HostRuntime, program: &P, folder: &str) -> u8 {
     match hold(rt, folder) {
         Ok(held) => {

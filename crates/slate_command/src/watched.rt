@@ -46,8 +46,8 @@ impl<S: Store> Watched<S> {
         self.part = part;
     }
 
-    /// Says on standard error which object was asked for last, and which bytes of it, if the status is that of a store that failed or of a
-    /// damaged table, and the environment asks for it.
+    /// Says on standard error which object was asked for last, and which bytes of it, if the status
+    /// is that of a store that failed or of a damaged table, and the environment asks for it.
     pub fn tell(&self, rt: &HostRuntime, status: u8) {
         if !matches!(status, 7 | 12..=19) || env::var(rt, TELLS).is_err() {
             return;
@@ -55,8 +55,7 @@ impl<S: Store> Watched<S> {
         let path = self.path.as_str();
         let _told = match self.part {
             Part::Whole => eprintln!(rt; "the last call of the store was for {path}"),
-            Part::Range { start, len } => eprintln!(
-                rt;
+            Part::Range { start, len } => eprintln!(rt;
                 "the last call of the store was for {path}, {len} bytes from {start} on"
             ),
         };

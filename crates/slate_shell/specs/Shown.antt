@@ -1,9 +1,13 @@
 -- What a shell shows.
 --     row_line row      the line of a row
---     shown_reply r      the text of a reply: of rows their number, and a line for each
---     IsTextOf answered result      the result is the text of the answer, or want of memory for it, or the answer's error
+--     shown_rows rows      the number of rows, and a line for each
+--     shown_reply r      the text of a reply, in which rows stand one a line
+--     Text      what is written for a line, or an error
+--     HasText r result      the text is that of the reply
+--     IsTextOf answered result      so is that of an answer, unless there was no memory for it
 --     AnswersShown layout line before after old new result      a session's answer to a line, shown
---     AnswersMeant layout line before after old new result      the same, or there was no memory to read the line
+--     AnswersMeant layout line before after old new result      the same, unless there was no memory
+--                 to read the line
 use Rattle.std.specs.Prelude.{◌≡◌, ◌⊎◌, ℕ, List, [], ◌∷◌, ◌++◌, flat_map, length, Some, Result, Ok, Err, IfOk, Vec, codes, decimal}
 use Rattle.slate_types.specs.declared.error.SlateDBError.{SlateDBError}
 use Rattle.slate_types.specs.declared.error.SlateDBError.TheVariants.{OutOfMemory}
@@ -21,18 +25,31 @@ use Rattle.slate_script.specs.Session.{SessionModel}
 abbrev pub row_line : KeyValue → List ℕ
 row_line row = reply_line (Found (Some row))
 
+abbrev pub shown_rows : List KeyValue → List ℕ
+shown_rows rows = codes "rows " ++ (decimal (length rows) ++ (10 ∷ flat_map row_line rows))
+
 abbrev pub shown_reply : Reply → List ℕ
-shown_reply (RowsAre rows) = codes "rows " ++ (decimal (length rows) ++ (10 ∷ flat_map row_line rows))
+shown_reply (RowsAre rows) = shown_rows rows
 shown_reply r = reply_line r
 
-abbrev pub IsTextOf : Result Answer SlateDBError → Result (Vec ℕ) SlateDBError → Type 0
-IsTextOf (Ok a) result = (result ≡ Err OutOfMemory) ⊎ IfOk result (λ text. text.items ≡ shown_reply (reply_of a))
+abbrev pub Text : Type 0
+Text = Result (Vec ℕ) SlateDBError
+
+abbrev pub HasText : Reply → Text → Type 0
+HasText r result = IfOk result (λ text. text.items ≡ shown_reply r)
+
+abbrev pub IsTextOf : Result Answer SlateDBError → Text → Type 0
+IsTextOf (Ok a) result = (result ≡ Err OutOfMemory) ⊎ HasText (reply_of a) result
 IsTextOf (Err e) result = result ≡ Err e
 
-abbrev pub AnswersShown : Layout → Line → Reach → Reach → SessionModel → SessionModel → Result (Vec ℕ) SlateDBError → Type 0
-AnswersShown layout line before after old new result =
-    (answered : Result Answer SlateDBError) × Answers layout line before after old new answered × IsTextOf answered result
+-- answered: what the session answers
+pub record AnswersShown (layout : Layout) (line : Line) (before after : Reach)
+    (old new : SessionModel) (result : Text) : Type 0 where
+  pub answered : Result Answer SlateDBError
+  pub answers : Answers layout line before after old new answered
+  pub text : IsTextOf answered result
 
-abbrev pub AnswersMeant : Layout → Line → Reach → Reach → SessionModel → SessionModel → Result (Vec ℕ) SlateDBError → Type 0
+abbrev pub AnswersMeant : Layout → Line → Reach → Reach → SessionModel → SessionModel → Text → Type 0
 AnswersMeant layout line before after old new result =
-    ((result ≡ Err OutOfMemory) × (new ≡ old)) ⊎ AnswersShown layout line before after old new result
+    ((result ≡ Err OutOfMemory) × (new ≡ old))
+    ⊎ AnswersShown layout line before after old new result

@@ -19,8 +19,9 @@ use slate_types::{
 };
 use std::alloc::{AllocError, Global};
 
-/// Answers a line of the language, and returns the text of its answer: the model's reply, but that rows stand one a line. Of the session
-/// and of what it reaches all is said that `Session::answer` says.
+/// Answers a line of the language, and returns the text of its answer: the model's reply, but that
+/// rows stand one a line. Of the session and of what it reaches all is said that `Session::answer`
+/// says.
 pub fn answer<S: Store, M: MergeOperator, T: BlockTransformer, X: PrefixExtractor>(
     alloc: Global,
     session: &mut Session,
@@ -33,7 +34,8 @@ pub fn answer<S: Store, M: MergeOperator, T: BlockTransformer, X: PrefixExtracto
     requires names { AreValidNames (map (λ p. (meaning (p.vtable, p.value)).name) laws.now.policies.items) }
     ensures { let reach = ⟦<EnvOf<S, M, T> as Outside>⟧.reach in
         let policies = map (λ p. meaning (p.vtable, p.value)) laws.now.policies.items in
-        let layout = layout_of laws.now.options policies (segments_by X.lengths laws.now.segments) in
+        let seg = segments_by X.lengths laws.now.segments in
+        let layout = layout_of laws.now.options policies seg in
         AnswersShown layout line (reach env.old) (reach env.new) session.old session.new result }
 {
     match session.answer(line, env, laws) {
@@ -42,7 +44,8 @@ pub fn answer<S: Store, M: MergeOperator, T: BlockTransformer, X: PrefixExtracto
     }
 }
 
-/// Returns the text of an answer: its reply, or of rows a line with their number, and then a line for each.
+/// Returns the text of an answer: its reply, or of rows a line with their number, and then a line
+/// for each.
 pub fn shown(alloc: Global, answer: Answer) -> Result<Vec<u8>, AllocError>
     ensures { IfOk result (λ text. text.items ≡ shown_reply (reply_of answer)) }
 {

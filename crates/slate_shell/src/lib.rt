@@ -1,4 +1,5 @@
-//! A shell: lines as a person types them, answered one by one. A wrong line is told, and the run goes on.
+//! A shell: lines as a person types them, answered one by one. A wrong line is told, and the run
+//! goes on.
 #![tactic(auto)]
 
 pub mod answer;

@@ -9,8 +9,9 @@ use slate_language::{NamedExtractor, Xor, keep_used, parse_words};
 use slate_store::{Env, Sink, Source, Store};
 use std::alloc::Global;
 
-/// Runs a shell over the store, as the words say, with those of the policies of filters that they use, and returns the status to end with:
-/// 2 if the words are none of a run, and else 0 or that of the error that ended it.
+/// Runs a shell over the store, as the words say, with those of the policies of filters that they
+/// use, and returns the status to end with: 2 if the words are none of a run, and else 0 or that of
+/// the error that ended it.
 pub fn run_by_words<R: Source, W: Sink, S: Store>(
     alloc: Global,
     words: &[String],

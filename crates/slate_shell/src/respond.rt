@@ -24,9 +24,10 @@ use std::alloc::{AllocError, Global};
 /// The name of the snapshot that a read without one is made in. No line of the language has it.
 const OWN_NAME: &[u8] = b"?";
 
-/// Returns what is written for the line with this number, which is nothing for a silent one. A line of the language is answered as the
-/// model answers it. Another one is spelled anew if it has a quoted text, is a read without a name if it begins as one, and is else told to
-/// be wrong. Errors are those of `Session::answer`.
+/// Returns what is written for the line with this number, which is nothing for a silent one. A line
+/// of the language is answered as the model answers it. Another one is spelled anew if it has a
+/// quoted text, is a read without a name if it begins as one, and is else told to be wrong. Errors
+/// are those of `Session::answer`.
 pub fn respond<S: Store, M: MergeOperator, T: BlockTransformer, X: PrefixExtractor>(
     alloc: Global,
     session: &mut Session,
@@ -39,7 +40,8 @@ pub fn respond<S: Store, M: MergeOperator, T: BlockTransformer, X: PrefixExtract
     requires names { AreValidNames (map (λ p. (meaning (p.vtable, p.value)).name) laws.now.policies.items) }
     ensures { let reach = ⟦<EnvOf<S, M, T> as Outside>⟧.reach in
         let policies = map (λ p. meaning (p.vtable, p.value)) laws.now.policies.items in
-        let layout = layout_of laws.now.options policies (segments_by X.lengths laws.now.segments) in
+        let seg = segments_by X.lengths laws.now.segments in
+        let layout = layout_of laws.now.options policies seg in
         (line : Line) → is_silent typed.now ≡ false → parse typed.now ≡ Some line →
         AnswersMeant layout line (reach env.old) (reach env.new) session.old session.new result }
 {
@@ -109,7 +111,11 @@ fn meaning_of(alloc: Global, line: Vec<u8>) -> Result<Option<Line>, SlateDBError
 
 /// The line with a name after its first word, if that is a read.
 fn named(alloc: Global, line: &[u8]) -> Result<Option<Vec<u8>>, AllocError> {
-    for word in [b"get ".as_slice(), b"scan ".as_slice(), b"prefix ".as_slice()] {
+    for word in [
+        b"get ".as_slice(),
+        b"scan ".as_slice(),
+        b"prefix ".as_slice(),
+    ] {
         if let Some(rest) = line.strip_prefix(word) {
             let mut named = Vec::from_slice(alloc, word)?;
             named.extend_from_slice(b"x ")?;
@@ -133,7 +139,13 @@ fn read_alone<S: Store, M: MergeOperator, T: BlockTransformer, X: PrefixExtracto
 {
     let own = Bytes::copy_from_slice(alloc, OWN_NAME)?;
     let line = under(line, own.clone()?);
-    let opened = answer(alloc, session, Line::Snapshot { name: own.clone()? }, env, laws);
+    let opened = answer(
+        alloc,
+        session,
+        Line::Snapshot { name: own.clone()? },
+        env,
+        laws,
+    );
     drop(opened?);
     let text = answer(alloc, session, line, env, laws)?;
     let closed = answer(alloc, session, Line::Rollback { name: own }, env, laws);

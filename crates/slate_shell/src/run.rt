@@ -12,7 +12,8 @@ use slate_types::{BlockTransformer, MergeOperator, PrefixExtractor, SlateDBError
 use std::alloc::Global;
 
 /// What is written after the answer to a line with a text that looks closed.
-const CLOSED: &[u8] = b"note: a text has no closing ', so the last ' is a byte of it; \"a text\" has an end\n";
+const CLOSED: &[u8] =
+    b"note: a text has no closing ', so the last ' is a byte of it; \"a text\" has an end\n";
 
 /// What a shell writes beside its responses.
 #[derive(Clone, Copy, Debug)]
@@ -23,8 +24,9 @@ pub struct Pages<'a> {
     pub help: &'a str,
 }
 
-/// Answers each line of the source into the sink, up to its end or the line `quit`. A line that is wrong is told, and the run goes on. Errors
-/// are those of the source, of the sink and of `Session::answer`, which end it.
+/// Answers each line of the source into the sink, up to its end or the line `quit`. A line that is
+/// wrong is told, and the run goes on. Errors are those of the source, of the sink and of
+/// `Session::answer`, which end it.
 pub fn run_shell<
     R: Source,
     W: Sink,
@@ -47,7 +49,17 @@ pub fn run_shell<
     let mut session = Session::new(alloc, &laws.options);
     let mut ran = Ok(());
     for number in 1..u64::MAX {
-        match step(alloc, source, sink, env, laws, pages, &mut lines, &mut session, number) {
+        match step(
+            alloc,
+            source,
+            sink,
+            env,
+            laws,
+            pages,
+            &mut lines,
+            &mut session,
+            number,
+        ) {
             Ok(true) => {}
             Ok(false) => break,
             Err(error) => {
@@ -61,14 +73,7 @@ pub fn run_shell<
 }
 
 /// Answers the next line, and says whether the run goes on.
-fn step<
-    R: Source,
-    W: Sink,
-    S: Store,
-    M: MergeOperator,
-    T: BlockTransformer,
-    X: PrefixExtractor,
->(
+fn step<R: Source, W: Sink, S: Store, M: MergeOperator, T: BlockTransformer, X: PrefixExtractor>(
     alloc: Global,
     source: &mut R,
     sink: &mut W,

@@ -30,8 +30,8 @@ impl SpellingError {
     }
 }
 
-/// Returns the line with each quoted text in hex, as the language spells it. A text is quoted where `"` begins its token, or the key of a
-/// bound or a step.
+/// Returns the line with each quoted text in hex, as the language spells it. A text is quoted where
+/// `"` begins its token, or the key of a bound or a step.
 pub fn respell(alloc: Global, typed: &[u8]) -> Result<Vec<u8>, SpellingError> {
     let mut line = Vec::new(alloc);
     match push_line(alloc, &mut line, typed) {
@@ -53,7 +53,8 @@ fn push_line(alloc: Global, line: &mut Vec<u8>, typed: &[u8]) -> Result<(), Spel
     Ok(())
 }
 
-/// Whether a quote after these bytes begins a text: they are empty, or end with a space, or with the letter of a bound or a step alone.
+/// Whether a quote after these bytes begins a text: they are empty, or end with a space, or with
+/// the letter of a bound or a step alone.
 fn begins_text(line: &[u8]) -> bool {
     match line.split_last() {
         None | Some((b' ', _)) => true,
@@ -118,9 +119,12 @@ fn digit(number: u8) -> u8
     }
 }
 
-/// Whether a token of the line is a text that ends with `'` after its first byte, as if that closed it.
+/// Whether a token of the line is a text that ends with `'` after its first byte, as if that closed
+/// it.
 pub fn closes_text(typed: &[u8]) -> bool {
-    typed.split(|byte| *byte == b' ').any(|token| is_closed(token))
+    typed
+        .split(|byte| *byte == b' ')
+        .any(|token| is_closed(token))
 }
 
 fn is_closed(token: &[u8]) -> bool {

@@ -9,14 +9,16 @@ pub struct Wrong<'a> {
     pub expected: &'static str,
 }
 
-const WORDS: &str = "now, begin, snapshot, get, scan, prefix, put, merge, delete, mark, unmark, commit, \
+const WORDS: &str =
+    "now, begin, snapshot, get, scan, prefix, put, merge, delete, mark, unmark, commit, \
     rollback, write, freeze, flush, journal, help or quit";
 
 const OPERATION: &str = "put, merge or delete";
 
 const END: &str = "the end of the line";
 
-/// Returns what is wrong with the first token that doesn't fit, of a line that is none of the language.
+/// Returns what is wrong with the first token that doesn't fit, of a line that is none of the
+/// language.
 pub fn find_wrong<'a>(tokens: &[&'a [u8]]) -> Wrong<'a> {
     match tokens.split_first() {
         Some((word, rest)) => match form_of(word) {
