@@ -133,12 +133,29 @@ give_up() {
     exit 1
 }
 
-# Proves the crates of the program, lowest first, each on as many processors as rt chooses, with a line for each.
+# wait_for PID TEXT [FOLDER]: until this job ends, with a line every half minute. It ends with this shell too, and the folder goes.
+wait_for() {
+    local next=$((SECONDS + 30))
+    # shellcheck disable=SC2064
+    trap "kill $1 2>/dev/null; rm -rf '${3-}'" EXIT
+    while kill -0 "$1" 2>/dev/null; do
+        sleep 0.2
+        ((SECONDS < next)) || {
+            say "$2, ${SECONDS} s"
+            next=$((SECONDS + 30))
+        }
+    done
+    trap - EXIT
+    wait "$1"
+}
+
+# Proves the crates of the program, lowest first, each on as many processors as rt chooses, with a line for each and every half minute.
 prove_crates() {
     local crate found done_so_far=0
     mapfile -t found < <(crates_of_program)
     for crate in "${found[@]}"; do
-        (cd "$top/crates/$crate" && rt check) </dev/null >&4 2>&1
+        (cd "$top/crates/$crate" && exec rt check) </dev/null >&4 2>&1 &
+        wait_for "$!" "proving $crate, $((done_so_far + 1)) of ${#found[@]}"
         done_so_far=$((done_so_far + 1))
         say "checked $crate ($done_so_far of ${#found[@]}, ${SECONDS} s)"
     done

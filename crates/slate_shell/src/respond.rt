@@ -1,5 +1,5 @@
 //! The response to a line that a person types.
-ghost use Rattle.std.specs.Prelude.{◌≡◌, IsTrue, false, Some, map};
+ghost use Rattle.std.specs.Prelude.{◌≡◌, IfOk, IfSome, IsTrue, false, Some, map};
 ghost use Rattle.slate_types.specs.Config.{IsValid};
 ghost use Rattle.slate_filter.specs.Laws.{AreValidNames};
 ghost use Rattle.slate_txn.specs.declared.line.Line.{Line};
@@ -7,6 +7,7 @@ ghost use Rattle.slate_db.specs.Flushed.{layout_of};
 ghost use Rattle.slate_db.specs.Meaning.{segments_by};
 ghost use Rattle.slate_language.specs.Parse.{parse};
 ghost use Rattle.slate_language.specs.Replies.{is_silent};
+ghost use Rattle.slate_script.specs.Session.{has_moment};
 ghost use Rattle.slate_shell.specs.Shown.{AnswersMeant};
 
 use crate::answer::answer;
@@ -28,6 +29,7 @@ const OWN_NAME: &[u8] = b"?";
 /// of the language is answered as the model answers it. Another one is spelled anew if it has a
 /// quoted text, is a read without a name if it begins as one, and is else told to be wrong. Errors
 /// are those of `Session::answer`.
+#[tactic(auto, using(slate_script::proofs::Running::one_moment))]
 pub fn respond<S: Store, M: MergeOperator, T: BlockTransformer, X: PrefixExtractor>(
     alloc: Global,
     session: &mut Session,
@@ -73,35 +75,40 @@ fn respond_otherwise<S: Store, M: MergeOperator, T: BlockTransformer, X: PrefixE
         Err(SpellingError::OutOfMemory) => return Err(SlateDBError::OutOfMemory),
         Err(error) => return Ok(told(alloc, number, None, error.expected())?),
     };
-    let response = match read_meaning(alloc, spelled.as_slice()) {
-        Ok(Some(Meaning::Line(line))) => answer(alloc, session, line, env, laws),
-        Ok(Some(Meaning::Read(line))) => read_alone(alloc, session, line, env, laws),
-        Ok(None) => Ok(wrong(alloc, spelled.as_slice(), number)?),
-        Err(error) => Err(error),
+    let line = spelled.as_slice();
+    match meaning_of(alloc, Vec::from_slice(alloc, line)?)? {
+        Some(meaning) => answer(alloc, session, meaning, env, laws),
+        None => respond_to_read(alloc, session, line, number, env, laws),
+    }
+}
+
+/// Returns what is written for a line that is a read without a name, or is wrong.
+fn respond_to_read<S: Store, M: MergeOperator, T: BlockTransformer, X: PrefixExtractor>(
+    alloc: Global,
+    session: &mut Session,
+    line: &[u8],
+    number: u64,
+    env: &mut Env<'_, S, M, T>,
+    laws: &Laws<X>,
+) -> Result<Vec<u8>, SlateDBError>
+    requires valid { IsValid laws.now.options }
+    requires names {
+        AreValidNames (map (λ p. (meaning (p.vtable, p.value)).name) laws.now.policies.items) }
+{
+    let Some(named) = named(alloc, line)? else {
+        return Ok(wrong(alloc, line, number)?);
     };
-    drop(spelled);
-    response
-}
-
-/// What a line means that is spelled in the language.
-#[derive(Drop)]
-enum Meaning {
-    Line(Line),
-    /// A read outside transactions, with some name.
-    Read(Line),
-}
-
-fn read_meaning(alloc: Global, line: &[u8]) -> Result<Option<Meaning>, SlateDBError> {
-    if let Some(line) = meaning_of(alloc, Vec::from_slice(alloc, line)?)? {
-        return Ok(Some(Meaning::Line(line)));
-    }
-    match named(alloc, line)? {
-        Some(line) => Ok(meaning_of(alloc, line)?.map(Meaning::Read)),
-        None => Ok(None),
+    match meaning_of(alloc, named)? {
+        Some(read) => read_alone(alloc, session, read, env, laws),
+        None => Ok(wrong(alloc, line, number)?),
     }
 }
 
-fn meaning_of(alloc: Global, line: Vec<u8>) -> Result<Option<Line>, SlateDBError> {
+/// What a line of the language means, and `None` for another one and a silent one.
+#[tactic(auto, using(slate_script::proofs::Running::one_moment))]
+fn meaning_of(alloc: Global, line: Vec<u8>) -> Result<Option<Line>, SlateDBError>
+    ensures moment { IfOk result (λ o. IfSome o (λ l. IsTrue (has_moment l))) }
+{
     match parse_line(alloc, line) {
         Ok(meaning) => Ok(meaning),
         Err(SlateDBError::ScriptSyntax { .. }) => Ok(None),
@@ -134,6 +141,7 @@ fn read_alone<S: Store, M: MergeOperator, T: BlockTransformer, X: PrefixExtracto
     env: &mut Env<'_, S, M, T>,
     laws: &Laws<X>,
 ) -> Result<Vec<u8>, SlateDBError>
+    requires moment { IsTrue (has_moment line) }
     requires valid { IsValid laws.now.options }
     requires names { AreValidNames (map (λ p. (meaning (p.vtable, p.value)).name) laws.now.policies.items) }
 {
@@ -154,7 +162,9 @@ fn read_alone<S: Store, M: MergeOperator, T: BlockTransformer, X: PrefixExtracto
 }
 
 /// The read under this name.
-fn under(line: Line, own: Bytes) -> Line {
+fn under(line: Line, own: Bytes) -> Line
+    ensures moment { IsTrue (has_moment line) → IsTrue (has_moment result) }
+{
     match line {
         Line::Get { key, .. } => Line::Get { name: own, key },
         Line::Scan {
