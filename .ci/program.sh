@@ -1,16 +1,28 @@
 # shellcheck shell=bash disable=SC2154
-# Functions of ./slate, bench/run and ./test: which program is the proved one, and how it is proved and built. Source this file with
-# `top` set to the repository's folder, and name the program by `choose_program`.
+# Functions of ./slate and the other programs, bench/run and ./test: which program is the proved one, and how it is proved and built. Source
+# this file with `top` set to the repository's folder, and name the program by `choose_program`.
 #
 # crates/NAME/out/proved-source has one line: a sum over the source that the program was proved and built from,
 # and a sum over the program. Where both fit, the program is used as it is and nothing is proved again.
+# Beside it proved-seen has the paths of that source, of the program and of rt, and is as old as the last comparison: where no file there is
+# newer, the sums fit still, and aren't computed.
+# unproved-source and unproved-seen say the same of the program `unproved`, for which the source is that of src/ alone.
 
 choose_program() {
     program_name=$1
     out="$top/crates/$program_name/out"
-    program="$out/$program_name"
-    stamp_file="$out/proved-source"
+    choose_proof proved "$out/$program_name" src specs proofs
 }
+
+# choose_proof WORD PROGRAM PART..: the program that is proved, or not, and the folders of its source.
+choose_proof() {
+    program=$2
+    stamp_file="$out/$1-source"
+    seen_file="$out/$1-seen"
+    source_parts=("${@:3}")
+}
+
+choose_unproved() { choose_proof unproved "$out/unproved" src; }
 
 # Sets `crates`, those of crates.txt in its order, the lowest first, and `needs`, what each stands on.
 read_crates() {
@@ -45,20 +57,30 @@ crates_of_program() {
     done
 }
 
-# A sum over the toolchain's name, crates.txt, HANDLES and the source of these crates. Fails where a part is missing.
+# Sets `source_files`, HANDLES and the source of these crates, and `source_lines`, what crates.txt says of them.
+read_files() {
+    local crate part file
+    source_files=(HANDLES) source_lines=()
+    read_crates
+    for crate in $(crates_of_program); do
+        source_lines+=("$crate:${needs[$crate]}")
+        for part in "${source_parts[@]}"; do
+            for file in crates/"$crate/$part"/**; do
+                [[ ! -f $file ]] || source_files+=("$file")
+            done
+        done
+    done
+}
+
+# A sum over the toolchain's name and the source of the program. Fails where a part is missing.
 source_sum() (
     cd "$top" || exit 1
     shopt -s globstar nullglob dotglob
     LC_ALL=C
-    files=(crates.txt HANDLES)
-    for crate in $(crates_of_program); do
-        for file in crates/"$crate"/{src,specs,proofs}/**; do
-            [[ ! -f $file ]] || files+=("$file")
-        done
-    done
+    read_files
     kit=$(rt version 2>/dev/null </dev/null) || exit 1
-    sums=$(sha256sum -- "${files[@]}") || exit 1
-    sum=$(printf '%s\n' "$kit" "$sums" | sha256sum) || exit 1
+    sums=$(sha256sum -- "${source_files[@]}") || exit 1
+    sum=$(printf '%s\n' "$kit" "${source_lines[@]}" "$sums" | sha256sum) || exit 1
     printf '%s\n' "${sum%% *}"
 )
 
@@ -84,6 +106,26 @@ stamp() {
     printf '%s\n' "$line" >"$stamp_file.$$" && mv -f "$stamp_file.$$" "$stamp_file"
 }
 
+# is_unchanged: the program that stands there fitted its source, and no file of these was changed since. One process is started.
+is_unchanged() {
+    local paths below newer
+    [[ -x $program && -r $seen_file ]] || return 1
+    mapfile -t paths <"$seen_file"
+    below=("${paths[@]:1}")
+    newer=$(find -H "${paths[0]}" "${below[@]/#/$top/}" \( -name out -o -name edits \) -prune -o -cnewer "$seen_file" -print -quit 2>&1)
+    [[ -z $newer ]]
+}
+
+# begin_comparison: what is changed from here on is newer than `seen_file` will be. Its first line is the path of rt, and the others go from
+# the repository's folder.
+begin_comparison() {
+    mkdir -p "$out" && {
+        type -P rt
+        printf '%s\n' crates.txt HANDLES "${program#"$top/"}"
+        crates_of_program | sed 's:^:crates/:'
+    } >"$seen_file.$$"
+}
+
 say() { printf '%s: %s\n' "$program_name" "$*" >&2; }
 
 give_up() {
@@ -91,12 +133,29 @@ give_up() {
     exit 1
 }
 
-# Proves the crates of the program, lowest first, each on as many processors as rt chooses, with a line for each.
+# wait_for PID TEXT [FOLDER]: until this job ends, with a line every half minute. It ends with this shell too, and the folder goes.
+wait_for() {
+    local next=$((SECONDS + 30))
+    # shellcheck disable=SC2064
+    trap "kill $1 2>/dev/null; rm -rf '${3-}'" EXIT
+    while kill -0 "$1" 2>/dev/null; do
+        sleep 0.2
+        ((SECONDS < next)) || {
+            say "$2, ${SECONDS} s"
+            next=$((SECONDS + 30))
+        }
+    done
+    trap - EXIT
+    wait "$1"
+}
+
+# Proves the crates of the program, lowest first, each on as many processors as rt chooses, with a line for each and every half minute.
 prove_crates() {
     local crate found done_so_far=0
     mapfile -t found < <(crates_of_program)
     for crate in "${found[@]}"; do
-        (cd "$top/crates/$crate" && rt check) </dev/null >&4 2>&1
+        (cd "$top/crates/$crate" && exec rt check) </dev/null >&4 2>&1 &
+        wait_for "$!" "proving $crate, $((done_so_far + 1)) of ${#found[@]}"
         done_so_far=$((done_so_far + 1))
         say "checked $crate ($done_so_far of ${#found[@]}, ${SECONDS} s)"
     done
@@ -116,7 +175,7 @@ build() {
     local log="$out/build.log"
     mkdir -p "$out" || give_up "cannot make crates/$program_name/out"
     exec 4>"$log" || give_up "cannot write crates/$program_name/out/build.log"
-    say "the proved program isn't built for this source yet; proving and building it takes over an hour of processor time, once"
+    say "the proved program isn't built for this source yet; proving and building it takes an hour and more of processor time, once"
     prove_crates
     # The last word is here: rt builds the program only over proved crates, and --version alone ends with status 0.
     if ! (cd "$top/crates/$program_name" && rt run -- --version) </dev/null >&4 2>&1; then
@@ -131,12 +190,25 @@ build() {
 
 # Sets `sum` to that of the source.
 read_source() {
-    command -v rt >/dev/null || give_up "rt, the command of the Rattle toolchain, isn't there: the program can't be built"
+    type -P rt >/dev/null || give_up "rt, the command of the Rattle toolchain, isn't there: the program can't be built"
     sum=$(source_sum) || give_up "the source of the program can't be read"
+}
+
+# is_current: the program that stands there was made from this source.
+is_current() {
+    local fits=1
+    [[ -x $program && -r $stamp_file ]] || return
+    ! is_unchanged || return 0
+    begin_comparison || give_up "cannot write crates/$program_name/out"
+    read_source
+    if is_proved "$sum"; then
+        mv -f "$seen_file.$$" "$seen_file" && fits=0
+    fi
+    rm -f "$seen_file.$$"
+    return "$fits"
 }
 
 # Proves and builds the program where it isn't built for this source.
 prepare() {
-    read_source
-    is_proved "$sum" || build "$sum"
+    is_current || { read_source && build "$sum"; }
 }

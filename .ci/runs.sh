@@ -1,101 +1,153 @@
 # shellcheck shell=bash disable=SC2154
-# Functions of ./slate, ./slate_index, ./slate_queue and ./slate_stock: how their program is run, and what a person is told behind it. Source this file behind program.sh. Where standard error
-# is no terminal nothing is told, and the proved program takes the place of ./slate.
+# Functions of ./slate and the other programs: how their program is run where a person is told what its status means. Source this file behind
+# program.sh, with `call` set. What is told is found out by looking again: the program itself says its status, and with SLATE_TELL in its
+# environment the path of a table that couldn't be read or written, or is damaged.
+. "$top/.ci/lines.sh"
 
-# What is known of the line at status 3.
-bad=''
+# The words of a run behind the first one, an expression.
+settings() {
+    local text
+    text="block=$(below 65535)|table=$(below 18446744073709551615)|ttl=$(below 18446744073709551615)|seq=$(below 18446744073709551614)"
+    text+="|xor=$(below 255)|min=$(below 4294967295)|format=(v1|v2|v3|latest)|op=(none|concat|max)"
+    text+="|seg=(none|fixed$(below 65535)|colon|lastcolon)|filter=(none|_bf|_bf:p=colon|_bf:p=colon:wh=0|_bf:p=fixed4:wh=0)"
+    printf '%s' "$text"
+}
+
+# why_first WORD: why the first word asks for nothing, where that is so.
+why_first() {
+    local named=${1%%[=/]*}
+    case $1 in
+    --help | -h | --version | -) return 1 ;;
+    '') echo "an empty word names no folder" ;;
+    help) echo "help isn't known, --help is; a folder of that name is ./help" ;;
+    shell | tell) echo "$1 is a word of ./slate alone, and stands first; a folder of that name is ./$1" ;;
+    -*) echo "$1 isn't known; a folder of that name is ./$1" ;;
+    *)
+        if [[ ${1:${#named}:1} == = ]]; then
+            echo "$1 stands before - or the name of a folder, and belongs behind it; a folder of that name is ./$1"
+        elif [[ -e $1 && ! -d $1 ]]; then
+            echo "$1 is a file and no folder; a script comes on standard input, as by ./$call - < $1"
+        else
+            return 1
+        fi
+        ;;
+    esac
+}
+
+# why_word WORDS..: which word behind the first isn't known, where there is one.
+why_word() {
+    local word name setting='' filters=''
+    local -A seen=()
+    if [[ $program_name == slate && ${1-} == gen ]]; then
+        if [[ ! ${2-} =~ ^$(below 100000)$ || ! ${3-} =~ ^$(below 18446744073709551615)$ ]]; then
+            echo "gen wants a number of rounds up to 100000 and a number below 2^64 behind it"
+            return
+        fi
+        shift 3
+    fi
+    [[ $program_name != slate && $program_name != shell ]] || setting=$(settings)
+    for word; do
+        name=${word%%=*}
+        [[ $name != filter ]] || filters+=" ${word#*=} "
+        if [[ ! $word =~ ^($setting)$ || $word =~ ^(block=|table=|seg=fixed)0$ ]]; then
+            echo "$word isn't known behind the first word; --help has the words and their values"
+        elif [[ -n ${seen[$name]-} && $name != filter || -n ${seen[$word]-} ]]; then
+            echo "$word comes behind another word $name="
+        elif [[ $filters == *' none '?* || $filters == ?*' none ' ]]; then
+            echo "$word stands beside another word filter="
+        else
+            seen[$name]=1 seen[$word]=1
+            continue
+        fi
+        return
+    done
+    return 1
+}
+
+# why_not WORDS..: why nothing was run.
+why_not() {
+    if (($# == 0)); then
+        echo "no word says where the store is to be: - is memory, and another word a folder; --help has the words"
+    elif why_first "$1" || why_word "${@:2}"; then
+        return
+    elif [[ $1 == -?* ]]; then
+        echo "$1 takes no word behind it"
+    elif compgen -G "${1%/}/db/compacted/*.sst" >/dev/null; then
+        echo "the folder $1 has tables, and nothing was run: a store begins empty"
+    elif [[ -d $1 ]] && command -v flock >/dev/null && ! flock -n "$1" true; then
+        echo "the folder $1 is in use by another run; it is free when that ends"
+    else
+        echo "nothing was run; --help has the words"
+    fi
+}
+
+# why_failed FOLDER: what can't be read or written there, and the system's reason.
+why_failed() {
+    local at=${1%/}/db/compacted said
+    while [[ ! -e $at && $at == */* ]]; do
+        at=${at%/*}
+    done
+    [[ -e $at ]] || at=.
+    if [[ ! -d $at ]]; then
+        echo "$at is no folder"
+    elif ! said=$({ echo trial >"$at/told.tmp"; } 2>&1); then
+        echo "$at: ${said##*: }"
+    elif ! said=$(ls "$1" 2>&1 >/dev/null); then
+        echo "$1: ${said##*: }"
+    else
+        echo "the folder $1 couldn't be read or written, and can be now, with $(df -k --output=avail "$at" | tail -n 1 | tr -d ' ') KiB free"
+    fi
+    rm -f "$at/told.tmp" 2>/dev/null
+}
+
+# damage STATUS: which error ends a run with it.
+damage() {
+    case $1 in
+    12) echo "a checksum isn't that of its section" ;;
+    14) echo "a row has flags that aren't known" ;;
+    15) echo "the filters can't be read" ;;
+    16) echo "a table is missing, short or not as it was put" ;;
+    18) echo "an operand has a lesser sequence than another row of its key" ;;
+    19) echo "an operand stands where there is no operator" ;;
+    esac
+}
 
 # meaning_of STATUS WORDS..: what a status other than 0 says of a run by these words.
 meaning_of() {
     case $1 in
-    2)
-        if [[ -n ${2-} && $2 != - ]] && compgen -G "${2%/}/db/compacted/*.sst" >/dev/null; then
-            echo "the folder has tables, and nothing was run: a store begins empty"
-        else
-            echo "these words aren't known, and nothing was run; --help has the words"
-        fi
-        ;;
-    3) echo "${bad:-the line behind those that were answered is no line of the language; docs/SCRIPT.md has the lines}" ;;
+    2) why_not "${@:2}" ;;
+    3) tell_line <"${kept:-/dev/null}" ;;
     4) echo "the script has 4294967295 bytes or more" ;;
     5) echo "standard input couldn't be read" ;;
     6) echo "standard output couldn't be written" ;;
-    7) echo "the folder couldn't be read or written" ;;
-    12 | 14 | 15 | 16 | 18 | 19) echo "a table in the folder is damaged" ;;
+    7) why_failed "$2" ;;
+    12 | 14 | 15 | 16 | 18 | 19) echo "a table in the folder $2 is damaged: $(damage "$1")" ;;
     20) echo "there is no more memory" ;;
     *) return 1 ;;
     esac
 }
 
-# end_with STATUS WORDS..: ends with it, and tells a person what it means.
-end_with() {
-    local text
-    [[ ! -t 2 ]] || ! text=$(meaning_of "$@") || say "status $1: $text"
-    exit "$1"
-}
-
-# find_bad < SCRIPT: sets `bad` by the first line that is no line of the language. It lets numbers of more than 64 bits through, so it may
-# find none.
-find_bad() {
-    local key="('[!-~]*|0x([0-9a-f]{2})*)" name='[A-Za-z0-9]{1,64}' number='(0|[1-9][0-9]{0,19})'
-    local moment='(0|-?[1-9][0-9]{0,18})' bound="(\\*|[ie]$key)" ttl="( t($number|-))?" order='(asc|desc)'
-    local steps="( (n$number|s$key))*" operation="((put|merge) $key $key$ttl|delete $key)" line found
-    line="now $moment|begin $name s?si|(snapshot|commit|rollback) $name|(get|delete) $name $key|(put|merge) $name $key $key$ttl"
-    line+="|scan $name $order $bound $bound$steps|prefix $name $order $key $bound $bound$steps|(mark|unmark) $name( $key)+"
-    line+="|write( $operation)*|freeze|flush|journal"
-    found=$(LC_ALL=C grep -anvE -m 1 "^(|#.*|$line)\$" | head -c 100 | LC_ALL=C tr -c '\n -~' '?')
-    [[ -z $found ]] || bad="line ${found%%:*} is no line of the language: ${found#*:}"
-}
-
-# run_watched WORDS..: runs the proved program, and tells a person what its status means. What comes by a pipe is kept besides, so that the
-# line at 3 is known.
+# run_watched WORDS..: runs the program, tells a person what its status means, and ends with it. What comes by a pipe is kept besides, so that
+# the line at 3 is known.
 run_watched() {
-    local status
+    local status text
     kept=''
     if [[ -p /dev/stdin && ${2-} != gen ]] && kept=$(mktemp); then
         trap 'rm -f "$kept"' EXIT
         exec 6< <(exec 5>&1 >"$kept" && exec tee /dev/fd/5)
-        "$program" "$@" <&6
+        SLATE_TELL=1 "$program" "$@" <&6
         status=$?
         kill "$!" 2>/dev/null
     else
         # A file is read anew, where the script was all of it.
         [[ ! -f /dev/stdin ]] || ! grep -qx 'pos:[[:space:]]*0' /proc/self/fdinfo/0 || kept=/dev/stdin
-        "$program" "$@"
+        SLATE_TELL=1 "$program" "$@"
         status=$?
     fi
-    ((status != 3)) || [[ -z $kept || $program_name != slate ]] || find_bad <"$kept"
-    end_with "$status" "$@"
-}
-
-# rt gives a program that it runs unproved less standard input than this.
-most_input=$((64 * 1024 * 1024))
-
-# run_unproved WORDS..: runs the program with these words by `rt try`, which proves nothing, builds the program anew for each call and
-# keeps nothing of it. Ends with the program's status, or with 1 where rt gives no answer of it. The program begins where standard
-# input has ended, and what it writes comes when it has ended.
-run_unproved() {
-    local words=("$@") status
-    try_folder=$(mktemp -d) || give_up "no folder for a run"
-    trap 'rm -rf "$try_folder"' EXIT
-    : >"$try_folder/input"
-    case $program_name:$#:${1-} in
-    slate:0: | slate:1:--help | slate:1:-h | slate:1:--version) ;;
-    slate:*)
-        cat >"$try_folder/input" || end_with 5
-        # rt runs the program in a folder of its own, and the folder of a word is the caller's.
-        [[ -z $1 || $1 == - || $1 == /* ]] || words[0]=$PWD/$1
-        ;;
-    *) cat >"$try_folder/input" || end_with 5 ;;
-    esac
-    (($(wc -c <"$try_folder/input") < most_input)) || give_up "a script of 64 MiB or more needs the proved program"
-    (cd "$top/crates/$program_name" && exec rt try -- "${words[@]}") \
-        <"$try_folder/input" >"$try_folder/output" 2>"$try_folder/said"
-    status=$?
-    if [[ $(tail -n 1 "$try_folder/said") != "run=ended status=$status "* ]]; then
-        tail -n 12 "$try_folder/said" >&2
-        give_up "the unproved run gave no answer"
+    if text=$(meaning_of "$status" "$@"); then
+        while IFS= read -r text; do
+            say "status $status: $text"
+        done <<<"$text"
     fi
-    cat "$try_folder/output" || end_with 6
-    ((status != 3)) || [[ $program_name != slate ]] || find_bad <"$try_folder/input"
-    end_with "$status" "$@"
+    exit "$status"
 }

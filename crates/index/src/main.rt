@@ -1,64 +1,94 @@
-//! Answers lines of records from standard input to standard output, over a store in memory, with the fields between commas.
+//! Answers lines of records from standard input to standard output, with the fields between commas.
 #![tactic(auto)]
 
-ghost use Rattle.std.specs.Prelude.{◌≡◌, ◌≢◌, []};
-
+use slate_command::{LineProgram, run_words, words};
 use slate_db::laws::Laws;
 use slate_index::Comma;
 use slate_index::run::run_index;
 use slate_language::{NamedExtractor, NamedOperator, Xor};
-use slate_store::{Env, MemoryStore, ReaderSource, WriterSink};
+use slate_store::{Env, ReaderSource, Store, WriterSink};
 use slate_types::Options;
-use std::env;
-use std::io::ErrorKind;
 use std::process::ExitCode;
 
+const HELP: &str = "Answers lines of records, each with two fields that it is found by.
+
+Usage: slate_index [WORD] < LINES
+
+The words are one of
+
+  -              the store is in memory, as without a word
+  FOLDER         the store is in this folder, which is one run's while it lives;
+                 a name that begins with -, has = before its first slash, or
+                 is help, shell or tell is written with ./ before it
+  --help, -h     this page
+  --version      the version
+
+No line stores tables, so nothing is left in a folder when the run ends.
+
+Lines, each answered by a line on standard output. An empty line and a comment,
+which begins with #, are not.
+
+  put ID VALUE          puts a record; its fields are the first two parts of the
+                        value, between commas
+  del ID                takes a record away
+  find INDEX FIELD      shows the ids of the records whose first field, by the
+                        index 0, or second field, by the index 1, is this
+
+An id is 1 to 32 of the letters a to z and the digits. A value and a field are
+'text, of visible bytes and without an end, or 0x74657874, bytes in hex.
+
+A line that is answered by refused, an error and what there is changes nothing.
+
+The status is
+  0   where every line was answered
+  2   where a word is not known, or the folder is a file, in use or has tables
+  3   at the first line that is not of the program
+  4   where the lines have 4294967295 bytes or more
+  5   where standard input failed     6   where standard output failed
+  7   where the folder failed        20   where there is no more memory
+
+docs/PROGRAMS.md has more, and examples/ has lines with their replies.";
+
+const VERSION: &str = "slate_index 0.1.0, a program on Slate";
+
+struct Index;
+
+impl LineProgram for Index {
+    fn help(&self) -> &'static str {
+        HELP
+    }
+
+    fn version(&self) -> &'static str {
+        VERSION
+    }
+
+    fn run<S: Store>(&self, rt: &HostRuntime, store: &mut S) -> u8 {
+        let alloc = rt.alloc();
+        let mut source = ReaderSource::new(rt.stdin());
+        let mut sink = WriterSink::new(rt.stdout());
+        let mut env: Env<'_, S, NamedOperator, Xor> = Env {
+            store,
+            operator: None,
+            transformer: None,
+        };
+        let laws: Laws<NamedExtractor> = Laws {
+            options: Options::new(),
+            segments: None,
+            policies: Vec::new(alloc),
+        };
+        let ran = run_index(alloc, &mut source, &mut sink, &mut env, &laws, &Comma);
+        drop(laws);
+        match ran {
+            Ok(()) => 0,
+            Err(error) => error.status().unwrap_or(20),
+        }
+    }
+}
+
 fn main(rt: HostRuntime) -> ExitCode {
-    ExitCode::from(status(&rt))
-}
-
-fn status(rt: &HostRuntime) -> u8 {
-    let words = match env::args(rt) {
-        Ok(words) => words,
-        Err(error) if error.kind() == ErrorKind::OutOfMemory => return 20,
-        Err(_) => return 2,
+    let status = match words(&rt) {
+        Ok(words) => run_words(&rt, &Index, &words),
+        Err(status) => status,
     };
-    let words: Result<Vec<String>, _> = words.skip(1).collect(rt.alloc());
-    match words {
-        Ok(words) => run_without(rt, &words),
-        Err(_) => 20,
-    }
-}
-
-/// Takes no words.
-fn run_without(rt: &HostRuntime, words: &[String]) -> u8
-    ensures none { words.now ≢ [] → result ≡ 2 }
-{
-    match words {
-        [] => run(rt),
-        _ => 2,
-    }
-}
-
-fn run(rt: &HostRuntime) -> u8 {
-    let alloc = rt.alloc();
-    let mut source = ReaderSource::new(rt.stdin());
-    let mut sink = WriterSink::new(rt.stdout());
-    let mut store = MemoryStore::new(alloc, Vec::new(alloc));
-    let mut env: Env<'_, MemoryStore, NamedOperator, Xor> = Env {
-        store: &mut store,
-        operator: None,
-        transformer: None,
-    };
-    let laws: Laws<NamedExtractor> = Laws {
-        options: Options::new(),
-        segments: None,
-        policies: Vec::new(alloc),
-    };
-    let ran = run_index(alloc, &mut source, &mut sink, &mut env, &laws, &Comma);
-    drop(laws);
-    match ran {
-        Ok(()) => 0,
-        Err(error) => error.status().unwrap_or(20),
-    }
+    ExitCode::from(status)
 }

@@ -1,21 +1,22 @@
 //! Runs a script from standard input, with its replies to standard output.
 #![tactic(auto)]
 
-ghost use Rattle.std.specs.Prelude.{◌≡◌, [], map, IfOk, IsOkUnless};
+ghost use Rattle.std.specs.Prelude.{◌≡◌, [], ◌∷◌, ◌||◌, None, is_some, map, IfOk, IsOkUnless};
+ghost use Rattle.std.specs.String.{string_bytes};
 ghost use Rattle.slate_store.specs.Store.{IsEmpty};
 ghost use Rattle.slate_filter.specs.Laws.{AreValidNames};
+ghost use Rattle.slate_language.specs.Words.{read_generated, read_words};
+ghost use Rattle.slate_command.specs.FirstWord.{first_word};
 ghost use Rattle.slate_script.specs.Program.{IsDamageStatus};
 ghost use Rattle.slate_script.specs.Told.{IsUntrue};
 ghost use Rattle.slate_table.specs.Filtered.{AreLawful};
 
-mod filters;
-
+use slate_command::{FirstWord, Watched, filters, hold, print, words};
 use slate_filter::FilterPolicy;
+use slate_language::{parse_generated, parse_words};
 use slate_script::run_main;
-use slate_store::{FileStore, MemoryStore, ReaderSource, Store, StoreError, WriterSink};
+use slate_store::{FileStore, MemoryStore, ReaderSource, Store, WriterSink};
 use slate_types::SlateDBError;
-use std::env;
-use std::io::ErrorKind;
 use std::process::ExitCode;
 
 const HELP: &str = "Runs a script of transactions over a store in memory or in a folder.
@@ -25,9 +26,12 @@ Usage: slate - [WORDS] < SCRIPT
        slate - gen N S [WORDS]
        slate FOLDER gen N S [WORDS]
 
-A store begins empty, so the folder must have no tables yet. With gen the script
-is made: N rounds of a read and a write, at most 100000, of keys drawn from the
-number S. Its replies are counted, and one line is written.
+A store begins empty, so the folder must have no tables yet, and it is one run's
+while that lives. A name that begins with -, has = before its first slash, or is
+help, shell or tell is written with ./ before it.
+
+With gen the script is made: N rounds of a read and a write, at most 100000, of
+keys drawn from the number S. Its replies are counted, and one line is written.
 
 Lines, each answered by a line on standard output. An empty line and a comment,
 which begins with #, are not.
@@ -73,7 +77,7 @@ Words, and in brackets what stands where one is missing:
 
 The status is
   0   where every line was answered
-  2   where the words are not known, or the folder has tables
+  2   where a word is not known, or the folder is a file, in use or has tables
   3   at the first line that is not in the language
   4   where the script has 4294967295 bytes or more
   5   where standard input failed     6   where standard output failed
@@ -86,73 +90,62 @@ scripts with their replies.";
 const VERSION: &str = "slate 0.1.0, a port of slatedb 0.16.0's transaction path";
 
 fn main(rt: HostRuntime) -> ExitCode {
-    ExitCode::from(status(&rt))
-}
-
-fn status(rt: &HostRuntime) -> u8 {
-    let words = match env::args(rt) {
-        Ok(words) => words,
-        Err(error) if error.kind() == ErrorKind::OutOfMemory => return 20,
-        Err(_) => return 2,
+    let status = match words(&rt) {
+        Ok(words) => run(&rt, &words),
+        Err(status) => status,
     };
-    let words: Result<Vec<String>, _> = words.skip(1).collect(rt.alloc());
-    match words {
-        Ok(words) => run(rt, &words),
-        Err(_) => 20,
-    }
+    ExitCode::from(status)
 }
 
-/// Without a word nothing is read, written or printed.
+/// Without a word, and where the first one asks for nothing, nothing is read, written, printed or
+/// made.
 fn run(rt: &HostRuntime, words: &[String]) -> u8
     ensures none { words.now ≡ [] → result ≡ 2 }
+    ensures unknown { (w : _) (ws : _) → words.now ≡ w ∷ ws →
+        first_word (string_bytes w) ≡ None → result ≡ 2 }
 {
     match words {
-        [word] if word.as_str() == "--help" || word.as_str() == "-h" => print(rt, HELP),
-        [word] if word.as_str() == "--version" => print(rt, VERSION),
-        [first, rest @ ..] => run_over(rt, first.as_str(), rest),
+        [first, rest @ ..] => run_by(rt, FirstWord::read(first.as_bytes()), first.as_str(), rest),
         [] => 2,
     }
 }
 
-/// Runs over a store in memory, which `-` names, or over a folder, where that has no tables.
-fn run_over(rt: &HostRuntime, store: &str, words: &[String]) -> u8 {
-    if store == "-" {
-        let mut memory = MemoryStore::new(rt.alloc(), Vec::new(rt.alloc()));
-        return run_with(rt, words, &mut memory);
-    }
-    match has_tables(rt, store) {
-        Ok(true) => 2,
-        Ok(false) => run_over_folder(rt, store, words),
-        Err(_) => 20,
+/// Does what the first word asks for, by the words after it.
+fn run_by(rt: &HostRuntime, asks: Option<FirstWord>, first: &str, words: &[String]) -> u8
+    ensures { asks ≡ None → result ≡ 2 }
+{
+    match asks {
+        Some(FirstWord::Help) if words.is_empty() => print(rt, HELP),
+        Some(FirstWord::Version) if words.is_empty() => print(rt, VERSION),
+        Some(FirstWord::Memory) => {
+            let mut memory = MemoryStore::new(rt.alloc(), Vec::new(rt.alloc()));
+            run_with(rt, None, words, &mut memory)
+        }
+        Some(FirstWord::Folder) => run_over_folder(rt, first, words),
+        _ => 2,
     }
 }
 
+/// Runs over a store in the folder.
 fn run_over_folder(rt: &HostRuntime, folder: &str, words: &[String]) -> u8 {
     match FileStore::new(rt.alloc(), rt, folder) {
-        Ok(mut store) => run_with(rt, words, &mut store),
+        Ok(store) => {
+            let mut store = Watched::new(rt.alloc(), store);
+            let status = run_with(rt, Some(folder), words, &mut store);
+            store.tell(rt, status);
+            status
+        }
         Err(_) => 20,
     }
 }
 
-/// Whether an earlier run left tables in the folder, over which this one would put its own. Of one that can't be read it isn't known; the
-/// first flush into it fails.
-fn has_tables(rt: &HostRuntime, folder: &str) -> Result<bool, SlateDBError>
-    ensures cause { IsOkUnless result SlateDBError.OutOfMemory }
-{
-    if folder.is_empty() {
-        return Ok(false);
-    }
-    let place = format!(in rt.alloc(); "{folder}/db/compacted")?;
-    let mut tables = FileStore::new(rt.alloc(), rt, &place)?;
-    match tables.list(rt.alloc()) {
-        Ok(names) => Ok(names.iter().any(|name| name.as_str().ends_with(".sst"))),
-        Err(StoreError::Failed) => Ok(false),
-        Err(StoreError::OutOfMemory) => Err(SlateDBError::OutOfMemory),
-    }
-}
-
-fn run_with<S: Store>(rt: &HostRuntime, words: &[String], store: &mut S) -> u8 {
-    match run_filtered(rt, words, store) {
+fn run_with<S: Store>(
+    rt: &HostRuntime,
+    folder: Option<&str>,
+    words: &[String],
+    store: &mut S,
+) -> u8 {
+    match run_filtered(rt, folder, words, store) {
         Ok(status) => status,
         Err(error) => {
             drop(error);
@@ -161,11 +154,12 @@ fn run_with<S: Store>(rt: &HostRuntime, words: &[String], store: &mut S) -> u8 {
     }
 }
 
-/// Runs with the policies of filters that the program comes with, of which the words use some. Over a store that was empty and is
-/// honest no table is damaged, and over one that tells its acts only where a read was answered otherwise than by what the run had
-/// put.
+/// Runs with the policies of filters that the program comes with, of which the words use some. Over
+/// a store that was empty and is honest no table is damaged, and over one that tells its acts only
+/// where a read was answered otherwise than by what the run had put.
 fn run_filtered<S: Store>(
     rt: &HostRuntime,
+    folder: Option<&str>,
     words: &[String],
     store: &mut S,
 ) -> Result<u8, SlateDBError>
@@ -179,7 +173,46 @@ fn run_filtered<S: Store>(
     policies.push(Box::new(alloc, filters::colon(alloc, true)?)?)?;
     policies.push(Box::new(alloc, filters::colon(alloc, false)?)?)?;
     policies.push(Box::new(alloc, filters::fixed(alloc)?)?)?;
-    Ok(run_lawful(rt, words, store, policies))
+    Ok(run_held(rt, folder, words, store, policies))
+}
+
+/// Runs with lawful policies of filters. A store in a folder is run over by words of a run alone,
+/// and while no other run holds the folder.
+fn run_held<S: Store>(
+    rt: &HostRuntime,
+    folder: Option<&str>,
+    words: &[String],
+    store: &mut S,
+    policies: Vec<Box<dyn FilterPolicy>>,
+) -> u8
+    requires names { AreValidNames (map (λ p. (meaning p).name) policies.items) }
+    requires lawful { AreLawful (map (λ p. meaning p) policies.items) }
+    ensures undamaged { IsEmpty (S.objects store.old) → IsDamageStatus result → ⊥ }
+    ensures untrue { IsDamageStatus result → IsUntrue [] (S.acts store.old) (S.acts store.new) }
+{
+    let Some(folder) = folder else {
+        return run_lawful(rt, words, store, policies);
+    };
+    if !are_words(words, &policies) {
+        return 2;
+    }
+    match hold(rt, folder) {
+        Ok(held) => {
+            let status = run_lawful(rt, words, store, policies);
+            drop(held);
+            status
+        }
+        Err(error) => error.status(),
+    }
+}
+
+/// Whether these are words of a run.
+fn are_words(words: &[String], policies: &[Box<dyn FilterPolicy>]) -> bool
+    ensures { let names = map (λ p. (meaning p).name) policies.now in
+        let ws = map string_bytes words.now in
+        result ≡ (is_some (read_words names ws) || is_some (read_generated names ws)) }
+{
+    parse_words(words, policies).is_some() || parse_generated(words, policies).is_some()
 }
 
 /// Runs with lawful policies of filters.
@@ -197,11 +230,4 @@ fn run_lawful<S: Store>(
     let mut source = ReaderSource::new(rt.stdin());
     let mut sink = WriterSink::new(rt.stdout());
     run_main(rt.alloc(), words, &mut source, &mut sink, store, policies)
-}
-
-fn print(rt: &HostRuntime, text: &str) -> u8 {
-    match println!(rt; "{text}") {
-        Ok(()) => 0,
-        Err(_) => 6,
-    }
 }

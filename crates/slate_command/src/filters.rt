@@ -1,4 +1,5 @@
-//! The policies of filters that the program comes with. Each is lawful: none denies a query that a row matches.
+//! The policies of filters that the program comes with. Each is lawful: none denies a query that a
+//! row matches.
 ghost use Rattle.std.specs.Prelude.{◌≡◌, Some, true, false, codes, IfOk, IsOkUnless};
 ghost use Rattle.slate_types.specs.Lawful.{IsLawfulLengths};
 ghost use Rattle.slate_filter.specs.BloomPolicies.{bloom_name};

@@ -3,7 +3,7 @@ use Rattle.std.specs.Prelude.{IfOk, string_bytes}
 use Rattle.std.specs.Fmt.{digits}
 use Rattle.std.proofs.lemmas.Result.{IfOk-weaker}
 use Rattle.slate_filter.specs.BloomPolicies.{bloom_name, named_by}
-use Rattle.slate.proofs.filters.fixed.Goals as goal
+use Rattle.slate_command.proofs.filters.fixed.Goals as goal
 
 pub returns-clause-name : goal.returns-clause-name
 unfolding digits
