@@ -14,7 +14,9 @@ fn least_sequences(alloc: Global) -> Result<[Option<u64>; 5], SlateDBError> {
     let of_two = snapshots.min_active_seq();
     drop(snapshots.new_snapshot(Some(20))?);
     let of_three = snapshots.min_active_seq();
-    snapshots.drop_snapshot(&fifth);
+    if snapshots.is_live(&fifth) {
+        snapshots.drop_snapshot(&fifth);
+    }
     Ok([
         of_none,
         of_one,
