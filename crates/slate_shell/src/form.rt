@@ -31,19 +31,19 @@ pub fn form_of(word: &[u8]) -> Option<Form> {
     }
 }
 
-fn form(kinds: &'static [Kind], tail: Tail) -> Option<Form> {
+fn made(kinds: &'static [Kind], tail: Tail) -> Option<Form> {
     Some(Form { kinds, tail })
 }
 
 fn open_form(word: &[u8]) -> Option<Form> {
     if is(word, b"now") {
-        form(&[Kind::Moment], Tail::Nothing)
+        made(&[Kind::Moment], Tail::Nothing)
     } else if is(word, b"begin") {
-        form(&[Kind::Name, Kind::Level], Tail::Nothing)
+        made(&[Kind::Name, Kind::Level], Tail::Nothing)
     } else if is(word, b"snapshot") || is(word, b"commit") || is(word, b"rollback") {
-        form(&[Kind::Name], Tail::Nothing)
+        made(&[Kind::Name], Tail::Nothing)
     } else if is(word, b"freeze") || is(word, b"flush") || is(word, b"journal") {
-        form(&[], Tail::Nothing)
+        made(&[], Tail::Nothing)
     } else {
         None
     }
@@ -51,14 +51,14 @@ fn open_form(word: &[u8]) -> Option<Form> {
 
 fn read_form(word: &[u8]) -> Option<Form> {
     if is(word, b"get") {
-        form(&[Kind::Name, Kind::Key], Tail::Nothing)
+        made(&[Kind::Name, Kind::Key], Tail::Nothing)
     } else if is(word, b"scan") {
-        form(
+        made(
             &[Kind::Name, Kind::Order, Kind::Bound, Kind::Bound],
             Tail::Steps,
         )
     } else if is(word, b"prefix") {
-        form(
+        made(
             &[Kind::Name, Kind::Order, Kind::Key, Kind::Bound, Kind::Bound],
             Tail::Steps,
         )
@@ -69,13 +69,13 @@ fn read_form(word: &[u8]) -> Option<Form> {
 
 fn write_form(word: &[u8]) -> Option<Form> {
     if is(word, b"put") || is(word, b"merge") {
-        form(&[Kind::Name, Kind::Key, Kind::Value], Tail::Time)
+        made(&[Kind::Name, Kind::Key, Kind::Value], Tail::Time)
     } else if is(word, b"delete") {
-        form(&[Kind::Name, Kind::Key], Tail::Nothing)
+        made(&[Kind::Name, Kind::Key], Tail::Nothing)
     } else if is(word, b"mark") || is(word, b"unmark") {
-        form(&[Kind::Name, Kind::Key], Tail::Keys)
+        made(&[Kind::Name, Kind::Key], Tail::Keys)
     } else if is(word, b"write") {
-        form(&[], Tail::Operations)
+        made(&[], Tail::Operations)
     } else {
         None
     }

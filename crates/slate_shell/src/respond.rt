@@ -92,8 +92,7 @@ fn respond_to_read<S: Store, M: MergeOperator, T: BlockTransformer, X: PrefixExt
     laws: &Laws<X>,
 ) -> Result<Vec<u8>, SlateDBError>
     requires valid { IsValid laws.now.options }
-    requires names {
-        AreValidNames (map (λ p. (meaning (p.vtable, p.value)).name) laws.now.policies.items) }
+    requires names { AreValidNames (map (λ p. (meaning (p.vtable, p.value)).name) laws.now.policies.items) }
 {
     let Some(named) = named(alloc, line)? else {
         return Ok(wrong(alloc, line, number)?);
