@@ -7,22 +7,22 @@
 # lines there say what a status other than 0 means.
 . "$top/.ci/program.sh"
 
-if [[ $1 == slate && ${2-} == shell ]]; then
-    call+=' shell'
-    set -- shell "${@:3}"
-fi
-choose_program "$1"
+crate=$1 telling=''
 shift
-telling=''
+[[ ! -t 2 ]] || telling=1
+if [[ ${1-} == tell ]]; then
+    telling=1
+    shift
+fi
+if [[ $crate == slate && ${1-} == shell ]]; then
+    crate=shell call+=' shell'
+    shift
+fi
+choose_program "$crate"
 if [[ ${1-} == --prove && $# -eq 1 ]]; then
     prepare
     say "the proved program is there"
     exit
-elif [[ ${1-} == tell ]]; then
-    telling=1
-    shift
-elif [[ -t 2 ]]; then
-    telling=1
 fi
 if ! is_current; then
     choose_unproved

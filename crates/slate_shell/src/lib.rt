@@ -2,7 +2,7 @@
 //! goes on.
 #![tactic(auto)]
 
-pub mod answer;
+pub mod answers;
 pub mod form;
 pub mod kind;
 pub mod program;
@@ -11,6 +11,6 @@ pub mod run;
 pub mod spelling;
 pub mod wrong;
 
-pub use answer::{answer, shown};
+pub use answers::{answer, shown};
 pub use program::run_by_words;
 pub use run::{Pages, run_shell};

@@ -10,7 +10,7 @@ ghost use Rattle.slate_language.specs.Replies.{is_silent};
 ghost use Rattle.slate_script.specs.Session.{has_moment};
 ghost use Rattle.slate_shell.specs.Shown.{AnswersMeant};
 
-use crate::answer::answer;
+use crate::answers::answer;
 use crate::spelling::{SpellingError, respell};
 use crate::wrong::find_wrong;
 use bytes::Bytes;
