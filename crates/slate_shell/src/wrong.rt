@@ -36,74 +36,88 @@ pub fn find_wrong<'a>(tokens: &[&'a [u8]]) -> Wrong<'a> {
 }
 
 fn find_in<'a>(form: Form, tokens: &[&'a [u8]]) -> Wrong<'a> {
-    let mut left = tokens;
-    for kind in form.kinds {
-        match after(*kind, left) {
-            Ok(rest) => left = rest,
-            Err(wrong) => return wrong,
+    match first_misfit(tokens, 0, form.kinds) {
+        Some((at, kind)) => at_token(tokens, at, kind.text()),
+        None => find_in_tail(form.tail, tokens, form.kinds.len()),
+    }
+}
+
+/// The first place from `at` on where no token of the kind stands that is its turn, with the kind.
+fn first_misfit(tokens: &[&[u8]], at: usize, kinds: &[Kind]) -> Option<(usize, Kind)> {
+    for (number, kind) in kinds.iter().enumerate() {
+        let place = at.saturating_add(number);
+        if !fits_at(tokens, place, *kind) {
+            return Some((place, *kind));
         }
     }
-    match form.tail {
-        Tail::Nothing => at_first(left, END),
-        Tail::Time => at_first(left, Kind::Time.text()),
-        Tail::Steps => at_misfit(left, Kind::Step),
-        Tail::Keys => at_misfit(left, Kind::Key),
-        Tail::Operations => in_operations(left),
+    None
+}
+
+/// What is wrong with the tokens from this place on, which are the form's tail.
+fn find_in_tail<'a>(tail: Tail, tokens: &[&'a [u8]], at: usize) -> Wrong<'a> {
+    match tail {
+        Tail::Nothing => at_token(tokens, at, END),
+        Tail::Time => at_token(tokens, at, Kind::Time.text()),
+        Tail::Steps => at_misfit(tokens, at, Kind::Step),
+        Tail::Keys => at_misfit(tokens, at, Kind::Key),
+        Tail::Operations => in_operations(tokens),
     }
 }
 
-/// The tokens after one of the kind, or what is wrong with the first of them.
-fn after<'s, 'a>(kind: Kind, tokens: &'s [&'a [u8]]) -> Result<&'s [&'a [u8]], Wrong<'a>> {
-    match tokens.split_first() {
-        Some((token, rest)) if kind.fits(token) => Ok(rest),
-        _ => Err(at_first(tokens, kind.text())),
+/// Whether a token stands at this place, and is of the kind.
+fn fits_at(tokens: &[&[u8]], at: usize, kind: Kind) -> bool {
+    match tokens.get(at) {
+        Some(token) => kind.fits(token),
+        None => false,
     }
 }
 
-fn at_first<'a>(tokens: &[&'a [u8]], expected: &'static str) -> Wrong<'a> {
+fn at_token<'a>(tokens: &[&'a [u8]], at: usize, expected: &'static str) -> Wrong<'a> {
     Wrong {
-        token: tokens.first().copied(),
+        token: tokens.get(at).copied(),
         expected,
     }
 }
 
-/// At the first token that isn't of the kind.
-fn at_misfit<'a>(tokens: &[&'a [u8]], kind: Kind) -> Wrong<'a> {
-    for token in tokens {
-        if !kind.fits(token) {
-            return Wrong {
-                token: Some(*token),
-                expected: kind.text(),
-            };
+/// At the first token from this place on that isn't of the kind.
+fn at_misfit<'a>(tokens: &[&'a [u8]], from: usize, kind: Kind) -> Wrong<'a> {
+    for at in from..tokens.len() {
+        if !fits_at(tokens, at, kind) {
+            return at_token(tokens, at, kind.text());
         }
     }
-    at_first(&[], END)
+    at_token(tokens, tokens.len(), END)
 }
 
 fn in_operations<'a>(tokens: &[&'a [u8]]) -> Wrong<'a> {
-    let mut left = tokens;
-    while let Some((word, rest)) = left.split_first() {
-        let kinds: &[Kind] = if is(word, b"put") || is(word, b"merge") {
-            &[Kind::Key, Kind::Value]
-        } else if is(word, b"delete") {
-            &[Kind::Key]
-        } else {
-            return at_first(left, OPERATION);
+    let mut at = 0;
+    for _ in tokens {
+        let Some(word) = tokens.get(at) else {
+            break;
         };
-        left = rest;
-        for kind in kinds {
-            match after(*kind, left) {
-                Ok(rest) => left = rest,
-                Err(wrong) => return wrong,
-            }
+        let kinds = operands_of(word);
+        if kinds.is_empty() {
+            return at_token(tokens, at, OPERATION);
         }
-        if kinds.len() == 2 {
-            left = without_time(left);
+        let first = at.saturating_add(1);
+        if let Some((place, kind)) = first_misfit(tokens, first, kinds) {
+            return at_token(tokens, place, kind.text());
+        }
+        at = first.saturating_add(kinds.len());
+        if kinds.len() == 2 && fits_at(tokens, at, Kind::Time) {
+            at = at.saturating_add(1);
         }
     }
-    at_first(&[], END)
+    at_token(tokens, tokens.len(), END)
 }
 
-fn without_time<'s, 'a>(tokens: &'s [&'a [u8]]) -> &'s [&'a [u8]] {
-    after(Kind::Time, tokens).unwrap_or(tokens)
+/// The kinds of tokens after the word of an operation, and none after another word.
+fn operands_of(word: &[u8]) -> &'static [Kind] {
+    if is(word, b"put") || is(word, b"merge") {
+        &[Kind::Key, Kind::Value]
+    } else if is(word, b"delete") {
+        &[Kind::Key]
+    } else {
+        &[]
+    }
 }
