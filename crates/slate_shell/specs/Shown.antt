@@ -8,7 +8,8 @@
 --     AnswersShown layout line before after old new result      a session's answer to a line, shown
 --     AnswersMeant layout line before after old new result      the same, unless there was no memory
 --                 to read the line
-use Rattle.std.specs.Prelude.{◌≡◌, ◌⊎◌, ℕ, List, [], ◌∷◌, ◌++◌, flat_map, length, Some, Result, Ok, Err, IfOk, Vec, codes, decimal}
+use Rattle.std.specs.Prelude.{◌≡◌, ◌⊎◌, ℕ, List, [], ◌∷◌, ◌++◌, flat_map, length, Some, Result, Ok, Err, IfOk, codes, decimal}
+use Rattle.std.specs.Global.{Vec}
 use Rattle.slate_types.specs.declared.error.SlateDBError.{SlateDBError}
 use Rattle.slate_types.specs.declared.error.SlateDBError.TheVariants.{OutOfMemory}
 use Rattle.slate_types.specs.declared.types.KeyValue.{KeyValue}
