@@ -1,0 +1,5 @@
+//! Tests of services of several threads: that their calls answer, and how much is done.
+#![tactic(auto)]
+
+#[cfg(test)]
+mod payments;

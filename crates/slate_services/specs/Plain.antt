@@ -1,0 +1,33 @@
+-- Threads on a database by the default options, without parts.
+--     plain_rules      what enters its replies
+--     PlainWorked old new made      what several calls of a worker do, which commit so often
+--     PlainRead old new before after made      the same of a reader, whose store another fills
+--     PlainFlushed old new before after      what several flushes do; of a store that tells its
+--             objects, it keeps the tables
+--     IsCount es n      a journal has so many commits, writes and installs
+use Rattle.std.specs.Prelude.{◌≡◌, ℕ, List, [], count_by}
+use Rattle.slate_types.specs.Config.{defaults}
+use Rattle.slate_types.specs.Outside.{Reach, no_parts}
+use Rattle.slate_txn.specs.declared.event.Event.{Event}
+use Rattle.slate_txn.specs.Settings.{settings_of}
+use Rattle.slate_txn.specs.State.{Rules}
+use Rattle.slate_db.specs.Meaning.{rules_of}
+use Rattle.slate_shared.specs.Passes.{PassModel}
+use Rattle.slate_shared.specs.Shared.{is_own}
+use Rattle.slate_threads.specs.Readers.{HasFlushed, HasRead}
+use Rattle.slate_threads.specs.Workers.{HasWorked}
+
+abbrev pub plain_rules : Rules
+plain_rules = rules_of (settings_of defaults) no_parts
+
+abbrev pub PlainWorked : PassModel → PassModel → ℕ → Type 0
+PlainWorked old new made = HasWorked defaults no_parts old new made
+
+abbrev pub PlainRead : PassModel → PassModel → Reach → Reach → ℕ → Type 0
+PlainRead old new before after made = HasRead defaults no_parts [] old new before after made
+
+abbrev pub PlainFlushed : PassModel → PassModel → Reach → Reach → Type 0
+PlainFlushed old new before after = HasFlushed defaults no_parts old new before after
+
+abbrev pub IsCount : List Event → ℕ → Type 0
+IsCount es n = count_by is_own es ≡ n

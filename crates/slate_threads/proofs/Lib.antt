@@ -1,0 +1,7 @@
+pub mod OwnPlaces
+pub mod Counting
+pub mod Serial
+pub mod PassLaws
+pub mod WorkerLaws
+pub mod ReaderLaws
+pub mod FlushLaws
