@@ -2,4 +2,10 @@
 #![tactic(auto)]
 
 #[cfg(test)]
+mod copies;
+#[cfg(test)]
+mod jobs;
+#[cfg(test)]
 mod payments;
+#[cfg(test)]
+mod records;

@@ -48,9 +48,10 @@ fn to_cat() -> Order {
     }
 }
 
-// Whether two threads together make just a hundred payments. Each has a hundred turns. In a turn it
-// pays, or conflicts with a payment of the other thread, and with no payment in two turns, or finds
-// that nothing is left. So a thread that never finds that sees a hundred payments, its own or others'.
+// Whether two threads together make just a hundred payments. Each has a hundred turns. In a turn
+// it pays, or conflicts with a payment of the other thread, and with no payment in two turns, or
+// finds that nothing is left. So a thread that never finds that sees a hundred payments, its own
+// or others'.
 fn are_all_paid<R: Threads + Wait + Sync>(rt: &R, alloc: Global) -> bool {
     match pay_by_two(rt, alloc, &issue(), &to_bob(), &to_cat(), 100) {
         Ok(paid) => paid.issued == 1 && paid.first.saturating_add(paid.second) == 100,

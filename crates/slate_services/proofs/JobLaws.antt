@@ -1,5 +1,6 @@
 -- What an attempt at a call on a queue does of a worker's, and what the journal of a queue says.
-use Rattle.std.proofs.Common.{◌≡◌, ◌⊎◌, ⊎_elim, inl, inr, ℕ, ℤ, List, [], ◌∷◌, ◌++◌, Option, Some, None}
+use Rattle.std.proofs.Common.{◌≡◌, ◌⊎◌, ⊎_elim, inl, inr, ℕ, ℤ, List, [], ◌∷◌, ◌++◌, Option, Some}
+use Rattle.std.proofs.Common.{None}
 use Rattle.std.proofs.Common.{Result, Ok, Err, subst}
 use Rattle.slate_types.specs.Config.{defaults}
 use Rattle.slate_types.specs.Outside.{Reach, no_parts}

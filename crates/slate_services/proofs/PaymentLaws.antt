@@ -10,6 +10,7 @@ use Rattle.slate_txn.specs.declared.event.Event.TheVariants as events
 use Rattle.slate_txn.specs.declared.event.TranscriptStep.{TranscriptStep}
 use Rattle.slate_txn.specs.Replay.{IsLegal}
 use Rattle.slate_txn.specs.Vouched.{AreVouched}
+use Rattle.slate_txn.proofs.PlaceLaws.{each_at_its_place}
 use Rattle.slate_db.specs.Installs.{tables_of}
 use Rattle.slate_shared.specs.Passes.{PassModel}
 use Rattle.slate_steps.specs.Attempts.{SeesOnly}
@@ -51,7 +52,7 @@ order_vouched order now n old new h = record {
 pub order_worked : (order : Order) (now : ℤ) (old new : PassModel) (r : Result ℕ StockError) →
     IfOk r (λ n. HasOrderedOn defaults order now n old new) →
     (tables_of new.seen ≡ [] →
-        IfOk r (λ n. HasSteppedOn defaults no_parts order now n old new)) →
+    IfOk r (λ n. HasSteppedOn defaults no_parts order now n old new)) →
     OnErr r (SeesOnly old new) → HasWorked defaults no_parts old new (made_by r)
 order_worked order now old new (Ok n) h stepped only =
     one_worked defaults no_parts old new (order_commits order now n old new h)
@@ -65,20 +66,23 @@ steps_of : (es : List Event) → IsLegal defaults.start_seq es → IsOrders es �
 steps_of es legal orders vouched before later id n now ops tracked ts is =
     each_is_a_step plain_rules before later id n now ops tracked ts
     (subst (λ (l : List Event). AreAuditedOrders defaults.start_seq l) is
-        (record { legal = legal; orders = orders }))
+    (record { legal = legal; orders = orders }))
     (subst (λ (l : List Event). AreVouched plain_rules l) is vouched)
+
+pub books_of : (es : List Event) → IsLegal defaults.start_seq es → IsOrders es →
+    AreVouched plain_rules es → AreBooks plain_rules es
+books_of es legal orders vouched = record {
+  balances = λ n asset plain.
+      balances_add_up plain_rules es n asset (record { legal = legal; orders = orders }) vouched
+      plain;
+  steps = steps_of es legal orders vouched;
+  serial = are_serial plain_rules order_kind es tracks_all orders
+      (each_at_its_place plain_rules es legal vouched);
+  orders = orders;
+}
 
 pub are_books : (p : PassModel) (es core : List Event) → IsWholeCopy defaults p es core →
     IsVouchedCopy defaults no_parts es → ((n0 : ℕ) → IsLegal n0 es → IsOrders es) →
     AreBooks plain_rules es
-are_books p es core copy vouched audited = record {
-  balances = λ n asset plain.
-      balances_add_up plain_rules es n asset (record { legal = copy.legal; orders = orders })
-      vouched.vouched plain;
-  steps = steps_of es copy.legal orders vouched.vouched;
-  serial = are_serial plain_rules order_kind es tracks_all orders vouched.alone;
-  orders = orders;
-}
-  where
-    orders : IsOrders es
-    orders = audited defaults.start_seq copy.legal
+are_books p es core copy vouched audited =
+    books_of es copy.legal (audited defaults.start_seq copy.legal) vouched.vouched

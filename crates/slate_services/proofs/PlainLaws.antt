@@ -1,4 +1,5 @@
--- Workers on a database by the default options: what their reads need, and how two passes become one.
+-- Workers on a database by the default options: what their reads need, and how two passes become
+-- one.
 use Rattle.std.proofs.Common.{◌≡◌, ℕ, ◌+◌, inl, List, [], length, ◌++◌, Some, refl, sym, ap, subst}
 use Rattle.std.proofs.Common.{◌∙◌, arith, length-append}
 use mathlib.Core.List.{IsPrefix}
@@ -49,10 +50,11 @@ pub two_worked : (opened first kept given mine theirs joined : PassModel) (a b c
     HasWorked defaults no_parts kept mine b → HasWorked defaults no_parts given theirs c →
     Joins mine theirs joined → joined.parts ≡ mine.parts + theirs.parts →
     AllWorked joined (a + b + c)
-two_worked opened first kept given mine theirs joined a b c none all alone seen own parts new one h k j sum = record {
+two_worked opened first kept given mine theirs joined a b c
+    none all alone seen own parts new one h k j sum = record {
   worker = join_works defaults no_parts mine theirs joined j
       (h.worker (longer_works defaults no_parts first kept begins own
-          (alone.worker (new_works defaults no_parts opened none))))
+      (alone.worker (new_works defaults no_parts opened none))))
       (k.worker (new_works defaults no_parts given new));
   parts = counted_parts;
   counted = counted_places;

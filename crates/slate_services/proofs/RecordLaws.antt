@@ -21,8 +21,10 @@ use Rattle.slate_services.specs.Plain.{plain_rules}
 use Rattle.slate_services.specs.Records.{AreIndexed}
 use Rattle.slate_services.proofs.PlainLaws.{checked_empty}
 
-module _ (fs : FieldsModel) (id : List ℕ) (new : Option (List ℕ)) (now : ℤ) (before after : Reach) (old pass : PassModel) where
-  change_commits : (n : ℕ) → ChangesBehind defaults no_parts [] fs id new now before after old pass n →
+module _ (fs : FieldsModel) (id : List ℕ) (new : Option (List ℕ)) (now : ℤ)
+    (before after : Reach) (old pass : PassModel) where
+  change_commits : (n : ℕ) →
+      ChangesBehind defaults no_parts [] fs id new now before after old pass n →
       Commits defaults old pass
   change_commits n h = record {
     from = old.seen;

@@ -1,6 +1,6 @@
 -- What a journal of a queue says.
---     IsNewDeed before d      no event before did the same: a claim of the same lease of a job, an add of
---             the same id, or a finish of the same job
+--     IsNewDeed before d      no event before did the same: a claim of the same lease of a job, an
+--             add of the same id, or a finish of the same job
 --     AreNewDeeds es      so it is of each event
 --     AreJobs r es      so; all commits are a queue's; and each would read the same just before it,
 --             whatever others tracked

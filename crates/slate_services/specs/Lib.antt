@@ -3,3 +3,4 @@ pub mod Payments
 pub mod Records
 pub mod Jobs
 pub mod Claims
+pub mod Leaving

@@ -5,15 +5,21 @@
 --     PlainFlushed old new before after      what several flushes do; of a store that tells its
 --             objects, it keeps the tables
 --     IsCount es n      a journal has so many commits, writes and installs
-use Rattle.std.specs.Prelude.{◌≡◌, ℕ, List, [], count_by}
+--     ReadsTablesOf es before after      the reads between were answered by objects that hold the
+--             tables that the journal names, or by none whose checksum fits and which aren't those
+--     HoldsTablesOf es before after      a store that tells its objects before holds these tables
+--             after
+use Rattle.std.specs.Prelude.{◌≡◌, ℕ, List, [], Some, count_by}
 use Rattle.slate_types.specs.Config.{defaults}
-use Rattle.slate_types.specs.Outside.{Reach, no_parts}
+use Rattle.slate_types.specs.Outside.{Objects, Reach, no_parts}
 use Rattle.slate_txn.specs.declared.event.Event.{Event}
 use Rattle.slate_txn.specs.Settings.{settings_of}
 use Rattle.slate_txn.specs.State.{Rules}
+use Rattle.slate_db.specs.Installs.{Holds, tables_of}
 use Rattle.slate_db.specs.Meaning.{rules_of}
 use Rattle.slate_shared.specs.Passes.{PassModel}
 use Rattle.slate_shared.specs.Shared.{is_own}
+use Rattle.slate_steps.specs.Attempts.{IsStoreChecked}
 use Rattle.slate_threads.specs.Readers.{HasFlushed, HasRead}
 use Rattle.slate_threads.specs.Workers.{HasWorked}
 
@@ -31,3 +37,10 @@ PlainFlushed old new before after = HasFlushed defaults no_parts old new before 
 
 abbrev pub IsCount : List Event → ℕ → Type 0
 IsCount es n = count_by is_own es ≡ n
+
+abbrev pub ReadsTablesOf : List Event → Reach → Reach → Type 0
+ReadsTablesOf es before after = IsStoreChecked [] no_parts es before after
+
+abbrev pub HoldsTablesOf : List Event → Reach → Reach → Type 0
+HoldsTablesOf es before after = (os : Objects) → before.objects ≡ Some os →
+    (left : Objects) × (after.objects ≡ Some left) × Holds left (tables_of es)

@@ -1,6 +1,7 @@
 -- What a journal of changes of records says.
---     AreIndexed fs r es      at each sequence the entries are just those of the records; all commits
---             change records; and each would read the same just before it, whatever others tracked
+--     AreIndexed fs r es      at each sequence the entries are just those of the records; all
+--             commits change records; and each would read the same just before it, whatever others
+--             tracked
 use Rattle.std.specs.Prelude.{ℕ, List}
 use Rattle.slate_txn.specs.declared.event.Event.{Event}
 use Rattle.slate_txn.specs.Replay.{replay}

@@ -150,12 +150,12 @@ fn work_beside<R: Threads + Wait + Sync>(
     )
 }
 
-/// Adds jobs of one payload, and then two workers claim jobs, so many times each, until a moment in
-/// milliseconds from now. Gives the journal that they leave. Whatever the workers do beside one another,
-/// in that journal no lease of a job is claimed twice, so that a job has one worker at a time; each
-/// commit would read the same just before it; and there are as many commits as the threads were told.
-/// Refuses by `Db`, if memory is wanting, and by `ForeignCommit`, if the audit finds a commit that is
-/// none of a queue's.
+/// Adds jobs of one payload, and then two workers claim jobs, so many times each, until a moment
+/// in milliseconds from now. Gives the journal that they leave. Whatever the workers do beside
+/// one another, in that journal no lease of a job is claimed twice, so that a job has one worker
+/// at a time; each commit would read the same just before it; and there are as many commits as
+/// the threads were told. Refuses by `Db`, if memory is wanting, and by `ForeignCommit`, if the
+/// audit finds a commit that is none of a queue's.
 pub fn claim_by_two<R: Threads + Wait + Sync>(
     rt: &R,
     alloc: Global,
@@ -173,8 +173,7 @@ pub fn claim_by_two<R: Threads + Wait + Sync>(
     let (db, mut pass) = Database::<Plain>::new(alloc, &laws.options)?;
     let added = add(rt, alloc, &db, &mut pass, &laws, payload, jobs);
     let mut other = pass.split(&db);
-    let (first, second) =
-        work_beside(rt, alloc, &db, &mut pass, &mut other, &laws, now, ms, turns);
+    let (first, second) = work_beside(rt, alloc, &db, &mut pass, &mut other, &laws, now, ms, turns);
     pass.join(&db, other);
     let (core, copied) = close(rt, db, pass);
     core.close();

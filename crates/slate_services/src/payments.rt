@@ -54,8 +54,8 @@ fn attempt<R: Wait>(
     run_order(rt, db, pass, order, 0, &mut env, laws)
 }
 
-/// Tries an order so many times, and gives how often it was made. If it is refused, as for a conflict,
-/// others go on first.
+/// Tries an order so many times, and gives how often it was made. If it is refused, as for a
+/// conflict, others go on first.
 fn pay<R: Wait>(
     rt: &R,
     alloc: Global,
@@ -103,11 +103,12 @@ fn pay_beside<R: Threads + Wait + Sync>(
     )
 }
 
-/// Makes an order, as an issue is, and then two threads try one each, so many times. Gives the journal
-/// that they leave. Whatever the threads do beside one another, in that journal balances add up to
-/// what was issued, at each sequence; each commit is its order's step on the amounts just before it,
-/// and would read the same there; and there are as many commits as the threads were told. Refuses by
-/// `Db`, if memory is wanting, and by `ForeignCommit`, if the audit finds a commit that is no order.
+/// Makes an order, as an issue is, and then two threads try one each, so many times. Gives the
+/// journal that they leave. Whatever the threads do beside one another, in that journal balances
+/// add up to what was issued, at each sequence; each commit is its order's step on the amounts
+/// just before it, and would read the same there; and there are as many commits as the threads
+/// were told. Refuses by `Db`, if memory is wanting, and by `ForeignCommit`, if the audit finds a
+/// commit that is no order.
 pub fn pay_by_two<R: Threads + Wait + Sync>(
     rt: &R,
     alloc: Global,

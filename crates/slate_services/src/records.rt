@@ -54,8 +54,8 @@ fn attempt<F: Fields, R: Wait>(
     put_record_shared(rt, db, pass, fields, id, value, 0, &mut env, laws)
 }
 
-/// Tries so many times to put the record, and gives how often it was put. If it is refused, as for a
-/// conflict, others go on first.
+/// Tries so many times to put the record, and gives how often it was put. If it is refused, as
+/// for a conflict, others go on first.
 fn put<F: Fields, R: Wait>(
     rt: &R,
     alloc: Global,
@@ -105,11 +105,11 @@ fn put_beside<F: Fields + Sync, R: Threads + Wait + Sync>(
     )
 }
 
-/// Two threads put one record, each with a value of its own, so many times. Gives the journal that they
-/// leave. Whatever they do beside one another, in that journal the entries are just those of the
-/// records, at each sequence; each commit would read the same just before it; and there are as many
-/// commits as the threads were told. Refuses by `Db`, if memory is wanting, and by `ForeignCommit`, if
-/// the audit finds a commit that changes no record.
+/// Two threads put one record, each with a value of its own, so many times. Gives the journal
+/// that they leave. Whatever they do beside one another, in that journal the entries are just
+/// those of the records, at each sequence; each commit would read the same just before it; and
+/// there are as many commits as the threads were told. Refuses by `Db`, if memory is wanting, and
+/// by `ForeignCommit`, if the audit finds a commit that changes no record.
 pub fn put_by_two<F: Fields + Sync, R: Threads + Wait + Sync>(
     rt: &R,
     alloc: Global,
@@ -123,12 +123,12 @@ pub fn put_by_two<F: Fields + Sync, R: Threads + Wait + Sync>(
     ensures counted { IfOk result (λ left. IsCount left.journal.events (left.first + left.second)) }
 {
     let laws = Plain::laws(alloc);
-    let (db, mut pass) =
-        Database::<Plain>::new(alloc, &laws.options).map_err(IndexError::Db)?;
+    let (db, mut pass) = Database::<Plain>::new(alloc, &laws.options).map_err(IndexError::Db)?;
     let mut other = pass.split(&db);
     let records = ((id, values.0), (id, values.1));
-    let (first, second) =
-        put_beside(rt, alloc, &db, &mut pass, &mut other, &laws, fields, records, turns);
+    let (first, second) = put_beside(
+        rt, alloc, &db, &mut pass, &mut other, &laws, fields, records, turns,
+    );
     pass.join(&db, other);
     let (core, copied) = close(rt, db, pass);
     core.close();

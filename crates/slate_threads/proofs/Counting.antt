@@ -39,10 +39,10 @@ counts_from k own [] h = refl
 counts_from k own (e ∷ es) h =
     let at : k + 0 ≡ k = omega arith in
     let here : times k own ≡ one_if (is_own e) =
-        subst (λ (n : ℕ). times n own ≡ one_if (is_own e)) at (h 0 e refl) in
+    subst (λ (n : ℕ). times n own ≡ one_if (is_own e)) at (h 0 e refl) in
     let later : from_on (suc k) (length es) own ≡ owned es =
-        counts_from (suc k) own es
-        (λ i x is. subst (λ (n : ℕ). times n own ≡ one_if (is_own x)) (next i) (h (suc i) x is)) in
+    counts_from (suc k) own es
+    (λ i x is. subst (λ (n : ℕ). times n own ≡ one_if (is_own x)) (next i) (h (suc i) x is)) in
     omega (arith, here, later)
   where
     next : (i : ℕ) → k + suc i ≡ suc k + i
@@ -126,10 +126,10 @@ unfolding one_if
 each_is_counted own es whole owner =
     sym (owned_is es)
     ∙ sym (counts_from 0 own es
-        (λ i e is. subst (λ (n : ℕ). times n own ≡ one_if (is_own e)) (zero_first i)
-            (by i e is (is_own e) refl)))
+    (λ i e is. subst (λ (n : ℕ). times n own ≡ one_if (is_own e)) (zero_first i)
+    (by i e is (is_own e) refl)))
     ∙ all_counted (length es) own
-        (λ p mine. let there = (owner p mine).1 in get_below es there.0 p there.1)
+    (λ p mine. let there = (owner p mine).1 in get_below es there.0 p there.1)
   where
     zero_first : (i : ℕ) → i ≡ 0 + i
     zero_first i = omega arith

@@ -1,6 +1,6 @@
 -- What the store of the one thread that flushes holds.
-use Rattle.std.proofs.Common.{◌≡◌, ◌⊎◌, ⊎_elim, ℕ, zero, suc, ◌+◌, ◌<◌, ◌≤◌, Option, Some}
-use Rattle.std.proofs.Common.{List, [], ◌∷◌, ◌++◌, length, slice_get, take}
+use Rattle.std.proofs.Common.{◌≡◌, ◌⊎◌, inl, inr, ⊎_elim, ℕ, suc, ◌+◌, ◌<◌, ◌≤◌, Option, Some}
+use Rattle.std.proofs.Common.{List, [], ◌∷◌, ◌++◌, length, slice_get}
 use Rattle.std.proofs.Common.{refl, sym, ap, subst, ◌∙◌, arith, length-append}
 use Rattle.std.proofs.lemmas.List.{append-nil}
 use mathlib.Core.List.{IsPrefix}
@@ -14,7 +14,8 @@ use Rattle.slate_shared.specs.Shared.{OwnsAll, times}
 use Rattle.slate_shared.proofs.Lists.{get_below, get_snoc, prefix_self, times-append}
 use Rattle.slate_threads.specs.Own.{IsNoInstall, OwnInstallNothing}
 use Rattle.slate_threads.specs.Readers.{KeepsTables, OwnsInstalls}
-use Rattle.slate_threads.specs.Laws.{FlushKeepsTables, IdleKeepsTables, NewKeepsTables, TablesAreStored}
+use Rattle.slate_threads.specs.Laws.{FlushKeepsTables, IdleKeepsTables, NewKeepsTables}
+use Rattle.slate_threads.specs.Laws.{TablesAreStored}
 use Rattle.slate_threads.proofs.OwnPlaces.{either_own, get_behind, is_there}
 
 abbrev Tables : Type 0
@@ -45,13 +46,14 @@ none_here (events.Snapshot id n) h = refl
 none_here (events.Release id) h = refl
 
 abbrev NoneIn : List Event → Type 0
-NoneIn es = (p through : ℕ) (tables : Tables) → slice_get es p ≡ Some (events.Install through tables) → ⊥
+NoneIn es = (p through : ℕ) (tables : Tables) →
+    slice_get es p ≡ Some (events.Install through tables) → ⊥
 
 none_in : (es : List Event) → NoneIn es → tables_of es ≡ []
 none_in [] h = refl
 none_in (e ∷ es) h =
     ap (λ (ts : Tables). ts ++ tables_of es)
-        (none_here e (λ through tables is. h 0 through tables (ap (λ (x : Event). Some x) is)))
+    (none_here e (λ through tables is. h 0 through tables (ap (λ (x : Event). Some x) is)))
     ∙ none_in es (λ p through tables is. h (suc p) through tables is)
 
 get_rest : (xs ys : List Event) (p : ℕ) (e : Event) → slice_get ys p ≡ Some e →
@@ -61,7 +63,8 @@ get_rest [] ys p e is = subst (λ (n : ℕ). slice_get ys n ≡ Some e) (at p) i
     at : (p : ℕ) → p ≡ 0 + p
     at p = omega arith
 get_rest (x ∷ xs) ys p e is =
-    subst (λ (n : ℕ). slice_get (x ∷ (xs ++ ys)) n ≡ Some e) (at (length xs) p) (get_rest xs ys p e is)
+    subst (λ (n : ℕ). slice_get (x ∷ (xs ++ ys)) n ≡ Some e) (at (length xs) p)
+    (get_rest xs ys p e is)
   where
     at : (n p : ℕ) → suc (n + p) ≡ suc n + p
     at n p = omega arith
@@ -82,9 +85,12 @@ nothing_more own seen es p within all =
     none : NoneIn p.0
     none i through tables is =
         beyond (length seen) i (within (length seen + i)
-            (all (length seen + i) through tables
-                (subst (λ (l : List Event). slice_get l (length seen + i) ≡ Some (events.Install through tables)) p.1
-                    (get_rest seen p.0 i (events.Install through tables) is))))
+        (all (length seen + i) through tables
+        (subst
+        (λ (l : List Event).
+        slice_get l (length seen + i) ≡ Some (events.Install through tables))
+        p.1
+        (get_rest seen p.0 i (events.Install through tables) is))))
 
 -- who has all installs of a journal has those of its beginning
 installs_before : (own : List ℕ) (seen es : List Event) → IsPrefix seen es → OwnsInstalls own es →
@@ -92,10 +98,11 @@ installs_before : (own : List ℕ) (seen es : List Event) → IsPrefix seen es �
 installs_before own seen es p all i through tables is =
     all i through tables
     (subst (λ (l : List Event). slice_get l i ≡ Some (events.Install through tables)) p.1
-        (get_behind seen p.0 i (events.Install through tables) is))
+    (get_behind seen p.0 i (events.Install through tables) is))
 
 prefix_bound : (seen es : List Event) → IsPrefix seen es → length seen ≤ length es
-prefix_bound seen es p = let n = length-append seen p.0 in let m = ap length p.1 in omega (arith, n, m)
+prefix_bound seen es p =
+    let n = length-append seen p.0 in let m = ap length p.1 in omega (arith, n, m)
 
 further : (i a b : ℕ) → i < a → a ≤ b → i < b
 further i a b h k = omega (arith, h, k)
@@ -107,7 +114,9 @@ new_keeps p os none = record {
   os = os;
   told = refl;
   within = λ i mine. absurd (nowhere i mine);
-  holds = λ all. subst (Holds os) (sym (none_in p.seen (λ i through tables is. nowhere i (all i through tables is)))) tt;
+  holds = λ all.
+      subst (Holds os)
+      (sym (none_in p.seen (λ i through tables is. nowhere i (all i through tables is)))) tt;
 }
   where
     zero_not : 0 < 0 → ⊥
@@ -124,11 +133,14 @@ idle_keeps old new before after p same keeps k = record {
   told = left.1;
   within = λ i mine. further i (length old.seen) (length new.seen) (k.within i (mine_before i mine))
       (prefix_bound old.seen new.seen p);
-  holds = λ all. subst (Holds left.0) (sym (nothing_more old.own old.seen new.seen p k.within (own_before all)))
+  holds = λ all.
+      subst (Holds left.0)
+      (sym (nothing_more old.own old.seen new.seen p k.within (own_before all)))
       (left.2 old.seen p (k.holds (installs_before old.own old.seen new.seen p (own_before all))));
 }
   where
-    left : (os : Objects) × (after ≡ Some os) × ((known : List Event) → IsPrefix known new.seen → Holds k.os (tables_of known) → Holds os (tables_of known))
+    left : (os : Objects) × (after ≡ Some os) × ((known : List Event) → IsPrefix known new.seen →
+        Holds k.os (tables_of known) → Holds os (tables_of known))
     left = keeps k.os k.told
 
     mine_before : (i : ℕ) → 0 < times i new.own → 0 < times i old.own
@@ -141,7 +153,8 @@ idle_keeps old new before after p same keeps k = record {
 
 one_place : (own : List ℕ) (n i : ℕ) → 0 < times i (own ++ (n ∷ [])) → i < n → 0 < times i own
 one_place own n i mine low =
-    ⊎_elim (λ (last : i ≡ n). absurd (apart last low)) (λ (h : 0 < times i own). h) (is_there i n own mine)
+    ⊎_elim (λ (last : i ≡ n). absurd (apart last low)) (λ (h : 0 < times i own). h)
+    (is_there i n own mine)
   where
     apart : i ≡ n → i < n → ⊥
     apart e l = omega (arith, e, l)
@@ -150,35 +163,50 @@ pub flush_keeps : FlushKeepsTables
 flush_keeps o m layout n before after old new f k = record {
   os = left.0;
   told = left.1;
-  within = λ i mine. subst (λ (l : List Event). i < length l) (sym f.event) (within_new i (subst (λ (own : List ℕ). 0 < times i own) f.place mine));
-  holds = λ all. subst (λ (l : List Event). Holds left.0 (tables_of l)) (sym f.event)
-      (subst (Holds left.0) (sym (tables_both f.journal (install ∷ []) ∙ ap (λ (ts : Tables). tables_of f.journal ++ ts) (append-nil f.tables)))
-          (left.2 f.journal (prefix_self f.journal) (held (subst (λ (l : List Event). OwnsInstalls new.own l) f.event all))));
+  within = λ i mine.
+      subst (λ (l : List Event). i < length l) (sym f.event)
+      (within_new i (subst (λ (own : List ℕ). 0 < times i own) f.place mine));
+  holds = λ all.
+      subst (λ (l : List Event). Holds left.0 (tables_of l)) (sym f.event)
+      (subst (Holds left.0) (sym tables_new)
+      (left.2 f.journal (prefix_self f.journal)
+      (held (subst (λ (l : List Event). OwnsInstalls new.own l) f.event all))));
 }
   where
     install : Event
     install = events.Install n f.tables
 
-    left : (os : Objects) × (after ≡ Some os) × ((known : List Event) → IsPrefix known f.journal → Holds k.os (tables_of known) → Holds os (tables_of known ++ f.tables))
+    left : (os : Objects) × (after ≡ Some os) × ((known : List Event) → IsPrefix known f.journal →
+        Holds k.os (tables_of known) → Holds os (tables_of known ++ f.tables))
     left = f.stored k.os k.told
 
-    low : (i : ℕ) → 0 < times i old.own → i < length f.journal
-    low i mine = further i (length old.seen) (length f.journal) (k.within i mine) (prefix_bound old.seen f.journal f.seen)
+    tables_new : tables_of (f.journal ++ (install ∷ [])) ≡ tables_of f.journal ++ f.tables
+    tables_new =
+        tables_both f.journal (install ∷ [])
+        ∙ ap (λ (ts : Tables). tables_of f.journal ++ ts) (append-nil f.tables)
 
-    within_new : (i : ℕ) → 0 < times i (old.own ++ (length f.journal ∷ [])) → i < length (f.journal ++ (install ∷ []))
+    low : (i : ℕ) → 0 < times i old.own → i < length f.journal
+    low i mine =
+        further i (length old.seen) (length f.journal) (k.within i mine)
+        (prefix_bound old.seen f.journal f.seen)
+
+    at_end : (i : ℕ) → (i ≡ length f.journal) ⊎ (0 < times i old.own) → i < length f.journal + 1
+    at_end i (inl last) = omega (arith, last)
+    at_end i (inr mine) = let l = low i mine in omega (arith, l)
+
+    within_new : (i : ℕ) → 0 < times i (old.own ++ (length f.journal ∷ [])) →
+        i < length (f.journal ++ (install ∷ []))
     within_new i mine =
-        let n = length-append f.journal (install ∷ []) in
-        ⊎_elim
-        (λ (last : i ≡ length f.journal). let a : i < length f.journal + 1 = omega (arith, last) in subst (λ (m : ℕ). i < m) (sym n) a)
-        (λ (h : 0 < times i old.own). let l = low i h in let a : i < length f.journal + 1 = omega (arith, l) in subst (λ (m : ℕ). i < m) (sym n) a)
-        (is_there i (length f.journal) old.own mine)
+        subst (λ (m : ℕ). i < m) (sym (length-append f.journal (install ∷ [])))
+        (at_end i (is_there i (length f.journal) old.own mine))
 
     -- the installs before it are earlier ones of its own
     own_before : OwnsInstalls new.own (f.journal ++ (install ∷ [])) → OwnsInstalls old.own f.journal
     own_before all i through tables is =
         one_place old.own (length f.journal) i
         (subst (λ (own : List ℕ). 0 < times i own) f.place
-            (all i through tables (get_behind f.journal (install ∷ []) i (events.Install through tables) is)))
+        (all i through tables
+        (get_behind f.journal (install ∷ []) i (events.Install through tables) is)))
         (get_below f.journal (events.Install through tables) i is)
 
     held : OwnsInstalls new.own (f.journal ++ (install ∷ [])) → Holds k.os (tables_of f.journal)
@@ -189,10 +217,12 @@ flush_keeps o m layout n before after old new f k = record {
 -- ---- if all installs are its own
 
 pub tables_are_stored : TablesAreStored
-tables_are_stored p store others es begins whole nothing k =
-    (k.os, k.told,
-    subst (Holds k.os) (sym (nothing_more p.own p.seen es begins k.within all))
-    (k.holds (installs_before p.own p.seen es begins all)))
+tables_are_stored p store others es begins whole nothing k = (
+  k.os,
+  k.told,
+  subst (Holds k.os) (sym (nothing_more p.own p.seen es begins k.within all))
+      (k.holds (installs_before p.own p.seen es begins all)),
+)
   where
     owned : (n : ℕ) → n ≡ 1 → 0 < n
     owned n e = omega (arith, e)
@@ -200,6 +230,8 @@ tables_are_stored p store others es begins whole nothing k =
     all : OwnsInstalls p.own es
     all i through tables is =
         ⊎_elim
-        (λ (theirs : 0 < times i others). absurd (nothing.each i (events.Install through tables) theirs is))
+        (λ (theirs : 0 < times i others).
+        absurd (nothing.each i (events.Install through tables) theirs is))
         (λ (mine : 0 < times i p.own). mine)
-        (either_own i others p.own (owned (times i (others ++ p.own)) (whole i (events.Install through tables) is refl)))
+        (either_own i others p.own
+        (owned (times i (others ++ p.own)) (whole i (events.Install through tables) is refl)))

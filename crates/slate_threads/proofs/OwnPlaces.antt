@@ -9,7 +9,8 @@ use Rattle.std.proofs.Math.Seq.{take-append_seam}
 use Rattle.std.specs.Prelude.{ℤ}
 use mathlib.Core.List.{IsPrefix}
 use Rattle.slate_types.specs.declared.config.IsolationLevel.{IsolationLevel}
-use Rattle.slate_types.specs.declared.config.IsolationLevel.TheVariants.{SerializableSnapshot, Snapshot}
+use Rattle.slate_types.specs.declared.config.IsolationLevel.TheVariants.{SerializableSnapshot}
+use Rattle.slate_types.specs.declared.config.IsolationLevel.TheVariants.{Snapshot}
 use Rattle.slate_types.specs.declared.types.Ulid.{Ulid}
 use Rattle.slate_mem.specs.Batch.{Ops}
 use Rattle.slate_txn.specs.declared.event.Event.{Event}
@@ -50,7 +51,8 @@ apart p n e l = omega (arith, e, l)
 at_last : (n p : ℕ) → p ≡ n → p < n + 1
 at_last n p e = omega (arith, e)
 
-pub is_there : (p n : ℕ) (own : List ℕ) → 0 < times p (own ++ (n ∷ [])) → (p ≡ n) ⊎ (0 < times p own)
+pub is_there : (p n : ℕ) (own : List ℕ) → 0 < times p (own ++ (n ∷ [])) →
+    (p ≡ n) ⊎ (0 < times p own)
 is_there p n own h = by (p == n) refl
   where
     by : (b : Bool) → (p == n) ≡ b → (p ≡ n) ⊎ (0 < times p own)
@@ -106,7 +108,7 @@ module _ (P : List Event → Event → Type 0) where
   are_one_more own es e h here = record {
     within = λ p mine. ⊎_elim
         (λ (last : p ≡ length es).
-            subst (λ (n : ℕ). p < n) (sym (length-append es (e ∷ []))) (at_last (length es) p last))
+        subst (λ (n : ℕ). p < n) (sym (length-append es (e ∷ []))) (at_last (length es) p last))
         (λ (old : 0 < times p own). within_front es (e ∷ []) p (h.within p old))
         (is_there p (length es) own mine);
     each = λ p x mine is. by p x mine is (get_snoc es e x p is);
@@ -120,7 +122,7 @@ module _ (P : List Event → Event → Type 0) where
           ⊎_elim
           (λ (last : p ≡ length es). absurd (apart p (length es) last (get_below es x p old)))
           (λ (one : 0 < times p own).
-              each_front es (e ∷ []) p x (get_below es x p old) (h.each p x one) is)
+          each_front es (e ∷ []) p x (get_below es x p old) (h.each p x one) is)
           (is_there p (length es) own mine)
       by p x mine is (inr (last, same_one)) =
           subst (λ (y : Event). P (take p (es ++ (e ∷ []))) y) same_one
@@ -181,7 +183,8 @@ get_behind (x ∷ xs) ys (suc p) e h = get_behind xs ys p e h
 pub owns_front : (own : List ℕ) (es later : List Event) → IsPrefix es later → OwnsAll own later →
     OwnsAll own es
 owns_front own es later p whole i e is mine =
-    whole i e (subst (λ (l : List Event). slice_get l i ≡ Some e) p.1 (get_behind es p.0 i e is)) mine
+    whole i e
+    (subst (λ (l : List Event). slice_get l i ≡ Some e) p.1 (get_behind es p.0 i e is)) mine
 
 -- ---- what stands at own places is vouched
 
@@ -250,10 +253,11 @@ pub all_are_vouched : AllAreVouched
 all_are_vouched r own es whole h =
     all_from r opening es
     (λ p e is. vouched_of r (replay (take p es)) e
-        (at_each (λ before e. VouchedAt r (replay before) e) own es whole h p e is))
+    (at_each (λ before e. VouchedAt r (replay before) e) own es whole h p e is))
 
 pub all_are_alone : AllAreAlone
-all_are_alone r own es legal whole h = each_at_its_place r es legal (all_are_vouched r own es whole h)
+all_are_alone r own es legal whole h =
+    each_at_its_place r es legal (all_are_vouched r own es whole h)
 
 -- ---- one's own stand alone
 
@@ -271,7 +275,8 @@ module _ (r : Rules) (before later : List Event) where
       IsLegal r.start_seq (before ++ (events.Commit id n now ops tracked ts ∷ later)) →
       VouchedAt r (replay before) (events.Commit id n now ops tracked ts) →
       AloneBy r (replay before) (find_named id (replay before).txns) ts
-  alone_by id n now ops tracked ts legal vouched = by (find_named id (replay before).txns) refl vouched
+  alone_by id n now ops tracked ts legal vouched =
+      by (find_named id (replay before).txns) refl vouched
     where
       by : (t : Option Tx) → find_named id (replay before).txns ≡ t →
           VouchedBy r (replay before) t ts → AloneBy r (replay before) t ts
@@ -282,7 +287,8 @@ module _ (r : Rules) (before later : List Event) where
               AloneWhere r (replay before) level t.begin ts
           at_level Snapshot e = tt
           at_level SerializableSnapshot e =
-              λ tracks. at_its_place r before later id n now ops tracked ts t legal vouched is e tracks
+              λ tracks.
+                  at_its_place r before later id n now ops tracked ts t legal vouched is e tracks
 
   alone_at : (e : Event) → IsLegal r.start_seq (before ++ (e ∷ later)) →
       VouchedAt r (replay before) e → AloneAt r (replay before) e
@@ -298,11 +304,12 @@ module _ (r : Rules) (before later : List Event) where
 
 pub own_stand_alone : OwnStandAlone
 own_stand_alone r own es legal h =
-    are_so (λ before e. VouchedAt r (replay before) e) (λ before e. AloneAt r (replay before) e) own es
+    are_so (λ before e. VouchedAt r (replay before) e) (λ before e. AloneAt r (replay before) e)
+    own es
     (λ p e is vouched.
-        let rest = split es p e is in
-        alone_at r (take p es) rest.0 e
-            (subst (λ (l : List Event). IsLegal r.start_seq l) rest.1 legal) vouched)
+    let rest = split es p e is in
+    alone_at r (take p es) rest.0 e
+    (subst (λ (l : List Event). IsLegal r.start_seq l) rest.1 legal) vouched)
     h
 
 -- ---- of a kind, and without installs
@@ -322,7 +329,8 @@ kinds_from : (kind : Kind) (s : State) (es : List Event) →
     ((p : ℕ) (e : Event) → slice_get es p ≡ Some e → IsOfKindAt kind (apply_all s (take p es)) e) →
     AreOfKindFrom kind s es
 kinds_from kind s [] h = tt
-kinds_from kind s (e ∷ es) h = (h 0 e refl, kinds_from kind (apply s e) es (λ p x is. h (suc p) x is))
+kinds_from kind s (e ∷ es) h =
+    (h 0 e refl, kinds_from kind (apply s e) es (λ p x is. h (suc p) x is))
 
 -- so no audit is needed
 pub all_are_of_kind : (kind : Kind) (own : List ℕ) (es : List Event) → OwnsAll own es →
@@ -330,7 +338,7 @@ pub all_are_of_kind : (kind : Kind) (own : List ℕ) (es : List Event) → OwnsA
 all_are_of_kind kind own es whole h =
     kinds_from kind opening es
     (λ p e is. kind_of kind (replay (take p es)) e
-        (at_each (λ before e. IsOfKindAt kind (replay before) e) own es whole h p e is))
+    (at_each (λ before e. IsOfKindAt kind (replay before) e) own es whole h p e is))
 
 installs_of : (e : Event) → (is_own e ≡ true → IsNoInstall e) → tables_in e ≡ []
 installs_of (events.Begin id level start) h = refl
@@ -351,4 +359,5 @@ no_tables (e ∷ es) h =
 
 pub nothing_is_stored : NothingIsStored
 nothing_is_stored own es whole h =
-    no_tables es (λ p e is. installs_of e (at_each (λ before e. IsNoInstall e) own es whole h p e is))
+    no_tables es
+    (λ p e is. installs_of e (at_each (λ before e. IsNoInstall e) own es whole h p e is))

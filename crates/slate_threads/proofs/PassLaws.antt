@@ -67,19 +67,19 @@ module _ (o : Options) (old new : PassModel) (c : Commits o old new) where
   vouched_before m v =
       subst
       (λ (x : Option Tx).
-          VouchedBy (rules_by o m) (replay c.committed.before) x c.txn.tx.transcript)
+      VouchedBy (rules_by o m) (replay c.committed.before) x c.txn.tx.transcript)
       (sym (committed_open o c.from c.level c.steps c.txn c.attempt c.seq c.now old new c.committed
-          c.legal))
+      c.legal))
       (attempt_alone_before o c.from c.level c.steps c.txn c.attempt c.committed.before new.seen
-          c.committed.known behind c.legal (rules_by o m) c.txn.tx.transcript
-          (v.by_each new.seen (prefix_self new.seen) c.legal))
+      c.committed.known behind c.legal (rules_by o m) c.txn.tx.transcript
+      (v.by_each new.seen (prefix_self new.seen) c.legal))
     where
       behind : IsPrefix c.committed.before new.seen
       behind = (commit_of ∷ [], sym c.committed.after)
 
 at_commit : (o : Options) (m : Meaning) (old new : PassModel) (c : Commits o old new) →
     OwnAreVouched (rules_by o m) (old.own ++ (length c.committed.before ∷ []))
-        (c.committed.before ++ (commit_of o old new c ∷ [])) →
+    (c.committed.before ++ (commit_of o old new c ∷ [])) →
     PassIsVouched o m new
 at_commit o m old new c h =
     as_these (rules_by o m) (old.own ++ (length c.committed.before ∷ [])) new.own
@@ -89,8 +89,8 @@ pub commit_stays : CommitStaysVouched
 commit_stays o m old new v h =
     at_commit o m old new v.commit
     (one_more (rules_by o m) old.own v.commit.committed.before (commit_of o old new v.commit)
-        (longer (rules_by o m) old.own old.seen v.commit.committed.before v.commit.committed.seen h)
-        (vouched_before o old new v.commit m v.answers))
+    (longer (rules_by o m) old.own old.seen v.commit.committed.before v.commit.committed.seen h)
+    (vouched_before o old new v.commit m v.answers))
 
 -- ---- a write and an install
 
@@ -114,7 +114,7 @@ flush_stays o m layout n before after old new f h =
     as_these (rules_by o m) (old.own ++ (length f.journal ∷ [])) new.own
     (f.journal ++ (events.Install n f.tables ∷ [])) new.seen f.place f.event
     (install_more (rules_by o m) old.own f.journal n f.tables
-        (longer (rules_by o m) old.own old.seen f.journal f.seen h))
+    (longer (rules_by o m) old.own old.seen f.journal f.seen h))
 
 -- ---- the whole journal
 

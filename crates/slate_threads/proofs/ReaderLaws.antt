@@ -53,6 +53,6 @@ read_goes_on o m policies old mid new before between after made more h k = recor
   vouched = λ store w.
       k.vouched (checked_later policies m new.seen before between after h.reads k.reads store)
       (h.vouched
-          (checked_earlier policies m mid.seen new.seen before between after k.seen h.reads k.reads store)
-          w);
+      (checked_earlier policies m mid.seen new.seen before between after k.seen h.reads k.reads store)
+      w);
 }

@@ -1,22 +1,26 @@
 -- If all commits track all their keys, each would read the same just before it, whatever its begin.
-use Rattle.std.proofs.Common.{◌≡◌, ℕ, zero, suc, List, [], ◌∷◌, ◌++◌, take, slice_get, Option, Some, None}
+use Rattle.std.proofs.Common.{◌≡◌, ℕ, zero, suc, List, [], ◌∷◌, ◌++◌, take, slice_get, Option}
+use Rattle.std.proofs.Common.{Some, None}
 use Rattle.std.proofs.Common.{IsTrue, sym, subst}
 use Rattle.std.specs.Prelude.{ℤ}
 use Rattle.std.specs.List.{AllByRecursion}
 use Rattle.slate_types.specs.declared.config.IsolationLevel.{IsolationLevel}
-use Rattle.slate_types.specs.declared.config.IsolationLevel.TheVariants.{SerializableSnapshot, Snapshot}
+use Rattle.slate_types.specs.declared.config.IsolationLevel.TheVariants.{SerializableSnapshot}
+use Rattle.slate_types.specs.declared.config.IsolationLevel.TheVariants.{Snapshot}
 use Rattle.slate_types.specs.Keys.{among}
 use Rattle.slate_mem.specs.Batch.{Ops, batch_keys}
 use Rattle.slate_txn.specs.declared.event.Event.{Event}
 use Rattle.slate_txn.specs.declared.event.Event.TheVariants as events
 use Rattle.slate_txn.specs.declared.event.TranscriptStep.{TranscriptStep}
 use Rattle.slate_txn.specs.Alone.{IsAlone}
-use Rattle.slate_txn.specs.Audited.{AreOfKind, AreOfKindFrom, IsOfKindAt, IsOfKindBy, Kind, TracksAll}
+use Rattle.slate_txn.specs.Audited.{AreOfKind, AreOfKindFrom, IsOfKindAt, IsOfKindBy, Kind}
+use Rattle.slate_txn.specs.Audited.{TracksAll}
 use Rattle.slate_txn.specs.Named.{find_named}
 use Rattle.slate_txn.specs.Replay.{apply, apply_all, commit_made, replay}
 use Rattle.slate_txn.specs.State.{Commit, Rules, State, Tx, last, opening}
 use Rattle.slate_txn.specs.Tracking.{Reading, reads_of}
-use Rattle.slate_txn.specs.Vouched.{AloneAt, AloneBy, AloneWhere, AreAlone, AreAloneFrom, TracksReads}
+use Rattle.slate_txn.specs.Vouched.{AloneAt, AloneBy, AloneWhere, AreAlone, AreAloneFrom}
+use Rattle.slate_txn.specs.Vouched.{TracksReads}
 use Rattle.slate_threads.specs.Own.{AreSerial, IsSerialAt, IsSerialBy}
 
 abbrev TrackAll : List Commit → Type 0
@@ -24,9 +28,10 @@ TrackAll cs = AllByRecursion (λ c. c.tracked ≡ batch_keys c.ops) cs
 
 track_reads : (cs : List Commit) (begin : ℕ) (rs : Reading) → TrackAll cs → TracksReads cs begin rs
 track_reads [] begin rs h = tt
-track_reads (c ∷ cs) begin rs h =
-    ((λ past k wrote read. subst (λ ks. IsTrue (among k ks)) (sym h.0) wrote),
-    track_reads cs begin rs h.1)
+track_reads (c ∷ cs) begin rs h = (
+  (λ past k wrote read. subst (λ ks. IsTrue (among k ks)) (sym h.0) wrote),
+  track_reads cs begin rs h.1,
+)
 
 track_more : (cs ds : List Commit) → TrackAll cs → TrackAll ds → TrackAll (cs ++ ds)
 track_more [] ds h k = k

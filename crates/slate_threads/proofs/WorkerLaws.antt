@@ -37,7 +37,7 @@ none_front : (es rest : List Event) → tables_of (es ++ rest) ≡ [] → tables
 none_front [] rest h = refl
 none_front (e ∷ es) rest h =
     ap (λ (ts : List (Ulid × List ℕ)). ts ++ tables_of es)
-        (front_none (tables_in e) (tables_of (es ++ rest)) h)
+    (front_none (tables_in e) (tables_of (es ++ rest)) h)
     ∙ none_front es rest (back_none (tables_in e) (tables_of (es ++ rest)) h)
 
 pub none_before : (es later : List Event) → IsPrefix es later → tables_of later ≡ [] →
@@ -62,7 +62,7 @@ commit_installs_nothing o old new c h =
     as_these (old.own ++ (length c.committed.before ∷ [])) new.own
     (c.committed.before ++ (commit_of o old new c ∷ [])) new.seen c.committed.own c.committed.after
     (are_one_more NoInstall old.own c.committed.before (commit_of o old new c)
-        (are_longer NoInstall old.own old.seen c.committed.before c.committed.seen h) tt)
+    (are_longer NoInstall old.own old.seen c.committed.before c.committed.seen h) tt)
 
 pub longer_installs_nothing : (old new : PassModel) → IsPrefix old.seen new.seen →
     new.own ≡ old.own → OwnInstallNothing old.own old.seen → OwnInstallNothing new.own new.seen
@@ -100,7 +100,7 @@ pub join_works : JoinStaysWorker
 join_works o m old other new j h k = record {
   installs_nothing = as_these (old.own ++ other.own) new.own new.seen new.seen j.own refl
       (are_joined NoInstall old.own other.own old.seen other.seen new.seen j.seen j.other_seen
-          h.installs_nothing k.installs_nothing);
+      h.installs_nothing k.installs_nothing);
   vouched = λ t. join_stays o m old other new j
       (h.vouched (none_before old.seen new.seen j.seen t))
       (k.vouched (none_before other.seen new.seen j.other_seen t));
@@ -112,8 +112,8 @@ pub worker_vouched : (o : Options) (m : Meaning) (p : PassModel) (es : List Even
     IsPrefix p.seen es → OwnsAll p.own es → IsWorker o m p → PassIsVouched o m p
 worker_vouched o m p es begins whole h =
     h.vouched (none_before p.seen es begins
-        (nothing_is_stored p.own es whole
-            (are_longer NoInstall p.own p.seen es begins h.installs_nothing)))
+    (nothing_is_stored p.own es whole
+    (are_longer NoInstall p.own p.seen es begins h.installs_nothing)))
 
 pub workers_are_vouched : WorkersAreVouched
 workers_are_vouched o m p es begins whole h =

@@ -1,20 +1,22 @@
 -- Laws, each the contract of a function of `laws`.
---     AllAreVouched, AllAreAlone      if all commits, writes and installs of a journal are one's own
+--     AllAreVouched, AllAreAlone      if all commits, writes and installs of a journal are one's
+--             own
 --     OwnStandAlone      of one's own commits, beside any others
 --     NothingIsStored, EachIsCounted      if all are one's own: of installs, and how many they are
 --     NothingIsVouched, LongerIsVouched, OneMore, OneEventMore, OneWriteMore, OneInstallMore,
 --             JoinedAreVouched      how places of one's own stay vouched
---     NewIsVouched, LongerStaysVouched, CommitStaysVouched, WriteStaysVouched, FlushStaysVouched,
---             JoinStaysVouched      how each call of a pass keeps that
+--     NewIsVouched, LongerStaysVouched, CommitStaysVouched, WriteStaysVouched,
+--             FlushStaysVouched, JoinStaysVouched      how each call of a pass keeps that
 --     PassStandsAlone      of a pass, beside any others
 --     WholeIsVouched, WholeStandsAlone      of a pass that has all places of the journal
 --     NewIsWorker, LongerStaysWorker, WorkStaysWorker, JoinStaysWorker      the same of workers
 --     WorkersAreVouched      of a worker's pass that has all places of the journal
 --     NothingIsWorked, WorkIsOne, WorkGoesOn      how the commits of a worker add up
 --     NothingIsRead, SeeingIsRead, ReadIsOne, ReadGoesOn      the same of readers
---     NewKeepsTables, IdleKeepsTables, FlushKeepsTables, TablesAreStored      of what the store of the
---             one thread that flushes holds
-use Rattle.std.specs.Prelude.{◌≡◌, ℕ, ◌+◌, List, [], ◌∷◌, ◌++◌, count_by, length, Option, Some, Result, ℤ}
+--     NewKeepsTables, IdleKeepsTables, FlushKeepsTables, TablesAreStored      of what the store of
+--             the one thread that flushes holds
+use Rattle.std.specs.Prelude.{◌≡◌, ℕ, ◌+◌, List, [], ◌∷◌, ◌++◌, count_by, length, Option, Some}
+use Rattle.std.specs.Prelude.{Result, ℤ}
 use mathlib.Core.List.{IsPrefix}
 use Rattle.slate_types.specs.declared.config.Options.{Options}
 use Rattle.slate_types.specs.declared.error.SlateDBError.{SlateDBError}

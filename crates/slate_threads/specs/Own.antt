@@ -1,4 +1,4 @@
--- What is known of a journal by places of one's own. P: a fact of an event and the events before it.
+-- What is known of a journal by places of one's own. P: a fact of an event and those before it.
 --     OwnAre P own es      each is a place in the journal, and P holds of the event there
 --     OwnAreVouched r own es      each commit there was answered as a reader at its begin is
 --     OwnAreAlone r own es      each serializable commit there would read the same just before it,

@@ -1,14 +1,14 @@
--- What a caller knows of a pass and of its own commits. o, m: the database's options, and what its
--- parts mean; old, new: the pass before and after a call
+-- What a caller knows of a pass and of its own commits. o, m: the database's options, and what
+-- its parts mean; old, new: the pass before and after a call
 --     PassIsVouched o m p      what its own commits were answered is vouched
---     PassIsAlone o m p      each serializable commit of its own would read the same just before it,
---             unless another since its begin wrote what it read and doesn't track it
+--     PassIsAlone o m p      each serializable commit of its own would read the same just before
+--             it, unless another since its begin wrote what it read and doesn't track it
 --     Commits o old new      it has one place more, which has the commit of an attempt
 --     CommitsVouched o m old new      so it has, and the answers are those of a reader at its begin
 --     Writes old new result      it has one place more, which has a write, or none
 --     Joins old other new      it takes in another pass
---     IsWholeCopy o p copy core      a copy of the journal, made just before its core was taken out
---     IsVouchedCopy o m es      all that commits of a journal were answered is vouched, so that each
+--     IsWholeCopy o p copy core      a copy of the journal, made just before the core was taken out
+--     IsVouchedCopy o m es      all that a journal's commits were answered is vouched, so that each
 --             serializable one would read the same just before it, as for PassIsAlone
 use Rattle.std.specs.Prelude.{◌≡◌, ℕ, List, ◌++◌, Option, Result, ℤ}
 use mathlib.Core.List.{IsPrefix}

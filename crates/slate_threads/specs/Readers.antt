@@ -1,11 +1,12 @@
--- Threads on a database into whose store one of them flushes. o, m: the database's options, and what
--- its parts mean; old, new: a pass before and after several calls; before, after: what they reach
---     HasRead o m policies old new before after made      what a reader does, which commits so often by
---             attempts: what its commits were answered stays vouched, if its reads were answered by
---             objects that hold the tables of the journal that it has seen then, or none slipped
+-- Threads on a database into whose store one of them flushes. o, m: the database's options, and
+-- what its parts mean; old, new: a pass before and after several calls; before, after: what the
+-- calls reach
+--     HasRead o m policies old new before after made      what a reader does, which commits so
+--             often by attempts: what its commits were answered stays vouched, if its reads were
+--             answered by objects that hold the tables of the journal seen then, or none slipped
 --     OwnsInstalls own es      each install of the journal stands at one of these places
---     KeepsTables p store      the store tells its objects, and if the pass has all installs, holds the
---             tables that the journal names
+--     KeepsTables p store      the store tells its objects, and if the pass has all installs, holds
+--             the tables that the journal names
 --     HasFlushed o m old new before after      what a flusher does
 use Rattle.std.specs.Prelude.{◌≡◌, ℕ, ◌+◌, ◌<◌, List, length, slice_get, Option, Some}
 use mathlib.Core.List.{IsPrefix}

@@ -6,7 +6,8 @@ ghost use Rattle.slate_txn.specs.Replay.{IsLegal};
 ghost use Rattle.slate_db.specs.Segmented.{IsSegmented};
 ghost use Rattle.slate_db.specs.Sound.{IsKept};
 ghost use Rattle.slate_shared.specs.Shared.{IsOwner, all_parts};
-ghost use Rattle.slate_threads.specs.Passes.{IsVouchedCopy, IsWholeCopy, PassIsAlone, PassIsVouched};
+ghost use Rattle.slate_threads.specs.Passes.{IsVouchedCopy, IsWholeCopy, PassIsAlone};
+ghost use Rattle.slate_threads.specs.Passes.{PassIsVouched};
 ghost use Rattle.slate_threads.specs.Workers.{IsWorker};
 
 use slate_db::engine::Core;
@@ -40,10 +41,10 @@ pub fn journal<P: Parts, R: Wait>(
 }
 
 /// Copies the journal, and takes the core out. If the pass has all parts, all commits, writes and
-/// installs of the copy are its own. So if what its own commits were answered is vouched, or it is a
-/// worker's, all transcripts of the copy are vouched, and each serializable commit would read the same
-/// just before it, unless another since its begin wrote what it read and doesn't track it. The one
-/// error of the copy is `OutOfMemory`, and the core is there either way.
+/// installs of the copy are its own. So if what its own commits were answered is vouched, or it
+/// is a worker's, all transcripts of the copy are vouched, and each serializable commit would
+/// read the same just before it, unless another since its begin wrote what it read and doesn't
+/// track it. The one error of the copy is `OutOfMemory`, and the core is there either way.
 pub fn close<P: Parts, R: Wait>(
     rt: &R,
     db: Database<P>,

@@ -36,8 +36,8 @@ pub fn own_places()
     ensures joined { JoinedAreVouched }
 {}
 
-/// Of passes. What a pass's own commits were answered stays vouched at each of its calls: as it sees
-/// more, at a commit whose answers are vouched, at a write, at a flush, and at a join.
+/// Of passes. What a pass's own commits were answered stays vouched at each of its calls: as it
+/// sees more, at a commit whose answers are vouched, at a write, at a flush, and at a join.
 pub fn passes()
     ensures new { NewIsVouched }
     ensures longer { LongerStaysVouched }
@@ -50,9 +50,9 @@ pub fn passes()
     ensures whole_alone { WholeStandsAlone }
 {}
 
-/// Of workers: threads that commit by attempts and never flush. A worker needn't know whether others
-/// flush: what it promises waits for a journal that names no table. If all passes are workers', the
-/// journal names none, and so all is vouched.
+/// Of workers: threads that commit by attempts and never flush. A worker needn't know whether
+/// others flush: what it promises waits for a journal that names no table. If all passes are
+/// workers', the journal names none, and so all is vouched.
 pub fn workers()
     ensures new { NewIsWorker }
     ensures longer { LongerStaysWorker }
@@ -74,8 +74,8 @@ pub fn readers()
     ensures on { ReadGoesOn }
 {}
 
-/// Of the one thread that flushes. If all installs are its own, its store, if that tells its objects,
-/// holds all tables that the journal names.
+/// Of the one thread that flushes. If all installs are its own, its store, if that tells its
+/// objects, holds all tables that the journal names.
 pub fn flushers()
     ensures new { NewKeepsTables }
     ensures idle { IdleKeepsTables }

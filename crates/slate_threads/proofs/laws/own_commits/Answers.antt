@@ -1,4 +1,5 @@
-use Rattle.slate_threads.proofs.OwnPlaces.{all_are_alone, all_are_vouched, nothing_is_stored, own_stand_alone}
+use Rattle.slate_threads.proofs.OwnPlaces.{all_are_alone, all_are_vouched, nothing_is_stored}
+use Rattle.slate_threads.proofs.OwnPlaces.{own_stand_alone}
 use Rattle.slate_threads.proofs.Counting.{each_is_counted}
 use Rattle.slate_threads.proofs.laws.own_commits.Goals as goal
 

@@ -1,4 +1,5 @@
-use Rattle.slate_threads.proofs.OwnPlaces.{event_more, install_more, joined, longer, nothing, one_more, write_more}
+use Rattle.slate_threads.proofs.OwnPlaces.{event_more, install_more, joined, longer, nothing}
+use Rattle.slate_threads.proofs.OwnPlaces.{one_more, write_more}
 use Rattle.slate_threads.proofs.laws.own_places.Goals as goal
 
 pub returns : goal.returns

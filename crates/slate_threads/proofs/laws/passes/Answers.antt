@@ -1,5 +1,7 @@
-use Rattle.slate_threads.proofs.PassLaws.{commit_stays, flush_stays, join_stays, longer_stays, new_is_vouched}
-use Rattle.slate_threads.proofs.PassLaws.{stands_alone, whole_is_vouched, whole_stands_alone, write_stays}
+use Rattle.slate_threads.proofs.PassLaws.{commit_stays, flush_stays, join_stays, longer_stays}
+use Rattle.slate_threads.proofs.PassLaws.{new_is_vouched}
+use Rattle.slate_threads.proofs.PassLaws.{stands_alone, whole_is_vouched, whole_stands_alone}
+use Rattle.slate_threads.proofs.PassLaws.{write_stays}
 use Rattle.slate_threads.proofs.laws.passes.Goals as goal
 
 pub returns : goal.returns

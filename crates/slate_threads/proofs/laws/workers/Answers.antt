@@ -1,4 +1,5 @@
-use Rattle.slate_threads.proofs.WorkerLaws.{goes_on, join_works, longer_works, new_works, nothing_worked}
+use Rattle.slate_threads.proofs.WorkerLaws.{goes_on, join_works, longer_works, new_works}
+use Rattle.slate_threads.proofs.WorkerLaws.{nothing_worked}
 use Rattle.slate_threads.proofs.WorkerLaws.{one_worked, work_works, workers_are_vouched}
 use Rattle.slate_threads.proofs.laws.workers.Goals as goal
 
