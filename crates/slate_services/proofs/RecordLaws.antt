@@ -5,7 +5,6 @@ use Rattle.slate_types.specs.Outside.{Reach, no_parts}
 use Rattle.slate_types.specs.declared.config.IsolationLevel.TheVariants.{SerializableSnapshot}
 use Rattle.slate_txn.specs.declared.event.Event.{Event}
 use Rattle.slate_txn.specs.Audited.{TracksAll}
-use Rattle.slate_txn.specs.Replay.{IsLegal}
 use Rattle.slate_shared.specs.Passes.{PassModel}
 use Rattle.slate_index.specs.declared.error.IndexError.{IndexError}
 use Rattle.slate_index.specs.Attempting.{ChangesBehind, IsChangeAttempt}
@@ -14,16 +13,16 @@ use Rattle.slate_index.specs.Entries.{FieldsModel}
 use Rattle.slate_index.specs.Journals.{AreChanges, change_kind}
 use Rattle.slate_index.proofs.JournalLaws.{entries_are_those_of_records}
 use Rattle.slate_threads.specs.Passes.{Commits, IsVouchedCopy, IsWholeCopy}
-use Rattle.slate_threads.specs.Workers.{HasWorked, made_by}
+use Rattle.slate_threads.specs.Workers.{made_by}
 use Rattle.slate_threads.proofs.Serial.{are_serial}
-use Rattle.slate_threads.proofs.WorkerLaws.{one_worked, only_worked}
-use Rattle.slate_services.specs.Plain.{plain_rules}
+use Rattle.slate_services.specs.Plain.{PlainWorked, plain_rules}
 use Rattle.slate_services.specs.Records.{AreIndexed}
-use Rattle.slate_services.proofs.PlainLaws.{checked_empty}
+use Rattle.slate_services.proofs.PlainLaws.{AllWorked, checked_empty, copy_of_kind, one_plain}
+use Rattle.slate_services.proofs.PlainLaws.{only_plain}
 
 module _ (fs : FieldsModel) (id : List ℕ) (new : Option (List ℕ)) (now : ℤ)
     (before after : Reach) (old pass : PassModel) where
-  change_commits : (n : ℕ) →
+  abbrev change_commits : (n : ℕ) →
       ChangesBehind defaults no_parts [] fs id new now before after old pass n →
       Commits defaults old pass
   change_commits n h = record {
@@ -40,15 +39,14 @@ module _ (fs : FieldsModel) (id : List ℕ) (new : Option (List ℕ)) (now : ℤ
 
   pub change_worked : (r : Result ℕ IndexError) → before.objects ≡ Some [] →
       IsChangeAttempt defaults no_parts [] fs id new now before after old pass r →
-      HasWorked defaults no_parts old pass (made_by r)
-  unfolding change_commits
+      PlainWorked (change_kind fs) old pass (made_by r)
   change_worked (Ok n) told h =
-      one_worked defaults no_parts old pass (change_commits n h.changes)
+      one_plain (change_kind fs) old pass (change_commits n h.changes) h.changes.change
       (λ none. record {
         commit = change_commits n h.changes;
         answers = h.changes.vouched (checked_empty pass.seen before after told none);
       })
-  change_worked (Err e) told h = only_worked defaults no_parts old pass h.only
+  change_worked (Err e) told h = only_plain (change_kind fs) old pass h.only
 
 tracks_all : (fs : FieldsModel) → TracksAll (change_kind fs)
 tracks_all fs = record {
@@ -56,10 +54,10 @@ tracks_all fs = record {
   tracks = λ level now ops tracked ts h. h.keys;
 }
 
-pub are_indexed : (fs : FieldsModel) (p : PassModel) (es core : List Event) →
-    IsWholeCopy defaults p es core → IsVouchedCopy defaults no_parts es →
-    ((n0 : ℕ) → IsLegal n0 es → AreChanges fs es) → AreIndexed fs plain_rules es
-are_indexed fs p es core copy vouched audited = record {
+pub are_indexed : (fs : FieldsModel) (p : PassModel) (es core : List Event) (made : ℕ) →
+    AllWorked (change_kind fs) p made → IsWholeCopy defaults p es core →
+    IsVouchedCopy defaults no_parts es → AreIndexed fs plain_rules es
+are_indexed fs p es core made h copy vouched = record {
   entries = λ n. entries_are_those_of_records fs plain_rules es n
       (record { legal = copy.legal; changes = changes }) vouched.vouched;
   changes = changes;
@@ -67,4 +65,4 @@ are_indexed fs p es core copy vouched audited = record {
 }
   where
     changes : AreChanges fs es
-    changes = audited defaults.start_seq copy.legal
+    changes = copy_of_kind (change_kind fs) p es core made h copy

@@ -1,9 +1,11 @@
 //! Two threads that pay from one account, over a store into which a third one flushes.
-ghost use Rattle.std.specs.Prelude.{◌≡◌, ◌+◌, None, IfOk};
+ghost use Rattle.std.specs.Prelude.{◌≡◌, ◌+◌, None, IfOk, IsOkUnless};
 ghost use Rattle.std.specs.Thread.{IsSync};
+ghost use Rattle.slate_types.specs.declared.error.SlateDBError.{SlateDBError};
 ghost use Rattle.slate_types.specs.Outside.{no_parts};
 ghost use Rattle.slate_shared.specs.Given.{ArePlain};
 ghost use Rattle.slate_shared.specs.Shared.{all_parts};
+ghost use Rattle.slate_stock.specs.Journals.{IsOrders, order_kind};
 ghost use Rattle.slate_threads.specs.Workers.{made_by};
 ghost use Rattle.slate_services.specs.Leaving.{LeftByThree};
 ghost use Rattle.slate_services.specs.Payments.{AreBooks};
@@ -12,13 +14,12 @@ ghost use Rattle.slate_services.specs.Plain.{plain_rules};
 
 use slate_db::laws::Laws;
 use slate_shared::{Database, Pass, Plain};
-use slate_stock::audit::audit;
 use slate_stock::on_pass::run_order;
 use slate_stock::{Order, StockError};
 use slate_store::{Env, EnvOf, Store};
 use slate_threads::close;
 use slate_txn::journal::Journal;
-use slate_types::{NoExtractor, NoOperator, NoTransformer, Outside};
+use slate_types::{NoExtractor, NoOperator, NoTransformer, Outside, SlateDBError};
 use std::alloc::Global;
 use std::sync::Wait;
 use std::thread;
@@ -73,7 +74,7 @@ fn attempt<R: Wait, S: Store>(
     requires parts { let reach = ⟦<EnvOf<S, NoOperator, NoTransformer> as Outside>⟧.reach in
         (reach env.old).meaning ≡ no_parts }
     ensures { let reach = ⟦<EnvOf<S, NoOperator, NoTransformer> as Outside>⟧.reach in
-        PlainRead pass.old pass.new (reach env.old) (reach env.new) (made_by result) }
+        PlainRead order_kind pass.old pass.new (reach env.old) (reach env.new) (made_by result) }
 {
     run_order(rt, db, pass, order, 0, env, laws)
 }
@@ -94,7 +95,7 @@ fn pay<R: Wait, S: Store>(
     requires parts { let reach = ⟦<EnvOf<S, NoOperator, NoTransformer> as Outside>⟧.reach in
         (reach env.old).meaning ≡ no_parts }
     ensures { let reach = ⟦<EnvOf<S, NoOperator, NoTransformer> as Outside>⟧.reach in
-        PlainRead pass.old pass.new (reach env.old) (reach env.new) result }
+        PlainRead order_kind pass.old pass.new (reach env.old) (reach env.new) result }
 {
     let mut made = 0;
     for _turn in 0..turns {
@@ -119,7 +120,7 @@ fn store<R: Wait, S: Store>(
     requires parts { let reach = ⟦<EnvOf<S, NoOperator, NoTransformer> as Outside>⟧.reach in
         (reach env.old).meaning ≡ no_parts }
     ensures { let reach = ⟦<EnvOf<S, NoOperator, NoTransformer> as Outside>⟧.reach in
-        PlainFlushed pass.old pass.new (reach env.old) (reach env.new) }
+        PlainFlushed order_kind pass.old pass.new (reach env.old) (reach env.new) }
 {
     match pass.flush(rt, db, env, laws) {
         Ok(_) | Err(_) => thread::yield_now(),
@@ -140,7 +141,7 @@ fn store_rows<R: Wait, S: Store>(
     requires parts { let reach = ⟦<EnvOf<S, NoOperator, NoTransformer> as Outside>⟧.reach in
         (reach env.old).meaning ≡ no_parts }
     ensures { let reach = ⟦<EnvOf<S, NoOperator, NoTransformer> as Outside>⟧.reach in
-        PlainFlushed pass.old pass.new (reach env.old) (reach env.new) }
+        PlainFlushed order_kind pass.old pass.new (reach env.old) (reach env.new) }
 {
     for _turn in 0..turns {
         store(rt, db, pass, env, laws);
@@ -160,7 +161,8 @@ fn pay_at<'a, R: Wait, S: Store>(
     requires laws { ArePlain laws.now.options laws.now.segments laws.now.policies.items }
     requires parts { (desk.env.operator ≡ None) × (desk.env.transformer ≡ None) }
     ensures { let reach = ⟦<EnvOf<S, NoOperator, NoTransformer> as Outside>⟧.reach in
-        PlainRead desk.entry.pass result.0.pass (reach desk.entry.env) (reach result.0.env)
+        PlainRead order_kind desk.entry.pass result.0.pass
+        (reach desk.entry.env) (reach result.0.env)
         (result.1 + result.2) }
 {
     let Desk { mut pass, mut env } = desk;
@@ -182,7 +184,8 @@ fn store_at<'a, R: Wait, S: Store>(
     requires laws { ArePlain laws.now.options laws.now.segments laws.now.policies.items }
     requires parts { (desk.env.operator ≡ None) × (desk.env.transformer ≡ None) }
     ensures { let reach = ⟦<EnvOf<S, NoOperator, NoTransformer> as Outside>⟧.reach in
-        PlainFlushed desk.entry.pass result.pass (reach desk.entry.env) (reach result.env) }
+        PlainFlushed order_kind desk.entry.pass result.pass
+        (reach desk.entry.env) (reach result.env) }
 {
     let Desk { mut pass, mut env } = desk;
     store_rows(rt, db, &mut pass, &mut env, laws, turns);
@@ -204,10 +207,12 @@ fn pay_beside<'a, 'b, R: Threads + Wait + Sync, S: Store + Send>(
     requires first { (one.env.operator ≡ None) × (one.env.transformer ≡ None) }
     requires second { (two.env.operator ≡ None) × (two.env.transformer ≡ None) }
     ensures first { let reach = ⟦<EnvOf<S, NoOperator, NoTransformer> as Outside>⟧.reach in
-        PlainRead one.entry.pass result.0.0.pass (reach one.entry.env) (reach result.0.0.env)
+        PlainRead order_kind one.entry.pass result.0.0.pass
+        (reach one.entry.env) (reach result.0.0.env)
         (result.0.1 + result.0.2) }
     ensures second { let reach = ⟦<EnvOf<S, NoOperator, NoTransformer> as Outside>⟧.reach in
-        PlainRead two.entry.pass result.1.0.pass (reach two.entry.env) (reach result.1.0.env)
+        PlainRead order_kind two.entry.pass result.1.0.pass
+        (reach two.entry.env) (reach result.1.0.env)
         (result.1.1 + result.1.2) }
 {
     let (first, second) = orders;
@@ -236,13 +241,16 @@ fn pay_and_store<'a, 'b, 'c, R: Threads + Wait + Sync, S: Store + Send>(
     requires second { (two.env.operator ≡ None) × (two.env.transformer ≡ None) }
     requires third { (three.env.operator ≡ None) × (three.env.transformer ≡ None) }
     ensures first { let reach = ⟦<EnvOf<S, NoOperator, NoTransformer> as Outside>⟧.reach in
-        PlainRead one.entry.pass result.0.0.0.pass (reach one.entry.env) (reach result.0.0.0.env)
+        PlainRead order_kind one.entry.pass result.0.0.0.pass
+        (reach one.entry.env) (reach result.0.0.0.env)
         (result.0.0.1 + result.0.0.2) }
     ensures second { let reach = ⟦<EnvOf<S, NoOperator, NoTransformer> as Outside>⟧.reach in
-        PlainRead two.entry.pass result.0.1.0.pass (reach two.entry.env) (reach result.0.1.0.env)
+        PlainRead order_kind two.entry.pass result.0.1.0.pass
+        (reach two.entry.env) (reach result.0.1.0.env)
         (result.0.1.1 + result.0.1.2) }
     ensures third { let reach = ⟦<EnvOf<S, NoOperator, NoTransformer> as Outside>⟧.reach in
-        PlainFlushed three.entry.pass result.1.pass (reach three.entry.env) (reach result.1.env) }
+        PlainFlushed order_kind three.entry.pass result.1.pass
+        (reach three.entry.env) (reach result.1.env) }
 {
     thread::join(
         rt,
@@ -257,41 +265,41 @@ fn pay_and_store<'a, 'b, 'c, R: Threads + Wait + Sync, S: Store + Send>(
     )
 }
 
-/// Joins the passes, closes the database, and gives its journal if all commits are orders.
+/// Joins the passes, and closes the database.
 fn left_by<R: Wait>(
     rt: &R,
     db: Database<Plain>,
     passes: (Pass<Plain>, Pass<Plain>, Pass<Plain>),
-) -> Result<Journal, StockError>
+) -> Result<Journal, SlateDBError>
     requires first { passes.0.table ≡ db }
     requires others { (passes.1.table ≡ db) × (passes.2.table ≡ db) }
     requires parts { passes.0.parts + passes.1.parts + passes.2.parts ≡ all_parts }
-    ensures { IfOk result (λ journal. LeftByThree passes.0 passes.1 passes.2 journal.events) }
+    ensures left { IfOk result (λ journal.
+        LeftByThree passes.0 passes.1 passes.2 journal.events) }
+    ensures cause { IsOkUnless result SlateDBError.OutOfMemory }
 {
     let (mut pass, other, third) = passes;
     pass.join(&db, other);
     pass.join(&db, third);
     let (core, copied) = close(rt, db, pass);
     core.close();
-    let journal = copied?;
-    audit(&journal)?;
-    Ok(journal)
+    copied
 }
 
 /// Two threads pay, each after an opening order, while a third one flushes, so many times. Gives
-/// the journal that they leave, and the stores. Whatever they do beside one another: if each
-/// payer's reads were answered by objects that hold the tables that the journal names, or none
-/// slipped, balances add up to what was issued, at each sequence; each commit is its order's step
-/// on the amounts just before it, and would read the same there. And if the flusher's store tells
-/// its objects, it holds all these tables. Refuses by `Db`, if memory is wanting, and by
-/// `ForeignCommit`, if the audit finds a commit that is no order.
+/// the journal that they leave, and the stores. Whatever they do beside one another, all commits
+/// are orders; and if each payer's reads were answered by objects that hold the tables that the
+/// journal names, or none slipped, balances add up to what was issued, at each sequence, and each
+/// commit is its order's step on the amounts just before it, and would read the same there. If
+/// the flusher's store tells its objects, it holds all these tables. The one error is
+/// `OutOfMemory`.
 pub fn pay_while_one_flushes<'a, 'b, 'c, R: Threads + Wait + Sync, S: Store + Send>(
     rt: &R,
     alloc: Global,
     orders: ((&Order, &Order), (&Order, &Order)),
     turns: u64,
     stores: Stores<'a, 'b, 'c, S>,
-) -> (Result<Served, StockError>, Stores<'a, 'b, 'c, S>)
+) -> (Result<Served, SlateDBError>, Stores<'a, 'b, 'c, S>)
     requires first { (stores.first.operator ≡ None) × (stores.first.transformer ≡ None) }
     requires second { (stores.second.operator ≡ None) × (stores.second.transformer ≡ None) }
     requires third { (stores.flusher.operator ≡ None) × (stores.flusher.transformer ≡ None) }
@@ -300,14 +308,16 @@ pub fn pay_while_one_flushes<'a, 'b, 'c, R: Threads + Wait + Sync, S: Store + Se
         ReadsTablesOf left.journal.events (reach stores.entry.first) (reach result.1.first) →
         ReadsTablesOf left.journal.events (reach stores.entry.second) (reach result.1.second) →
         AreBooks plain_rules left.journal.events) }
+    ensures orders { IfOk result.0 (λ left. IsOrders left.journal.events) }
     ensures stored { let reach = ⟦<EnvOf<S, NoOperator, NoTransformer> as Outside>⟧.reach in
         IfOk result.0 (λ left.
         HoldsTablesOf left.journal.events (reach stores.entry.flusher) (reach result.1.flusher)) }
+    ensures cause { IsOkUnless result.0 SlateDBError.OutOfMemory }
 {
     let laws = Plain::laws(alloc);
     let (db, mut pass) = match Database::<Plain>::new(alloc, &laws.options) {
         Ok(opened) => opened,
-        Err(error) => return (Err(StockError::Db(error)), stores),
+        Err(error) => return (Err(error), stores),
     };
     let Stores {
         first,

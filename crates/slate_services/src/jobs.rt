@@ -1,6 +1,8 @@
 //! Two workers that claim jobs.
-ghost use Rattle.std.specs.Prelude.{◌≡◌, ◌+◌, IfOk};
+ghost use Rattle.std.specs.Prelude.{◌≡◌, ◌+◌, IfOk, IsOkUnless};
+ghost use Rattle.slate_types.specs.declared.error.SlateDBError.{SlateDBError};
 ghost use Rattle.slate_shared.specs.Given.{ArePlain};
+ghost use Rattle.slate_queue.specs.Commits.{IsQueueCommit};
 ghost use Rattle.slate_threads.specs.Workers.{made_by};
 ghost use Rattle.slate_services.specs.Claims.{claims_made};
 ghost use Rattle.slate_services.specs.Jobs.{AreJobs};
@@ -8,12 +10,12 @@ ghost use Rattle.slate_services.specs.Plain.{IsCount, PlainWorked, plain_rules};
 
 use bytes::Bytes;
 use slate_db::laws::Laws;
-use slate_queue::{Claim, QueueError, add_shared, audit, claim_shared};
+use slate_queue::{Claim, QueueError, add_shared, claim_shared};
 use slate_shared::{Database, Pass, Plain};
 use slate_store::{Env, MemoryStore};
 use slate_threads::close;
 use slate_txn::journal::Journal;
-use slate_types::{NoExtractor, NoOperator, NoTransformer};
+use slate_types::{NoExtractor, NoOperator, NoTransformer, SlateDBError};
 use std::alloc::Global;
 use std::sync::Wait;
 use std::thread;
@@ -43,7 +45,7 @@ fn attempt_add<R: Wait>(
 ) -> Result<u64, QueueError>
     requires table { pass.old.table ≡ db.now }
     requires laws { ArePlain laws.now.options laws.now.segments laws.now.policies.items }
-    ensures { PlainWorked pass.old pass.new (made_by result) }
+    ensures { PlainWorked IsQueueCommit pass.old pass.new (made_by result) }
 {
     let mut store = MemoryStore::new(alloc, Vec::new(alloc));
     let mut env: Env<'_, MemoryStore, NoOperator, NoTransformer> = Env {
@@ -66,7 +68,7 @@ fn add<R: Wait>(
 ) -> u64
     requires table { pass.old.table ≡ db.now }
     requires laws { ArePlain laws.now.options laws.now.segments laws.now.policies.items }
-    ensures { PlainWorked pass.old pass.new result }
+    ensures { PlainWorked IsQueueCommit pass.old pass.new result }
 {
     let mut made = 0;
     for _turn in 0..turns {
@@ -90,7 +92,7 @@ fn attempt<R: Wait>(
 ) -> Result<Option<Claim>, QueueError>
     requires table { pass.old.table ≡ db.now }
     requires laws { ArePlain laws.now.options laws.now.segments laws.now.policies.items }
-    ensures { PlainWorked pass.old pass.new (claims_made result) }
+    ensures { PlainWorked IsQueueCommit pass.old pass.new (claims_made result) }
 {
     let mut store = MemoryStore::new(alloc, Vec::new(alloc));
     let mut env: Env<'_, MemoryStore, NoOperator, NoTransformer> = Env {
@@ -114,7 +116,7 @@ fn work<R: Wait>(
 ) -> u64
     requires table { pass.old.table ≡ db.now }
     requires laws { ArePlain laws.now.options laws.now.segments laws.now.policies.items }
-    ensures { PlainWorked pass.old pass.new result }
+    ensures { PlainWorked IsQueueCommit pass.old pass.new result }
 {
     let mut made = 0;
     for _turn in 0..turns {
@@ -140,8 +142,8 @@ fn work_beside<R: Threads + Wait + Sync>(
 ) -> (u64, u64)
     requires table { (pass.old.table ≡ db.now) × (other.old.table ≡ db.now) }
     requires laws { ArePlain laws.now.options laws.now.segments laws.now.policies.items }
-    ensures first { PlainWorked pass.old pass.new result.0 }
-    ensures second { PlainWorked other.old other.new result.1 }
+    ensures first { PlainWorked IsQueueCommit pass.old pass.new result.0 }
+    ensures second { PlainWorked IsQueueCommit other.old other.new result.1 }
 {
     join_mut(
         rt,
@@ -152,10 +154,9 @@ fn work_beside<R: Threads + Wait + Sync>(
 
 /// Adds jobs of one payload, and then two workers claim jobs, so many times each, until a moment
 /// in milliseconds from now. Gives the journal that they leave. Whatever the workers do beside
-/// one another, in that journal no lease of a job is claimed twice, so that a job has one worker
-/// at a time; each commit would read the same just before it; and there are as many commits as
-/// the threads were told. Refuses by `Db`, if memory is wanting, and by `ForeignCommit`, if the
-/// audit finds a commit that is none of a queue's.
+/// one another, in that journal all commits are a queue's; no lease of a job is claimed twice, so
+/// that a job has one worker at a time; each commit would read the same just before it; and there
+/// are as many commits as the threads were told. The one error is `OutOfMemory`.
 pub fn claim_by_two<R: Threads + Wait + Sync>(
     rt: &R,
     alloc: Global,
@@ -164,10 +165,11 @@ pub fn claim_by_two<R: Threads + Wait + Sync>(
     now: i64,
     ms: u64,
     turns: u64,
-) -> Result<Claimed, QueueError>
+) -> Result<Claimed, SlateDBError>
     ensures jobs { IfOk result (λ left. AreJobs plain_rules left.journal.events) }
     ensures counted { IfOk result (λ left. IsCount left.journal.events
         (left.added + left.first + left.second)) }
+    ensures cause { IsOkUnless result SlateDBError.OutOfMemory }
 {
     let laws = Plain::laws(alloc);
     let (db, mut pass) = Database::<Plain>::new(alloc, &laws.options)?;
@@ -177,10 +179,8 @@ pub fn claim_by_two<R: Threads + Wait + Sync>(
     pass.join(&db, other);
     let (core, copied) = close(rt, db, pass);
     core.close();
-    let journal = copied?;
-    audit(&journal)?;
     Ok(Claimed {
-        journal,
+        journal: copied?,
         added,
         first,
         second,

@@ -1,19 +1,20 @@
 //! Two threads that pay from one account.
-ghost use Rattle.std.specs.Prelude.{◌≡◌, ◌+◌, IfOk};
+ghost use Rattle.std.specs.Prelude.{◌≡◌, ◌+◌, IfOk, IsOkUnless};
+ghost use Rattle.slate_types.specs.declared.error.SlateDBError.{SlateDBError};
 ghost use Rattle.slate_shared.specs.Given.{ArePlain};
+ghost use Rattle.slate_stock.specs.Journals.{order_kind};
 ghost use Rattle.slate_threads.specs.Workers.{made_by};
 ghost use Rattle.slate_services.specs.Payments.{AreBooks};
 ghost use Rattle.slate_services.specs.Plain.{IsCount, PlainWorked, plain_rules};
 
 use slate_db::laws::Laws;
 use slate_shared::{Database, Pass, Plain};
-use slate_stock::audit::audit;
 use slate_stock::on_pass::run_order;
 use slate_stock::{Order, StockError};
 use slate_store::{Env, MemoryStore};
 use slate_threads::close;
 use slate_txn::journal::Journal;
-use slate_types::{NoExtractor, NoOperator, NoTransformer};
+use slate_types::{NoExtractor, NoOperator, NoTransformer, SlateDBError};
 use std::alloc::Global;
 use std::sync::Wait;
 use std::thread;
@@ -43,7 +44,7 @@ fn attempt<R: Wait>(
 ) -> Result<u64, StockError>
     requires table { pass.old.table ≡ db.now }
     requires laws { ArePlain laws.now.options laws.now.segments laws.now.policies.items }
-    ensures { PlainWorked pass.old pass.new (made_by result) }
+    ensures { PlainWorked order_kind pass.old pass.new (made_by result) }
 {
     let mut store = MemoryStore::new(alloc, Vec::new(alloc));
     let mut env: Env<'_, MemoryStore, NoOperator, NoTransformer> = Env {
@@ -67,7 +68,7 @@ fn pay<R: Wait>(
 ) -> u64
     requires table { pass.old.table ≡ db.now }
     requires laws { ArePlain laws.now.options laws.now.segments laws.now.policies.items }
-    ensures { PlainWorked pass.old pass.new result }
+    ensures { PlainWorked order_kind pass.old pass.new result }
 {
     let mut made = 0;
     for _turn in 0..turns {
@@ -92,8 +93,8 @@ fn pay_beside<R: Threads + Wait + Sync>(
 ) -> (u64, u64)
     requires table { (pass.old.table ≡ db.now) × (other.old.table ≡ db.now) }
     requires laws { ArePlain laws.now.options laws.now.segments laws.now.policies.items }
-    ensures first { PlainWorked pass.old pass.new result.0 }
-    ensures second { PlainWorked other.old other.new result.1 }
+    ensures first { PlainWorked order_kind pass.old pass.new result.0 }
+    ensures second { PlainWorked order_kind other.old other.new result.1 }
 {
     let (first, second) = orders;
     join_mut(
@@ -104,11 +105,10 @@ fn pay_beside<R: Threads + Wait + Sync>(
 }
 
 /// Makes an order, as an issue is, and then two threads try one each, so many times. Gives the
-/// journal that they leave. Whatever the threads do beside one another, in that journal balances
-/// add up to what was issued, at each sequence; each commit is its order's step on the amounts
-/// just before it, and would read the same there; and there are as many commits as the threads
-/// were told. Refuses by `Db`, if memory is wanting, and by `ForeignCommit`, if the audit finds a
-/// commit that is no order.
+/// journal that they leave. Whatever the threads do beside one another, in that journal all
+/// commits are orders; balances add up to what was issued, at each sequence; each commit is its
+/// order's step on the amounts just before it, and would read the same there; and there are as
+/// many commits as the threads were told. The one error is `OutOfMemory`.
 pub fn pay_by_two<R: Threads + Wait + Sync>(
     rt: &R,
     alloc: Global,
@@ -116,10 +116,11 @@ pub fn pay_by_two<R: Threads + Wait + Sync>(
     first: &Order,
     second: &Order,
     turns: u64,
-) -> Result<Paid, StockError>
+) -> Result<Paid, SlateDBError>
     ensures books { IfOk result (λ paid. AreBooks plain_rules paid.journal.events) }
     ensures counted { IfOk result (λ paid. IsCount paid.journal.events
         (paid.issued + paid.first + paid.second)) }
+    ensures cause { IsOkUnless result SlateDBError.OutOfMemory }
 {
     let laws = Plain::laws(alloc);
     let (db, mut pass) = Database::<Plain>::new(alloc, &laws.options)?;
@@ -130,10 +131,8 @@ pub fn pay_by_two<R: Threads + Wait + Sync>(
     pass.join(&db, other);
     let (core, copied) = close(rt, db, pass);
     core.close();
-    let journal = copied?;
-    audit(&journal)?;
     Ok(Paid {
-        journal,
+        journal: copied?,
         issued,
         first,
         second,

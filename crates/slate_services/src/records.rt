@@ -1,19 +1,20 @@
 //! Two threads that put one record.
-ghost use Rattle.std.specs.Prelude.{◌≡◌, ◌+◌, IfOk};
+ghost use Rattle.std.specs.Prelude.{◌≡◌, ◌+◌, IfOk, IsOkUnless};
+ghost use Rattle.slate_types.specs.declared.error.SlateDBError.{SlateDBError};
 ghost use Rattle.slate_shared.specs.Given.{ArePlain};
+ghost use Rattle.slate_index.specs.Journals.{change_kind};
 ghost use Rattle.slate_threads.specs.Workers.{made_by};
 ghost use Rattle.slate_services.specs.Plain.{IsCount, PlainWorked, plain_rules};
 ghost use Rattle.slate_services.specs.Records.{AreIndexed};
 
 use bytes::Bytes;
 use slate_db::laws::Laws;
-use slate_index::audit::audit;
 use slate_index::{Fields, IndexError, Name, put_record_shared};
 use slate_shared::{Database, Pass, Plain};
 use slate_store::{Env, MemoryStore};
 use slate_threads::close;
 use slate_txn::journal::Journal;
-use slate_types::{NoExtractor, NoOperator, NoTransformer};
+use slate_types::{NoExtractor, NoOperator, NoTransformer, SlateDBError};
 use std::alloc::Global;
 use std::sync::Wait;
 use std::thread;
@@ -42,7 +43,7 @@ fn attempt<F: Fields, R: Wait>(
 ) -> Result<u64, IndexError>
     requires table { pass.old.table ≡ db.now }
     requires laws { ArePlain laws.now.options laws.now.segments laws.now.policies.items }
-    ensures { PlainWorked pass.old pass.new (made_by result) }
+    ensures { PlainWorked (change_kind (F.model fields.now)) pass.old pass.new (made_by result) }
 {
     let mut store = MemoryStore::new(alloc, Vec::new(alloc));
     let mut env: Env<'_, MemoryStore, NoOperator, NoTransformer> = Env {
@@ -68,7 +69,7 @@ fn put<F: Fields, R: Wait>(
 ) -> u64
     requires table { pass.old.table ≡ db.now }
     requires laws { ArePlain laws.now.options laws.now.segments laws.now.policies.items }
-    ensures { PlainWorked pass.old pass.new result }
+    ensures { PlainWorked (change_kind (F.model fields.now)) pass.old pass.new result }
 {
     let mut made = 0;
     for _turn in 0..turns {
@@ -94,8 +95,8 @@ fn put_beside<F: Fields + Sync, R: Threads + Wait + Sync>(
 ) -> (u64, u64)
     requires table { (pass.old.table ≡ db.now) × (other.old.table ≡ db.now) }
     requires laws { ArePlain laws.now.options laws.now.segments laws.now.policies.items }
-    ensures first { PlainWorked pass.old pass.new result.0 }
-    ensures second { PlainWorked other.old other.new result.1 }
+    ensures first { PlainWorked (change_kind (F.model fields.now)) pass.old pass.new result.0 }
+    ensures second { PlainWorked (change_kind (F.model fields.now)) other.old other.new result.1 }
 {
     let (first, second) = records;
     join_mut(
@@ -106,10 +107,10 @@ fn put_beside<F: Fields + Sync, R: Threads + Wait + Sync>(
 }
 
 /// Two threads put one record, each with a value of its own, so many times. Gives the journal
-/// that they leave. Whatever they do beside one another, in that journal the entries are just
-/// those of the records, at each sequence; each commit would read the same just before it; and
-/// there are as many commits as the threads were told. Refuses by `Db`, if memory is wanting, and
-/// by `ForeignCommit`, if the audit finds a commit that changes no record.
+/// that they leave. Whatever they do beside one another, in that journal all commits change
+/// records; the entries are just those of the records, at each sequence; each commit would read
+/// the same just before it; and there are as many commits as the threads were told. The one error
+/// is `OutOfMemory`.
 pub fn put_by_two<F: Fields + Sync, R: Threads + Wait + Sync>(
     rt: &R,
     alloc: Global,
@@ -117,10 +118,11 @@ pub fn put_by_two<F: Fields + Sync, R: Threads + Wait + Sync>(
     id: &Name,
     values: (&Bytes, &Bytes),
     turns: u64,
-) -> Result<Recorded, IndexError>
+) -> Result<Recorded, SlateDBError>
     ensures indexed { IfOk result (λ left.
         AreIndexed (F.model fields.now) plain_rules left.journal.events) }
     ensures counted { IfOk result (λ left. IsCount left.journal.events (left.first + left.second)) }
+    ensures cause { IsOkUnless result SlateDBError.OutOfMemory }
 {
     let laws = Plain::laws(alloc);
     let (db, mut pass) = Database::<Plain>::new(alloc, &laws.options).map_err(IndexError::Db)?;
@@ -132,10 +134,8 @@ pub fn put_by_two<F: Fields + Sync, R: Threads + Wait + Sync>(
     pass.join(&db, other);
     let (core, copied) = close(rt, db, pass);
     core.close();
-    let journal = copied.map_err(IndexError::Db)?;
-    audit(&journal, fields)?;
     Ok(Recorded {
-        journal,
+        journal: copied?,
         first,
         second,
     })

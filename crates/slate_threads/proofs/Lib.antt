@@ -3,5 +3,6 @@ pub mod Counting
 pub mod Serial
 pub mod PassLaws
 pub mod WorkerLaws
+pub mod KindLaws
 pub mod ReaderLaws
 pub mod FlushLaws

@@ -3,6 +3,7 @@
 --     PassIsVouched o m p      what its own commits were answered is vouched
 --     PassIsAlone o m p      each serializable commit of its own would read the same just before
 --             it, unless another since its begin wrote what it read and doesn't track it
+--     PassIsOfKind kind p      each commit of its own is of the kind, and no write is its own
 --     Commits o old new      it has one place more, which has the commit of an attempt
 --     CommitsVouched o m old new      so it has, and the answers are those of a reader at its begin
 --     Writes old new result      it has one place more, which has a write, or none
@@ -18,6 +19,7 @@ use Rattle.slate_types.specs.declared.error.SlateDBError.{SlateDBError}
 use Rattle.slate_mem.specs.Batch.{Ops}
 use Rattle.slate_txn.specs.declared.event.Event.{Event}
 use Rattle.slate_txn.specs.declared.event.TranscriptStep.{TranscriptStep}
+use Rattle.slate_txn.specs.Audited.{Kind}
 use Rattle.slate_txn.specs.Replay.{IsLegal}
 use Rattle.slate_txn.specs.Settings.{settings_of}
 use Rattle.slate_txn.specs.Vouched.{AreAlone, AreVouched}
@@ -26,13 +28,16 @@ use Rattle.slate_shared.specs.Ended.{behind_write, own_behind}
 use Rattle.slate_shared.specs.Passes.{Opened, PassModel}
 use Rattle.slate_shared.specs.Shared.{IsOwner, OwnsAll, all_parts}
 use Rattle.slate_steps.specs.Attempts.{HasCommittedBehind, IsAttempt, IsVouchedThere}
-use Rattle.slate_threads.specs.Own.{OwnAreAlone, OwnAreVouched}
+use Rattle.slate_threads.specs.Own.{OwnAreAlone, OwnAreOfKind, OwnAreVouched}
 
 abbrev pub PassIsVouched : Options → Meaning → PassModel → Type 0
 PassIsVouched o m p = OwnAreVouched (rules_of (settings_of o) m) p.own p.seen
 
 abbrev pub PassIsAlone : Options → Meaning → PassModel → Type 0
 PassIsAlone o m p = OwnAreAlone (rules_of (settings_of o) m) p.own p.seen
+
+abbrev pub PassIsOfKind : Kind → PassModel → Type 0
+PassIsOfKind kind p = OwnAreOfKind kind p.own p.seen
 
 -- from: what the pass had seen at the begin
 pub record Commits (o : Options) (old new : PassModel) : Type 0 where
