@@ -4,5 +4,6 @@ pub mod Serial
 pub mod PassLaws
 pub mod WorkerLaws
 pub mod KindLaws
+pub mod CopyLaws
 pub mod ReaderLaws
 pub mod FlushLaws
