@@ -1,0 +1,9 @@
+pub mod OwnPlaces
+pub mod Counting
+pub mod Serial
+pub mod PassLaws
+pub mod WorkerLaws
+pub mod KindLaws
+pub mod CopyLaws
+pub mod ReaderLaws
+pub mod FlushLaws
