@@ -1,7 +1,4 @@
 // Ranges of keys with sequences, the prefixes that an extractor gives, and the partitions of keys.
-ghost use Rattle.std.specs.Prelude.{[]};
-ghost use Rattle.slate_call_tests.specs.Nowhere.{nowhere_rises};
-
 use bytes::Bytes;
 use slate_filter::LastColonExtractor;
 use slate_mem::KVTableInternalKeyRange;
@@ -89,26 +86,4 @@ fn are_found(alloc: Global) -> bool {
 #[test]
 fn blocks_of_keys_are_found(rt: HostRuntime) {
     assert!(rt; are_found(rt.alloc()));
-}
-
-// A space that has no partition.
-struct Nowhere;
-
-impl RangePartitionedKeySpace for Nowhere {
-    ghost first_keys = { λ _. [] };
-
-    ghost rising = { λ _. nowhere_rises };
-
-    fn partitions(&self) -> usize {
-        0
-    }
-
-    fn partition_first_key(&self, _partition: usize) -> &[u8] {
-        unreachable!()
-    }
-}
-
-#[test]
-fn without_partitions_no_key_is_found(rt: HostRuntime) {
-    assert!(rt; is_found(&Nowhere, &(b"aaaa", None, None)));
 }

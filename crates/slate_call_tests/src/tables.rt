@@ -173,17 +173,16 @@ fn a_block_past_the_last_is_refused(rt: HostRuntime) {
 }
 
 // Returns a policy of filters of prefixes of four bytes alone.
-fn prefixes(alloc: Global) -> Result<Box<dyn FilterPolicy>, SlateDBError> {
+fn prefixes(alloc: Global) -> Result<BloomFilterPolicy<FixedExtractor>, SlateDBError> {
     let policy: BloomFilterPolicy<FixedExtractor> = BloomFilterPolicy::new(alloc, 10)?;
     let policy = policy.with_whole_key_filtering(alloc, false)?;
-    let policy = policy.with_prefix_extractor(alloc, FixedExtractor::new(alloc, 4)?)?;
-    let policy: Box<dyn FilterPolicy> = Box::new(alloc, policy)?;
-    Ok(policy)
+    policy.with_prefix_extractor(alloc, FixedExtractor::new(alloc, 4)?)
 }
 
 // Checks that a table of keys without prefixes has the one filter, which has no bit.
 fn has_filter(alloc: Global) -> Option<bool> {
-    let policies = one(alloc, prefixes(alloc).ok()?);
+    let policy: Box<dyn FilterPolicy> = Box::new(alloc, prefixes(alloc).ok()?).ok()?;
+    let policies = one(alloc, policy);
     let stored = stored(alloc, of_two_rows(alloc), policies.as_slice());
     drop(policies);
     let (mut store, handle) = stored?;
