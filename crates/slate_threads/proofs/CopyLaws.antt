@@ -30,7 +30,7 @@ module _ (o : Options) (p new : PassModel) (core : List Event) (seen : IsPrefix 
         (subst (λ (l : List ℕ). IsOwner l new.seen) own owner);
     whole = λ all. subst (λ (l : List Event). OwnsAll p.own l) (sym is)
         (owns_front p.own new.seen core begins
-            (subst (λ (l : List ℕ). OwnsAll l core) own (whole (parts ∙ all))));
+        (subst (λ (l : List ℕ). OwnsAll l core) own (whole (parts ∙ all))));
   }
 
   pub copy_whole : (r : Result JournalModel SlateDBError) →
@@ -39,15 +39,15 @@ module _ (o : Options) (p new : PassModel) (core : List Event) (seen : IsPrefix 
   copy_whole (Err e) is = tt
 
 module _ (o : Options) (m : Meaning) (p : PassModel) (core : List Event) (all : p.parts ≡ all_parts)
-    where
-  pub copy_vouched : (r : Result JournalModel SlateDBError) →
-      IfOk r (λ copy. IsWholeCopy o p copy.events core) → PassIsVouched o m p →
-      IfOk r (λ copy. IsVouchedCopy o m copy.events)
-  copy_vouched (Ok copy) h v = vouched_copy o m p copy.events h.seen (h.whole all) h.legal v
-  copy_vouched (Err e) h v = tt
+  where
+    pub copy_vouched : (r : Result JournalModel SlateDBError) →
+        IfOk r (λ copy. IsWholeCopy o p copy.events core) → PassIsVouched o m p →
+        IfOk r (λ copy. IsVouchedCopy o m copy.events)
+    copy_vouched (Ok copy) h v = vouched_copy o m p copy.events h.seen (h.whole all) h.legal v
+    copy_vouched (Err e) h v = tt
 
-  pub copy_worked : (r : Result JournalModel SlateDBError) →
-      IfOk r (λ copy. IsWholeCopy o p copy.events core) → IsWorker o m p →
-      IfOk r (λ copy. IsVouchedCopy o m copy.events)
-  copy_worked (Ok copy) h w = worker_copy o m p copy.events h.seen (h.whole all) h.legal w
-  copy_worked (Err e) h w = tt
+    pub copy_worked : (r : Result JournalModel SlateDBError) →
+        IfOk r (λ copy. IsWholeCopy o p copy.events core) → IsWorker o m p →
+        IfOk r (λ copy. IsVouchedCopy o m copy.events)
+    copy_worked (Ok copy) h w = worker_copy o m p copy.events h.seen (h.whole all) h.legal w
+    copy_worked (Err e) h w = tt

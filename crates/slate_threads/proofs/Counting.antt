@@ -6,7 +6,7 @@ use Rattle.std.specs.Prelude.{count_by}
 use Rattle.std.proofs.lemmas.Bool.{eqb-true}
 use Rattle.std.proofs.lemmas.List.Recursion.{is_count_by}
 use Rattle.slate_txn.specs.declared.event.Event.{Event}
-use Rattle.slate_shared.specs.Shared.{IsOwner, OwnsAll, is_own, same, times}
+use Rattle.slate_shared.specs.Shared.{is_own, same, times}
 use Rattle.slate_shared.proofs.Lists.{get_below, same-eq}
 use Rattle.slate_threads.specs.Laws.{EachIsCounted}
 

@@ -1,5 +1,5 @@
 -- What the store of the one thread that flushes holds.
-use Rattle.std.proofs.Common.{◌≡◌, ◌⊎◌, inl, inr, ⊎_elim, ℕ, suc, ◌+◌, ◌<◌, ◌≤◌, Option, Some}
+use Rattle.std.proofs.Common.{◌≡◌, ◌⊎◌, inl, inr, ⊎_elim, ℕ, suc, ◌+◌, ◌<◌, ◌≤◌, Some}
 use Rattle.std.proofs.Common.{List, [], ◌∷◌, ◌++◌, length, slice_get}
 use Rattle.std.proofs.Common.{refl, sym, ap, subst, ◌∙◌, arith, length-append}
 use Rattle.std.proofs.lemmas.List.{append-nil}
@@ -9,11 +9,9 @@ use Rattle.slate_types.specs.Outside.{Objects}
 use Rattle.slate_txn.specs.declared.event.Event.{Event}
 use Rattle.slate_txn.specs.declared.event.Event.TheVariants as events
 use Rattle.slate_db.specs.Installs.{Holds, tables_in, tables_of}
-use Rattle.slate_shared.specs.Passes.{PassModel}
-use Rattle.slate_shared.specs.Shared.{OwnsAll, times}
-use Rattle.slate_shared.proofs.Lists.{get_below, get_snoc, prefix_self, times-append}
-use Rattle.slate_threads.specs.Own.{IsNoInstall, OwnInstallNothing}
-use Rattle.slate_threads.specs.Readers.{KeepsTables, OwnsInstalls}
+use Rattle.slate_shared.specs.Shared.{times}
+use Rattle.slate_shared.proofs.Lists.{get_below, prefix_self}
+use Rattle.slate_threads.specs.Readers.{OwnsInstalls}
 use Rattle.slate_threads.specs.Laws.{FlushKeepsTables, IdleKeepsTables, NewKeepsTables}
 use Rattle.slate_threads.specs.Laws.{TablesAreStored}
 use Rattle.slate_threads.proofs.OwnPlaces.{either_own, get_behind, is_there}

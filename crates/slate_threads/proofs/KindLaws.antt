@@ -67,12 +67,12 @@ module _ (kind : Kind) where
       (c.committed.before ++ (commit_of o old new c ∷ [])) new.seen c.committed.own
       c.committed.after
       (are_one_more OfKind old.own c.committed.before (commit_of o old new c)
-          (are_longer OfKind old.own old.seen c.committed.before c.committed.seen h)
-          (by_begin (find_named c.txn.id (replay c.committed.before).txns) c.level c.txn.tx.begin
-              c.seq c.now (kept_ops c.txn.tx.ops) (batch_keys c.txn.tx.ops) c.txn.tx.transcript
-              (committed_open o c.from c.level c.steps c.txn c.attempt c.seq c.now old new
-                  c.committed c.legal)
-              is))
+      (are_longer OfKind old.own old.seen c.committed.before c.committed.seen h)
+      (by_begin (find_named c.txn.id (replay c.committed.before).txns) c.level c.txn.tx.begin
+      c.seq c.now (kept_ops c.txn.tx.ops) (batch_keys c.txn.tx.ops) c.txn.tx.transcript
+      (committed_open o c.from c.level c.steps c.txn c.attempt c.seq c.now old new
+      c.committed c.legal)
+      is))
 
   -- an install is no commit
   pub flush_of_kind : (o : Settings) (m : Meaning) (layout : Layout) (n : ℕ)
@@ -83,7 +83,7 @@ module _ (kind : Kind) where
       as_these (old.own ++ (length f.journal ∷ [])) new.own
       (f.journal ++ (events.Install n f.tables ∷ [])) new.seen f.place f.event
       (are_one_more OfKind old.own f.journal (events.Install n f.tables)
-          (are_longer OfKind old.own old.seen f.journal f.seen h) tt)
+      (are_longer OfKind old.own old.seen f.journal f.seen h) tt)
 
   -- if all are its own
   pub whole_of_kind : (p : PassModel) (es : List Event) → IsPrefix p.seen es → OwnsAll p.own es →

@@ -20,14 +20,13 @@ use Rattle.slate_txn.specs.declared.event.TranscriptStep.{TranscriptStep}
 use Rattle.slate_txn.specs.Named.{find_named}
 use Rattle.slate_txn.specs.Replay.{IsLegal, apply, apply_all, replay}
 use Rattle.slate_txn.specs.State.{Rules, State, Tx, opening}
-use Rattle.slate_txn.specs.Vouched.{AloneAt, AloneBy, AloneWhere, AreVouched, AreVouchedFrom}
+use Rattle.slate_txn.specs.Vouched.{AloneAt, AloneBy, AloneWhere, AreVouchedFrom}
 use Rattle.slate_txn.specs.Vouched.{VouchedAt, VouchedBy}
 use Rattle.slate_txn.proofs.PlaceLaws.{at_its_place, each_at_its_place}
 use Rattle.slate_db.specs.Installs.{tables_in, tables_of}
 use Rattle.slate_shared.specs.Shared.{OwnsAll, is_own, own_after, same, times}
 use Rattle.slate_shared.proofs.Lists.{get_below, get_snoc, times-append}
-use Rattle.slate_threads.specs.Own.{IsNoInstall, OwnAre, OwnAreAlone, OwnAreOfKind, OwnAreVouched}
-use Rattle.slate_threads.specs.Own.{OwnInstallNothing}
+use Rattle.slate_threads.specs.Own.{IsNoInstall, OwnAre, OwnAreOfKind, OwnAreVouched}
 use Rattle.slate_threads.specs.Laws.{AllAreAlone, AllAreVouched, JoinedAreVouched, LongerIsVouched}
 use Rattle.slate_threads.specs.Laws.{NothingIsStored, NothingIsVouched, OneEventMore, OneMore}
 use Rattle.slate_threads.specs.Laws.{OneInstallMore, OneWriteMore, OwnStandAlone}
@@ -288,7 +287,7 @@ module _ (r : Rules) (before later : List Event) where
           at_level Snapshot e = tt
           at_level SerializableSnapshot e =
               λ tracks.
-                  at_its_place r before later id n now ops tracked ts t legal vouched is e tracks
+              at_its_place r before later id n now ops tracked ts t legal vouched is e tracks
 
   alone_at : (e : Event) → IsLegal r.start_seq (before ++ (e ∷ later)) →
       VouchedAt r (replay before) e → AloneAt r (replay before) e

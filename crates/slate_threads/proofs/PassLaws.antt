@@ -1,7 +1,7 @@
 -- How each call of a pass keeps that what stands at its own places is vouched.
-use Rattle.std.proofs.Common.{◌≡◌, ℕ, ℤ, List, [], ◌∷◌, ◌++◌, length}
+use Rattle.std.proofs.Common.{◌≡◌, ℕ, List, [], ◌∷◌, ◌++◌, length}
 use Rattle.std.proofs.Common.{Option, Some, None, Result, Ok, Err}
-use Rattle.std.proofs.Common.{refl, sym, ap, subst, ◌∙◌}
+use Rattle.std.proofs.Common.{refl, sym, subst}
 use mathlib.Core.List.{IsPrefix}
 use Rattle.slate_types.specs.declared.config.Options.{Options}
 use Rattle.slate_types.specs.declared.error.SlateDBError.{SlateDBError}
@@ -22,7 +22,7 @@ use Rattle.slate_steps.specs.Attempts.{IsVouchedThere}
 use Rattle.slate_steps.proofs.Attempts.{attempt_alone_before}
 use Rattle.slate_steps.proofs.OpenThere.{committed_open}
 use Rattle.slate_threads.specs.Own.{OwnAreVouched}
-use Rattle.slate_threads.specs.Passes.{Commits, CommitsVouched, IsVouchedCopy, PassIsVouched}
+use Rattle.slate_threads.specs.Passes.{Commits, IsVouchedCopy, PassIsVouched}
 use Rattle.slate_threads.specs.Laws.{CommitStaysVouched, FlushStaysVouched, JoinStaysVouched}
 use Rattle.slate_threads.specs.Laws.{LongerStaysVouched, NewIsVouched, PassStandsAlone}
 use Rattle.slate_threads.specs.Laws.{WholeIsVouched, WholeStandsAlone, WriteStaysVouched}

@@ -7,7 +7,7 @@
 --     IsNoInstall e, OwnInstallNothing own es      the event is no install; none there is
 --     IsSerialAt r s e      a serializable commit would read the same in the state just before it
 --     AreSerial r es      so would each of a journal, whatever others tracked
-use Rattle.std.specs.Prelude.{◌≡◌, ℕ, ◌<◌, List, [], length, take, slice_get, Option, Some, None, ⊤}
+use Rattle.std.specs.Prelude.{◌≡◌, ℕ, ◌<◌, List, length, take, slice_get, Option, Some, None, ⊤}
 use Rattle.slate_types.specs.declared.config.IsolationLevel.TheVariants.{SerializableSnapshot}
 use Rattle.slate_txn.specs.declared.event.Event.{Event}
 use Rattle.slate_txn.specs.declared.event.Event.TheVariants as events
