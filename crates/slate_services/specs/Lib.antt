@@ -1,6 +1,0 @@
-pub mod Plain
-pub mod Payments
-pub mod Records
-pub mod Jobs
-pub mod Claims
-pub mod Leaving
