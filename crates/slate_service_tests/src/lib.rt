@@ -1,0 +1,7 @@
+//! Tests of services of several threads: that their calls answer, and how much is done.
+#![tactic(auto)]
+
+#[cfg(test)]
+mod copies;
+#[cfg(test)]
+mod payments;
