@@ -1,2 +1,0 @@
-pub mod FirstLaws
-pub mod OpenIds
