@@ -32,6 +32,11 @@ placed c d x n same w place past =
     let over : NoPlace n c = subst (NoPlace n) (sym same) past in
     absurd (omega (arith, ends_are c x w))
 
+pub place_for : (c d : CoreModel) (x : Unseen) (n : ℕ) → c ≡ d → IsWhole c x → length c.events + x.ends + n ≤ LIMIT → weight d + n ≤ LIMIT
+place_for c d x n same w place =
+    let here : weight c + n ≤ LIMIT = omega (arith, ends_are c x w, place) in
+    subst (λ (v : CoreModel). weight v + n ≤ LIMIT) same here
+
 pub past_place : (c d : CoreModel) (x : Unseen) (n : ℕ) → c ≡ d → IsWhole c x → LIMIT < length c.events + x.ends + n → NoPlace n d
 past_place c d x n same w past =
     let over : NoPlace n c = omega (arith, ends_are c x w) in
@@ -97,6 +102,14 @@ pub shown_is : (s : Inside) (l : LogModel) (n : Snapshots) → l ≡ with_snapsh
 shown_is s l n log shown = let a = sym log in let b = sym shown in λ i. record s { log = a i; snapshots = b i }
 
 -- no count of ids is at its end
+pub only_short_begin : (c : CoreModel) (x : Unseen) (e : SlateDBError) → IsWhole c x → (e ≡ errors.OutOfMemory) ⊎ ((e ≡ errors.LimitReached (2 ^ 64 - 1)) × (x.manager.ids ≡ 2 ^ 64 - 1)) → e ≡ errors.OutOfMemory
+only_short_begin c x e w (inl short) = short
+only_short_begin c x e w (inr (limit, full)) =
+    let ids : x.manager.ids ≡ x.ids = w.tied.manager.counted in
+    let most : length c.events + x.ends ≤ LIMIT = w.log.bound in
+    let given : x.ids ≤ length c.events = w.log.counted in
+    absurd (omega arith)
+
 pub only_short : (c : CoreModel) (x : Unseen) (e : SlateDBError) → IsWhole c x → (e ≡ errors.OutOfMemory) ⊎ ((e ≡ errors.LimitReached (2 ^ 64 - 1)) × (x.snapshots.ids ≡ 2 ^ 64 - 1)) → e ≡ errors.OutOfMemory
 only_short c x e w (inl short) = short
 only_short c x e w (inr (limit, full)) =

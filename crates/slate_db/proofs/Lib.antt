@@ -85,7 +85,15 @@ pub mod OwnRows
 pub mod Changes
 pub mod CommitWholes
 mod Commits
+mod Committing
+pub mod Noting
+pub mod StepExits
+pub mod WriteVerdicts
+mod Writing
+pub mod WriteFacts
+pub mod CommitFacts
 mod Unasked
+mod Verdicts
 pub mod Vouches
 mod ByKeys
 mod KeyRows

@@ -52,3 +52,4 @@ pub mod TxnScans
 pub mod Prefixes
 pub mod LeftLaws
 pub mod ChangedReads
+pub mod Calls

@@ -1,5 +1,5 @@
 //! A commit of a transaction, up to its event.
-ghost use Rattle.std.specs.Prelude.{◌≡◌, ◌≢◌, ◌⊎◌, ◌+◌, ◌<◌, ◌≤◌, ◌++◌, [], ℕ, List, None, Some, Err, option_map, unwrap_or, false, IfErr, IfOk, OnOk, OnErr};
+ghost use Rattle.std.specs.Prelude.{◌≡◌, ◌⊎◌, ◌+◌, ◌<◌, ◌≤◌, ◌++◌, [], ℕ, List, None, Some, Err, option_map, false, IfErr, IfOk, OnOk, OnErr};
 ghost use Rattle.std.specs.List.{AllByRecursion};
 ghost use Rattle.slate_types.specs.declared.error.SlateDBError.{SlateDBError};
 ghost use Rattle.slate_types.specs.Faults.{faults_of};
@@ -10,22 +10,21 @@ ghost use Rattle.slate_mem.specs.CommitRows.{commit_rows};
 ghost use Rattle.slate_mem.specs.KeyTests.{prefixes};
 ghost use Rattle.slate_mem.specs.Lookup.{IsCallback};
 ghost use Rattle.slate_mem.specs.Table.{put_rows};
-ghost use Rattle.slate_txn.specs.Managers.{StandsFor, IsCommitOf, with_commit, writes_at};
-ghost use Rattle.slate_txn.specs.Named.{find_named, without};
+ghost use Rattle.slate_txn.specs.Managers.{StandsFor};
 ghost use Rattle.slate_mem.specs.Batch.{kept_ops};
-ghost use Rattle.slate_mem.specs.BatchModel.{holds_merge};
 ghost use Rattle.slate_txn.specs.Conflict.{conflict, tracked_writes};
-ghost use Rattle.slate_txn.specs.HandedOver.{Grown, IsConflict};
-ghost use Rattle.slate_txn.specs.Replay.{commit_made};
+ghost use Rattle.slate_txn.specs.HandedOver.{Grown};
 ghost use Rattle.slate_txn.specs.State.{Commit, Tx};
 ghost use Rattle.slate_txn.specs.Tested.{IsUntracked};
-ghost use Rattle.slate_db.specs.BatchTests.{IsTestRefusal, batch_refusal, test_refusal};
-ghost use Rattle.slate_db.specs.Committed.{IsNextOf, IsFull, put_at, recorded_at};
+ghost use Rattle.slate_db.specs.BatchTests.{batch_refusal, test_refusal};
+ghost use Rattle.slate_db.specs.Calls.Commit.{AsksNobody, verdict_of};
+ghost use Rattle.slate_db.specs.Calls.Common.{Decides};
+ghost use Rattle.slate_db.specs.Committed.{IsNextOf, put_at, recorded_at};
 ghost use Rattle.slate_db.specs.Managed.{IsManaged};
 ghost use Rattle.slate_db.specs.Layers.{AreLayers, in_memory};
 ghost use Rattle.slate_db.specs.Log.{AreFine};
 ghost use Rattle.slate_db.specs.Meaning.{segments_by};
-ghost use Rattle.slate_db.specs.Unasked.{IsUnasked};
+ghost use Rattle.slate_db.specs.Calls.Put.{HasEnded, ManagesMade, StandsEnded};
 
 use crate::layers::Layers;
 use crate::put::put_own;
@@ -71,26 +70,29 @@ pub(crate) fn make<M: MergeOperator, X: PrefixExtractor>(
     ensures steps { IfOk result (λ made. made.transcript ≡ owned.transcript) }
     ensures ops { IfOk result (λ made. made.ops ≡ kept_ops owned.ops) }
     ensures fine { IfOk result (λ made. AreFine made.ops) }
-    ensures tested { OnOk result (test_refusal (option_map M.combine operator.old) (segments_by X.lengths extractor.now) segments.old default_millis now owned.ops ≡ None) }
+    ensures answer { (cs : List Commit) → StandsFor manager.old cs →
+        Decides (verdict_of (conflict cs owned) last owned.ops (test_refusal (option_map M.combine
+        operator.old) (segments_by X.lengths extractor.now) segments.old default_millis now
+        owned.ops))
+        (λ e. (e ≡ SlateDBError.OutOfMemory) ⊎ IsCallback (faults_of M.faults operator.old)
+        (faults_of M.faults operator.new) e) result }
     ensures next { IfOk result (λ made. IsNextOf last owned.ops made.seq) }
-    ensures free { (cs : List Commit) → StandsFor manager.old cs → OnOk result (conflict cs owned ≡ None) }
     ensures recorded { IfOk result (λ made. segments.new ≡ recorded_at (segments_by X.lengths extractor.now) made.seq made.ops segments.old) }
     ensures put { IfOk result (λ made. layers.new ≡ put_at (operator_at (option_map M.combine operator.old)) default_millis made.seq now owned.ops layers.old) }
     ensures whole { AreLayers layers.new }
-    ensures committed { (ids : ℕ) (cs : List Commit) (ps : List (List ℕ × Tx)) → IsManaged manager.old ids last cs ps → IfOk result (λ made. IsManaged manager.new ids (unwrap_or made.seq last) (cs ++ commit_made made.seq now made.ops made.tracked) (without id.now ps)) }
+    ensures committed { (ids : ℕ) (cs : List Commit) (ps : List (List ℕ × Tx)) →
+        IsManaged manager.old ids last cs ps →
+        IfOk result (ManagesMade manager.new id.now now last ids cs ps) }
     ensures same_segments { OnErr result (segments.new ≡ segments.old) }
     ensures same_layers { OnErr result (layers.new ≡ layers.old) }
     ensures grown { OnErr result (Grown id.now manager.old manager.new) }
-    ensures first { (cs : List Commit) → StandsFor manager.old cs → conflict cs owned ≡ None → IsNextOf last owned.ops (Some (last + 1)) → (e : SlateDBError) → test_refusal (option_map M.combine operator.old) (segments_by X.lengths extractor.now) segments.old default_millis now owned.ops ≡ Some e → (result ≡ Err e) ⊎ (result ≡ Err SlateDBError.OutOfMemory) }
-    ensures met { (cs : List Commit) → StandsFor manager.old cs → (n : ℕ) → conflict cs owned ≡ Some n → (result ≡ Err (SlateDBError.TransactionConflict n)) ⊎ (result ≡ Err SlateDBError.OutOfMemory) }
-    ensures full { (cs : List Commit) → StandsFor manager.old cs → conflict cs owned ≡ None → owned.ops ≢ [] → last ≡ 18446744073709551614 → (result ≡ Err SlateDBError.SequenceExhausted) ⊎ (result ≡ Err SlateDBError.OutOfMemory) }
     ensures same { option_map M.combine operator.new ≡ option_map M.combine operator.old }
     ensures later { faults_of M.faults operator.old ≤ faults_of M.faults operator.new }
     ensures still { IsOperatorStill (faults_of M.faults operator.old) (faults_of M.faults operator.new) result }
-    ensures cause { (cs : List Commit) → StandsFor manager.old cs → IfErr result (λ e. (e ≡ SlateDBError.OutOfMemory) ⊎ (IsConflict (conflict cs owned) e ⊎ IsFull last (conflict cs owned) owned.ops e)
-        ⊎ IsTestRefusal (option_map M.combine operator.old) (segments_by X.lengths extractor.now) segments.old default_millis now last (conflict cs owned) owned.ops e ⊎ IsCallback (faults_of M.faults operator.old) (faults_of M.faults operator.new) e) }
-    ensures unasked { (cs : List Commit) → StandsFor manager.old cs → IsUnasked (conflict cs owned) last owned.ops (test_refusal (option_map M.combine operator.old) (segments_by X.lengths extractor.now) segments.old default_millis now owned.ops) → operator.new ≡ operator.old }
-    ensures plain { holds_merge owned.ops ≡ false → operator.new ≡ operator.old }
+    ensures asks { (cs : List Commit) → StandsFor manager.old cs →
+        AsksNobody (verdict_of (conflict cs owned) last owned.ops (test_refusal (option_map
+        M.combine operator.old) (segments_by X.lengths extractor.now) segments.old default_millis
+        now owned.ops)) owned.ops → operator.new ≡ operator.old }
 {
     let tested = owned.test(alloc, manager, id)?;
     if tested.batch.is_empty() {
@@ -180,8 +182,8 @@ pub(crate) fn put_commit<M: MergeOperator, X: PrefixExtractor>(
     ensures fine { OnOk result (AreFine batch.now.ops) }
     ensures tested { OnOk result (batch_refusal (option_map M.combine operator.old) (segments_by X.lengths extractor.now) segments.old default_millis now batch.now ≡ None) }
     ensures first { (e : SlateDBError) → batch_refusal (option_map M.combine operator.old) (segments_by X.lengths extractor.now) segments.old default_millis now batch.now ≡ Some e → (result ≡ Err e) ⊎ (result ≡ Err SlateDBError.OutOfMemory) }
-    ensures committed { OnOk result (manager.new ≡ record manager.old { last = last + 1; active = without id.now manager.old.active; kept = manager.new.kept }) }
-    ensures stands { OnOk result ((cs : List Commit) (c : Commit) → IsCommitOf (last + 1) (writes_at (find_named id.now manager.old.active)) c → StandsFor manager.old cs → StandsFor manager.new (with_commit cs c (find_named id.now manager.old.active))) }
+    ensures committed { OnOk result (HasEnded id.now (last + 1) manager.old manager.new) }
+    ensures stands { OnOk result (StandsEnded id.now (last + 1) manager.old manager.new) }
     ensures same_segments { OnErr result (segments.new ≡ segments.old) }
     ensures same_layers { OnErr result (layers.new ≡ layers.old) }
     ensures same { OnErr result (manager.new ≡ manager.old) }

@@ -1,18 +1,12 @@
 //! A commit of a transaction whose batch was prepared, up to its event. It calls no operator.
-ghost use Rattle.std.specs.Prelude.{◌≡◌, ◌≢◌, ◌⊎◌, ◌+◌, ◌<◌, ◌≤◌, ◌++◌, [], ℕ, ℤ, List, Option, None, Some, Err, unwrap_or, IfErr, IfOk, OnOk, OnErr};
+ghost use Rattle.std.specs.Prelude.{◌≡◌, ◌⊎◌, ◌+◌, ◌<◌, ◌≤◌, ℕ, ℤ, List, Option, None, Some, Err, IfErr, IfOk, OnOk, OnErr};
 ghost use Rattle.std.specs.List.{AllByRecursion};
 ghost use Rattle.slate_types.specs.declared.error.SlateDBError.{SlateDBError};
-ghost use Rattle.slate_types.specs.Fold.{Combine, operator_at};
-ghost use Rattle.slate_types.specs.Keys.{keys_set};
+ghost use Rattle.slate_types.specs.Fold.{operator_at};
 ghost use Rattle.slate_mem.specs.Batch.{kept_ops};
-ghost use Rattle.slate_mem.specs.CommitRows.{commit_rows};
-ghost use Rattle.slate_mem.specs.KeyTests.{Segments, prefixes};
-ghost use Rattle.slate_mem.specs.Table.{put_rows};
-ghost use Rattle.slate_txn.specs.Managers.{StandsFor, IsCommitOf, with_commit, writes_at};
-ghost use Rattle.slate_txn.specs.Named.{find_named, without};
+ghost use Rattle.slate_txn.specs.Managers.{StandsFor};
 ghost use Rattle.slate_txn.specs.Conflict.{conflict, tracked_writes};
 ghost use Rattle.slate_txn.specs.HandedOver.{Grown, IsConflict};
-ghost use Rattle.slate_txn.specs.Replay.{commit_made};
 ghost use Rattle.slate_txn.specs.State.{Commit, Tx};
 ghost use Rattle.slate_txn.specs.Tested.{IsUntracked};
 ghost use Rattle.slate_db.specs.BatchTests.{IsTestRefusal, test_refusal};
@@ -20,7 +14,8 @@ ghost use Rattle.slate_db.specs.Committed.{IsNextOf, IsFull, put_at, recorded_at
 ghost use Rattle.slate_db.specs.Layers.{AreLayers, in_memory};
 ghost use Rattle.slate_db.specs.Log.{AreFine};
 ghost use Rattle.slate_db.specs.Managed.{IsManaged};
-ghost use Rattle.slate_db.specs.Prepared.{PreparedWith, IsPrepared, WasPrepared, own_batch, prepared_for, whole_refusal};
+ghost use Rattle.slate_db.specs.Prepared.{PreparedWith, IsPrepared, WasPrepared, own_batch, whole_refusal};
+ghost use Rattle.slate_db.specs.Calls.Put.{AsPrepared, AsPreparedOf, HasEnded, IsShortOr, ManagesMade, StandsEnded, with_prefixes, with_rows};
 
 use crate::commit::Made;
 use crate::layers::Layers;
@@ -57,16 +52,24 @@ pub(crate) fn make_prepared(
     ensures fine { IfOk result (λ made. AreFine made.ops) }
     ensures next { IfOk result (λ made. IsNextOf last owned.ops made.seq) }
     ensures free { (cs : List Commit) → StandsFor manager.old cs → OnOk result (conflict cs owned ≡ None) }
-    ensures tested { (o : Option (List ℕ → Combine)) (g : Segments) (d : Option ℕ) (now : ℤ) → IsPrepared (prepared_for o g d now (own_batch owned.ops)) prepared → OnOk result (test_refusal o g segments.old d now owned.ops ≡ None) }
-    ensures recorded { (o : Option (List ℕ → Combine)) (g : Segments) (d : Option ℕ) (now : ℤ) → IsPrepared (prepared_for o g d now (own_batch owned.ops)) prepared → IfOk result (λ made. segments.new ≡ recorded_at g made.seq made.ops segments.old) }
-    ensures put { (o : Option (List ℕ → Combine)) (g : Segments) (d : Option ℕ) (now : ℤ) → IsPrepared (prepared_for o g d now (own_batch owned.ops)) prepared → IfOk result (λ made. layers.new ≡ put_at (operator_at o) d made.seq now owned.ops layers.old) }
+    ensures tested { AsPreparedOf owned.ops prepared (λ o g d now. OnOk result (test_refusal o g
+        segments.old d now owned.ops ≡ None)) }
+    ensures recorded { AsPreparedOf owned.ops prepared (λ o g d now. IfOk result (λ made.
+        segments.new ≡ recorded_at g made.seq made.ops segments.old)) }
+    ensures put { AsPreparedOf owned.ops prepared (λ o g d now. IfOk result (λ made. layers.new ≡
+        put_at (operator_at o) d made.seq now owned.ops layers.old)) }
     ensures whole { AreLayers layers.new }
-    ensures committed { (now : ℤ) (ids : ℕ) (cs : List Commit) (ps : List (List ℕ × Tx)) → IsManaged manager.old ids last cs ps → IfOk result (λ made. IsManaged manager.new ids (unwrap_or made.seq last) (cs ++ commit_made made.seq now made.ops made.tracked) (without id.now ps)) }
+    ensures committed { (now : ℤ) (ids : ℕ) (cs : List Commit) (ps : List (List ℕ × Tx)) →
+        IsManaged manager.old ids last cs ps →
+        IfOk result (ManagesMade manager.new id.now now last ids cs ps) }
     ensures same_segments { OnErr result (segments.new ≡ segments.old) }
     ensures same_layers { OnErr result (layers.new ≡ layers.old) }
     ensures grown { OnErr result (Grown id.now manager.old manager.new) }
-    ensures cause { (o : Option (List ℕ → Combine)) (g : Segments) (d : Option ℕ) (now : ℤ) → IsPrepared (prepared_for o g d now (own_batch owned.ops)) prepared → (cs : List Commit) → StandsFor manager.old cs →
-        IfErr result (λ e. (e ≡ SlateDBError.OutOfMemory) ⊎ (IsConflict (conflict cs owned) e ⊎ IsFull last (conflict cs owned) owned.ops e) ⊎ IsTestRefusal o g segments.old d now last (conflict cs owned) owned.ops e) }
+    ensures cause { AsPreparedOf owned.ops prepared (λ o g d now.
+        (cs : List Commit) → StandsFor manager.old cs →
+        IfErr result (λ e. (e ≡ SlateDBError.OutOfMemory) ⊎ (IsConflict (conflict cs owned) e ⊎
+        IsFull last (conflict cs owned) owned.ops e) ⊎ IsTestRefusal o g segments.old d now last
+        (conflict cs owned) owned.ops e)) }
 {
     let tested = owned.test(alloc, manager, id)?;
     let Tested {
@@ -112,17 +115,20 @@ fn put_prepared(
     requires within { AllByRecursion (λ rows. AllByRecursion (λ r. r.seq ≤ last) rows) (in_memory layers.old) }
     requires newest { manager.old.last ≡ last }
     requires prepared { (w : PreparedWith) × IsPrepared w prepared }
-    ensures recorded { (w : PreparedWith) → IsPrepared w prepared → OnOk result (segments.new ≡ keys_set (segments.old ++ prefixes w.segments w.batch.ops)) }
-    ensures put { (w : PreparedWith) → IsPrepared w prepared → OnOk result (layers.new ≡ record layers.old { active = put_rows layers.old.active (commit_rows (operator_at w.combine) w.default_millis (last + 1) w.now w.batch.ops) }) }
+    ensures recorded { AsPrepared prepared (λ w. OnOk result (segments.new ≡ with_prefixes w
+        segments.old)) }
+    ensures put { AsPrepared prepared (λ w. OnOk result (layers.new ≡ with_rows w (last + 1)
+        layers.old)) }
     ensures whole { AreLayers layers.new }
     ensures ops { IfOk result (λ ops. ops ≡ prepared.ops) }
-    ensures tested { (w : PreparedWith) → IsPrepared w prepared → OnOk result (whole_refusal w segments.old ≡ None) }
-    ensures committed { OnOk result (manager.new ≡ record manager.old { last = last + 1; active = without id.now manager.old.active; kept = manager.new.kept }) }
-    ensures stands { OnOk result ((cs : List Commit) (c : Commit) → IsCommitOf (last + 1) (writes_at (find_named id.now manager.old.active)) c → StandsFor manager.old cs → StandsFor manager.new (with_commit cs c (find_named id.now manager.old.active))) }
+    ensures tested { AsPrepared prepared (λ w. OnOk result (whole_refusal w segments.old ≡ None)) }
+    ensures committed { OnOk result (HasEnded id.now (last + 1) manager.old manager.new) }
+    ensures stands { OnOk result (StandsEnded id.now (last + 1) manager.old manager.new) }
     ensures same_segments { OnErr result (segments.new ≡ segments.old) }
     ensures same_layers { OnErr result (layers.new ≡ layers.old) }
     ensures same { OnErr result (manager.new ≡ manager.old) }
-    ensures cause { (w : PreparedWith) → IsPrepared w prepared → IfErr result (λ e. (e ≡ SlateDBError.OutOfMemory) ⊎ (whole_refusal w segments.old ≡ Some e)) }
+    ensures cause { AsPrepared prepared (λ w. IfErr result (IsShortOr (whole_refusal w
+        segments.old))) }
 {
     let passed = prepared.pass(segments, last + 1)?;
     let Passed {

@@ -1,53 +1,37 @@
 //! The core: the journal of a store, what is open in it, and the rows in memory.
-ghost use Rattle.std.specs.Prelude.{◌≡◌, ℕ, ◌≢◌, ◌⊎◌, ◌+◌, ◌-◌, ◌^◌, ◌≤◌, ◌<◌, ◌∷◌, List, [], ◌++◌, length, IfOk, IfErr, OnOk, OnErr, IsOk, Err, IsOkUnless, IsSome, is_some, Option, None, Some, true, false, map, option_map};
-ghost use Rattle.std.specs.List.{AllByRecursion};
+ghost use Rattle.std.specs.Prelude.{◌≡◌, ◌+◌, ◌-◌, ◌^◌, ◌≤◌, ◌<◌, [], length, IfErr, OnOk, Err, IsSome, is_some, Option, None, Some, map, option_map};
 ghost use Rattle.slate_types.specs.Config.{IsValid};
 ghost use Rattle.slate_types.specs.declared.error.SlateDBError.{SlateDBError};
 ghost use Rattle.slate_filter.specs.Laws.{AreValidNames};
-ghost use Rattle.slate_types.specs.Faults.{faults_of};
-ghost use Rattle.slate_types.specs.Outside.{IsFault, IsOperatorStill, IsStill, OnlyReads, Puts};
-ghost use Rattle.slate_types.specs.World.{IsCall, Made};
-ghost use Rattle.slate_mem.specs.Lookup.{is_merge_among, newest_first};
+ghost use Rattle.slate_types.specs.Outside.{Puts};
+ghost use Rattle.slate_types.specs.World.{Made};
 ghost use Rattle.slate_mem.specs.Table.{newest};
-ghost use Rattle.slate_txn.specs.Alone.{own_of};
-ghost use Rattle.slate_txn.specs.Reads.{up_to};
 ghost use Rattle.slate_txn.specs.declared.event.Event.TheVariants as events;
 ghost use Rattle.slate_txn.specs.declared.line.Line.TheVariants as lines;
 ghost use Rattle.slate_txn.specs.Named.{find_named};
-ghost use Rattle.slate_txn.specs.Replay.{IsLegal};
 ghost use Rattle.slate_mem.specs.declared.WriteOp.{WriteOp};
-ghost use Rattle.slate_mem.specs.Batch.{Ops, kept};
+ghost use Rattle.slate_mem.specs.Batch.{kept};
 ghost use Rattle.slate_mem.specs.KeyTests.{Segments};
 ghost use Rattle.slate_mem.specs.Refusals.{op_refusal};
-ghost use Rattle.slate_mem.specs.BatchModel.{IsBatchOf, holds_merge};
-ghost use Rattle.slate_txn.specs.Places.{IsQuiet};
-ghost use Rattle.slate_txn.specs.Reply.{Done, Refused, Begun, SnapshotAt, Committed, Written, Frozen, Flushed};
 ghost use Rattle.slate_txn.specs.Settings.{settings_of};
 ghost use Rattle.slate_txn.specs.Open.{least_start};
 ghost use Rattle.slate_txn.specs.State.{Tx, is_open, opening, last_of};
-ghost use Rattle.slate_txn.specs.Step.{reader, step, with_op, with_marks, with_unmarks};
-ghost use Rattle.slate_db.specs.Answered.{AddsActs, AddsTables};
-ghost use Rattle.slate_db.specs.Meaning.{Meaning, IsLawfulMeaning, rules_in, segments_by};
-ghost use Rattle.slate_db.specs.Frozen.{IsFrozen};
-ghost use Rattle.slate_db.specs.Flushed.{Flushes, IsFlushError, MayPut, NoPlace, NoPlaceToFlush, TooLarge, WantsOperator, events_of_flush, layout_of};
-ghost use Rattle.slate_db.specs.HeldOn.{FiltersOn, HoldsOn, TellsOn};
-ghost use Rattle.slate_db.specs.Load.{load, weight};
-ghost use Rattle.slate_db.specs.Installs.{Replays, installed, tables_of};
-ghost use Rattle.slate_db.specs.BatchTests.{IsTestRefusal, batch_refusal};
-ghost use Rattle.slate_db.specs.Model.{CoreModel, IsSame, at, memory};
-ghost use Rattle.slate_db.specs.Sound.{IsKept, IsOperable, FoldsToState};
+ghost use Rattle.slate_txn.specs.Step.{reader, with_op, with_marks, with_unmarks};
+ghost use Rattle.slate_db.specs.Meaning.{Meaning, IsLawfulMeaning, segments_by};
+ghost use Rattle.slate_db.specs.Flushed.{NoPlaceToFlush, events_of_flush, layout_of};
+ghost use Rattle.slate_db.specs.Load.{weight};
+ghost use Rattle.slate_db.specs.Model.{CoreModel, at, memory};
+ghost use Rattle.slate_db.specs.Sound.{IsKept};
 ghost use Rattle.slate_db.specs.Segmented.{IsSegmented};
-ghost use Rattle.slate_db.specs.SegmentRuns.{AddsSegmentRuns};
 ghost use Rattle.slate_db.specs.StoredState.{StoresState};
-ghost use Rattle.slate_db.specs.Log.{LIMIT, AreFine, ends_of};
-ghost use Rattle.slate_txn.specs.Conflict.{conflict};
-ghost use Rattle.slate_txn.specs.HandedOver.{IsConflict};
-ghost use Rattle.slate_db.specs.Committed.{IsCommitted, IsEnded};
-ghost use Rattle.slate_db.specs.Opened.{HasSnapshot, HasTransaction, StayOpen, StayOpenBut};
-ghost use Rattle.slate_db.specs.Operated.{operated};
-ghost use Rattle.slate_db.specs.Unasked.{IsUnaskedCommit, IsUnaskedWrite};
-ghost use Rattle.slate_db.specs.Vouched.{IsVouchedFor};
-ghost use Rattle.slate_db.specs.Written.{IsWritten};
+ghost use Rattle.slate_db.specs.Log.{LIMIT};
+ghost use Rattle.slate_db.specs.Calls.Commit.{AsksNobody, Commits, verdict};
+ghost use Rattle.slate_db.specs.Calls.Common.{IsTransaction, given_by};
+ghost use Rattle.slate_db.specs.Calls.Operate.{Marks, Merges, Operates};
+ghost use Rattle.slate_db.specs.Opened.{HasTransaction};
+ghost use Rattle.slate_db.specs.Calls.Flush.{FlushesAll, Installs};
+ghost use Rattle.slate_db.specs.Calls.Open.{Begins, Freezes, IsJournal, Releases, RollsBack, TakesSnapshot};
+ghost use Rattle.slate_db.specs.Calls.Write.{Writes};
 
 mod flights;
 mod prepared;
@@ -171,18 +155,7 @@ impl Core {
     /// is made now. Refuses by `LimitReached` where the journal has no place for both events, and by `OutOfMemory`,
     /// and then nothing is opened.
     pub fn begin(&mut self, level: IsolationLevel) -> Result<(Uuid, u64), SlateDBError>
-        ensures step { IfOk result (λ a. (m : Meaning) (g : Segments) → step (rules_in self.old.settings m g) self.old.state (lines.Begin a.0 level) ≡ (self.new.state, Begun a.0 a.1)) }
-        ensures event { IfOk result (λ a. self.new ≡ record self.old { state = self.new.state; events = self.old.events ++ events.Begin a.0 level a.1 ∷ []; spare = self.new.spare }) }
-        ensures vouched { IfOk result (λ a. (m : Meaning) → IsVouchedFor m self.new a.0) }
-        ensures others { OnOk result ((m : Meaning) (other : List ℕ) → IsVouchedFor m self.old other → IsVouchedFor m self.new other) }
-        ensures segmented { OnOk result ((g : Segments) → IsSegmented g self.old → IsSegmented g self.new) }
-        ensures kept { OnOk result ((m : Meaning) → IsKept m self.old → IsKept m self.new) }
-        ensures same { OnErr result (self.new ≡ self.old) }
-        ensures limit { NoPlace 2 self.old → result ≡ Err (SlateDBError.LimitReached LIMIT) }
-        ensures cause { IfErr result (λ e. (e ≡ SlateDBError.OutOfMemory) ⊎ ((e ≡ SlateDBError.LimitReached LIMIT) × (NoPlace 2 self.old))) }
-        ensures open { IfOk result (λ a. HasTransaction self.new a.0) }
-        ensures fresh { IfOk result (λ a. is_open self.old.state a.0 ≡ false) }
-        ensures stay { StayOpen self.old self.new }
+        ensures { Begins level self.old self.new result }
     {
         self.log.place(2)?;
         let (id, start) = self.manager.new_transaction()?;
@@ -198,17 +171,7 @@ impl Core {
     /// is made now. Refuses by `LimitReached` where the journal has no place for both events, and by `OutOfMemory`, and then
     /// nothing is opened.
     pub fn snapshot(&mut self) -> Result<(Uuid, u64), SlateDBError>
-        ensures step { IfOk result (λ a. (m : Meaning) (g : Segments) → step (rules_in self.old.settings m g) self.old.state (lines.Snapshot a.0) ≡ (self.new.state, SnapshotAt a.0 a.1)) }
-        ensures event { IfOk result (λ a. self.new ≡ record self.old { state = self.new.state; events = self.old.events ++ events.Snapshot a.0 a.1 ∷ []; spare = self.new.spare }) }
-        ensures vouched { OnOk result ((m : Meaning) (other : List ℕ) → IsVouchedFor m self.old other → IsVouchedFor m self.new other) }
-        ensures segmented { OnOk result ((g : Segments) → IsSegmented g self.old → IsSegmented g self.new) }
-        ensures kept { OnOk result ((m : Meaning) → IsKept m self.old → IsKept m self.new) }
-        ensures same { OnErr result (self.new ≡ self.old) }
-        ensures limit { NoPlace 2 self.old → result ≡ Err (SlateDBError.LimitReached LIMIT) }
-        ensures cause { IfErr result (λ e. (e ≡ SlateDBError.OutOfMemory) ⊎ ((e ≡ SlateDBError.LimitReached LIMIT) × NoPlace 2 self.old)) }
-        ensures open { IfOk result (λ a. HasSnapshot self.new a.0) }
-        ensures fresh { IfOk result (λ a. is_open self.old.state a.0 ≡ false) }
-        ensures stay { StayOpen self.old self.new }
+        ensures { TakesSnapshot self.old self.new result }
     {
         self.log.place(2)?;
         let (id, seq) = self.snapshots.new_snapshot(Some(self.log.last()))?;
@@ -222,12 +185,7 @@ impl Core {
     /// Releases an open snapshot, in the room that its opening made.
     pub fn release(&mut self, id: &Uuid)
         requires { IsSome (find_named id.now self.old.state.snapshots) }
-        ensures step { (m : Meaning) (g : Segments) → step (rules_in self.old.settings m g) self.old.state (lines.Rollback id.now) ≡ (self.new.state, Done) }
-        ensures event { self.new ≡ record self.old { state = self.new.state; events = self.old.events ++ events.Release id.now ∷ []; spare = self.new.spare } }
-        ensures vouched { (m : Meaning) (other : List ℕ) → IsVouchedFor m self.old other → IsVouchedFor m self.new other }
-        ensures segmented { (g : Segments) → IsSegmented g self.old → IsSegmented g self.new }
-        ensures kept { (m : Meaning) → IsKept m self.old → IsKept m self.new }
-        ensures stay { StayOpenBut id.now self.old self.new }
+        ensures { Releases id.now self.old self.new }
     {
         self.snapshots.drop_snapshot(id);
         self.log.push_release(*id);
@@ -236,12 +194,7 @@ impl Core {
     /// Ends an open transaction without a commit, in the room that its begin made.
     pub fn rollback(&mut self, id: &Uuid)
         requires { IsSome (find_named id.now self.old.state.txns) }
-        ensures step { (m : Meaning) (g : Segments) → step (rules_in self.old.settings m g) self.old.state (lines.Rollback id.now) ≡ (self.new.state, Done) }
-        ensures event { self.new ≡ record self.old { state = self.new.state; events = self.old.events ++ events.End id.now ∷ []; spare = self.new.spare } }
-        ensures others { (m : Meaning) (other : List ℕ) → other ≢ id.now → IsVouchedFor m self.old other → IsVouchedFor m self.new other }
-        ensures segmented { (g : Segments) → IsSegmented g self.old → IsSegmented g self.new }
-        ensures kept { (m : Meaning) → IsKept m self.old → IsKept m self.new }
-        ensures stay { StayOpenBut id.now self.old self.new }
+        ensures { RollsBack id.now self.old self.new }
     {
         self.transactions.end(id);
         self.manager.drop_txn(id);
@@ -252,16 +205,7 @@ impl Core {
     /// it changes nothing. Refuses by `LimitReached` where the journal has no place for the event, and by
     /// `OutOfMemory`, and then nothing is moved.
     pub fn freeze(&mut self) -> Result<u64, SlateDBError>
-        ensures step { IfOk result (λ n. (m : Meaning) (g : Segments) → step (rules_in self.old.settings m g) self.old.state lines.Freeze ≡ (self.new.state, Frozen n)) }
-        ensures event { OnOk result (IsFrozen self.old self.new) }
-        ensures quiet { OnOk result (IsQuiet self.new.events) }
-        ensures idle { self.old.active ≡ [] → IsOk result }
-        ensures vouched { OnOk result ((m : Meaning) (other : List ℕ) → IsVouchedFor m self.old other → IsVouchedFor m self.new other) }
-        ensures kept { OnOk result ((m : Meaning) → IsKept m self.old → IsKept m self.new) }
-        ensures same { OnErr result (self.new ≡ self.old) }
-        ensures limit { self.old.active ≢ [] → NoPlace 1 self.old → result ≡ Err (SlateDBError.LimitReached LIMIT) }
-        ensures cause { IfErr result (λ e. (e ≡ SlateDBError.OutOfMemory) ⊎ ((e ≡ SlateDBError.LimitReached LIMIT) × (NoPlace 1 self.old))) }
-        ensures stay { StayOpen self.old self.new }
+        ensures { Freezes self.old self.new result }
     {
         if self.layers.active().is_empty() {
             return Ok(self.log.last());
@@ -288,53 +232,11 @@ impl Core {
         env: &mut Env<'_, S, M, T>,
         laws: &Laws<X>,
     ) -> Result<Option<u64>, SlateDBError>
-        ensures step { let reach = ⟦<EnvOf<S, M, T> as Outside>⟧.reach in
-            let m = (reach env.old).meaning in
-            let g = segments_by X.lengths laws.now.segments in
-            IsSegmented g self.old → IfOk result (λ n. (ops : Ops) → IsBatchOf ops batch → AreFine ops → step (rules_in self.old.settings m g) (at now self.old.state) (lines.Write ops) ≡ (at now self.new.state, Written n)) }
-        ensures refused { let reach = ⟦<EnvOf<S, M, T> as Outside>⟧.reach in
-            let m = (reach env.old).meaning in
-            let g = segments_by X.lengths laws.now.segments in
-            IsSegmented g self.old → IfErr result (λ e. IsFault (reach env.old) (reach env.new) e ⊎ (e ≡ SlateDBError.LimitReached LIMIT) ⊎ ((ops : Ops) → IsBatchOf ops batch → AreFine ops → step (rules_in self.old.settings m g) (at now self.old.state) (lines.Write ops) ≡ (at now self.old.state, Refused e))) }
-        ensures event { IfOk result (λ n. IsWritten self.old self.new n now batch.ops) }
-        ensures vouched { OnOk result ((m : Meaning) (other : List ℕ) → IsVouchedFor m self.old other → IsVouchedFor m self.new other) }
-        ensures kept { let reach = ⟦<EnvOf<S, M, T> as Outside>⟧.reach in
-            let m = (reach env.old).meaning in
-            OnOk result (IsKept m self.old → IsKept m self.new) }
-        ensures kept_refused { OnErr result ((m : Meaning) → IsKept m self.old → IsKept m self.new) }
-        ensures segmented { let g = segments_by X.lengths laws.now.segments in OnOk result (IsSegmented g self.old → IsSegmented g self.new) }
-        ensures segmented_refused { OnErr result ((g : Segments) → IsSegmented g self.old → IsSegmented g self.new) }
-        ensures load { (ops : Ops) → IsBatchOf ops batch → OnOk result (load self.new ≤ load self.old + length ops) }
-        ensures same { OnErr result (IsSame self.old self.new) }
-        ensures idle { batch.ops ≡ [] → IsOk result }
-        ensures exhausted { batch.ops ≢ [] → last_of self.old.settings.start_seq self.old.state.commits ≡ 2 ^ 64 - 2 → result ≡ Err SlateDBError.SequenceExhausted }
-        ensures limit { let reach = ⟦<EnvOf<S, M, T> as Outside>⟧.reach in
-            let m = (reach env.old).meaning in
-            let g = segments_by X.lengths laws.now.segments in
-            batch.ops ≢ [] → last_of self.old.settings.start_seq self.old.state.commits < 2 ^ 64 - 2 → batch_refusal m.combine g self.old.segments self.old.settings.default_millis now batch ≡ None →
-            NoPlace 1 self.old → (result ≡ Err (SlateDBError.LimitReached LIMIT)) ⊎ (result ≡ Err SlateDBError.OutOfMemory) }
-        ensures first { let reach = ⟦<EnvOf<S, M, T> as Outside>⟧.reach in
-            let m = (reach env.old).meaning in
-            let g = segments_by X.lengths laws.now.segments in
-            batch.ops ≢ [] → last_of self.old.settings.start_seq self.old.state.commits < 2 ^ 64 - 2 →
-            (e : SlateDBError) → batch_refusal m.combine g self.old.segments self.old.settings.default_millis now batch ≡ Some e → (result ≡ Err e) ⊎ (result ≡ Err SlateDBError.OutOfMemory) }
-        ensures cause { let reach = ⟦<EnvOf<S, M, T> as Outside>⟧.reach in
-            let m = (reach env.old).meaning in
-            let g = segments_by X.lengths laws.now.segments in
-            IfErr result (λ e. IsFault (reach env.old) (reach env.new) e
-            ⊎ ((e ≡ SlateDBError.SequenceExhausted) × (last_of self.old.settings.start_seq self.old.state.commits ≡ 2 ^ 64 - 2))
-            ⊎ ((e ≡ SlateDBError.LimitReached LIMIT) × NoPlace 1 self.old)
-            ⊎ (batch_refusal m.combine g self.old.segments self.old.settings.default_millis now batch ≡ Some e)) }
-        ensures outside { env.new ≡ record env.old { operator = env.new.operator } }
-        ensures still { IsOperatorStill (faults_of M.faults env.old.operator) (faults_of M.faults env.new.operator) result }
-        ensures call { let reach = ⟦<EnvOf<S, M, T> as Outside>⟧.reach in IsCall (reach env.old) (reach env.new) [] }
-        ensures reads { let reach = ⟦<EnvOf<S, M, T> as Outside>⟧.reach in OnlyReads (reach env.old) (reach env.new) }
-        ensures stay { StayOpen self.old self.new }
-        ensures unasked { let reach = ⟦<EnvOf<S, M, T> as Outside>⟧.reach in
-            let m = (reach env.old).meaning in
-            let g = segments_by X.lengths laws.now.segments in
-            IsUnaskedWrite m.combine g self.old now batch → env.new ≡ env.old }
-        ensures plain { batch.held_merge ≡ false → env.new ≡ env.old }
+        ensures { let reach = ⟦<EnvOf<S, M, T> as Outside>⟧.reach in
+            let d = given_by (reach env.old) (segments_by X.lengths laws.now.segments) now in
+            let alone = env.new ≡ record env.old { operator = env.new.operator } in
+            Writes d batch (reach env.old) (reach env.new) alone (env.new ≡ env.old) self.old
+            self.new result }
     {
         if batch.is_empty() {
             return Ok(None);
@@ -393,40 +295,12 @@ impl Core {
     ) -> Result<u64, SlateDBError>
         requires valid { IsValid laws.now.options }
         requires names { AreValidNames (map (λ p. (meaning p).name) laws.now.policies.items) }
-        ensures step { IfOk result (λ n. (m : Meaning) (g : Segments) → step (rules_in self.old.settings m g) self.old.state lines.Flush ≡ (self.new.state, Flushed n)) }
-        ensures installed { let reach = ⟦<EnvOf<S, M, T> as Outside>⟧.reach in IfOk result (λ n. (between : CoreModel) × IsFrozen self.old between × Flushes (layout_of laws.now.options (map (λ p. meaning p) laws.now.policies.items) (segments_by X.lengths laws.now.segments)) (reach env.old) (reach env.new) between self.new n) }
-        ensures acts { let reach = ⟦<EnvOf<S, M, T> as Outside>⟧.reach in OnOk result (AddsTables (tables_of self.old.events) (tables_of self.new.events) (reach env.old).acts (reach env.new).acts) }
-        ensures adds { let reach = ⟦<EnvOf<S, M, T> as Outside>⟧.reach in AddsActs (reach env.old).acts (reach env.new).acts }
-        ensures taken { OnOk result ((self.new.active ≡ []) × (self.new.frozen ≡ [])) }
-        ensures quiet { OnOk result (IsQuiet self.new.events) }
-        ensures refused { let reach = ⟦<EnvOf<S, M, T> as Outside>⟧.reach in OnErr result ((between : CoreModel) × (IsSame self.old between ⊎ IsFrozen self.old between) × IsSame between self.new × MayPut (layout_of laws.now.options (map (λ p. meaning p) laws.now.policies.items) (segments_by X.lengths laws.now.segments)) (reach env.old) (reach env.new) between) }
-        ensures frozen { (result ≡ Err SlateDBError.StoreFault) ⊎ (result ≡ Err SlateDBError.BlockTransformError) ⊎ (result ≡ Err SlateDBError.MergeOperatorMissing) ⊎ ((message : List ℕ) × (result ≡ Err (SlateDBError.Callback message))) → (between : CoreModel) × IsFrozen self.old between × IsSame between self.new }
-        ensures full { NoPlaceToFlush self.old → self.new ≡ self.old }
-        ensures unasked { NoPlaceToFlush self.old ⊎ ((self.old.active ≡ []) × (self.old.frozen ≡ [])) → env.new ≡ env.old }
-        ensures vouched { OnOk result ((m : Meaning) (other : List ℕ) → IsVouchedFor m self.old other → IsVouchedFor m self.new other) }
-        ensures runs { let reach = ⟦<EnvOf<S, M, T> as Outside>⟧.reach in
-            let m = (reach env.old).meaning in
-            let g = segments_by X.lengths laws.now.segments in
-            IsKept m self.old → IsSegmented g self.old → OnOk result (AddsSegmentRuns m g self.old (tables_of self.old.events) (tables_of self.new.events)) }
-        ensures segmented { (g : Segments) → IsSegmented g self.old → IsSegmented g self.new }
-        ensures kept { let reach = ⟦<EnvOf<S, M, T> as Outside>⟧.reach in
-            let m = (reach env.old).meaning in
-            IsKept m self.old → IsKept m self.new }
-        ensures kept_refused { OnErr result ((m : Meaning) → IsKept m self.old → IsKept m self.new) }
-        ensures wanted { let reach = ⟦<EnvOf<S, M, T> as Outside>⟧.reach in
-            (reach env.old).meaning.combine ≡ None → is_merge_among (newest_first (memory self.old)) ≡ true → IfOk result (λ _. ⊥) }
-        ensures operable { let reach = ⟦<EnvOf<S, M, T> as Outside>⟧.reach in
-            let m = (reach env.old).meaning in
-            IsKept m self.old → IfErr result (λ e. e ≢ SlateDBError.MergeOperatorMissing) }
-        ensures settings { self.new.settings ≡ self.old.settings }
-        ensures limit { NoPlaceToFlush self.old → result ≡ Err (SlateDBError.LimitReached LIMIT) }
-        ensures cause { let reach = ⟦<EnvOf<S, M, T> as Outside>⟧.reach in IfErr result (IsFlushError (layout_of laws.now.options (map (λ p. meaning p) laws.now.policies.items) (segments_by X.lengths laws.now.segments)) (reach env.old) (reach env.new) self.old) }
-        ensures puts { let reach = ⟦<EnvOf<S, M, T> as Outside>⟧.reach in Puts (reach env.old) (reach env.new) }
-        ensures still { let reach = ⟦<EnvOf<S, M, T> as Outside>⟧.reach in IsStill (reach env.old).faults (reach env.new).faults result }
-        ensures stay { StayOpen self.old self.new }
-        ensures held { let reach = ⟦<EnvOf<S, M, T> as Outside>⟧.reach in HoldsOn (reach env.old) (reach env.new) self.old self.new }
-        ensures told { let reach = ⟦<EnvOf<S, M, T> as Outside>⟧.reach in OnOk result (TellsOn (reach env.old) (reach env.new) self.old self.new) }
-        ensures filtered { let reach = ⟦<EnvOf<S, M, T> as Outside>⟧.reach in FiltersOn (map (λ p. meaning p) laws.now.policies.items) (reach env.old).meaning self.old self.new }
+        ensures { let reach = ⟦<EnvOf<S, M, T> as Outside>⟧.reach in
+            let policies = map (λ p. meaning p) laws.now.policies.items in
+            let layout = layout_of laws.now.options policies (segments_by X.lengths
+            laws.now.segments) in
+            FlushesAll layout (reach env.old) (reach env.new) (env.new ≡ env.old) self.old self.new
+            result }
     {
         self.place_for_flush()?;
         self.freeze()?;
@@ -456,25 +330,11 @@ impl Core {
         requires idle { self.old.active ≡ [] }
         requires some { 0 < length self.old.frozen }
         requires place { weight self.old + 1 ≤ LIMIT }
-        ensures newest { IfOk result (λ n. n ≡ last_of self.old.settings.start_seq self.old.state.commits) }
-        ensures installed { let reach = ⟦<EnvOf<S, M, T> as Outside>⟧.reach in IfOk result (Flushes (layout_of laws.now.options (map (λ p. meaning p) laws.now.policies.items) (segments_by X.lengths laws.now.segments)) (reach env.old) (reach env.new) self.old self.new) }
-        ensures acts { let reach = ⟦<EnvOf<S, M, T> as Outside>⟧.reach in OnOk result (AddsTables (tables_of self.old.events) (tables_of self.new.events) (reach env.old).acts (reach env.new).acts) }
-        ensures adds { let reach = ⟦<EnvOf<S, M, T> as Outside>⟧.reach in AddsActs (reach env.old).acts (reach env.new).acts }
-        ensures same { OnErr result (IsSame self.old self.new) }
-        ensures refused { let reach = ⟦<EnvOf<S, M, T> as Outside>⟧.reach in OnErr result (MayPut (layout_of laws.now.options (map (λ p. meaning p) laws.now.policies.items) (segments_by X.lengths laws.now.segments)) (reach env.old) (reach env.new) self.old) }
-        ensures kept { let reach = ⟦<EnvOf<S, M, T> as Outside>⟧.reach in
-            let m = (reach env.old).meaning in
-            IsKept m self.old → IsKept m self.new }
-        ensures kept_refused { OnErr result ((m : Meaning) → IsKept m self.old → IsKept m self.new) }
-        ensures wanted { let reach = ⟦<EnvOf<S, M, T> as Outside>⟧.reach in
-            (reach env.old).meaning.combine ≡ None → is_merge_among (newest_first (memory self.old)) ≡ true → IfOk result (λ _. ⊥) }
-        ensures cause { let reach = ⟦<EnvOf<S, M, T> as Outside>⟧.reach in
-            let m = (reach env.old).meaning in
-            IfErr result (λ e. IsFault (reach env.old) (reach env.new) e ⊎ TooLarge m (layout_of laws.now.options (map (λ p. meaning p) laws.now.policies.items) (segments_by X.lengths laws.now.segments)) self.old e ⊎ WantsOperator m (memory self.old) e) }
-        ensures puts { let reach = ⟦<EnvOf<S, M, T> as Outside>⟧.reach in Puts (reach env.old) (reach env.new) }
-        ensures still { let reach = ⟦<EnvOf<S, M, T> as Outside>⟧.reach in IsStill (reach env.old).faults (reach env.new).faults result }
-        ensures held { let reach = ⟦<EnvOf<S, M, T> as Outside>⟧.reach in HoldsOn (reach env.old) (reach env.new) self.old self.new }
-        ensures told { let reach = ⟦<EnvOf<S, M, T> as Outside>⟧.reach in OnOk result (TellsOn (reach env.old) (reach env.new) self.old self.new) }
+        ensures { let reach = ⟦<EnvOf<S, M, T> as Outside>⟧.reach in
+            let policies = map (λ p. meaning p) laws.now.policies.items in
+            let layout = layout_of laws.now.options policies (segments_by X.lengths
+            laws.now.segments) in
+            Installs layout (reach env.old) (reach env.new) self.old self.new result }
     {
         let barrier = self.barrier();
         self.log.reserve()?;
@@ -494,16 +354,11 @@ impl Core {
         value: &[u8],
         options: &PutOptions,
     ) -> Result<(), SlateDBError>
-        requires { IsSome (find_named id.now self.old.state.txns) }
-        ensures step { OnOk result ((m : Meaning) (g : Segments) → step (rules_in self.old.settings m g) self.old.state (lines.Put id.now key.now value.now options.now.ttl) ≡ (self.new.state, Done)) }
-        ensures refused { IfErr result (λ e. (e ≡ SlateDBError.OutOfMemory) ⊎ ((m : Meaning) (g : Segments) → step (rules_in self.old.settings m g) self.old.state (lines.Put id.now key.now value.now options.now.ttl) ≡ (self.old.state, Refused e))) }
-        ensures taken { OnOk result (self.new ≡ operated self.old id.now (with_op key.now (WriteOp.Put value.now options.now))) }
-        ensures test { (e : SlateDBError) → op_refusal key.now (WriteOp.Put value.now options.now) ≡ Some e → result ≡ Err e }
-        ensures cause { IfErr result (λ e. (e ≡ SlateDBError.OutOfMemory) ⊎ (op_refusal key.now (WriteOp.Put value.now options.now) ≡ Some e)) }
-        ensures kept { (m : Meaning) → IsKept m self.old → IsKept m self.new }
-        ensures vouched { (m : Meaning) (other : List ℕ) → IsVouchedFor m self.old other → IsVouchedFor m self.new other }
-        ensures same { OnErr result (self.new ≡ self.old) }
-        ensures stay { StayOpen self.old self.new }
+        requires { HasTransaction self.old id.now }
+        ensures { let line = lines.Put id.now key.now value.now options.now.ttl in
+            let op = WriteOp.Put value.now options.now in
+            Operates id.now line (with_op key.now op) (op_refusal key.now op) self.old self.new
+            result }
     {
         self.transactions.put(self.alloc, id, key, value, options)
     }
@@ -512,15 +367,9 @@ impl Core {
     /// and then nothing is deleted.
     pub fn delete(&mut self, id: &Uuid, key: &[u8]) -> Result<(), SlateDBError>
         requires { IsSome (find_named id.now self.old.state.txns) }
-        ensures step { OnOk result ((m : Meaning) (g : Segments) → step (rules_in self.old.settings m g) self.old.state (lines.Delete id.now key.now) ≡ (self.new.state, Done)) }
-        ensures refused { IfErr result (λ e. (e ≡ SlateDBError.OutOfMemory) ⊎ ((m : Meaning) (g : Segments) → step (rules_in self.old.settings m g) self.old.state (lines.Delete id.now key.now) ≡ (self.old.state, Refused e))) }
-        ensures taken { OnOk result (self.new ≡ operated self.old id.now (with_op key.now WriteOp.Delete)) }
-        ensures test { (e : SlateDBError) → op_refusal key.now WriteOp.Delete ≡ Some e → result ≡ Err e }
-        ensures cause { IfErr result (λ e. (e ≡ SlateDBError.OutOfMemory) ⊎ (op_refusal key.now WriteOp.Delete ≡ Some e)) }
-        ensures kept { (m : Meaning) → IsKept m self.old → IsKept m self.new }
-        ensures vouched { (m : Meaning) (other : List ℕ) → IsVouchedFor m self.old other → IsVouchedFor m self.new other }
-        ensures same { OnErr result (self.new ≡ self.old) }
-        ensures stay { StayOpen self.old self.new }
+        ensures { let f = with_op key.now WriteOp.Delete in
+            let refusal = op_refusal key.now WriteOp.Delete in
+            Operates id.now (lines.Delete id.now key.now) f refusal self.old self.new result }
     {
         self.transactions.delete(self.alloc, id, key)
     }
@@ -537,29 +386,11 @@ impl Core {
         env: &mut Env<'_, S, M, T>,
     ) -> Result<(), SlateDBError>
         requires { IsSome (find_named id.now self.old.state.txns) }
-        ensures step { let reach = ⟦<EnvOf<S, M, T> as Outside>⟧.reach in
-            let m = (reach env.old).meaning in
-            OnOk result ((g : Segments) → step (rules_in self.old.settings m g) self.old.state (lines.Merge id.now key.now value.now options.now.ttl) ≡ (self.new.state, Done)) }
-        ensures refused { let reach = ⟦<EnvOf<S, M, T> as Outside>⟧.reach in
-            let m = (reach env.old).meaning in
-            IfErr result (λ e. (e ≡ SlateDBError.OutOfMemory) ⊎ ((g : Segments) → step (rules_in self.old.settings m g) self.old.state (lines.Merge id.now key.now value.now options.now.ttl) ≡ (self.old.state, Refused e))) }
-        ensures taken { OnOk result (self.new ≡ operated self.old id.now (with_op key.now (WriteOp.Merge value.now options.now))) }
-        ensures missing { let reach = ⟦<EnvOf<S, M, T> as Outside>⟧.reach in
-            let m = (reach env.old).meaning in
-            m.combine ≡ None → result ≡ Err SlateDBError.MergeOperatorMissing }
-        ensures test { let reach = ⟦<EnvOf<S, M, T> as Outside>⟧.reach in
-            let m = (reach env.old).meaning in
-            (e : SlateDBError) → IsSome m.combine → op_refusal key.now (WriteOp.Merge value.now options.now) ≡ Some e → result ≡ Err e }
-        ensures cause { let reach = ⟦<EnvOf<S, M, T> as Outside>⟧.reach in
-            let m = (reach env.old).meaning in
-            IfErr result (λ e. (e ≡ SlateDBError.OutOfMemory) ⊎ ((e ≡ SlateDBError.MergeOperatorMissing) × (m.combine ≡ None)) ⊎ (op_refusal key.now (WriteOp.Merge value.now options.now) ≡ Some e)) }
-        ensures kept { let reach = ⟦<EnvOf<S, M, T> as Outside>⟧.reach in
-            let m = (reach env.old).meaning in
-            IsKept m self.old → IsKept m self.new }
-        ensures vouched { (m : Meaning) (other : List ℕ) → IsVouchedFor m self.old other → IsVouchedFor m self.new other }
-        ensures same { OnErr result (self.new ≡ self.old) }
-        ensures outside { env.new ≡ env.old }
-        ensures stay { StayOpen self.old self.new }
+        ensures { let reach = ⟦<EnvOf<S, M, T> as Outside>⟧.reach in
+            let line = lines.Merge id.now key.now value.now options.now.ttl in
+            let op = WriteOp.Merge value.now options.now in
+            Merges (reach env.old).meaning id.now line (with_op key.now op) (op_refusal key.now op)
+            (env.new ≡ env.old) self.old self.new result }
     {
         if env.operator.is_none() {
             return Err(SlateDBError::MergeOperatorMissing);
@@ -570,13 +401,8 @@ impl Core {
     /// Marks keys as read by an open transaction, at either level. Where memory is wanting none is marked.
     pub fn mark_read(&mut self, id: &Uuid, keys: &[Bytes]) -> Result<(), SlateDBError>
         requires { IsSome (find_named id.now self.old.state.txns) }
-        ensures step { OnOk result ((m : Meaning) (g : Segments) → step (rules_in self.old.settings m g) self.old.state (lines.Mark id.now keys.now) ≡ (self.new.state, Done)) }
-        ensures taken { OnOk result (self.new ≡ operated self.old id.now (with_marks keys.now)) }
-        ensures cause { IsOkUnless result SlateDBError.OutOfMemory }
-        ensures vouched { (m : Meaning) (other : List ℕ) → IsVouchedFor m self.old other → IsVouchedFor m self.new other }
-        ensures kept { (m : Meaning) → IsKept m self.old → IsKept m self.new }
-        ensures same { OnErr result (self.new ≡ self.old) }
-        ensures stay { StayOpen self.old self.new }
+        ensures { Marks id.now (lines.Mark id.now keys.now) (with_marks keys.now) self.old self.new
+            result }
     {
         self.transactions.mark_read(self.alloc, id, keys)
     }
@@ -584,13 +410,8 @@ impl Core {
     /// Takes keys out of what an open transaction tracks where it writes them. Where memory is wanting none is taken out.
     pub fn unmark_write(&mut self, id: &Uuid, keys: &[Bytes]) -> Result<(), SlateDBError>
         requires { IsSome (find_named id.now self.old.state.txns) }
-        ensures step { OnOk result ((m : Meaning) (g : Segments) → step (rules_in self.old.settings m g) self.old.state (lines.Unmark id.now keys.now) ≡ (self.new.state, Done)) }
-        ensures taken { OnOk result (self.new ≡ operated self.old id.now (with_unmarks keys.now)) }
-        ensures cause { IsOkUnless result SlateDBError.OutOfMemory }
-        ensures vouched { (m : Meaning) (other : List ℕ) → IsVouchedFor m self.old other → IsVouchedFor m self.new other }
-        ensures kept { (m : Meaning) → IsKept m self.old → IsKept m self.new }
-        ensures same { OnErr result (self.new ≡ self.old) }
-        ensures stay { StayOpen self.old self.new }
+        ensures { Marks id.now (lines.Unmark id.now keys.now) (with_unmarks keys.now) self.old
+            self.new result }
     {
         self.transactions.unmark_write(self.alloc, id, keys)
     }
@@ -610,52 +431,16 @@ impl Core {
         env: &mut Env<'_, S, M, T>,
         laws: &Laws<X>,
     ) -> Result<Option<u64>, SlateDBError>
-        requires { IsSome (find_named id.now self.old.state.txns) }
-        ensures step { let reach = ⟦<EnvOf<S, M, T> as Outside>⟧.reach in
-            let m = (reach env.old).meaning in
-            let g = segments_by X.lengths laws.now.segments in
-            IsSegmented g self.old → IfOk result (λ n. step (rules_in self.old.settings m g) (at now self.old.state) (lines.Commit id.now) ≡ (at now self.new.state, Committed n)) }
-        ensures refused { let reach = ⟦<EnvOf<S, M, T> as Outside>⟧.reach in
-            let m = (reach env.old).meaning in
-            let g = segments_by X.lengths laws.now.segments in
-            IsOperable m self.old → IsSegmented g self.old → IfErr result (λ e. IsFault (reach env.old) (reach env.new) e ⊎ (step (rules_in self.old.settings m g) (at now self.old.state) (lines.Commit id.now) ≡ (at now self.new.state, Refused e))) }
-        ensures event { (t : Tx) → find_named id.now self.old.state.txns ≡ Some t → IfOk result (λ n. IsCommitted self.old self.new id.now n now t) }
-        ensures ended { OnErr result (IsEnded self.old self.new id.now) }
-        ensures others { (m : Meaning) (other : List ℕ) → other ≢ id.now → IsVouchedFor m self.old other → IsVouchedFor m self.new other }
-        ensures kept { let reach = ⟦<EnvOf<S, M, T> as Outside>⟧.reach in
-            let m = (reach env.old).meaning in
-            IsKept m self.old → IsKept m self.new }
-        ensures kept_refused { OnErr result ((m : Meaning) → IsKept m self.old → IsKept m self.new) }
-        ensures segmented { let g = segments_by X.lengths laws.now.segments in IsSegmented g self.old → IsSegmented g self.new }
-        ensures segmented_refused { OnErr result ((g : Segments) → IsSegmented g self.old → IsSegmented g self.new) }
-        ensures load { (t : Tx) → find_named id.now self.old.state.txns ≡ Some t → load self.new ≤ load self.old + length t.ops }
-        ensures met { (t : Tx) (n : ℕ) → find_named id.now self.old.state.txns ≡ Some t → conflict self.old.state.commits t ≡ Some n →
-            (result ≡ Err (SlateDBError.TransactionConflict n)) ⊎ (result ≡ Err SlateDBError.OutOfMemory) }
-        ensures exhausted { (t : Tx) → find_named id.now self.old.state.txns ≡ Some t → conflict self.old.state.commits t ≡ None → t.ops ≢ [] →
-            last_of self.old.settings.start_seq self.old.state.commits ≡ 2 ^ 64 - 2 → (result ≡ Err SlateDBError.SequenceExhausted) ⊎ (result ≡ Err SlateDBError.OutOfMemory) }
-        ensures first { let reach = ⟦<EnvOf<S, M, T> as Outside>⟧.reach in
-            let m = (reach env.old).meaning in
-            let g = segments_by X.lengths laws.now.segments in
-            (t : Tx) (e : SlateDBError) → find_named id.now self.old.state.txns ≡ Some t →
-            IsTestRefusal m.combine g self.old.segments self.old.settings.default_millis now (last_of self.old.settings.start_seq self.old.state.commits) (conflict self.old.state.commits t) t.ops e →
-            (result ≡ Err e) ⊎ (result ≡ Err SlateDBError.OutOfMemory) }
-        ensures cause { let reach = ⟦<EnvOf<S, M, T> as Outside>⟧.reach in
-            let m = (reach env.old).meaning in
-            let g = segments_by X.lengths laws.now.segments in
-            (t : Tx) → find_named id.now self.old.state.txns ≡ Some t → IfErr result (λ e. IsFault (reach env.old) (reach env.new) e
-            ⊎ IsConflict (conflict self.old.state.commits t) e
-            ⊎ ((e ≡ SlateDBError.SequenceExhausted) × (last_of self.old.settings.start_seq self.old.state.commits ≡ 2 ^ 64 - 2))
-            ⊎ IsTestRefusal m.combine g self.old.segments self.old.settings.default_millis now (last_of self.old.settings.start_seq self.old.state.commits) (conflict self.old.state.commits t) t.ops e) }
+        requires { HasTransaction self.old id.now }
+        ensures commits { let reach = ⟦<EnvOf<S, M, T> as Outside>⟧.reach in
+            let d = given_by (reach env.old) (segments_by X.lengths laws.now.segments) now in
+            (t : Tx) → IsTransaction self.old id.now t →
+            Commits d id.now t (reach env.old) (reach env.new) self.old self.new result }
         ensures outside { env.new ≡ record env.old { operator = env.new.operator } }
-        ensures still { IsOperatorStill (faults_of M.faults env.old.operator) (faults_of M.faults env.new.operator) result }
-        ensures call { let reach = ⟦<EnvOf<S, M, T> as Outside>⟧.reach in IsCall (reach env.old) (reach env.new) [] }
-        ensures reads { let reach = ⟦<EnvOf<S, M, T> as Outside>⟧.reach in OnlyReads (reach env.old) (reach env.new) }
-        ensures stay { StayOpenBut id.now self.old self.new }
         ensures unasked { let reach = ⟦<EnvOf<S, M, T> as Outside>⟧.reach in
-            let m = (reach env.old).meaning in
-            let g = segments_by X.lengths laws.now.segments in
-            (t : Tx) → find_named id.now self.old.state.txns ≡ Some t → IsUnaskedCommit m.combine g self.old now t → env.new ≡ env.old }
-        ensures plain { (t : Tx) → find_named id.now self.old.state.txns ≡ Some t → holds_merge t.ops ≡ false → env.new ≡ env.old }
+            let d = given_by (reach env.old) (segments_by X.lengths laws.now.segments) now in
+            (t : Tx) → IsTransaction self.old id.now t → AsksNobody (verdict d self.old t) t.ops →
+            env.new ≡ env.old }
     {
         let Some(owned) = self.transactions.take(id) else {
             unreachable!()
@@ -698,18 +483,7 @@ impl Core {
     /// last flush. No commit lies between that flush and the last install, and each open transaction began, and each open snapshot
     /// stands, at or above the floor.
     pub fn journal(&self) -> &Journal
-        ensures events { result.now.events ≡ self.now.events }
-        ensures legal { IsLegal self.now.settings.start_seq self.now.events }
-        ensures replays { Replays self.now.events self.now.state }
-        ensures room { ends_of self.now.state ≤ self.now.spare }
-        ensures flushed { up_to self.now.state.flushed self.now.state.commits ≡ up_to (installed self.now.events) self.now.state.commits }
-        ensures floor { self.now.floor ≤ last_of self.now.settings.start_seq self.now.state.commits }
-        ensures begins { AllByRecursion (λ p. self.now.floor ≤ p.1.begin) self.now.state.txns }
-        ensures shows { AllByRecursion (λ p. self.now.floor ≤ p.1) self.now.state.snapshots }
-        ensures own { AllByRecursion (λ p. p.1.ops ≡ own_of p.1.transcript) self.now.state.txns }
-        ensures quiet { self.now.active ≡ [] → IsQuiet self.now.events }
-        ensures folds { (m : Meaning) → IsLawfulMeaning m → IsKept m self.now → FoldsToState m self.now }
-        ensures stored { (m : Meaning) → IsLawfulMeaning m → IsKept m self.now → StoresState m self.now }
+        ensures { IsJournal self.now result.now.events }
     {
         self.log.journal()
     }

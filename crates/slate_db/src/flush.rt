@@ -1,27 +1,29 @@
 //! The tables of a flush, in a run for each segment.
-ghost use Rattle.std.specs.Prelude.{◌≡◌, ◌≤◌, ◌<◌, ◌⊎◌, ◌∷◌, ◌++◌, ℕ, List, [], map, length, OnOk, OnErr, IfOk, IfErr, IsOkUnless, None, true};
+ghost use Rattle.std.specs.Prelude.{◌≡◌, ◌≤◌, ◌<◌, ◌⊎◌, ◌∷◌, ◌++◌, ℕ, List, [], map, OnOk, OnErr, IfOk, IfErr, IsOkUnless, None};
 ghost use Rattle.std.specs.List.{AllByRecursion};
 ghost use Rattle.slate_types.specs.Config.{IsValid};
 ghost use Rattle.slate_types.specs.Faults.{faults_of};
-ghost use Rattle.slate_types.specs.Outside.{IsFault, IsStill, IsStoreStill, IsTransformerStill, Puts};
+ghost use Rattle.slate_types.specs.Outside.{IsStoreStill, IsTransformerStill, Puts};
 ghost use Rattle.slate_block.specs.ReadingLaws.{EachIsAByte};
 ghost use Rattle.slate_filter.specs.Laws.{AreValidNames};
 ghost use Rattle.slate_table.specs.InfoReading.{seen_info};
 ghost use Rattle.slate_table.specs.SectionReading.{changed_by, IsTransformFault};
-ghost use Rattle.slate_mem.specs.Lookup.{is_merge_among, newest_first};
 ghost use Rattle.slate_block.specs.BlockSpelling.{IsKnown};
-ghost use Rattle.slate_table.specs.Table.{AreInOrder, IsBuilt};
+ghost use Rattle.slate_table.specs.Table.{IsBuilt};
 ghost use Rattle.slate_table.specs.TableEnd.{HasInfo};
 ghost use Rattle.slate_table.specs.TableParts.{version_of};
 ghost use Rattle.slate_table.specs.Parts.{Encode};
 ghost use Rattle.slate_table.specs.Reading.{IsStoreFault};
 ghost use Rattle.slate_db.specs.Answered.{AddsActs, AddsPuts};
-ghost use Rattle.slate_db.specs.Flushed.{layout_of, AreSomeOfFlush, CanFlush, HasTooLarge, IsFolded, IsPut, IsTableAt, IsTooLarge, Layout, MayTakeTables, StandInRuns, WantsOperator};
-ghost use Rattle.slate_db.specs.StoredParts.{AreFirstParts, ArePartsPut, CanBuild, IsLastRun, IsOneTable, IsPartTooLarge, IsPlace, IsTablePut};
+ghost use Rattle.slate_db.specs.Flushed.{layout_of, CanFlush, IsTableAt, IsTooLarge, Layout, MayTakeTables, StandInRuns};
+ghost use Rattle.slate_db.specs.StoredParts.{CanBuild, IsLastRun, IsOneTable, IsTablePut};
 ghost use Rattle.slate_db.specs.Installs.{handles_of};
-ghost use Rattle.slate_db.specs.Meaning.{Meaning, segments_by};
+ghost use Rattle.slate_db.specs.Meaning.{segments_by};
 ghost use Rattle.slate_db.specs.Model.{Rows};
-ghost use Rattle.slate_db.specs.Layers.{FitsMemory};
+ghost use Rattle.slate_db.specs.Calls.Store.{StoresParts, StoresRows, StoresTable};
+ghost use Rattle.slate_db.specs.StoredParts.{ArePartsPut};
+ghost use Rattle.slate_db.specs.Flushed.{StandInRuns};
+ghost use Rattle.slate_db.specs.Answered.{AddsPuts};
 
 use crate::cut::{TableRows, cut_tables};
 use crate::gather::rows_of_flush;
@@ -59,16 +61,12 @@ pub fn stored<S: Store, M: MergeOperator, T: BlockTransformer, X: PrefixExtracto
     requires valid { IsValid laws.now.options }
     requires names { AreValidNames (map (λ p. (meaning p).name) laws.now.policies.items) }
     requires ready { CanFlush (map (λ t. t.rows) frozen.now) }
-    ensures stored { let reach = ⟦<EnvOf<S, M, T> as Outside>⟧.reach in IfOk result (λ a. IsPut (reach env.old).meaning (layout_of laws.now.options (map (λ p. meaning p) laws.now.policies.items) (segments_by X.lengths laws.now.segments)) number barrier (map (λ t. t.rows) frozen.now) a.0 a.1.items (reach env.old).objects (reach env.new).objects) }
-    ensures acts { let reach = ⟦<EnvOf<S, M, T> as Outside>⟧.reach in IfOk result (λ a. AddsPuts a.0 (reach env.old).acts (reach env.new).acts) }
-    ensures adds { let reach = ⟦<EnvOf<S, M, T> as Outside>⟧.reach in AddsActs (reach env.old).acts (reach env.new).acts }
-    ensures refused { let reach = ⟦<EnvOf<S, M, T> as Outside>⟧.reach in OnErr result (MayTakeTables (AreSomeOfFlush (reach env.old).meaning (layout_of laws.now.options (map (λ p. meaning p) laws.now.policies.items) (segments_by X.lengths laws.now.segments)) number barrier (map (λ t. t.rows) frozen.now)) (reach env.old).objects (reach env.new).objects) }
-    ensures cause { let reach = ⟦<EnvOf<S, M, T> as Outside>⟧.reach in IfErr result (λ e. IsFault (reach env.old) (reach env.new) e
-        ⊎ ((rows : Rows) × IsFolded (reach env.old).meaning barrier (map (λ t. t.rows) frozen.now) rows × AreInOrder rows × HasTooLarge (layout_of laws.now.options (map (λ p. meaning p) laws.now.policies.items) (segments_by X.lengths laws.now.segments)) rows e)
-        ⊎ WantsOperator (reach env.old).meaning (map (λ t. t.rows) frozen.now) e) }
-    ensures wanted { let reach = ⟦<EnvOf<S, M, T> as Outside>⟧.reach in (reach env.old).meaning.combine ≡ None → is_merge_among (newest_first (map (λ t. t.rows) frozen.now)) ≡ true → IfOk result (λ _. ⊥) }
-    ensures puts { let reach = ⟦<EnvOf<S, M, T> as Outside>⟧.reach in Puts (reach env.old) (reach env.new) }
-    ensures still { let reach = ⟦<EnvOf<S, M, T> as Outside>⟧.reach in IsStill (reach env.old).faults (reach env.new).faults result }
+    ensures { let reach = ⟦<EnvOf<S, M, T> as Outside>⟧.reach in
+        let policies = map (λ p. meaning p) laws.now.policies.items in
+        let layout = layout_of laws.now.options policies (segments_by X.lengths laws.now.segments)
+        in
+        let layers = map (λ t. t.rows) frozen.now in
+        StoresRows layout number barrier layers (reach env.old) (reach env.new) result }
 {
     let rows = rows_of_flush(alloc, frozen, barrier, &mut env.operator)?;
     let parts = cut_tables(alloc, rows, laws.options.table_bytes, &laws.segments)?;
@@ -86,15 +84,23 @@ fn stored_runs<S: Store, M: MergeOperator, T: BlockTransformer, X: PrefixExtract
     requires valid { IsValid laws.now.options }
     requires names { AreValidNames (map (λ p. (meaning p).name) laws.now.policies.items) }
     requires each { AllByRecursion CanBuild (map (λ t. t.rows.items) parts.items) }
-    ensures stored { let reach = ⟦<EnvOf<S, M, T> as Outside>⟧.reach in IfOk result (λ a. ArePartsPut (reach env.old).meaning.encode (layout_of laws.now.options (map (λ p. meaning p) laws.now.policies.items) (segments_by X.lengths laws.now.segments)) number (map (λ t. t.rows.items) parts.items) a.0 (handles_of a.1.items) (reach env.old).objects (reach env.new).objects) }
-    ensures acts { let reach = ⟦<EnvOf<S, M, T> as Outside>⟧.reach in IfOk result (λ a. AddsPuts a.0 (reach env.old).acts (reach env.new).acts) }
-    ensures adds { let reach = ⟦<EnvOf<S, M, T> as Outside>⟧.reach in AddsActs (reach env.old).acts (reach env.new).acts }
+    ensures stored { let reach = ⟦<EnvOf<S, M, T> as Outside>⟧.reach in
+        let policies = map (λ p. meaning p) laws.now.policies.items in
+        let layout = layout_of laws.now.options policies (segments_by X.lengths laws.now.segments)
+        in
+        let lists = map (λ t. t.rows.items) parts.items in
+        IfOk result (λ a. ArePartsPut (reach env.old).meaning.encode layout number lists a.0
+        (handles_of a.1.items) (reach env.old).objects (reach env.new).objects) }
+    ensures acts { let reach = ⟦<EnvOf<S, M, T> as Outside>⟧.reach in
+        IfOk result (λ a. AddsPuts a.0 (reach env.old).acts (reach env.new).acts) }
     ensures stand { IfOk result (λ a. StandInRuns (map (λ t. t.prefix) parts.items) a.1.items) }
-    ensures refused { let reach = ⟦<EnvOf<S, M, T> as Outside>⟧.reach in OnErr result (MayTakeTables (AreFirstParts (reach env.old).meaning.encode (layout_of laws.now.options (map (λ p. meaning p) laws.now.policies.items) (segments_by X.lengths laws.now.segments)) number (map (λ t. t.rows.items) parts.items)) (reach env.old).objects (reach env.new).objects) }
-    ensures cause { let reach = ⟦<EnvOf<S, M, T> as Outside>⟧.reach in IfErr result (λ e. IsFault (reach env.old) (reach env.new) e ⊎ IsPartTooLarge (layout_of laws.now.options (map (λ p. meaning p) laws.now.policies.items) (segments_by X.lengths laws.now.segments)) (map (λ t. t.rows.items) parts.items) e) }
-    ensures operator { env.new.operator ≡ env.old.operator }
-    ensures puts { let reach = ⟦<EnvOf<S, M, T> as Outside>⟧.reach in Puts (reach env.old) (reach env.new) }
-    ensures still { let reach = ⟦<EnvOf<S, M, T> as Outside>⟧.reach in IsStill (reach env.old).faults (reach env.new).faults result }
+    ensures leaves { let reach = ⟦<EnvOf<S, M, T> as Outside>⟧.reach in
+        let policies = map (λ p. meaning p) laws.now.policies.items in
+        let layout = layout_of laws.now.options policies (segments_by X.lengths laws.now.segments)
+        in
+        let lists = map (λ t. t.rows.items) parts.items in
+        StoresParts layout number lists (reach env.old) (reach env.new)
+        (env.new.operator ≡ env.old.operator) result }
 {
     let mut tables = Vec::with_capacity(alloc, parts.len())?;
     let mut runs = Vec::new(alloc);
@@ -153,14 +159,12 @@ fn stored_table<S: Store, M: MergeOperator, T: BlockTransformer, X: PrefixExtrac
     requires valid { IsValid laws.now.options }
     requires names { AreValidNames (map (λ p. (meaning p).name) laws.now.policies.items) }
     requires ready { CanBuild rows.items }
-    ensures stored { let reach = ⟦<EnvOf<S, M, T> as Outside>⟧.reach in (number place : ℕ) → IsPlace id number place → IfOk result (λ a. IsTablePut (reach env.old).meaning.encode (layout_of laws.now.options (map (λ p. meaning p) laws.now.policies.items) (segments_by X.lengths laws.now.segments)) number place rows.items a.0 a.1 (reach env.old).objects (reach env.new).objects) }
-    ensures acts { let reach = ⟦<EnvOf<S, M, T> as Outside>⟧.reach in IfOk result (λ a. AddsPuts (a.0 ∷ []) (reach env.old).acts (reach env.new).acts) }
-    ensures adds { let reach = ⟦<EnvOf<S, M, T> as Outside>⟧.reach in AddsActs (reach env.old).acts (reach env.new).acts }
-    ensures refused { let reach = ⟦<EnvOf<S, M, T> as Outside>⟧.reach in (number place : ℕ) → IsPlace id number place → OnErr result (MayTakeTables (IsOneTable (reach env.old).meaning.encode (layout_of laws.now.options (map (λ p. meaning p) laws.now.policies.items) (segments_by X.lengths laws.now.segments)) number place rows.items) (reach env.old).objects (reach env.new).objects) }
-    ensures cause { let reach = ⟦<EnvOf<S, M, T> as Outside>⟧.reach in IfErr result (λ e. IsFault (reach env.old) (reach env.new) e ⊎ IsTooLarge (layout_of laws.now.options (map (λ p. meaning p) laws.now.policies.items) (segments_by X.lengths laws.now.segments)) rows.items e) }
-    ensures operator { env.new.operator ≡ env.old.operator }
-    ensures puts { let reach = ⟦<EnvOf<S, M, T> as Outside>⟧.reach in Puts (reach env.old) (reach env.new) }
-    ensures still { let reach = ⟦<EnvOf<S, M, T> as Outside>⟧.reach in IsStill (reach env.old).faults (reach env.new).faults result }
+    ensures { let reach = ⟦<EnvOf<S, M, T> as Outside>⟧.reach in
+        let policies = map (λ p. meaning p) laws.now.policies.items in
+        let layout = layout_of laws.now.options policies (segments_by X.lengths laws.now.segments)
+        in
+        StoresTable layout id rows.items (reach env.old) (reach env.new)
+        (env.new.operator ≡ env.old.operator) result }
 {
     let table = built(alloc, id, rows, laws, &mut env.transformer)?;
     let kept = put(alloc, id, &table, env.store);

@@ -1,15 +1,12 @@
 //! The rows of a key in stored tables, newest first, to the first that decides.
-ghost use Rattle.std.specs.Prelude.{◌≡◌, ◌⊎◌, ◌≤◌, ◌<◌, ◌++◌, ◌∷◌, [], ℕ, List, length, map, flat_map, true, false, Ok, Some, Contains, IfOk, IfErr, OnOk, IsOkUnless};
+ghost use Rattle.std.specs.Prelude.{◌≡◌, ◌⊎◌, ◌≤◌, ◌<◌, ◌++◌, ℕ, List, length, map, flat_map, false, Ok, Some, Contains, IfOk, IfErr, IsOkUnless};
 ghost use Rattle.std.specs.List.{AllByRecursion};
 ghost use Rattle.slate_types.specs.declared.error.SlateDBError.{SlateDBError};
 ghost use Rattle.slate_types.specs.declared.filter_policy.PrefixTarget.{PrefixTarget};
 ghost use Rattle.slate_types.specs.declared.iter.IterationOrder.{IterationOrder};
 ghost use Rattle.slate_types.specs.declared.types.RowEntry.{RowEntry};
 ghost use Rattle.slate_types.specs.Iteration.{IsInOrder};
-ghost use Rattle.slate_types.specs.Outside.{Objects, IsFault, IsStill, OnlyReads};
 ghost use Rattle.slate_types.specs.Partitions.{CanHold};
-ghost use Rattle.slate_types.specs.Rows.{of_key};
-ghost use Rattle.slate_types.specs.World.{Made};
 ghost use Rattle.slate_block.specs.declared.block.Block.{Block};
 ghost use Rattle.slate_block.specs.BlockSpelling.{IsBlockOf};
 ghost use Rattle.slate_block.specs.BlockWalks.{left, Refuses};
@@ -22,14 +19,12 @@ ghost use Rattle.slate_table.specs.Finding.{encloses, AreBlocksOf};
 ghost use Rattle.slate_table.specs.IndexReading.{index_keys};
 ghost use Rattle.slate_table.specs.IndexValue.{entries_of};
 ghost use Rattle.slate_table.specs.InfoReading.{seen_info};
-ghost use Rattle.slate_db.specs.Answered.{AnswersFrom};
-ghost use Rattle.slate_db.specs.Asked.{AreBehindFilters, IsFiltersRead, IsReadOf};
-ghost use Rattle.slate_db.specs.Checked.{ChecksFrom};
 ghost use Rattle.slate_db.specs.Installs.{handles_of};
 ghost use Rattle.slate_mem.specs.Lookup.{IsRowUpTo, newest_first};
-ghost use Rattle.slate_db.specs.Lookup.{AreFilteredAs, AreStoredAs, Extends, FindsBehind, IsStoredAs, IsUnknown};
+ghost use Rattle.slate_db.specs.Lookup.{IsUnknown};
 ghost use Rattle.slate_db.specs.Model.{Rows};
-ghost use Rattle.slate_db.specs.Shown.{Asking, IsRowOf, IsUnreadable, LetsThrough, RefusesFiltersRead, RefusesRow, HasRow, HasRowRead, Shows, ShowsRead, BringsRows, ShowsDamage};
+ghost use Rattle.slate_db.specs.Shown.{Asking, IsRowOf, IsUnreadable, LetsThrough, RefusesRow};
+ghost use Rattle.slate_db.specs.Calls.Find.{FindsBehindFilters, FindsInTable, FindsRows, LetsThrough};
 
 use crate::flush::ROOT;
 use crate::open_scan::copy_contexts;
@@ -161,26 +156,9 @@ fn lets_through<S: Store, M: MergeOperator, T: BlockTransformer>(
     query: &FilterQuery,
     env: &mut Env<'_, S, M, T>,
 ) -> Result<bool, SlateDBError>
-    ensures denied { let reach = ⟦<EnvOf<S, M, T> as Outside>⟧.reach in
-        (key : List ℕ) (rows : Rows) (os : Objects) → query.now.target ≡ PrefixTarget.Point key → IsStoredAs (reach env.old).meaning os table.now rows →
-        AreFilteredAs (map (λ p. meaning p) policies.now) (reach env.old).meaning os (table.now ∷ []) → AnswersFrom os (reach env.old) (reach env.new) →
-        IfOk result (λ passes. passes ≡ false → of_key key rows ≡ []) }
-    ensures whole { let reach = ⟦<EnvOf<S, M, T> as Outside>⟧.reach in
-        (key : List ℕ) (rows : Rows) (os : Objects) → query.now.target ≡ PrefixTarget.Point key → IsStoredAs (reach env.old).meaning os table.now rows →
-        AreFilteredAs (map (λ p. meaning p) policies.now) (reach env.old).meaning os (table.now ∷ []) → AnswersFrom os (reach env.old) (reach env.new) →
-        IfErr result (IsFault (reach env.old) (reach env.new)) }
-    ensures passes { let reach = ⟦<EnvOf<S, M, T> as Outside>⟧.reach in
+    ensures { let reach = ⟦<EnvOf<S, M, T> as Outside>⟧.reach in
         let by : Asking = record { policies = map (λ p. meaning p) policies.now; query = query.now } in
-        IfOk result (λ passes. Made (reach env.old) (reach env.new) (λ reads. passes ≡ true → LetsThrough (reach env.old).meaning.decode by table.now reads)) }
-    ensures cause { let reach = ⟦<EnvOf<S, M, T> as Outside>⟧.reach in
-        let by : Asking = record { policies = map (λ p. meaning p) policies.now; query = query.now } in
-        IfErr result (λ e. IsFault (reach env.old) (reach env.new) e
-        ⊎ Made (reach env.old) (reach env.new) (λ reads. IsUnreadable e × RefusesFiltersRead (reach env.old).meaning.decode by table.now reads e)) }
-    ensures alone { let reach = ⟦<EnvOf<S, M, T> as Outside>⟧.reach in Made (reach env.old) (reach env.new) (AllByRecursion (IsFiltersRead table.now)) }
-    ensures checked { let reach = ⟦<EnvOf<S, M, T> as Outside>⟧.reach in (rows : Rows) (os : Objects) → IsStoredAs (reach env.old).meaning os table.now rows → OnOk result (ChecksFrom os (reach env.old) (reach env.new)) }
-    ensures reads { let reach = ⟦<EnvOf<S, M, T> as Outside>⟧.reach in OnlyReads (reach env.old) (reach env.new) }
-    ensures still { let reach = ⟦<EnvOf<S, M, T> as Outside>⟧.reach in
-        IsStill (reach env.old).faults (reach env.new).faults result }
+        LetsThrough by table.now (reach env.old) (reach env.new) result }
 {
     TableStore::might_match(
         alloc,
@@ -201,16 +179,8 @@ fn newest_of_enclosing<S: Store, M: MergeOperator, T: BlockTransformer>(
     max_seq: u64,
     env: &mut Env<'_, S, M, T>,
 ) -> Result<Vec<RowEntry>, SlateDBError>
-    ensures found { let reach = ⟦<EnvOf<S, M, T> as Outside>⟧.reach in (rows : Rows) (os : Objects) → IsStoredAs (reach env.old).meaning os table.now rows → AnswersFrom os (reach env.old) (reach env.new) → IfOk result (λ found. found.items ≡ newest key.now max_seq rows) }
-    ensures whole { let reach = ⟦<EnvOf<S, M, T> as Outside>⟧.reach in (rows : Rows) (os : Objects) → IsStoredAs (reach env.old).meaning os table.now rows → AnswersFrom os (reach env.old) (reach env.new) → IfErr result (IsFault (reach env.old) (reach env.new)) }
-    ensures asked { IfOk result (λ found. AllByRecursion (IsRowUpTo key.now max_seq) found.items) }
-    ensures rows { let reach = ⟦<EnvOf<S, M, T> as Outside>⟧.reach in IfOk result (λ found. Made (reach env.old) (reach env.new) (λ reads. AllByRecursion (HasRowRead (reach env.old).meaning.decode table.now reads) found.items)) }
-    ensures cause { let reach = ⟦<EnvOf<S, M, T> as Outside>⟧.reach in IfErr result (λ e. IsFault (reach env.old) (reach env.new) e ⊎ Made (reach env.old) (reach env.new) (λ reads. ShowsRead (reach env.old).meaning.decode table.now reads e) ⊎ IsUnknown table.now.format_version e) }
-    ensures alone { let reach = ⟦<EnvOf<S, M, T> as Outside>⟧.reach in Made (reach env.old) (reach env.new) (AllByRecursion (IsReadOf table.now)) }
-    ensures checked { let reach = ⟦<EnvOf<S, M, T> as Outside>⟧.reach in (rows : Rows) (os : Objects) → IsStoredAs (reach env.old).meaning os table.now rows → OnOk result (ChecksFrom os (reach env.old) (reach env.new)) }
-    ensures reads { let reach = ⟦<EnvOf<S, M, T> as Outside>⟧.reach in OnlyReads (reach env.old) (reach env.new) }
-    ensures still { let reach = ⟦<EnvOf<S, M, T> as Outside>⟧.reach in
-        IsStill (reach env.old).faults (reach env.new).faults result }
+    ensures { let reach = ⟦<EnvOf<S, M, T> as Outside>⟧.reach in
+        FindsInTable table.now key.now max_seq (reach env.old) (reach env.new) result }
 {
     let index = TableStore::read_index(alloc, env.store, ROOT, table, &mut env.transformer)?;
     let covered = covering(&index, key);
@@ -241,22 +211,9 @@ fn newest_of_table<S: Store, M: MergeOperator, T: BlockTransformer>(
     env: &mut Env<'_, S, M, T>,
 ) -> Result<Vec<RowEntry>, SlateDBError>
     requires { query.now.target ≡ PrefixTarget.Point key.now }
-    ensures found { let reach = ⟦<EnvOf<S, M, T> as Outside>⟧.reach in (rows : Rows) (os : Objects) → IsStoredAs (reach env.old).meaning os table.now rows → AreFilteredAs (map (λ p. meaning p) policies.now) (reach env.old).meaning os (table.now ∷ []) → AnswersFrom os (reach env.old) (reach env.new) → IfOk result (λ found. found.items ≡ newest key.now max_seq rows) }
-    ensures whole { let reach = ⟦<EnvOf<S, M, T> as Outside>⟧.reach in (rows : Rows) (os : Objects) → IsStoredAs (reach env.old).meaning os table.now rows → AreFilteredAs (map (λ p. meaning p) policies.now) (reach env.old).meaning os (table.now ∷ []) → AnswersFrom os (reach env.old) (reach env.new) → IfErr result (IsFault (reach env.old) (reach env.new)) }
-    ensures asked { IfOk result (λ found. AllByRecursion (IsRowUpTo key.now max_seq) found.items) }
-    ensures rows { let reach = ⟦<EnvOf<S, M, T> as Outside>⟧.reach in
+    ensures { let reach = ⟦<EnvOf<S, M, T> as Outside>⟧.reach in
         let by : Asking = record { policies = map (λ p. meaning p) policies.now; query = query.now } in
-        IfOk result (λ found. Made (reach env.old) (reach env.new) (λ reads. AllByRecursion (HasRow (reach env.old).meaning.decode by table.now reads) found.items)) }
-    ensures cause { let reach = ⟦<EnvOf<S, M, T> as Outside>⟧.reach in
-        let by : Asking = record { policies = map (λ p. meaning p) policies.now; query = query.now } in
-        IfErr result (λ e. IsFault (reach env.old) (reach env.new) e ⊎ Made (reach env.old) (reach env.new) (λ reads. Shows (reach env.old).meaning.decode by table.now reads e) ⊎ IsUnknown table.now.format_version e) }
-    ensures behind { let reach = ⟦<EnvOf<S, M, T> as Outside>⟧.reach in
-        let by : Asking = record { policies = map (λ p. meaning p) policies.now; query = query.now } in
-        Made (reach env.old) (reach env.new) (AreBehindFilters (reach env.old).meaning.decode by (table.now ∷ [])) }
-    ensures checked { let reach = ⟦<EnvOf<S, M, T> as Outside>⟧.reach in (rows : Rows) (os : Objects) → IsStoredAs (reach env.old).meaning os table.now rows → OnOk result (ChecksFrom os (reach env.old) (reach env.new)) }
-    ensures reads { let reach = ⟦<EnvOf<S, M, T> as Outside>⟧.reach in OnlyReads (reach env.old) (reach env.new) }
-    ensures still { let reach = ⟦<EnvOf<S, M, T> as Outside>⟧.reach in
-        IsStill (reach env.old).faults (reach env.new).faults result }
+        FindsBehindFilters by table.now key.now max_seq (reach env.old) (reach env.new) result }
 {
     if !encloses(&table.info, key) {
         return Ok(Vec::new(alloc));
@@ -304,24 +261,9 @@ fn newest_of_tables<S: Store, M: MergeOperator, T: BlockTransformer>(
     env: &mut Env<'_, S, M, T>,
 ) -> Result<Vec<RowEntry>, SlateDBError>
     requires { query.now.target ≡ PrefixTarget.Point key.now }
-    ensures found { let reach = ⟦<EnvOf<S, M, T> as Outside>⟧.reach in (layers : List Rows) (os : Objects) → AreStoredAs (reach env.old).meaning os tables.now layers → AreFilteredAs (map (λ p. meaning p) policies.now) (reach env.old).meaning os tables.now → AnswersFrom os (reach env.old) (reach env.new)
-        → IfOk result (λ all. FindsBehind key.now max_seq layers newer.items all.items) }
-    ensures whole { let reach = ⟦<EnvOf<S, M, T> as Outside>⟧.reach in (layers : List Rows) (os : Objects) → AreStoredAs (reach env.old).meaning os tables.now layers → AreFilteredAs (map (λ p. meaning p) policies.now) (reach env.old).meaning os tables.now → AnswersFrom os (reach env.old) (reach env.new) → IfErr result (IsFault (reach env.old) (reach env.new)) }
-    ensures extends { IfOk result (λ all. Extends newer.items all.items) }
-    ensures rows { let reach = ⟦<EnvOf<S, M, T> as Outside>⟧.reach in
+    ensures { let reach = ⟦<EnvOf<S, M, T> as Outside>⟧.reach in
         let by : Asking = record { policies = map (λ p. meaning p) policies.now; query = query.now } in
-        IfOk result (λ all. Made (reach env.old) (reach env.new) (BringsRows (reach env.old).meaning.decode by max_seq tables.now newer.items all.items)) }
-    ensures cause { let reach = ⟦<EnvOf<S, M, T> as Outside>⟧.reach in
-        let by : Asking = record { policies = map (λ p. meaning p) policies.now; query = query.now } in
-        IfErr result (λ e. IsFault (reach env.old) (reach env.new) e ⊎ Made (reach env.old) (reach env.new) (λ reads. ShowsDamage (reach env.old).meaning.decode by tables.now reads e)
-        ⊎ ((h : SsTableHandle) × Contains tables.now h × IsUnknown h.format_version e)) }
-    ensures behind { let reach = ⟦<EnvOf<S, M, T> as Outside>⟧.reach in
-        let by : Asking = record { policies = map (λ p. meaning p) policies.now; query = query.now } in
-        Made (reach env.old) (reach env.new) (AreBehindFilters (reach env.old).meaning.decode by tables.now) }
-    ensures checked { let reach = ⟦<EnvOf<S, M, T> as Outside>⟧.reach in (layers : List Rows) (os : Objects) → AreStoredAs (reach env.old).meaning os tables.now layers → OnOk result (ChecksFrom os (reach env.old) (reach env.new)) }
-    ensures reads { let reach = ⟦<EnvOf<S, M, T> as Outside>⟧.reach in OnlyReads (reach env.old) (reach env.new) }
-    ensures still { let reach = ⟦<EnvOf<S, M, T> as Outside>⟧.reach in
-        IsStill (reach env.old).faults (reach env.new).faults result }
+        FindsRows by tables.now key.now max_seq newer.items (reach env.old) (reach env.new) result }
 {
     let mut found = newer;
     let mut i = tables.len();
@@ -346,24 +288,10 @@ pub fn newest_of_runs<S: Store, M: MergeOperator, T: BlockTransformer>(
     env: &mut Env<'_, S, M, T>,
 ) -> Result<Vec<RowEntry>, SlateDBError>
     requires { query.now.target ≡ PrefixTarget.Point key.now }
-    ensures found { let reach = ⟦<EnvOf<S, M, T> as Outside>⟧.reach in (layers : List Rows) (os : Objects) → AreStoredAs (reach env.old).meaning os (handles_of runs.now) layers → AreFilteredAs (map (λ p. meaning p) policies.now) (reach env.old).meaning os (handles_of runs.now) → AnswersFrom os (reach env.old) (reach env.new)
-        → IfOk result (λ all. FindsBehind key.now max_seq layers newer.items all.items) }
-    ensures whole { let reach = ⟦<EnvOf<S, M, T> as Outside>⟧.reach in (layers : List Rows) (os : Objects) → AreStoredAs (reach env.old).meaning os (handles_of runs.now) layers → AreFilteredAs (map (λ p. meaning p) policies.now) (reach env.old).meaning os (handles_of runs.now) → AnswersFrom os (reach env.old) (reach env.new) → IfErr result (IsFault (reach env.old) (reach env.new)) }
-    ensures extends { IfOk result (λ all. Extends newer.items all.items) }
-    ensures rows { let reach = ⟦<EnvOf<S, M, T> as Outside>⟧.reach in
+    ensures { let reach = ⟦<EnvOf<S, M, T> as Outside>⟧.reach in
         let by : Asking = record { policies = map (λ p. meaning p) policies.now; query = query.now } in
-        IfOk result (λ all. Made (reach env.old) (reach env.new) (BringsRows (reach env.old).meaning.decode by max_seq (handles_of runs.now) newer.items all.items)) }
-    ensures cause { let reach = ⟦<EnvOf<S, M, T> as Outside>⟧.reach in
-        let by : Asking = record { policies = map (λ p. meaning p) policies.now; query = query.now } in
-        IfErr result (λ e. IsFault (reach env.old) (reach env.new) e ⊎ Made (reach env.old) (reach env.new) (λ reads. ShowsDamage (reach env.old).meaning.decode by (handles_of runs.now) reads e)
-        ⊎ ((h : SsTableHandle) × Contains (handles_of runs.now) h × IsUnknown h.format_version e)) }
-    ensures behind { let reach = ⟦<EnvOf<S, M, T> as Outside>⟧.reach in
-        let by : Asking = record { policies = map (λ p. meaning p) policies.now; query = query.now } in
-        Made (reach env.old) (reach env.new) (AreBehindFilters (reach env.old).meaning.decode by (handles_of runs.now)) }
-    ensures checked { let reach = ⟦<EnvOf<S, M, T> as Outside>⟧.reach in (layers : List Rows) (os : Objects) → AreStoredAs (reach env.old).meaning os (handles_of runs.now) layers → OnOk result (ChecksFrom os (reach env.old) (reach env.new)) }
-    ensures reads { let reach = ⟦<EnvOf<S, M, T> as Outside>⟧.reach in OnlyReads (reach env.old) (reach env.new) }
-    ensures still { let reach = ⟦<EnvOf<S, M, T> as Outside>⟧.reach in
-        IsStill (reach env.old).faults (reach env.new).faults result }
+        FindsRows by (handles_of runs.now) key.now max_seq newer.items (reach env.old) (reach
+        env.new) result }
 {
     let mut found = newer;
     let mut at = runs.len();

@@ -1,28 +1,20 @@
 //! How a scan is opened: its sources, and the merge of them.
-ghost use Rattle.std.specs.Prelude.{◌≡◌, ◌≢◌, ◌⊎◌, ◌∷◌, ◌++◌, ◌<◌, ℕ, List, Option, None, Some, false, true, map, nat_eq, reverse, IfOk, IfErr, IsOkUnless, OnOk};
-ghost use Rattle.std.specs.List.{AllByRecursion, starts_with};
+ghost use Rattle.std.specs.Prelude.{◌≡◌, ◌≢◌, ◌⊎◌, ◌∷◌, ◌<◌, ℕ, List, Option, None, Some, false, true, map, nat_eq, reverse, IfOk, IfErr, IsOkUnless};
+ghost use Rattle.std.specs.List.{starts_with};
 ghost use Rattle.slate_types.specs.declared.error.SlateDBError.{SlateDBError};
 ghost use Rattle.slate_types.specs.declared.iter.IterationOrder.{IterationOrder};
-ghost use Rattle.slate_types.specs.declared.types.RowEntry.{RowEntry};
-ghost use Rattle.slate_types.specs.Iteration.{IsInOrder};
 ghost use Rattle.slate_types.specs.Keys.{in_range, is_refused};
-ghost use Rattle.slate_types.specs.Outside.{Act, IsFault, IsStill, OnlyReads};
-ghost use Rattle.slate_types.specs.RowTurns.{AreInTurn, row_before};
-ghost use Rattle.slate_types.specs.World.{World, Checks, Made, ReadsAt, Sees};
+ghost use Rattle.slate_types.specs.Outside.{IsStill, OnlyReads};
 ghost use Rattle.slate_mem.specs.Batch.{Ops};
-ghost use Rattle.slate_merge.specs.Offers.{Comes};
-ghost use Rattle.slate_merge.specs.OperatorIterators.{IsGoing, refuses_folding, rest_folding, sound_folding};
-ghost use Rattle.slate_read.specs.ReadSources.{IsSourceWithin};
 ghost use Rattle.slate_read.specs.SstOptions.{CanFetch};
 ghost use Rattle.slate_txn.specs.Step.{Reader};
 ghost use Rattle.slate_db.specs.Installs.{handles_of};
 ghost use Rattle.slate_db.specs.Model.{CoreModel};
-ghost use Rattle.slate_db.specs.OpenScans.{AreEach, AreScanSources, CanOpen, FoldsRefuse, HasRows, IsBlamedFor, IsMemorySource, IsRunSource, LeftSources, SourcesBring, folded_rows, merged_rows};
+ghost use Rattle.slate_db.specs.OpenScans.{AreEach, AreScanSources, HasRows, IsMemorySource, IsRunSource, LeftSources};
 ghost use Rattle.slate_db.specs.RangeShares.{IsOpened, IsReaderOf, StandsIn};
 ghost use Rattle.slate_db.specs.ScanFilters.{FailsAsking, scan_query};
 ghost use Rattle.slate_db.specs.Scanned.{HasOwn};
-ghost use Rattle.slate_db.specs.Scans.{FoldsAll, IsMergeWithin, IsOperableIn, IsSoundMerged, merge_offers, merge_refuses, merge_rows, order_of_merge};
-ghost use Rattle.slate_db.specs.Sound.{AreBases};
+ghost use Rattle.slate_db.specs.Calls.Scan.{MergesSources};
 
 use crate::scan::{DbIterator, ScanState};
 use crate::scan_filters::{runs_left, scan_query};
@@ -335,20 +327,8 @@ pub(crate) fn merged<'a, S: Store, M: MergeOperator, T: BlockTransformer>(
     MergeOperatorIterator<MergeIterator<FilterIterator<ReadSource<'a>, MaxSeq>>>,
     SlateDBError,
 >
-    ensures going { IfOk result (λ rows. IsGoing rows × FoldsAll rows × (rows.iterator.order ≡ order)) }
-    ensures sound { let reach = ⟦<EnvOf<S, M, T> as Outside>⟧.reach in (w : World) → AllByRecursion (CanOpen w order) sources.entry.items → Sees w (reach env.old) (reach env.new) → IfOk result (λ rows. sound_folding merge_rows IsSoundMerged order_of_merge rows w) }
-    ensures rows { let reach = ⟦<EnvOf<S, M, T> as Outside>⟧.reach in (w : World) → AllByRecursion (CanOpen w order) sources.entry.items → Sees w (reach env.old) (reach env.new) → IfOk result (λ rows. rest_folding merge_rows rows w ≡ folded_rows w.meaning order w sources.entry.items) }
-    ensures operable { let reach = ⟦<EnvOf<S, M, T> as Outside>⟧.reach in (w : World) → AllByRecursion (CanOpen w order) sources.entry.items → Sees w (reach env.old) (reach env.new) →
-        (w.meaning.combine ≡ None → AreBases (merged_rows order w sources.entry.items)) → IfOk result (λ rows. IsOperableIn (ScanState.Walking rows) w) }
-    ensures checked { let reach = ⟦<EnvOf<S, M, T> as Outside>⟧.reach in (w : World) → AllByRecursion (CanOpen w order) sources.entry.items → OnOk result (Checks w (reach env.old) (reach env.new)) }
-    ensures later { let reach = ⟦<EnvOf<S, M, T> as Outside>⟧.reach in IfOk result (λ rows. Made (reach env.old) (reach env.new) (λ reads. (later : List Act) (at : Option (List ℕ)) (e : SlateDBError) → merge_refuses rows.iterator (reach env.old).meaning later at e → IsBlamedFor sources.entry.items (reach env.old).meaning (reads ++ later) at e)) }
-    ensures brought { let reach = ⟦<EnvOf<S, M, T> as Outside>⟧.reach in IfOk result (λ rows. Made (reach env.old) (reach env.new) (λ reads. (later : List Act) (at : Option (List ℕ)) (e : SlateDBError) → refuses_folding merge_refuses merge_offers rows (reach env.old).meaning later at e → FoldsRefuse sources.entry.items (reach env.old).meaning (reads ++ later) at e)) }
-    ensures offered { let reach = ⟦<EnvOf<S, M, T> as Outside>⟧.reach in IfOk result (λ rows. Made (reach env.old) (reach env.new) (λ reads. (later : List Act) (r : RowEntry) → merge_offers rows.ahead rows.iterator (reach env.old).meaning later (Comes r) → SourcesBring sources.entry.items (reach env.old).meaning (reads ++ later) r)) }
-    ensures cause { let reach = ⟦<EnvOf<S, M, T> as Outside>⟧.reach in IfErr result (λ e. Made (reach env.old) (reach env.new) (λ reads. IsFault (reach env.old) (reach env.new) e ⊎ IsBlamedFor sources.entry.items (reach env.old).meaning reads None e)) }
-    ensures within { let reach = ⟦<EnvOf<S, M, T> as Outside>⟧.reach in (paths : List (List ℕ)) → AllByRecursion (λ s. IsSourceWithin s.iterator paths) sources.entry.items → ReadsAt paths (reach env.old) (reach env.new) × IfOk result (λ rows. IsMergeWithin rows.iterator paths) }
-    ensures reads { let reach = ⟦<EnvOf<S, M, T> as Outside>⟧.reach in OnlyReads (reach env.old) (reach env.new) }
-    ensures still { let reach = ⟦<EnvOf<S, M, T> as Outside>⟧.reach in
-        IsStill (reach env.old).faults (reach env.new).faults result }
+    ensures { let reach = ⟦<EnvOf<S, M, T> as Outside>⟧.reach in
+        MergesSources order sources.entry.items (reach env.old) (reach env.new) result }
 {
     let merge = MergeIterator::new_with_order(sources, order);
     let Ok(mut rows) = MergeOperatorIterator::new(merge, true, None) else {

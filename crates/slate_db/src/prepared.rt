@@ -13,6 +13,7 @@ ghost use Rattle.slate_db.specs.Layers.{FitsMemory};
 ghost use Rattle.slate_db.specs.Log.{AreFine};
 ghost use Rattle.slate_db.specs.Meaning.{segments_by};
 ghost use Rattle.slate_db.specs.Prepared.{PreparedWith, IsPrepared, IsPassed, lone_refusal, whole_refusal, numbered, prepared_for};
+ghost use Rattle.slate_db.specs.Calls.Put.{IfFolded, IsShortOr, IsShortOrCallback, lone_refusal_of};
 
 use crate::segments::SegmentPrefixes;
 use crate::tested::rows_of_batch;
@@ -86,17 +87,25 @@ fn fold_alone<M: MergeOperator, X: PrefixExtractor>(
     operator: &mut Option<M>,
     extractor: &Option<X>,
 ) -> Result<Result<Folded, SlateDBError>, SlateDBError>
-    ensures refused { IfOk result (λ r. IfErr r (λ e. (e ≡ SlateDBError.OutOfMemory) ⊎ (lone_refusal (prepared_for (option_map M.combine operator.old) (segments_by X.lengths extractor.now) default_millis now batch.now) ≡ Some e))) }
-    ensures passed { IfOk result (λ r. IfOk r (λ f. lone_refusal (prepared_for (option_map M.combine operator.old) (segments_by X.lengths extractor.now) default_millis now batch.now) ≡ None)) }
-    ensures prefixes { IfOk result (λ r. IfOk r (λ f. f.prefixes.keys ≡ keys_set (prefixes (segments_by X.lengths extractor.now) batch.now.ops))) }
-    ensures rows { IfOk result (λ r. IfOk r (λ f. f.rows.items ≡ commit_rows (operator_at (option_map M.combine operator.old)) default_millis 0 now batch.now.ops)) }
-    ensures fit { AreFine batch.now.ops → IfOk result (λ r. IfOk r (λ f. AllByRecursion FitsMemory f.rows.items)) }
+    ensures refused { IfOk result (λ r. IfErr r (IsShortOr (lone_refusal_of (option_map M.combine
+        operator.old) (segments_by X.lengths extractor.now) default_millis now batch.now))) }
+    ensures passed { IfFolded result (λ f. lone_refusal_of (option_map M.combine operator.old)
+        (segments_by X.lengths extractor.now) default_millis now batch.now ≡ None) }
+    ensures prefixes { IfFolded result (λ f. f.prefixes.keys ≡ keys_set (prefixes (segments_by
+        X.lengths extractor.now) batch.now.ops)) }
+    ensures rows { IfFolded result (λ f. f.rows.items ≡ commit_rows (operator_at (option_map
+        M.combine operator.old)) default_millis 0 now batch.now.ops) }
+    ensures fit { AreFine batch.now.ops → IfFolded result (λ f. AllByRecursion FitsMemory
+        f.rows.items) }
     ensures same { option_map M.combine operator.new ≡ option_map M.combine operator.old }
     ensures later { faults_of M.faults operator.old ≤ faults_of M.faults operator.new }
     ensures still { IsOperatorStill (faults_of M.faults operator.old) (faults_of M.faults operator.new) result }
-    ensures unasked { (e : SlateDBError) → lone_refusal (prepared_for (option_map M.combine operator.old) (segments_by X.lengths extractor.now) default_millis now batch.now) ≡ Some e → operator.new ≡ operator.old }
+    ensures unasked { (e : SlateDBError) → lone_refusal_of (option_map M.combine operator.old)
+        (segments_by X.lengths extractor.now) default_millis now batch.now ≡ Some e → operator.new ≡
+        operator.old }
     ensures plain { batch.now.held_merge ≡ false → operator.new ≡ operator.old }
-    ensures cause { IfErr result (λ e. (e ≡ SlateDBError.OutOfMemory) ⊎ IsCallback (faults_of M.faults operator.old) (faults_of M.faults operator.new) e) }
+    ensures cause { IfErr result (IsShortOrCallback (faults_of M.faults operator.old) (faults_of
+        M.faults operator.new)) }
 {
     let tested = batch.test_entries(
         alloc,

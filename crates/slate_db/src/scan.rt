@@ -1,18 +1,13 @@
 //! The rows of a scan.
-ghost use Rattle.std.specs.Prelude.{◌≡◌, ◌≢◌, ◌⊎◌, ℕ, List, None, Some, true, false, IfOk, IfErr, IfSome, OnOk, drop};
+ghost use Rattle.std.specs.Prelude.{◌≡◌, ◌≢◌, None, Some, true, IfSome, drop};
 ghost use Rattle.slate_types.specs.declared.bytes_range.BytesRange.{BytesRange};
 ghost use Rattle.slate_types.specs.declared.error.SlateDBError.{SlateDBError};
 ghost use Rattle.slate_types.specs.declared.iter.IterationOrder.{IterationOrder};
-ghost use Rattle.slate_types.specs.declared.types.RowEntry.{RowEntry};
 ghost use Rattle.slate_types.specs.Iteration.{drop_before};
 ghost use Rattle.slate_types.specs.Keys.{is_past_start};
-ghost use Rattle.slate_types.specs.Outside.{IsFault, IsStill, OnlyReads};
-ghost use Rattle.slate_types.specs.Refusing.{NoMore};
-ghost use Rattle.slate_types.specs.World.{World, Checks, Made, Sees, ReadsAt};
-ghost use Rattle.slate_merge.specs.NoMoreRows.{NoMoreRows};
 ghost use Rattle.slate_txn.specs.Alone.{first_left};
-ghost use Rattle.slate_db.specs.Scans.{AnswersAgain, AreForIn, HandsIn, IsOperableIn, IsRefusedScan, IsSoundIn, IsUnrefused, Keeps, Leaves, RefusesIn, ScanHands, ScanRefuses, SourcesRefuse, left_in, IsScanWithin, IsWithinIn};
-ghost use Rattle.slate_db.specs.Values.{HasValues};
+ghost use Rattle.slate_db.specs.Scans.{HandsIn, IsOperableIn, Keeps};
+ghost use Rattle.slate_db.specs.Calls.Step.{NextOf, SeekOf, StepsIn};
 
 use crate::values::{next_value, seek_values};
 use slate_merge::kept::copy_of;
@@ -42,23 +37,11 @@ fn next_in<S: Store, M: MergeOperator, T: BlockTransformer>(
     env: &mut Env<'_, S, M, T>,
 ) -> Result<Option<KeyValue>, SlateDBError>
     requires { (kept : SlateDBError) → state.old ≢ ScanState.Refused kept }
-    ensures rows { let reach = ⟦<EnvOf<S, M, T> as Outside>⟧.reach in (w : World) (range : BytesRange) (order : IterationOrder) (rows : List RowEntry) →
-        Sees w (reach env.old) (reach env.new) → IsSoundIn order state.old w → HasValues range (left_in state.old w) rows →
-        IfOk result (λ a. (a ≡ first_left rows) × IsSoundIn order state.new w × HasValues range (left_in state.new w) (drop 1 rows)) }
-    ensures operable { let reach = ⟦<EnvOf<S, M, T> as Outside>⟧.reach in (w : World) (order : IterationOrder) →
-        Sees w (reach env.old) (reach env.new) → IsSoundIn order state.old w → IsOperableIn state.old w → OnOk result (IsOperableIn state.new w) }
-    ensures undamaged { let reach = ⟦<EnvOf<S, M, T> as Outside>⟧.reach in (w : World) (range : BytesRange) (order : IterationOrder) →
-        Sees w (reach env.old) (reach env.new) → IsSoundIn order state.old w → IsOperableIn state.old w → AreForIn range w.meaning state.old → IfErr result (IsFault (reach env.old) (reach env.new)) }
-    ensures checked { let reach = ⟦<EnvOf<S, M, T> as Outside>⟧.reach in (w : World) (order : IterationOrder) → IsSoundIn order state.old w → OnOk result (Checks w (reach env.old) (reach env.new)) }
-    ensures sources { let reach = ⟦<EnvOf<S, M, T> as Outside>⟧.reach in (range : BytesRange) → OnOk result (Made (reach env.old) (reach env.new) (λ reads. NoMore (SourcesRefuse range state.old (reach env.old).meaning) reads (SourcesRefuse range state.new (reach env.old).meaning))) }
-    ensures later { let reach = ⟦<EnvOf<S, M, T> as Outside>⟧.reach in (range : BytesRange) → OnOk result (Made (reach env.old) (reach env.new) (λ reads. NoMore (RefusesIn range state.old (reach env.old).meaning) reads (RefusesIn range state.new (reach env.old).meaning))) }
-    ensures bases { let reach = ⟦<EnvOf<S, M, T> as Outside>⟧.reach in (reach env.old).meaning.combine ≡ None → IfOk result (λ a. Made (reach env.old) (reach env.new) (λ reads. IfSome a (HandsIn state.old (reach env.old).meaning reads))) }
-    ensures hands { let reach = ⟦<EnvOf<S, M, T> as Outside>⟧.reach in OnOk result (Made (reach env.old) (reach env.new) (λ reads. NoMoreRows (HandsIn state.old (reach env.old).meaning) reads (HandsIn state.new (reach env.old).meaning))) }
-    ensures cause { let reach = ⟦<EnvOf<S, M, T> as Outside>⟧.reach in (range : BytesRange) → IfErr result (λ e. Made (reach env.old) (reach env.new) (λ reads. IsFault (reach env.old) (reach env.new) e ⊎ RefusesIn range state.old (reach env.old).meaning reads None e)) }
-    ensures within { let reach = ⟦<EnvOf<S, M, T> as Outside>⟧.reach in (paths : List (List ℕ)) → IsWithinIn state.old paths → ReadsAt paths (reach env.old) (reach env.new) × IsWithinIn state.new paths }
-    ensures reads { let reach = ⟦<EnvOf<S, M, T> as Outside>⟧.reach in OnlyReads (reach env.old) (reach env.new) }
-    ensures still { let reach = ⟦<EnvOf<S, M, T> as Outside>⟧.reach in
-        IsStill (reach env.old).faults (reach env.new).faults result }
+    ensures { let reach = ⟦<EnvOf<S, M, T> as Outside>⟧.reach in
+        let m = (reach env.old).meaning in
+        StepsIn None (λ order. drop 1) (λ rows a. a ≡ first_left rows)
+        (λ reads a. IfSome a (HandsIn state.old m reads)) (IsOperableIn state.old)
+        (reach env.old) (reach env.new) state.old state.new result }
 {
     match state {
         ScanState::Walking(rows) => next_value(alloc, rows, env),
@@ -75,23 +58,9 @@ fn seek_in<S: Store, M: MergeOperator, T: BlockTransformer>(
     env: &mut Env<'_, S, M, T>,
 ) -> Result<(), SlateDBError>
     requires { (kept : SlateDBError) → state.old ≢ ScanState.Refused kept }
-    ensures rows { let reach = ⟦<EnvOf<S, M, T> as Outside>⟧.reach in (w : World) (range : BytesRange) (order : IterationOrder) (rows : List RowEntry) →
-        Sees w (reach env.old) (reach env.new) → IsSoundIn order state.old w → HasValues range (left_in state.old w) rows →
-        OnOk result (IsSoundIn order state.new w × HasValues range (left_in state.new w) (drop_before order key.now rows)) }
-    ensures operable { let reach = ⟦<EnvOf<S, M, T> as Outside>⟧.reach in (w : World) (order : IterationOrder) →
-        Sees w (reach env.old) (reach env.new) → IsSoundIn order state.old w → IsOperableIn state.old w → OnOk result (IsOperableIn state.new w) }
-    ensures undamaged { let reach = ⟦<EnvOf<S, M, T> as Outside>⟧.reach in (w : World) (range : BytesRange) (order : IterationOrder) → is_past_start range.start key.now ≡ true →
-        Sees w (reach env.old) (reach env.new) → IsSoundIn order state.old w → AreForIn range w.meaning state.old → IfErr result (IsFault (reach env.old) (reach env.new)) }
-    ensures checked { let reach = ⟦<EnvOf<S, M, T> as Outside>⟧.reach in (w : World) (order : IterationOrder) → IsSoundIn order state.old w → OnOk result (Checks w (reach env.old) (reach env.new)) }
-    ensures sources { let reach = ⟦<EnvOf<S, M, T> as Outside>⟧.reach in (range : BytesRange) → OnOk result (Made (reach env.old) (reach env.new) (λ reads. NoMore (SourcesRefuse range state.old (reach env.old).meaning) reads (SourcesRefuse range state.new (reach env.old).meaning))) }
-    ensures later { let reach = ⟦<EnvOf<S, M, T> as Outside>⟧.reach in (range : BytesRange) → OnOk result (Made (reach env.old) (reach env.new) (λ reads. NoMore (RefusesIn range state.old (reach env.old).meaning) reads (RefusesIn range state.new (reach env.old).meaning))) }
-    ensures hands { let reach = ⟦<EnvOf<S, M, T> as Outside>⟧.reach in OnOk result (Made (reach env.old) (reach env.new) (λ reads. NoMoreRows (HandsIn state.old (reach env.old).meaning) reads (HandsIn state.new (reach env.old).meaning))) }
-    ensures cause { let reach = ⟦<EnvOf<S, M, T> as Outside>⟧.reach in (range : BytesRange) → is_past_start range.start key.now ≡ true →
-        IfErr result (λ e. Made (reach env.old) (reach env.new) (λ reads. IsFault (reach env.old) (reach env.new) e ⊎ RefusesIn range state.old (reach env.old).meaning reads (Some key.now) e)) }
-    ensures within { let reach = ⟦<EnvOf<S, M, T> as Outside>⟧.reach in (paths : List (List ℕ)) → IsWithinIn state.old paths → ReadsAt paths (reach env.old) (reach env.new) × IsWithinIn state.new paths }
-    ensures reads { let reach = ⟦<EnvOf<S, M, T> as Outside>⟧.reach in OnlyReads (reach env.old) (reach env.new) }
-    ensures still { let reach = ⟦<EnvOf<S, M, T> as Outside>⟧.reach in
-        IsStill (reach env.old).faults (reach env.new).faults result }
+    ensures { let reach = ⟦<EnvOf<S, M, T> as Outside>⟧.reach in
+        StepsIn (Some key.now) (λ order. drop_before order key.now) (λ rows a. ⊤) (λ reads a. ⊤)
+        (λ w. ⊤) (reach env.old) (reach env.new) state.old state.new result }
 {
     match state {
         ScanState::Walking(rows) => seek_values(alloc, rows, key, env),
@@ -133,22 +102,8 @@ impl DbIterator<'_> {
         &mut self,
         env: &mut Env<'_, S, M, T>,
     ) -> Result<Option<KeyValue>, SlateDBError>
-        ensures rows { let reach = ⟦<EnvOf<S, M, T> as Outside>⟧.reach in (w : World) (rows : List RowEntry) → Leaves self.old w rows → Sees w (reach env.old) (reach env.new) →
-            IfOk result (λ a. (a ≡ first_left rows) × Leaves self.new w (drop 1 rows)) }
-        ensures undamaged { let reach = ⟦<EnvOf<S, M, T> as Outside>⟧.reach in (w : World) (rows : List RowEntry) → Leaves self.old w rows → Sees w (reach env.old) (reach env.new) → IfErr result (IsFault (reach env.old) (reach env.new)) }
-        ensures checked { let reach = ⟦<EnvOf<S, M, T> as Outside>⟧.reach in (w : World) (rows : List RowEntry) → Leaves self.old w rows → OnOk result (Checks w (reach env.old) (reach env.new)) }
-        ensures later { let reach = ⟦<EnvOf<S, M, T> as Outside>⟧.reach in OnOk result (Made (reach env.old) (reach env.new) (λ reads. NoMore (ScanRefuses self.old (reach env.old).meaning) reads (ScanRefuses self.new (reach env.old).meaning))) }
-        ensures cause { let reach = ⟦<EnvOf<S, M, T> as Outside>⟧.reach in IfErr result (λ e. Made (reach env.old) (reach env.new) (λ reads. IsFault (reach env.old) (reach env.new) e ⊎ ScanRefuses self.old (reach env.old).meaning reads None e)) }
-        ensures bases { let reach = ⟦<EnvOf<S, M, T> as Outside>⟧.reach in (reach env.old).meaning.combine ≡ None → IfOk result (λ a. Made (reach env.old) (reach env.new) (λ reads. IfSome a (ScanHands self.old (reach env.old).meaning reads))) }
-        ensures hands { let reach = ⟦<EnvOf<S, M, T> as Outside>⟧.reach in OnOk result (Made (reach env.old) (reach env.new) (λ reads. NoMoreRows (ScanHands self.old (reach env.old).meaning) reads (ScanHands self.new (reach env.old).meaning))) }
-        ensures again { IsUnrefused self.old → IfErr result (λ e. Keeps e self.new) }
-        ensures refused { (kept : SlateDBError) → IsRefusedScan kept self.old → AnswersAgain kept result × (self.new ≡ self.old) × (env.new ≡ env.old) }
-        ensures range { self.new.range ≡ self.old.range }
-        ensures order { self.new.order ≡ self.old.order }
-        ensures within { let reach = ⟦<EnvOf<S, M, T> as Outside>⟧.reach in (paths : List (List ℕ)) → IsScanWithin self.old paths → ReadsAt paths (reach env.old) (reach env.new) × IsScanWithin self.new paths }
-        ensures reads { let reach = ⟦<EnvOf<S, M, T> as Outside>⟧.reach in OnlyReads (reach env.old) (reach env.new) }
-        ensures still { let reach = ⟦<EnvOf<S, M, T> as Outside>⟧.reach in
-            IsStill (reach env.old).faults (reach env.new).faults result }
+        ensures { let reach = ⟦<EnvOf<S, M, T> as Outside>⟧.reach in
+            NextOf (reach env.old) (reach env.new) (env.new ≡ env.old) self.old self.new result }
     {
         if let ScanState::Refused(error) = &self.state {
             return Err(copy_of(error));
@@ -166,21 +121,9 @@ impl DbIterator<'_> {
         key: &[u8],
         env: &mut Env<'_, S, M, T>,
     ) -> Result<(), SlateDBError>
-        ensures rows { let reach = ⟦<EnvOf<S, M, T> as Outside>⟧.reach in (w : World) (rows : List RowEntry) → Leaves self.old w rows → Sees w (reach env.old) (reach env.new) →
-            OnOk result (Leaves self.new w (drop_before self.old.order key.now rows)) }
-        ensures undamaged { let reach = ⟦<EnvOf<S, M, T> as Outside>⟧.reach in (w : World) (rows : List RowEntry) → Leaves self.old w rows → Sees w (reach env.old) (reach env.new) → IfErr result (IsFault (reach env.old) (reach env.new)) }
-        ensures checked { let reach = ⟦<EnvOf<S, M, T> as Outside>⟧.reach in (w : World) (rows : List RowEntry) → Leaves self.old w rows → OnOk result (Checks w (reach env.old) (reach env.new)) }
-        ensures later { let reach = ⟦<EnvOf<S, M, T> as Outside>⟧.reach in OnOk result (Made (reach env.old) (reach env.new) (λ reads. NoMore (ScanRefuses self.old (reach env.old).meaning) reads (ScanRefuses self.new (reach env.old).meaning))) }
-        ensures cause { let reach = ⟦<EnvOf<S, M, T> as Outside>⟧.reach in IfErr result (λ e. Made (reach env.old) (reach env.new) (λ reads. IsFault (reach env.old) (reach env.new) e ⊎ ScanRefuses self.old (reach env.old).meaning reads (Some key.now) e)) }
-        ensures hands { let reach = ⟦<EnvOf<S, M, T> as Outside>⟧.reach in OnOk result (Made (reach env.old) (reach env.new) (λ reads. NoMoreRows (ScanHands self.old (reach env.old).meaning) reads (ScanHands self.new (reach env.old).meaning))) }
-        ensures again { IsUnrefused self.old → IfErr result (λ e. Keeps e self.new) }
-        ensures refused { (kept : SlateDBError) → IsRefusedScan kept self.old → AnswersAgain kept result × (self.new ≡ self.old) × (env.new ≡ env.old) }
-        ensures range { self.new.range ≡ self.old.range }
-        ensures order { self.new.order ≡ self.old.order }
-        ensures within { let reach = ⟦<EnvOf<S, M, T> as Outside>⟧.reach in (paths : List (List ℕ)) → IsScanWithin self.old paths → ReadsAt paths (reach env.old) (reach env.new) × IsScanWithin self.new paths }
-        ensures reads { let reach = ⟦<EnvOf<S, M, T> as Outside>⟧.reach in OnlyReads (reach env.old) (reach env.new) }
-        ensures still { let reach = ⟦<EnvOf<S, M, T> as Outside>⟧.reach in
-            IsStill (reach env.old).faults (reach env.new).faults result }
+        ensures { let reach = ⟦<EnvOf<S, M, T> as Outside>⟧.reach in
+            SeekOf key.now (reach env.old) (reach env.new) (env.new ≡ env.old) self.old self.new
+            result }
     {
         if let ScanState::Refused(kept) = &self.state {
             return Err(copy_of(kept));

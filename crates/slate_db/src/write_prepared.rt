@@ -1,18 +1,14 @@
 //! A write of a batch that was prepared, up to its event. It calls no operator.
-ghost use Rattle.std.specs.Prelude.{◌≡◌, ◌⊎◌, ◌+◌, ◌<◌, ◌≤◌, ◌++◌, ◌∷◌, [], List, ℕ, IfErr, IfOk, OnOk, OnErr, Some, None};
+ghost use Rattle.std.specs.Prelude.{◌≡◌, ◌+◌, ◌<◌, ◌≤◌, ◌++◌, ◌∷◌, [], List, IfErr, IfOk, OnOk, OnErr, None};
 ghost use Rattle.std.specs.List.{AllByRecursion};
 ghost use Rattle.slate_types.specs.declared.error.SlateDBError.{SlateDBError};
-ghost use Rattle.slate_types.specs.Fold.{operator_at};
-ghost use Rattle.slate_types.specs.Keys.{keys_set};
 ghost use Rattle.slate_mem.specs.Batch.{batch_keys};
-ghost use Rattle.slate_mem.specs.CommitRows.{commit_rows};
-ghost use Rattle.slate_mem.specs.KeyTests.{prefixes};
-ghost use Rattle.slate_mem.specs.Table.{put_rows};
 ghost use Rattle.slate_txn.specs.Managers.{StandsFor, IsCommitOf};
 ghost use Rattle.slate_txn.specs.State.{Commit};
 ghost use Rattle.slate_db.specs.Layers.{AreLayers, in_memory};
-ghost use Rattle.slate_db.specs.Log.{LIMIT, HasPlace, IsLog, held_by};
+ghost use Rattle.slate_db.specs.Log.{HasPlace, IsLog};
 ghost use Rattle.slate_db.specs.Prepared.{PreparedWith, IsPrepared, whole_refusal};
+ghost use Rattle.slate_db.specs.Calls.Put.{AsPrepared, IsAloneRefusal, with_prefixes, with_rows};
 
 use crate::layers::Layers;
 use crate::log::Log;
@@ -43,17 +39,22 @@ pub(crate) fn put_alone(
     requires prepared { (w : PreparedWith) × IsPrepared w prepared }
     ensures room { (log.new ≡ record log.old { spare = log.new.spare }) × IsLog log.new }
     ensures place { OnOk result (HasPlace 1 log.new) }
-    ensures recorded { (w : PreparedWith) → IsPrepared w prepared → OnOk result (segments.new ≡ keys_set (segments.old ++ prefixes w.segments w.batch.ops)) }
-    ensures put { (w : PreparedWith) → IsPrepared w prepared → OnOk result (layers.new ≡ record layers.old { active = put_rows layers.old.active (commit_rows (operator_at w.combine) w.default_millis (last + 1) w.now w.batch.ops) }) }
+    ensures recorded { AsPrepared prepared (λ w. OnOk result (segments.new ≡ with_prefixes w
+        segments.old)) }
+    ensures put { AsPrepared prepared (λ w. OnOk result (layers.new ≡ with_rows w (last + 1)
+        layers.old)) }
     ensures whole { AreLayers layers.new }
     ensures ops { IfOk result (λ ops. ops ≡ prepared.ops) }
-    ensures tested { (w : PreparedWith) → IsPrepared w prepared → OnOk result (whole_refusal w segments.old ≡ None) }
+    ensures tested { AsPrepared prepared (λ w. OnOk result (whole_refusal w segments.old ≡ None)) }
     ensures committed { OnOk result (manager.new ≡ record manager.old { last = last + 1; kept = manager.new.kept }) }
-    ensures stands { (w : PreparedWith) → IsPrepared w prepared → OnOk result ((cs : List Commit) (c : Commit) → IsCommitOf (last + 1) (batch_keys w.batch.ops) c → StandsFor manager.old cs → StandsFor manager.new (cs ++ c ∷ [])) }
+    ensures stands { AsPrepared prepared (λ w. OnOk result ((cs : List Commit) (c : Commit) →
+        IsCommitOf (last + 1) (batch_keys w.batch.ops) c → StandsFor manager.old cs → StandsFor
+        manager.new (cs ++ c ∷ []))) }
     ensures same_segments { OnErr result (segments.new ≡ segments.old) }
     ensures same_layers { OnErr result (layers.new ≡ layers.old) }
     ensures same { OnErr result (manager.new ≡ manager.old) }
-    ensures cause { (w : PreparedWith) → IsPrepared w prepared → IfErr result (λ e. (e ≡ SlateDBError.OutOfMemory) ⊎ (whole_refusal w segments.old ≡ Some e) ⊎ ((e ≡ SlateDBError.LimitReached LIMIT) × (LIMIT < held_by log.old + 1) × (whole_refusal w segments.old ≡ None))) }
+    ensures cause { AsPrepared prepared (λ w. IfErr result (IsAloneRefusal (whole_refusal w
+        segments.old) log.old)) }
 {
     let passed = prepared.pass(segments, last + 1)?;
     log.place(1)?;

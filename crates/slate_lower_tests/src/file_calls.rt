@@ -5,6 +5,7 @@ use std::alloc::{Allocator, Global};
 use std::cell::Cell;
 use std::fs::{self, File, Metadata, OpenFile, OpenOptions};
 use std::io::{self, ErrorKind, Read, Seek, SeekFrom, Write};
+use std::os::unix::fs::FileExt;
 use std::rt::Files;
 
 const FOLDER: &str = "file-calls-objects";
@@ -26,6 +27,8 @@ const SYNCS: u64 = 4;
 const RENAMES: u64 = 5;
 
 const REMOVES_BESIDE: u64 = 6;
+
+const OPENS_FOLDER: u64 = 7;
 
 const OTHER: u64 = 9;
 
@@ -66,10 +69,10 @@ impl<'a> Files for NotedFiles<'a> {
     type Dir = <HostRuntime as Files>::Dir;
 
     fn open_file(&self, how: &OpenOptions, path: &str) -> io::Result<NotedFile<'a>> {
-        self.note(if how.asks_create() && path == BESIDE {
-            CREATES_BESIDE
-        } else {
-            OTHER
+        self.note(match path {
+            BESIDE if how.asks_create() => CREATES_BESIDE,
+            FOLDER => OPENS_FOLDER,
+            _ => OTHER,
         })?;
         Ok(NotedFile {
             file: self.rt.open_file(how, path)?,
@@ -159,6 +162,17 @@ impl Seek for NotedFile<'_> {
     }
 }
 
+impl FileExt for NotedFile<'_> {
+    fn read_at(&self, buf: &mut [u8], offset: u64) -> io::Result<usize> {
+        self.file.read_at(buf, offset)
+    }
+
+    fn write_at(&self, buf: &[u8], offset: u64) -> io::Result<usize> {
+        note(self.calls, self.failing, OTHER)?;
+        self.file.write_at(buf, offset)
+    }
+}
+
 impl OpenFile for NotedFile<'_> {
     fn metadata(&self) -> io::Result<Metadata> {
         self.file.metadata()
@@ -180,16 +194,18 @@ impl OpenFile for NotedFile<'_> {
     }
 }
 
-// The call that fails, the calls of a put over an older object, and what stands there then. A folder that is there needn't be made.
-type Put = (u64, u64, &'static [u8]);
+// The call that fails, the calls of a put over an older object, whether it is answered, and what is there then. A folder
+// that is there needn't be made. Behind the name's change the folder is synced, so that the name lasts.
+type Put = (u64, u64, bool, &'static [u8]);
 
 const PUTS: &[Put] = &[
-    (0, 12345, b"new"),
-    (MAKES_FOLDER, 12345, b"new"),
-    (CREATES_BESIDE, 126, b"older"),
-    (WRITES, 1236, b"older"),
-    (SYNCS, 12346, b"older"),
-    (RENAMES, 123456, b"older"),
+    (0, 1_234_574, true, b"new"),
+    (MAKES_FOLDER, 1_234_574, true, b"new"),
+    (CREATES_BESIDE, 126, false, b"older"),
+    (WRITES, 1236, false, b"older"),
+    (SYNCS, 12346, false, b"older"),
+    (RENAMES, 123_456, false, b"older"),
+    (OPENS_FOLDER, 123_457, false, b"new"),
 ];
 
 fn puts(rt: &HostRuntime, calls: &Cell<u64>, failing: u64) -> Option<bool> {
@@ -227,9 +243,9 @@ fn stands(rt: &HostRuntime, bytes: &[u8]) -> bool {
 fn is_put_so(rt: &HostRuntime, put: &Put) -> bool {
     let calls = Cell::new(0);
     has_put_older(rt)
-        && puts(rt, &calls, put.0) == Some(put.2 == b"new".as_slice())
+        && puts(rt, &calls, put.0) == Some(put.2)
         && calls.get() == put.1
-        && stands(rt, put.2)
+        && stands(rt, put.3)
         && matches!(fs::exists(rt, BESIDE).ok(), Some(false))
 }
 

@@ -1,19 +1,27 @@
 -- Why a write or a commit is refused, that its refusals are answered, and that no fault of the operator is passed over.
-use Rattle.std.proofs.Common.{◌≡◌, ℕ, Bool, true, false, ◌<◌, ◌+◌, ◌⊎◌, inl, inr, List, [], ◌∷◌, ◌++◌, map, find, reverse, Option, Some, None, is_none, is_some, option_map, Result, Ok, Err, ℤ, sym, ◌∙◌, subst, arith}
+use Rattle.std.proofs.Common.{◌≡◌, ℕ, Bool, true, false, ◌-◌, ◌^◌, ◌==◌, ◌⊎◌, inl, inr, List, [], ◌∷◌, ◌++◌, map, find, reverse, Option, Some, None, is_none, is_some, option_map, Result, Ok, Err, ℤ, sym, ◌∙◌, subst, arith}
 use Rattle.std.specs.Prelude.{IfErr, OnOk, not, ◌&&◌}
 use Rattle.slate_types.specs.declared.error.SlateDBError.{SlateDBError}
 use Rattle.slate_types.specs.declared.error.SlateDBError.TheVariants as errors
-use Rattle.slate_types.specs.Outside.{Counts, IsCounted, IsOperatorStill, OperatorStays}
+use Rattle.slate_types.specs.Outside.{IsFault, IsOperatorStill, OperatorStays, Reach}
 use Rattle.slate_types.specs.Keys.{keys_set}
 use Rattle.slate_mem.specs.Batch.{Ops, batch_keys, kept}
 use Rattle.slate_mem.specs.BatchModel.{BatchModel, holds_merge}
 use Rattle.slate_mem.specs.KeyTests.{Segments, first_other, key_refusal, nest, nest_refusal, nest_refusals, prefix_of_len, prefixes, segment_refusal, test_refusals, ttl_refusal}
 use Rattle.slate_mem.specs.Refusals.{first_refusal, when}
 use Rattle.slate_mem.specs.RowOf.{op_expiry}
-use Rattle.slate_txn.specs.HandedOver.{IsConflict}
-use Rattle.slate_db.specs.BatchTests.{IsTestRefusal, batch_refusal}
-use Rattle.slate_db.specs.Load.{weight}
+use Rattle.slate_txn.specs.Conflict.{conflict}
+use Rattle.slate_txn.specs.Refusals.{unless_empty}
+use Rattle.slate_txn.specs.State.{Tx, last_of}
+use Rattle.slate_db.specs.BatchTests.{test_refusal}
+use Rattle.slate_db.specs.Calls.Commit.{Commits, verdict}
+use Rattle.slate_db.specs.Calls.Common.{Given}
+use Rattle.slate_db.specs.Calls.Write.{Writes, newest, refusal_of, write_verdict}
+use Rattle.slate_db.specs.Flushed.{NoPlace}
 use Rattle.slate_db.specs.Log.{LIMIT}
+use Rattle.slate_db.specs.Model.{CoreModel}
+use Rattle.slate_db.proofs.CommitFacts.{cause_of}
+use Rattle.slate_db.proofs.WriteFacts.{verdict_is}
 use Rattle.slate_language.specs.declared.reply.Answer.{Answer}
 use Rattle.slate_script.specs.Session.{SessionModel, IsLimit, IsRefusal}
 use Rattle.slate_script.proofs.SessionSteps.{some_error}
@@ -72,31 +80,46 @@ tests_refuse has held segments recorded default_millis now ops e h =
     by true is = subst IsRefusal (some_error errors.MergeOperatorMissing e is) tt
     by false is = keys_refuse segments default_millis now ops (batch_keys ops) e is
 
-conflict_refuses : (o : Option ℕ) (e : SlateDBError) → IsConflict o e → IsRefusal e
-conflict_refuses None e h = absurd h
-conflict_refuses (Some n) e h = subst IsRefusal (sym h) tt
-
 -- error: that of the core; result: the session's
 abbrev IsPassedOn : SlateDBError → Result Answer SlateDBError → Type 0
 IsPassedOn error result = IfErr result (λ e. (e ≡ error) × (IsRefusal error → ⊥))
 
-pub write_cause : {B C : Type 0} (before after : Counts) (session : SessionModel) (combine : Option C) (segments : Segments) (recorded : List (List ℕ)) (default_millis : Option ℕ) (now : ℤ) (batch : BatchModel) (error : SlateDBError) (result : Result Answer SlateDBError) → IsPassedOn error result →
-    IsCounted before after error ⊎ ((error ≡ errors.SequenceExhausted) × B) ⊎ ((error ≡ errors.LimitReached LIMIT) × (LIMIT < weight session.core + 1)) ⊎ (batch_refusal combine segments recorded default_millis now batch ≡ Some error) →
-    IfErr result (λ e. IsCounted before after e ⊎ IsLimit session e)
-write_cause before after session combine segments recorded default_millis now batch error (Ok a) other cause = tt
-write_cause before after session combine segments recorded default_millis now batch error (Err x) other (inl fault) = inl (subst (IsCounted before after) (sym other.0) fault)
-write_cause before after session combine segments recorded default_millis now batch error (Err x) other (inr (inl exhausted)) = absurd (other.1 (subst IsRefusal (sym exhausted.0) tt))
-write_cause before after session combine segments recorded default_millis now batch error (Err x) other (inr (inr (inl (is, past)))) = inr (LIMIT, other.0 ∙ is, inl (omega (arith, past)))
-write_cause before after session combine segments recorded default_millis now batch error (Err x) other (inr (inr (inr refused))) = absurd (other.1 (tests_refuse (is_some combine) batch.held_merge segments recorded default_millis now batch.ops error refused))
+pub write_cause : {d : Given} {b : BatchModel} {before after : Reach} {alone same_env : Type 0} {old new : CoreModel} (session : SessionModel) (error : SlateDBError) (result : Result Answer SlateDBError) → session.core ≡ old → IsPassedOn error result →
+    (let r : Result (Option ℕ) SlateDBError = Err error in Writes d b before after alone same_env old new r) → IfErr result (λ e. IsFault before after e ⊎ IsLimit session e)
+write_cause {d = d} {b = b} {before = before} {after = after} {old = old} session error result core other made = by result other (cause_of before after (let r : Result (Option ℕ) SlateDBError = Err error in r) (write_verdict d old b) made.answer)
+  where
+    refuses : ((error ≡ errors.SequenceExhausted) × (newest old ≡ 2 ^ 64 - 2)) ⊎ ((error ≡ errors.LimitReached LIMIT) × NoPlace 1 old) ⊎ (refusal_of d old b ≡ Some error) → ((error ≡ errors.LimitReached LIMIT) × NoPlace 1 old) ⊎ IsRefusal error
+    refuses (inl exhausted) = inr (subst IsRefusal (sym exhausted.0) tt)
+    refuses (inr (inl full)) = inl full
+    refuses (inr (inr refused)) = inr (tests_refuse (is_some d.meaning.combine) b.held_merge d.segments old.segments old.settings.default_millis d.now b.ops error refused)
 
-pub commit_cause : {B C : Type 0} (before after : Counts) (session : SessionModel) (conflict : Option ℕ) (combine : Option C) (segments : Segments) (recorded : List (List ℕ)) (default_millis : Option ℕ) (now : ℤ) (last : ℕ) (ops : Ops) (error : SlateDBError) (result : Result Answer SlateDBError) →
-    IsPassedOn error result → IsCounted before after error ⊎ IsConflict conflict error ⊎ ((error ≡ errors.SequenceExhausted) × B) ⊎ IsTestRefusal combine segments recorded default_millis now last conflict ops error →
-    IfErr result (λ e. IsCounted before after e ⊎ IsLimit session e)
-commit_cause before after session conflict combine segments recorded default_millis now last ops error (Ok a) other cause = tt
-commit_cause before after session conflict combine segments recorded default_millis now last ops error (Err x) other (inl fault) = inl (subst (IsCounted before after) (sym other.0) fault)
-commit_cause before after session conflict combine segments recorded default_millis now last ops error (Err x) other (inr (inl clash)) = absurd (other.1 (conflict_refuses conflict error clash))
-commit_cause before after session conflict combine segments recorded default_millis now last ops error (Err x) other (inr (inr (inl exhausted))) = absurd (other.1 (subst IsRefusal (sym exhausted.0) tt))
-commit_cause before after session conflict combine segments recorded default_millis now last ops error (Err x) other (inr (inr (inr refused))) = absurd (other.1 (tests_refuse (is_some combine) (holds_merge ops) segments recorded default_millis now ops error refused.is))
+    ends : (x : SlateDBError) → (x ≡ error) × (IsRefusal error → ⊥) → ((error ≡ errors.LimitReached LIMIT) × NoPlace 1 old) ⊎ IsRefusal error → IsFault before after x ⊎ IsLimit session x
+    ends x other (inl full) = inr (LIMIT, other.0 ∙ full.0, inl (let past : NoPlace 1 session.core = subst (NoPlace 1) (sym core) full.1 in omega (arith, past)))
+    ends x other (inr refusal) = absurd (other.1 refusal)
+
+    by : (r : Result Answer SlateDBError) → IsPassedOn error r → IsFault before after error ⊎ (write_verdict d old b ≡ Some error) → IfErr r (λ e. IsFault before after e ⊎ IsLimit session e)
+    by (Ok a) other cause = tt
+    by (Err x) other (inl fault) = inl (subst (IsFault before after) (sym other.0) fault)
+    by (Err x) other (inr is) = ends x other (refuses (verdict_is d b old error is))
+
+-- what the verdict of a commit refuses it for is answered
+verdict_refuses : (conflict : Option ℕ) (full : Bool) (ops : Ops) (tested : Option SlateDBError) (error : SlateDBError) → (tested ≡ Some error → IsRefusal error) →
+    first_refusal (option_map errors.TransactionConflict conflict ∷ unless_empty ops (when full errors.SequenceExhausted ∷ tested ∷ [])) ≡ Some error → IsRefusal error
+verdict_refuses (Some n) full ops tested error by is = subst IsRefusal (some_error (errors.TransactionConflict n) error is) tt
+verdict_refuses None full [] tested error by is = cc
+verdict_refuses None true (o ∷ os) tested error by is = subst IsRefusal (some_error errors.SequenceExhausted error is) tt
+verdict_refuses None false (o ∷ os) (Some e) error by is = by is
+verdict_refuses None false (o ∷ os) None error by is = cc
+
+pub commit_cause : {d : Given} {id : List ℕ} {t : Tx} {before after : Reach} {old new : CoreModel} (session : SessionModel) (error : SlateDBError) (result : Result Answer SlateDBError) → IsPassedOn error result →
+    (let r : Result (Option ℕ) SlateDBError = Err error in Commits d id t before after old new r) → IfErr result (λ e. IsFault before after e ⊎ IsLimit session e)
+commit_cause {d = d} {t = t} {before = before} {after = after} {old = old} session error result other made = by result other (cause_of before after (let r : Result (Option ℕ) SlateDBError = Err error in r) (verdict d old t) made.answer)
+  where
+    by : (r : Result Answer SlateDBError) → IsPassedOn error r → IsFault before after error ⊎ (verdict d old t ≡ Some error) → IfErr r (λ e. IsFault before after e ⊎ IsLimit session e)
+    by (Ok a) other cause = tt
+    by (Err x) other (inl fault) = inl (subst (IsFault before after) (sym other.0) fault)
+    by (Err x) other (inr is) = absurd (other.1 (verdict_refuses (conflict old.state.commits t) (last_of old.settings.start_seq old.state.commits == 2 ^ 64 - 2) t.ops (test_refusal d.meaning.combine d.segments old.segments old.settings.default_millis d.now t.ops) error
+        (tests_refuse (is_some d.meaning.combine) (holds_merge t.ops) d.segments old.segments old.settings.default_millis d.now t.ops error) is))
 
 -- ---- where no fault came
 

@@ -30,7 +30,7 @@ use Rattle.slate_txn.specs.Step.{closed, step}
 use Rattle.slate_txn.proofs.NamedLaws.{without_last}
 use Rattle.slate_txn.proofs.PlaceLaws.{counts_last}
 use Rattle.slate_txn.proofs.SequenceLaws.{legal_counts}
-use Rattle.slate_db.specs.BatchTests.{IsTestRefusal}
+use Rattle.slate_db.specs.BatchTests.{test_refusal}
 use Rattle.slate_db.specs.Committed.{IsCommitted, IsEnded, after_commit, without_txn}
 use Rattle.slate_db.specs.Installs.{Replays}
 use Rattle.slate_db.specs.Load.{load}
@@ -202,7 +202,7 @@ module _ (c d : CoreModel) (id : List ℕ) (level : IsolationLevel) (ts : List T
   CommitCause combine g before after now e = IsFault before after e
       ⊎ IsConflict (conflict d.state.commits (taking (newest c) level ts)) e
       ⊎ ((e ≡ SequenceExhausted) × (last_of d.settings.start_seq d.state.commits ≡ 2 ^ 64 - 2))
-      ⊎ IsTestRefusal combine g d.segments d.settings.default_millis now (last_of d.settings.start_seq d.state.commits) (conflict d.state.commits (taking (newest c) level ts)) (own_of ts) e
+      ⊎ (test_refusal combine g d.segments d.settings.default_millis now (own_of ts) ≡ Some e)
 
   plain_cause : {C : Type 0} (law : ConflictsNeedACommit) (combine : Option C) (before after : Reach) (now : ℤ) (e : SlateDBError) → holds_merge (own_of ts) ≡ false → CommitCause combine None before after now e →
       IsFault before after e ⊎ ((e ≡ SequenceExhausted) × (newest c ≡ 2 ^ 64 - 2))
@@ -210,7 +210,7 @@ module _ (c d : CoreModel) (id : List ℕ) (level : IsolationLevel) (ts : List T
   plain_cause law combine before after now e plain (inr (inl clash)) = absurd (subst (λ (o : Option ℕ). IsConflict o e) (no_conflict law) clash)
   plain_cause law combine before after now e plain (inr (inr (inl full))) = inr (full.0, sym same_newest ∙ full.1)
   plain_cause law combine before after now e plain (inr (inr (inr refused))) =
-      let none : None ≡ Some e = sym (plain_passes (is_some combine) d.segments d.settings.default_millis now (own_of ts) plain) ∙ refused.is in cc
+      let none : None ≡ Some e = sym (plain_passes (is_some combine) d.segments d.settings.default_millis now (own_of ts) plain) ∙ refused in cc
 
   pub commit_cause : {X C T : Type 0} (r : Result T SlateDBError) (law : ConflictsNeedACommit) (lengths : X → Lengths) (extractor : Option X) (combine : Option C) (before after : Reach) (now : ℤ) → extractor ≡ None → holds_merge (own_of ts) ≡ false →
       IfErr r (CommitCause combine (segments_by lengths extractor) before after now) → IfErr r (λ e. IsFault before after e ⊎ ((e ≡ SequenceExhausted) × (newest c ≡ 2 ^ 64 - 2)))

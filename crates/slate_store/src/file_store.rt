@@ -6,25 +6,31 @@ ghost use Rattle.slate_store.specs.Places.{is_path};
 ghost use Rattle.slate_store.specs.Store.{IsRising};
 
 use crate::faults::Faults;
+use crate::open_files::OpenFiles;
 use crate::place::{Place, paths_among};
 use crate::{PathText, Store, StoreError, folder};
 use bytes::Bytes;
 use slate_types::SlateDBError;
 use std::alloc::Global;
 use std::io::{self, ErrorKind};
+use std::os::unix::fs::FileExt;
 use std::rt::Files;
 
 /// Keeps each object as a file of a folder, at the object's path from there.
 ///
 /// A path is names with a slash between two: a call of another one, as of one that leaves the folder, fails.
 #[derive(Drop)]
-pub struct FileStore<R> {
+pub struct FileStore<R: Files> {
     rt: R,
     folder: String,
+    opened: OpenFiles<R::File>,
     faults: Faults,
 }
 
-impl<R: Files + AllocGlobal + Clone + Drop> FileStore<R> {
+impl<R: Files + AllocGlobal + Clone + Drop> FileStore<R>
+where
+    R::File: FileExt,
+{
     /// A store over the folder. Opens nothing and makes nothing: the first `put` makes the folder. Can fail
     /// only for want of memory.
     pub fn new(alloc: Global, rt: R, folder: &str) -> Result<FileStore<R>, SlateDBError>
@@ -34,8 +40,44 @@ impl<R: Files + AllocGlobal + Clone + Drop> FileStore<R> {
         Ok(FileStore {
             rt,
             folder: String::from_str(alloc, folder)?,
+            opened: OpenFiles::new(alloc)?,
             faults: Faults::none(),
         })
+    }
+
+    fn put_at(&mut self, alloc: Global, path: &str, bytes: &[u8]) -> io::Result<()>
+        ensures { self.new.faults ≡ self.old.faults }
+    {
+        let place = Place::new(alloc, &self.folder, path)?;
+        self.opened.close(&place);
+        let done = folder::put(alloc, &self.rt, &place, bytes);
+        drop(place);
+        done
+    }
+
+    fn read_at(
+        &mut self,
+        alloc: Global,
+        path: &str,
+        start: u64,
+        len: u64,
+    ) -> io::Result<Option<Bytes>>
+        ensures length { IfOk result (λ range. IfSome range (λ bytes. length bytes ≡ len)) }
+        ensures faults { self.new.faults ≡ self.old.faults }
+    {
+        let place = Place::new(alloc, &self.folder, path)?;
+        let range = self.opened.read(alloc, &self.rt, &place, start, len);
+        drop(place);
+        range
+    }
+
+    fn len_at(&mut self, alloc: Global, path: &str) -> io::Result<Option<u64>>
+        ensures { self.new.faults ≡ self.old.faults }
+    {
+        let place = Place::new(alloc, &self.folder, path)?;
+        let len = self.opened.len_of(&self.rt, &place);
+        drop(place);
+        len
     }
 
     /// What a call answers: each error is a fault, save want of memory.
@@ -52,7 +94,10 @@ impl<R: Files + AllocGlobal + Clone + Drop> FileStore<R> {
     }
 }
 
-impl<R: Files + AllocGlobal + Clone + Drop> Store for FileStore<R> {
+impl<R: Files + AllocGlobal + Clone + Drop> Store for FileStore<R>
+where
+    R::File: FileExt,
+{
     ghost objects = { λ _. None };
 
     ghost acts = { λ _. None };
@@ -61,7 +106,7 @@ impl<R: Files + AllocGlobal + Clone + Drop> Store for FileStore<R> {
 
     /// Writes beside the object and renames, so that a reader meets the old object or the new one.
     fn put(&mut self, alloc: Global, path: &str, bytes: &[u8]) -> Result<(), StoreError> {
-        let done = put_at(alloc, &self.rt, &self.folder, path, bytes);
+        let done = self.put_at(alloc, path, bytes);
         self.answer(done)
     }
 
@@ -72,12 +117,12 @@ impl<R: Files + AllocGlobal + Clone + Drop> Store for FileStore<R> {
         start: u64,
         len: u64,
     ) -> Result<Option<Bytes>, StoreError> {
-        let range = read_at(alloc, &self.rt, &self.folder, path, start, len);
+        let range = self.read_at(alloc, path, start, len);
         self.answer(range)
     }
 
     fn len(&mut self, alloc: Global, path: &str) -> Result<Option<u64>, StoreError> {
-        let len = len_at(alloc, &self.rt, &self.folder, path);
+        let len = self.len_at(alloc, path);
         self.answer(len)
     }
 
@@ -85,42 +130,6 @@ impl<R: Files + AllocGlobal + Clone + Drop> Store for FileStore<R> {
         let paths = list(alloc, &self.rt, &self.folder);
         self.answer(paths)
     }
-}
-
-fn put_at(
-    alloc: Global,
-    files: &impl Files,
-    folder: &str,
-    path: &str,
-    bytes: &[u8],
-) -> io::Result<()> {
-    let place = Place::new(alloc, folder, path)?;
-    let done = folder::put(alloc, files, &place, bytes);
-    drop(place);
-    done
-}
-
-fn read_at<R: Files>(
-    alloc: Global,
-    files: &R,
-    folder: &str,
-    path: &str,
-    start: u64,
-    len: u64,
-) -> io::Result<Option<Bytes>>
-    ensures { IfOk result (λ range. IfSome range (λ bytes. length bytes ≡ len)) }
-{
-    let place = Place::new(alloc, folder, path)?;
-    let range = folder::read(alloc, files, &place, start, len);
-    drop(place);
-    range
-}
-
-fn len_at(alloc: Global, files: &impl Files, folder: &str, path: &str) -> io::Result<Option<u64>> {
-    let place = Place::new(alloc, folder, path)?;
-    let len = folder::len_of(files, &place);
-    drop(place);
-    len
 }
 
 /// The paths of the files of the folder, rising.

@@ -1,24 +1,25 @@
 //! The calls of a store over a folder on its files. What these do is trusted: the kit's trait `Files` has no contract.
-ghost use Rattle.std.specs.Prelude.{◌≡◌, ◌+◌, ◌≤◌, ◌↔◌, ℕ, List, length, Some, IfOk, IfSome, IsSome};
+ghost use Rattle.std.specs.Prelude.{◌≡◌, IfOk};
 
 use crate::place::Place;
-use bytes::{ByteStr, Bytes};
+use bytes::ByteStr;
 use std::alloc::Global;
 use std::collections::BTreeSet;
 use std::fs::{self, DirEntry, File, OpenFile, ReadDir};
-use std::io::{self, ErrorKind, Read, Seek, SeekFrom, Write};
+use std::io::{self, ErrorKind, Write};
 use std::rt::Files;
 
-/// Writes the object beside its file and renames that, so that a reader meets the old object or the new one.
+/// Writes the object beside its file and renames that, so that a reader meets the old object or the new one. Then it syncs
+/// the folder that has the name, and those that it made, so that an object that was put is there after a power failure.
 pub(crate) fn put(
     alloc: Global,
     files: &impl Files,
     place: &Place,
     bytes: &[u8],
 ) -> io::Result<()> {
-    if let Some((parent, _)) = place.as_str().rsplit_once('/') {
-        fs::create_dir_all(files, parent)?;
-    }
+    let parent = above(place.as_str());
+    let made = count_missing(files, parent);
+    fs::create_dir_all(files, parent)?;
     let beside = place.beside(alloc)?;
     let mut done = write(files, &beside, bytes);
     if done.is_ok() {
@@ -28,7 +29,8 @@ pub(crate) fn put(
         let _left = fs::remove_file(files, &beside);
     }
     drop(beside);
-    done
+    done?;
+    sync_folders(files, parent, made)
 }
 
 fn write<R: Files>(files: &R, path: &str, bytes: &[u8]) -> io::Result<()> {
@@ -37,43 +39,39 @@ fn write<R: Files>(files: &R, path: &str, bytes: &[u8]) -> io::Result<()> {
     file.sync_all()
 }
 
-pub(crate) fn read<R: Files>(
-    alloc: Global,
-    files: &R,
-    place: &Place,
-    start: u64,
-    len: u64,
-) -> io::Result<Option<Bytes>>
-    ensures { IfOk result (λ range. IfSome range (λ bytes. length bytes ≡ len)) }
-{
-    if len_of(files, place)?.is_none() {
-        return Ok(None);
-    }
-    match File::open(files, place.as_str()) {
-        Ok(mut file) => read_from(alloc, &mut file, start, len),
-        Err(error) => if_missing(error, None),
+/// The folder that has the name that the path ends with.
+fn above(path: &str) -> &str {
+    match path.rsplit_once('/') {
+        Some((parent, _)) if !parent.is_empty() => parent,
+        Some(_) => "/",
+        None => ".",
     }
 }
 
-/// So many bytes from `start` on, and none where the range ends past the end.
-fn read_from<F: Read + Seek>(
-    alloc: Global,
-    file: &mut F,
-    start: u64,
-    len: u64,
-) -> io::Result<Option<Bytes>>
-    ensures length { IfOk result (λ range. IfSome range (λ bytes. length bytes ≡ len)) }
-    ensures within { (at : ℕ) (all : List ℕ) → F.stream_position file.old ≡ Some at → F.stream_bytes file.old ≡ Some all →
-        IfOk result (λ range. IsSome range ↔ (start + len ≤ length all)) }
-{
-    let whole = file.seek(SeekFrom::End(0))?;
-    if start > whole || len > whole - start {
-        return Ok(None);
+/// How many of the folder and those above it aren't there.
+fn count_missing(files: &impl Files, folder: &str) -> usize {
+    let mut path = folder;
+    for missing in 0..folder.len() {
+        if fs::metadata(files, path).is_ok() {
+            return missing;
+        }
+        path = above(path);
     }
-    file.seek(SeekFrom::Start(start))?;
-    let mut bytes = vec![in alloc; 0; len as usize]?;
-    file.read_exact(&mut bytes)?;
-    Ok(Some(Bytes::from_vec(bytes)?))
+    folder.len()
+}
+
+/// Syncs the folder and so many of those above it.
+fn sync_folders<R: Files>(files: &R, folder: &str, more: usize) -> io::Result<()> {
+    let mut path = folder;
+    for _ in 0..more {
+        sync(files, path)?;
+        path = above(path);
+    }
+    sync(files, path)
+}
+
+fn sync<R: Files>(files: &R, folder: &str) -> io::Result<()> {
+    File::open(files, folder)?.sync_all()
 }
 
 /// The length of the file there, and `None` where there is none.
@@ -162,7 +160,7 @@ fn add_entry<R: Files>(
 }
 
 /// The answer where a file is missing, and else the error.
-fn if_missing<V: Drop>(error: io::Error, answer: V) -> io::Result<V>
+pub(crate) fn if_missing<V: Drop>(error: io::Error, answer: V) -> io::Result<V>
     ensures { IfOk result (λ value. value ≡ answer) }
 {
     match error.kind() {

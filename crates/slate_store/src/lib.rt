@@ -11,6 +11,7 @@ pub mod lying_store;
 pub mod memory;
 pub mod memory_store;
 pub(crate) mod object_list;
+mod open_files;
 pub mod path_text;
 mod place;
 pub mod run;

@@ -15,6 +15,7 @@ use std::marker::Model;
 pub struct MemoryStore {
     objects: ObjectList,
     plan: FaultPlan,
+    last: usize,
 }
 
 impl Model for MemoryStore {
@@ -38,6 +39,7 @@ impl MemoryStore {
         MemoryStore {
             objects: ObjectList::new(alloc),
             plan: FaultPlan::new(failing),
+            last: 0,
         }
     }
 }
@@ -65,7 +67,11 @@ impl Store for MemoryStore {
         len: u64,
     ) -> Result<Option<Bytes>, StoreError> {
         self.plan.step()?;
-        Ok(read_object(&self.objects, path, start, len)?)
+        let range = match self.objects.get_near(path, &mut self.last) {
+            Some(object) => range_of(object, start, len),
+            None => Ok(None),
+        };
+        Ok(range?)
     }
 
     fn len(&mut self, alloc: Global, path: &str) -> Result<Option<u64>, StoreError> {

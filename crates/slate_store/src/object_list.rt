@@ -1,10 +1,11 @@
 //! Objects in memory.
-ghost use Rattle.std.specs.Prelude.{◌≡◌, [], IfOk, OnOk, OnErr};
+ghost use Rattle.std.specs.Prelude.{◌≡◌, [], Ok, OnOk, OnErr, IsTrue};
 ghost use Rattle.std.specs.Option.{option_copied};
 ghost use Rattle.slate_store.specs.Placed.{paths_in, IsPathPlace};
 ghost use Rattle.slate_store.specs.Store.{object_at, with_object, IsRising};
 
 use bytes::{ByteStr, Bytes};
+use slate_types::compare_keys;
 use std::alloc::{AllocError, Global};
 use std::cmp::Ordering;
 use std::marker::Model;
@@ -48,6 +49,20 @@ impl ObjectList {
         }
     }
 
+    /// The object at a path, which is looked for first just before the place of the one that was found last, and there:
+    /// of a run of tables that is read, the next one mostly stands so.
+    pub fn get_near(&self, path: &str, last: &mut usize) -> Option<&Bytes>
+        ensures { option_copied result ≡ object_at self.now path.now }
+    {
+        match place_near(&self.objects, path, *last) {
+            Ok(at) => {
+                *last = at;
+                Some(&self.objects[at].1)
+            }
+            Err(_) => None,
+        }
+    }
+
     /// Puts an object in place of one that was there. Where memory is wanting, nothing is done.
     pub fn insert(&mut self, path: ByteStr, bytes: Bytes) -> Result<(), AllocError>
         ensures taken { OnOk result (self.new ≡ with_object self.old path bytes) }
@@ -71,6 +86,37 @@ impl ObjectList {
         ensures order { IsRising (paths_in self.now) }
     {
         &self.objects
+    }
+}
+
+/// The place of the object of a path, as `place` answers it, found without a search if it is the hint or the place before.
+fn place_near(
+    objects: &[(ByteStr, Bytes)],
+    path: &str,
+    hint: usize,
+) -> Result<usize, usize>
+    requires { IsRising (paths_in objects.now) }
+    ensures { IsPathPlace objects.now path.now result }
+{
+    let before = hint.wrapping_sub(1);
+    if stands_at(objects, path, before) {
+        Ok(before)
+    } else if stands_at(objects, path, hint) {
+        Ok(hint)
+    } else {
+        place(objects, path)
+    }
+}
+
+/// Whether the object of a path is at this place.
+fn stands_at(objects: &[(ByteStr, Bytes)], path: &str, at: usize) -> bool
+    ensures { IsTrue result → IsPathPlace objects.now path.now (Ok at) }
+{
+    match objects.get(at) {
+        Some(object) => {
+            compare_keys(object.0.as_str().as_bytes(), path.as_bytes()) == Ordering::Equal
+        }
+        None => false,
     }
 }
 

@@ -1,22 +1,17 @@
 //! Calls of a core that take a prepared batch, so that no operator is called in them.
-ghost use Rattle.std.specs.Prelude.{◌≡◌, ◌≢◌, ◌⊎◌, ◌+◌, ◌-◌, ◌^◌, ◌≤◌, ◌<◌, [], false, ℕ, List, length, Err, IfErr, IfOk, IsSome, None, OnErr, OnOk, Some};
+ghost use Rattle.std.specs.Prelude.{◌≡◌, ◌+◌, ◌-◌, ◌<◌, false, Err, IsSome, None, Some};
 ghost use Rattle.slate_types.specs.declared.error.SlateDBError.{SlateDBError};
 ghost use Rattle.slate_mem.specs.BatchModel.{BatchModel, holds_merge};
 ghost use Rattle.slate_mem.specs.KeyTests.{Segments};
 ghost use Rattle.slate_txn.specs.Named.{find_named};
 ghost use Rattle.slate_txn.specs.State.{Tx};
-ghost use Rattle.slate_db.specs.Committed.{IsCommitted, IsEnded};
-ghost use Rattle.slate_db.specs.Flushed.{NoPlace};
-ghost use Rattle.slate_db.specs.Load.{load};
 ghost use Rattle.slate_db.specs.Meaning.{Meaning};
-ghost use Rattle.slate_db.specs.Opened.{StayOpen, StayOpenBut};
-ghost use Rattle.slate_db.specs.Model.{IsSame};
 ghost use Rattle.slate_db.specs.Operated.{operated};
-ghost use Rattle.slate_db.specs.Prepared.{IsAccepted, IsDecided, IsPrepared, WasPrepared, own_batch, prepared_for};
+ghost use Rattle.slate_db.specs.Prepared.{WasPrepared, own_batch};
 ghost use Rattle.slate_db.specs.Segmented.{IsSegmented};
 ghost use Rattle.slate_db.specs.Sound.{IsKept};
-ghost use Rattle.slate_db.specs.Vouched.{IsVouchedFor};
-ghost use Rattle.slate_db.specs.Written.{IsWritten};
+ghost use Rattle.slate_db.specs.Calls.Commit.{CommitsPrepared};
+ghost use Rattle.slate_db.specs.Calls.Write.{WritesPrepared};
 
 use super::Core;
 use crate::commit::Made;
@@ -41,17 +36,7 @@ impl Core {
     ) -> Result<Option<u64>, SlateDBError>
         requires open { IsSome (find_named id.now self.old.state.txns) }
         requires prepared { (t : Tx) → find_named id.now self.old.state.txns ≡ Some t → WasPrepared self.old.settings.default_millis now (own_batch t.ops) prepared }
-        ensures event { (t : Tx) → find_named id.now self.old.state.txns ≡ Some t → IfOk result (λ n. IsCommitted self.old self.new id.now n now t) }
-        ensures ended { OnErr result (IsEnded self.old self.new id.now) }
-        ensures others { (m : Meaning) (other : List ℕ) → other ≢ id.now → IsVouchedFor m self.old other → IsVouchedFor m self.new other }
-        ensures kept { (m : Meaning) (g : Segments) (t : Tx) → find_named id.now self.old.state.txns ≡ Some t → IsPrepared (prepared_for m.combine g self.old.settings.default_millis now (own_batch t.ops)) prepared → IsKept m self.old → IsKept m self.new }
-        ensures kept_refused { OnErr result ((m : Meaning) → IsKept m self.old → IsKept m self.new) }
-        ensures segmented { (m : Meaning) (g : Segments) (t : Tx) → find_named id.now self.old.state.txns ≡ Some t → IsPrepared (prepared_for m.combine g self.old.settings.default_millis now (own_batch t.ops)) prepared → IsSegmented g self.old → IsSegmented g self.new }
-        ensures segmented_refused { OnErr result ((g : Segments) → IsSegmented g self.old → IsSegmented g self.new) }
-        ensures load { (t : Tx) → find_named id.now self.old.state.txns ≡ Some t → load self.new ≤ load self.old + length t.ops }
-        ensures decided { (m : Meaning) (g : Segments) (t : Tx) → find_named id.now self.old.state.txns ≡ Some t → IsPrepared (prepared_for m.combine g self.old.settings.default_millis now (own_batch t.ops)) prepared →
-            IsDecided (λ e. e ≡ SlateDBError.OutOfMemory) m.combine g self.old.settings now self.old.segments self.old.state.commits t result }
-        ensures stay { StayOpenBut id.now self.old self.new }
+        ensures { CommitsPrepared id.now now prepared self.old self.new result }
     {
         let Some(owned) = self.transactions.take(id) else {
             unreachable!()
@@ -111,15 +96,7 @@ impl Core {
         now: i64,
     ) -> Result<Option<u64>, SlateDBError>
         requires prepared { (b : BatchModel) × WasPrepared self.old.settings.default_millis now b prepared }
-        ensures event { IfOk result (λ n. IsWritten self.old self.new n now prepared.ops) }
-        ensures vouched { OnOk result ((m : Meaning) (other : List ℕ) → IsVouchedFor m self.old other → IsVouchedFor m self.new other) }
-        ensures kept { (m : Meaning) (g : Segments) (b : BatchModel) → IsPrepared (prepared_for m.combine g self.old.settings.default_millis now b) prepared → OnOk result (IsKept m self.old → IsKept m self.new) }
-        ensures segmented { (m : Meaning) (g : Segments) (b : BatchModel) → IsPrepared (prepared_for m.combine g self.old.settings.default_millis now b) prepared → OnOk result (IsSegmented g self.old → IsSegmented g self.new) }
-        ensures load { OnOk result (load self.new ≤ load self.old + length prepared.ops) }
-        ensures same { OnErr result (IsSame self.old self.new) }
-        ensures accepted { (m : Meaning) (g : Segments) (b : BatchModel) → IsPrepared (prepared_for m.combine g self.old.settings.default_millis now b) prepared →
-            IsAccepted (λ e. e ≡ SlateDBError.OutOfMemory) m.combine g self.old.settings now self.old.segments self.old.state.commits (NoPlace 1 self.old) b result }
-        ensures stay { StayOpen self.old self.new }
+        ensures { WritesPrepared prepared now self.old self.new result }
     {
         if prepared.is_empty() {
             return Ok(None);

@@ -1,48 +1,39 @@
 //! The reads of a core: gets, and scans.
-ghost use Rattle.slate_read.specs.TableWalk.{path_in};
-ghost use Rattle.std.specs.Prelude.{◌≡◌, ℕ, ◌≢◌, ◌⊎◌, ◌+◌, ◌-◌, ◌≤◌, ◌<◌, ◌∷◌, List, [], ◌++◌, IfOk, IfErr, IfSome, OnOk, OnErr, Err, IsSome, Option, None, Some, true, false, map, reverse, option_map, drop, nat_eq};
+ghost use Rattle.std.specs.Prelude.{◌≡◌, ℕ, ◌-◌, ◌<◌, List, IfOk, OnOk, Err, IsSome, Option, None, Some, true, false, map, drop, nat_eq};
 ghost use Rattle.std.specs.List.{AllByRecursion, starts_with};
 ghost use Rattle.slate_types.specs.Config.{IsValid};
 ghost use Rattle.slate_types.specs.declared.error.SlateDBError.{SlateDBError};
 ghost use Rattle.slate_types.specs.declared.filter_policy.PrefixTarget.{PrefixTarget};
 ghost use Rattle.slate_table.specs.Filtered.{point_query};
-ghost use Rattle.slate_types.specs.Fold.{AreShort, Combine, IsLawful, KeepsShort, fold_rows, shown};
-ghost use Rattle.slate_types.specs.Rows.{is_operand, key_value};
+ghost use Rattle.slate_types.specs.Fold.{AreShort, shown};
+ghost use Rattle.slate_types.specs.Rows.{is_operand};
 ghost use Rattle.slate_types.specs.declared.types.KeyValue.{KeyValue};
 ghost use Rattle.slate_types.specs.declared.types.RowEntry.{RowEntry};
 ghost use Rattle.slate_types.specs.Iteration.{drop_before};
 ghost use Rattle.slate_types.specs.Keys.{in_range, is_refused};
-ghost use Rattle.slate_types.specs.Outside.{Act, IsFault, IsStill, Objects, OnlyReads};
-ghost use Rattle.slate_types.specs.Refusing.{NoMore};
-ghost use Rattle.slate_types.specs.World.{World, Checks, IsCall, Made, Sees, ReadsAt};
-ghost use Rattle.slate_mem.specs.Lookup.{is_merge_among, newest_first};
+ghost use Rattle.slate_types.specs.Outside.{OnlyReads};
+ghost use Rattle.slate_types.specs.World.{World, Sees};
 ghost use Rattle.slate_mem.specs.Table.{newest};
-ghost use Rattle.slate_merge.specs.NoMoreRows.{NoMoreRows};
 ghost use Rattle.slate_txn.specs.declared.event.TranscriptStep.TheVariants as steps;
-ghost use Rattle.slate_txn.specs.Alone.{first_left};
-ghost use Rattle.slate_txn.specs.Reads.{key_rows, rows_seen, up_to};
-ghost use Rattle.slate_txn.specs.declared.line.ScanStep.{ScanStep};
 ghost use Rattle.slate_txn.specs.declared.line.Line.TheVariants as lines;
-ghost use Rattle.slate_txn.specs.Named.{find_named};
-ghost use Rattle.slate_mem.specs.declared.WriteOp.{WriteOp};
-ghost use Rattle.slate_mem.specs.Batch.{kept, replaces};
-ghost use Rattle.slate_mem.specs.KeyTests.{Segments};
-ghost use Rattle.slate_mem.specs.RowOf.{own_row};
-ghost use Rattle.slate_txn.specs.Reply.{RowsAre, Found};
-ghost use Rattle.slate_txn.specs.State.{Tx, opening};
+ghost use Rattle.slate_mem.specs.Batch.{kept};
+ghost use Rattle.slate_txn.specs.State.{opening};
 ghost use Rattle.slate_txn.specs.Step.{Reader, noted, reader, step};
-ghost use Rattle.slate_db.specs.Asked.{Asks, Finds, needs_tables, takes_flushed};
-ghost use Rattle.slate_db.specs.Checked.{OrSlips};
-ghost use Rattle.slate_db.specs.Meaning.{Meaning, combine_of, rules_in, rules_of};
+ghost use Rattle.slate_db.specs.Meaning.{Meaning};
 ghost use Rattle.slate_db.specs.Shown.{Asking};
-ghost use Rattle.slate_db.specs.Readable.{IsAnswered, IsOwnRow, IsOwnRead, IsRead, IsReadable, MeetsOperand, decides_own, keeps_merge, reader_at};
-ghost use Rattle.slate_db.specs.Model.{Rows, at, memory};
-ghost use Rattle.slate_db.specs.Sound.{IsKept};
+ghost use Rattle.slate_db.specs.Readable.{IsOwnRow};
+ghost use Rattle.slate_db.specs.Model.{at, memory};
 ghost use Rattle.slate_db.specs.ScanFilters.{scan_query};
-ghost use Rattle.slate_db.specs.Scans.{AnswersAgain, HasLeft, IsFor, IsHandedByScan, IsOpenScan, IsOpeningError, IsRefusedByScan, IsRefusedScan, IsScanOf, IsUnrefused, IsWorldOf, Keeps, Leaves, LeavesIn, ScanHands, ScanRefuses, id_of, number_of, scan_of, IsScanWithin, OpensWithin};
+ghost use Rattle.slate_db.specs.Scans.{HasLeft, IsOpenScan, Leaves, id_of, number_of, scan_of};
 ghost use Rattle.slate_read.specs.SstOptions.{CanFetch};
-ghost use Rattle.slate_db.specs.Opened.{StayOpen};
 ghost use Rattle.slate_db.specs.Vouched.{IsVouchedFor};
+ghost use Rattle.slate_db.specs.Calls.Common.{Notes};
+ghost use Rattle.slate_db.specs.Calls.Get.{GetsKey, SeesKey};
+ghost use Rattle.slate_db.specs.Calls.Scan.{OpensScan};
+ghost use Rattle.slate_db.specs.Calls.Step.{LeavesList};
+ghost use Rattle.slate_db.specs.KeyShares.{IsSeen};
+ghost use Rattle.slate_db.specs.RangeShares.{IsOpened};
+ghost use Rattle.slate_db.specs.TxnScans.{IsNext, IsSeek};
 
 use crate::engine::Core;
 use crate::key_share::seen_behind;
@@ -79,23 +70,9 @@ impl Core {
         requires own { AllByRecursion (IsOwnRow self.now) own.items }
         requires keys { AllByRecursion (λ r. r.key ≡ key.now) own.items }
         requires short { AreShort own.items }
-        ensures read { let reach = ⟦<EnvOf<S, M, T> as Outside>⟧.reach in
-            let m = (reach env.old).meaning in
+        ensures { let reach = ⟦<EnvOf<S, M, T> as Outside>⟧.reach in
             let by : Asking = record { policies = map (λ p. meaning p) policies.now; query = query.now } in
-            IsRead by at (reach env.old) (reach env.new) self.now (λ row. self.now.floor ≤ at → row ≡ fold_rows (combine_of m key.now) (key_rows (rules_of self.now.settings m) key.now (up_to at self.now.state.commits) ++ reverse own.items)) result }
-        ensures asks { let reach = ⟦<EnvOf<S, M, T> as Outside>⟧.reach in
-            let by : Asking = record { policies = map (λ p. meaning p) policies.now; query = query.now } in
-            Asks by (reach env.old) (reach env.new) self.now }
-        ensures finds { let reach = ⟦<EnvOf<S, M, T> as Outside>⟧.reach in
-            let by : Asking = record { policies = map (λ p. meaning p) policies.now; query = query.now } in
-            let needs = takes_flushed self.now.state (key_rows (rules_of self.now.settings (reach env.old).meaning) key.now (up_to at self.now.state.commits) ++ reverse own.items) in
-            self.now.floor ≤ at → Finds by key.now needs (reach env.old) (reach env.new) self.now result }
-        ensures missing { let reach = ⟦<EnvOf<S, M, T> as Outside>⟧.reach in
-            let m = (reach env.old).meaning in
-            m.combine ≡ None → own.items ≢ [] → IfOk result (λ row. ⊥) }
-        ensures merged { let reach = ⟦<EnvOf<S, M, T> as Outside>⟧.reach in
-            let m = (reach env.old).meaning in
-            m.combine ≡ None → is_merge_among (newest key.now at (newest_first (memory self.now))) ≡ true → IfOk result (λ row. ⊥) }
+            IsSeen by (reach env.old) (reach env.new) self.now key.now at own.items result }
     {
         let near = newest_behind(
             self.alloc,
@@ -130,31 +107,10 @@ impl Core {
     ) -> Result<Option<RowEntry>, SlateDBError>
         requires open { IsSome (reader self.now.state id.now) }
         requires query { query.now.target ≡ PrefixTarget.Point key.now }
-        ensures read { let reach = ⟦<EnvOf<S, M, T> as Outside>⟧.reach in
-            let m = (reach env.old).meaning in
+        ensures { let reach = ⟦<EnvOf<S, M, T> as Outside>⟧.reach in
             let by : Asking = record { policies = map (λ p. meaning p) policies.now; query = query.now } in
-            (from : Reader) → reader self.now.state id.now ≡ Some from → IsRead by at (reach env.old) (reach env.new) self.now (λ row. self.now.floor ≤ at → row ≡ fold_rows (combine_of m key.now) (key_rows (rules_of self.now.settings m) key.now (up_to at self.now.state.commits) ++ map (own_row key.now) (kept from.ops key.now))) result }
-        ensures asks { let reach = ⟦<EnvOf<S, M, T> as Outside>⟧.reach in
-            let by : Asking = record { policies = map (λ p. meaning p) policies.now; query = query.now } in
-            Asks by (reach env.old) (reach env.new) self.now }
-        ensures finds { let reach = ⟦<EnvOf<S, M, T> as Outside>⟧.reach in
-            let by : Asking = record { policies = map (λ p. meaning p) policies.now; query = query.now } in
-            (from : Reader) → reader self.now.state id.now ≡ Some from → self.now.floor ≤ at → Finds by key.now (needs_tables (rules_of self.now.settings (reach env.old).meaning) self.now.state at from.ops key.now) (reach env.old) (reach env.new) self.now result }
-        ensures own { let reach = ⟦<EnvOf<S, M, T> as Outside>⟧.reach in
-            (t : Tx) (op : WriteOp) → find_named id.now self.now.state.txns ≡ Some t → kept t.ops key.now ≡ op ∷ [] → replaces op ≡ true → IsOwnRead (reach env.old) (reach env.new) (λ row. row ≡ Some (own_row key.now op)) result }
-        ensures decided { let reach = ⟦<EnvOf<S, M, T> as Outside>⟧.reach in
-            (t : Tx) → find_named id.now self.now.state.txns ≡ Some t → decides_own key.now t.ops ≡ true →
-            IsCall (reach env.old) (reach env.new) [] × (env.new ≡ record env.old { operator = env.new.operator }) }
-        ensures folded { let reach = ⟦<EnvOf<S, M, T> as Outside>⟧.reach in
-            let c = combine_of (reach env.old).meaning key.now in
-            (t : Tx) → find_named id.now self.now.state.txns ≡ Some t → decides_own key.now t.ops ≡ true → IsLawful c → KeepsShort c →
-            IfOk result (λ row. row ≡ fold_rows c (map (own_row key.now) (kept t.ops key.now))) }
-        ensures missing { let reach = ⟦<EnvOf<S, M, T> as Outside>⟧.reach in
-            let m = (reach env.old).meaning in
-            (t : Tx) → find_named id.now self.now.state.txns ≡ Some t → m.combine ≡ None → keeps_merge key.now t.ops ≡ true → IfOk result (λ row. ⊥) }
-        ensures operand { let reach = ⟦<EnvOf<S, M, T> as Outside>⟧.reach in
-            let m = (reach env.old).meaning in
-            (from : Reader) → reader self.now.state id.now ≡ Some from → m.combine ≡ None → MeetsOperand key.now at from.ops self.now → IfOk result (λ row. ⊥) }
+            let alone = env.new ≡ record env.old { operator = env.new.operator } in
+            SeesKey by id.now key.now at (reach env.old) (reach env.new) alone self.now result }
     {
         let own = self.transactions.own_rows(self.alloc, id, key)?;
         if is_decided(&own) {
@@ -174,32 +130,11 @@ impl Core {
         env: &mut Env<'_, S, M, T>,
     ) -> Result<Option<RowEntry>, SlateDBError>
         requires { IsSome (reader self.now.state id.now) }
-        ensures read { let reach = ⟦<EnvOf<S, M, T> as Outside>⟧.reach in
-            let m = (reach env.old).meaning in
+        ensures { let reach = ⟦<EnvOf<S, M, T> as Outside>⟧.reach in
             let policies = map (λ p. meaning p) laws.now.policies.items in
             let by : Asking = record { policies = policies; query = point_query key.now context.now } in
-            (from : Reader) → reader self.now.state id.now ≡ Some from → IsRead by at (reach env.old) (reach env.new) self.now (λ row. self.now.floor ≤ at → row ≡ fold_rows (combine_of m key.now) (key_rows (rules_of self.now.settings m) key.now (up_to at self.now.state.commits) ++ map (own_row key.now) (kept from.ops key.now))) result }
-        ensures asks { let reach = ⟦<EnvOf<S, M, T> as Outside>⟧.reach in
-            let by : Asking = record { policies = map (λ p. meaning p) laws.now.policies.items; query = point_query key.now context.now } in
-            Asks by (reach env.old) (reach env.new) self.now }
-        ensures finds { let reach = ⟦<EnvOf<S, M, T> as Outside>⟧.reach in
-            let by : Asking = record { policies = map (λ p. meaning p) laws.now.policies.items; query = point_query key.now context.now } in
-            (from : Reader) → reader self.now.state id.now ≡ Some from → self.now.floor ≤ at → Finds by key.now (needs_tables (rules_of self.now.settings (reach env.old).meaning) self.now.state at from.ops key.now) (reach env.old) (reach env.new) self.now result }
-        ensures own { let reach = ⟦<EnvOf<S, M, T> as Outside>⟧.reach in
-            (t : Tx) (op : WriteOp) → find_named id.now self.now.state.txns ≡ Some t → kept t.ops key.now ≡ op ∷ [] → replaces op ≡ true → IsOwnRead (reach env.old) (reach env.new) (λ row. row ≡ Some (own_row key.now op)) result }
-        ensures decided { let reach = ⟦<EnvOf<S, M, T> as Outside>⟧.reach in
-            (t : Tx) → find_named id.now self.now.state.txns ≡ Some t → decides_own key.now t.ops ≡ true →
-            IsCall (reach env.old) (reach env.new) [] × (env.new ≡ record env.old { operator = env.new.operator }) }
-        ensures folded { let reach = ⟦<EnvOf<S, M, T> as Outside>⟧.reach in
-            let c = combine_of (reach env.old).meaning key.now in
-            (t : Tx) → find_named id.now self.now.state.txns ≡ Some t → decides_own key.now t.ops ≡ true → IsLawful c → KeepsShort c →
-            IfOk result (λ row. row ≡ fold_rows c (map (own_row key.now) (kept t.ops key.now))) }
-        ensures missing { let reach = ⟦<EnvOf<S, M, T> as Outside>⟧.reach in
-            let m = (reach env.old).meaning in
-            (t : Tx) → find_named id.now self.now.state.txns ≡ Some t → m.combine ≡ None → keeps_merge key.now t.ops ≡ true → IfOk result (λ row. ⊥) }
-        ensures operand { let reach = ⟦<EnvOf<S, M, T> as Outside>⟧.reach in
-            let m = (reach env.old).meaning in
-            (from : Reader) → reader self.now.state id.now ≡ Some from → m.combine ≡ None → MeetsOperand key.now at from.ops self.now → IfOk result (λ row. ⊥) }
+            let alone = env.new ≡ record env.old { operator = env.new.operator } in
+            SeesKey by id.now key.now at (reach env.old) (reach env.new) alone self.now result }
     {
         let query = query_of(key, context)?;
         self.seen_by(id, key, at, laws.policies.as_slice(), &query, env)
@@ -229,40 +164,13 @@ impl Core {
         laws: &Laws<X>,
     ) -> Result<Option<KeyValue>, SlateDBError>
         requires { IsSome (reader self.old.state id.now) }
-        ensures noted { IfOk result (λ a. self.new ≡ record self.old { state = noted self.old.state id.now (steps.Get key.now a ∷ []) }) }
-        ensures read { let reach = ⟦<EnvOf<S, M, T> as Outside>⟧.reach in
+        ensures gets { let reach = ⟦<EnvOf<S, M, T> as Outside>⟧.reach in
             let policies = map (λ p. meaning p) laws.now.policies.items in
-            let by : Asking = record { policies = policies; query = point_query key.now options.now.filter_context } in
-            IsRead by (reader_at self.old.state id.now) (reach env.old) (reach env.new) self.old (λ a. (g : Segments) → step (rules_in self.old.settings (reach env.old).meaning g) self.old.state (lines.Get id.now key.now) ≡ (self.new.state, Found a)) result }
-        ensures asks { let reach = ⟦<EnvOf<S, M, T> as Outside>⟧.reach in
-            let by : Asking = record { policies = map (λ p. meaning p) laws.now.policies.items; query = point_query key.now options.now.filter_context } in
-            Asks by (reach env.old) (reach env.new) self.old }
-        ensures finds { let reach = ⟦<EnvOf<S, M, T> as Outside>⟧.reach in
-            let by : Asking = record { policies = map (λ p. meaning p) laws.now.policies.items; query = point_query key.now options.now.filter_context } in
-            (from : Reader) → reader self.old.state id.now ≡ Some from → Finds by key.now (needs_tables (rules_of self.old.settings (reach env.old).meaning) self.old.state from.at from.ops key.now) (reach env.old) (reach env.new) self.old result }
-        ensures own { let reach = ⟦<EnvOf<S, M, T> as Outside>⟧.reach in
-            (t : Tx) (op : WriteOp) → find_named id.now self.old.state.txns ≡ Some t → kept t.ops key.now ≡ op ∷ [] → replaces op ≡ true →
-            IsOwnRead (reach env.old) (reach env.new) (λ a. (c : Combine) → a ≡ option_map key_value (shown c (own_row key.now op ∷ []))) result }
-        ensures decided { let reach = ⟦<EnvOf<S, M, T> as Outside>⟧.reach in
-            (t : Tx) → find_named id.now self.old.state.txns ≡ Some t → decides_own key.now t.ops ≡ true →
-            IsCall (reach env.old) (reach env.new) [] × (env.new ≡ record env.old { operator = env.new.operator }) }
-        ensures folded { let reach = ⟦<EnvOf<S, M, T> as Outside>⟧.reach in
-            let c = combine_of (reach env.old).meaning key.now in
-            (t : Tx) → find_named id.now self.old.state.txns ≡ Some t → decides_own key.now t.ops ≡ true → IsLawful c → KeepsShort c →
-            IfOk result (λ a. a ≡ option_map key_value (shown c (map (own_row key.now) (kept t.ops key.now)))) }
-        ensures missing { let reach = ⟦<EnvOf<S, M, T> as Outside>⟧.reach in
-            let m = (reach env.old).meaning in
-            (t : Tx) → find_named id.now self.old.state.txns ≡ Some t → m.combine ≡ None → keeps_merge key.now t.ops ≡ true → IfOk result (λ a. ⊥) }
-        ensures vouched { let reach = ⟦<EnvOf<S, M, T> as Outside>⟧.reach in
-            let m = (reach env.old).meaning in
-            IsAnswered (map (λ p. meaning p) laws.now.policies.items) (reach env.old) (reach env.new) self.old → (other : List ℕ) → IsVouchedFor m self.old other → IsVouchedFor m self.new other }
-        ensures same { OnErr result (self.new ≡ self.old) }
-        ensures kept { (m : Meaning) → IsKept m self.old → IsKept m self.new }
-        ensures settings { self.new.settings ≡ self.old.settings }
-        ensures stay { StayOpen self.old self.new }
-        ensures operand { let reach = ⟦<EnvOf<S, M, T> as Outside>⟧.reach in
-            let m = (reach env.old).meaning in
-            (from : Reader) → reader self.old.state id.now ≡ Some from → m.combine ≡ None → MeetsOperand key.now from.at from.ops self.old → IfOk result (λ a. ⊥) }
+            let query = point_query key.now options.now.filter_context in
+            let by : Asking = record { policies = policies; query = query } in
+            let alone = env.new ≡ record env.old { operator = env.new.operator } in
+            GetsKey by id.now key.now (reach env.old) (reach env.new) alone self.old self.new result }
+        ensures notes { Notes id.now (steps.Get key.now) self.old self.new result }
     {
         let Some(at) = self.start_of(id) else {
             unreachable!()
@@ -298,27 +206,13 @@ impl Core {
         requires prefix { (p k : List ℕ) → how.prefix ≡ Some p → in_range range k ≡ true → starts_with nat_eq k p ≡ true }
         requires fetches { CanFetch how }
         ensures opened { let reach = ⟦<EnvOf<S, M, T> as Outside>⟧.reach in
-            let m = (reach env.old).meaning in
-            (from : Reader) → reader self.now.state id.now ≡ Some from → self.now.floor ≤ begin → (a : IsAnswered (map (λ p. meaning p) policies.now) (reach env.old) (reach env.new) self.now) →
-            IfOk result (λ it. (w : World) × IsWorldOf a.os m w × Leaves it w (rows_seen (rules_of self.now.settings m) self.now.state.commits begin from.ops how.order range)) }
-        ensures checked { let reach = ⟦<EnvOf<S, M, T> as Outside>⟧.reach in
-            let m = (reach env.old).meaning in
-            (from : Reader) → reader self.now.state id.now ≡ Some from → self.now.floor ≤ begin → (os : Objects) → IsReadable (map (λ p. meaning p) policies.now) m os self.now →
-            IfOk result (λ it. OrSlips os (reach env.old) (reach env.new) ((w : World) × IsWorldOf os m w × Leaves it w (rows_seen (rules_of self.now.settings m) self.now.state.commits begin from.ops how.order range))) }
-        ensures later { let reach = ⟦<EnvOf<S, M, T> as Outside>⟧.reach in
-            let m = (reach env.old).meaning in
-            IfOk result (λ it. IsFor m it × Made (reach env.old) (reach env.new) (λ reads. (later : List Act) (at : Option (List ℕ)) (e : SlateDBError) → ScanRefuses it m later at e → IsRefusedByScan (map (λ p. meaning p) policies.now) (scan_query range how.prefix how.filter_context) m self.now reads (reads ++ later) at e)) }
-        ensures hands { let reach = ⟦<EnvOf<S, M, T> as Outside>⟧.reach in
-            let m = (reach env.old).meaning in
-            IfOk result (λ it. Made (reach env.old) (reach env.new) (λ reads. (later : List Act) (a : KeyValue) → ScanHands it m later a → IsHandedByScan (map (λ p. meaning p) policies.now) (scan_query range how.prefix how.filter_context) m self.now reads (reads ++ later) a)) }
-        ensures undamaged { let reach = ⟦<EnvOf<S, M, T> as Outside>⟧.reach in self.now.floor ≤ begin → IsAnswered (map (λ p. meaning p) policies.now) (reach env.old) (reach env.new) self.now → IfErr result (IsFault (reach env.old) (reach env.new)) }
-        ensures cause { let reach = ⟦<EnvOf<S, M, T> as Outside>⟧.reach in IfErr result (IsOpeningError (map (λ p. meaning p) policies.now) (scan_query range how.prefix how.filter_context) (reach env.old) (reach env.new) self.now) }
+            let query = scan_query range how.prefix how.filter_context in
+            (from : Reader) → reader self.now.state id.now ≡ Some from →
+            IsOpened (map (λ p. meaning p) policies.now) query (reach env.old) (reach env.new)
+            self.now begin from.ops range how.order result }
         ensures range { IfOk result (λ it. it.range ≡ range) }
         ensures order { IfOk result (λ it. it.order ≡ how.order) }
-        ensures within { let reach = ⟦<EnvOf<S, M, T> as Outside>⟧.reach in Made (reach env.old) (reach env.new) (λ reads. OpensWithin (map (λ p. meaning p) policies.now) (scan_query range how.prefix how.filter_context) (reach env.old).meaning self.now reads (λ left. IfOk result (λ it. IsScanWithin it (map path_in left)))) }
         ensures reads { let reach = ⟦<EnvOf<S, M, T> as Outside>⟧.reach in OnlyReads (reach env.old) (reach env.new) }
-        ensures still { let reach = ⟦<EnvOf<S, M, T> as Outside>⟧.reach in
-            IsStill (reach env.old).faults (reach env.new).faults result }
     {
         let alloc = self.alloc;
         let own = self.transactions.own_range(alloc, id, &range, how.order)?;
@@ -367,40 +261,13 @@ impl Core {
         requires open { IsSome (reader self.old.state id.now) }
         requires prefix { (p k : List ℕ) → prefix ≡ Some p → in_range range k ≡ true → starts_with nat_eq k p ≡ true }
         requires valid { IsValid laws.now.options }
-        ensures noted { OnOk result (self.new ≡ record self.old { state = noted self.old.state id.now (steps.Scan options.now.order range ∷ []) }) }
-        ensures step { OnOk result ((m : Meaning) (g : Segments) → step (rules_in self.old.settings m g) self.old.state (lines.Scan id.now options.now.order range.start range.end (ScanStep.Rows 0 ∷ [])) ≡ (self.new.state, RowsAre [])) }
-        ensures names { (from : Reader) → reader self.old.state id.now ≡ Some from → IfOk result (IsScanOf id.now from.scans options.now.order range) }
-        ensures opened { let reach = ⟦<EnvOf<S, M, T> as Outside>⟧.reach in
-            let m = (reach env.old).meaning in
-            (from : Reader) → reader self.old.state id.now ≡ Some from → (a : IsAnswered (map (λ p. meaning p) laws.now.policies.items) (reach env.old) (reach env.new) self.old) →
-            IfOk result (λ it. LeavesIn a.os m it (rows_seen (rules_of self.old.settings m) self.old.state.commits from.at from.ops options.now.order range)) }
-        ensures checked { let reach = ⟦<EnvOf<S, M, T> as Outside>⟧.reach in
-            let m = (reach env.old).meaning in
-            (from : Reader) → reader self.old.state id.now ≡ Some from → (os : Objects) → IsReadable (map (λ p. meaning p) laws.now.policies.items) m os self.old →
-            IfOk result (λ it. OrSlips os (reach env.old) (reach env.new) (LeavesIn os m it (rows_seen (rules_of self.old.settings m) self.old.state.commits from.at from.ops options.now.order range))) }
-        ensures left { let reach = ⟦<EnvOf<S, M, T> as Outside>⟧.reach in
-            let m = (reach env.old).meaning in
-            (from : Reader) → reader self.old.state id.now ≡ Some from → IfOk result (λ it. HasLeft m self.new it (rows_seen (rules_of self.old.settings m) self.old.state.commits from.at from.ops options.now.order range)) }
-        ensures later { let reach = ⟦<EnvOf<S, M, T> as Outside>⟧.reach in
-            let m = (reach env.old).meaning in
-            IfOk result (λ it. IsFor m (scan_of it) × Made (reach env.old) (reach env.new) (λ reads. (later : List Act) (at : Option (List ℕ)) (e : SlateDBError) → ScanRefuses (scan_of it) m later at e → IsRefusedByScan (map (λ p. meaning p) laws.now.policies.items) (scan_query range prefix options.now.filter_context) m self.old reads (reads ++ later) at e)) }
-        ensures hands { let reach = ⟦<EnvOf<S, M, T> as Outside>⟧.reach in
-            let m = (reach env.old).meaning in
-            IfOk result (λ it. Made (reach env.old) (reach env.new) (λ reads. (later : List Act) (a : KeyValue) → ScanHands (scan_of it) m later a → IsHandedByScan (map (λ p. meaning p) laws.now.policies.items) (scan_query range prefix options.now.filter_context) m self.old reads (reads ++ later) a)) }
-        ensures invalid { is_refused range.start range.end ≡ true → (result ≡ Err SlateDBError.InvalidRange) × (self.new ≡ self.old) × (env.new ≡ env.old) }
-        ensures undamaged { let reach = ⟦<EnvOf<S, M, T> as Outside>⟧.reach in is_refused range.start range.end ≡ false → IsAnswered (map (λ p. meaning p) laws.now.policies.items) (reach env.old) (reach env.new) self.old → IfErr result (IsFault (reach env.old) (reach env.new)) }
-        ensures cause { let reach = ⟦<EnvOf<S, M, T> as Outside>⟧.reach in
-            is_refused range.start range.end ≡ false → IfErr result (IsOpeningError (map (λ p. meaning p) laws.now.policies.items) (scan_query range prefix options.now.filter_context) (reach env.old) (reach env.new) self.old) }
-        ensures vouched { OnOk result ((m : Meaning) (other : List ℕ) → IsVouchedFor m self.old other → IsVouchedFor m self.new other) }
-        ensures same { OnErr result (self.new ≡ self.old) }
-        ensures kept { (m : Meaning) → IsKept m self.old → IsKept m self.new }
-        ensures settings { self.new.settings ≡ self.old.settings }
-        ensures within { let reach = ⟦<EnvOf<S, M, T> as Outside>⟧.reach in Made (reach env.old) (reach env.new) (λ reads. OpensWithin (map (λ p. meaning p) laws.now.policies.items) (scan_query range prefix options.now.filter_context) (reach env.old).meaning self.old reads (λ left. IfOk result (λ it. IsScanWithin (scan_of it) (map path_in left)))) }
-        ensures reads { let reach = ⟦<EnvOf<S, M, T> as Outside>⟧.reach in OnlyReads (reach env.old) (reach env.new) }
-        ensures still { let reach = ⟦<EnvOf<S, M, T> as Outside>⟧.reach in
-            IsStill (reach env.old).faults (reach env.new).faults result }
-        ensures stay { StayOpen self.old self.new }
-        ensures opens { IfOk result (IsOpenScan self.new) }
+        ensures opens { let reach = ⟦<EnvOf<S, M, T> as Outside>⟧.reach in
+            let policies = map (λ p. meaning p) laws.now.policies.items in
+            let query = scan_query range prefix options.now.filter_context in
+            OpensScan policies query id.now options.now.order range (reach env.old) (reach env.new)
+            (env.new ≡ env.old) self.old self.new result }
+        ensures notes { Notes id.now (λ it. steps.Scan options.now.order range) self.old self.new
+            result }
     {
         let Some(begin) = self.start_of(id) else {
             unreachable!()
@@ -430,31 +297,16 @@ impl Core {
         env: &mut Env<'_, S, M, T>,
     ) -> Result<Option<KeyValue>, SlateDBError>
         requires { IsOpenScan self.old it.old }
-        ensures noted { IfOk result (λ a. self.new ≡ record self.old { state = noted self.old.state (id_of it.old) (steps.Next (number_of it.old) a ∷ []) }) }
-        ensures rows { let reach = ⟦<EnvOf<S, M, T> as Outside>⟧.reach in (w : World) (rows : List RowEntry) → Leaves (scan_of it.old) w rows → Sees w (reach env.old) (reach env.new) →
-            IfOk result (λ a. (a ≡ first_left rows) × Leaves (scan_of it.new) w (drop 1 rows)) }
-        ensures undamaged { let reach = ⟦<EnvOf<S, M, T> as Outside>⟧.reach in (w : World) (rows : List RowEntry) → Leaves (scan_of it.old) w rows → Sees w (reach env.old) (reach env.new) → IfErr result (IsFault (reach env.old) (reach env.new)) }
-        ensures checked { let reach = ⟦<EnvOf<S, M, T> as Outside>⟧.reach in (w : World) (rows : List RowEntry) → Leaves (scan_of it.old) w rows → OnOk result (Checks w (reach env.old) (reach env.new)) }
-        ensures later { let reach = ⟦<EnvOf<S, M, T> as Outside>⟧.reach in OnOk result (Made (reach env.old) (reach env.new) (λ reads. NoMore (ScanRefuses (scan_of it.old) (reach env.old).meaning) reads (ScanRefuses (scan_of it.new) (reach env.old).meaning))) }
-        ensures cause { let reach = ⟦<EnvOf<S, M, T> as Outside>⟧.reach in IfErr result (λ e. Made (reach env.old) (reach env.new) (λ reads. IsFault (reach env.old) (reach env.new) e ⊎ ScanRefuses (scan_of it.old) (reach env.old).meaning reads None e)) }
-        ensures bases { let reach = ⟦<EnvOf<S, M, T> as Outside>⟧.reach in (reach env.old).meaning.combine ≡ None → IfOk result (λ a. Made (reach env.old) (reach env.new) (λ reads. IfSome a (ScanHands (scan_of it.old) (reach env.old).meaning reads))) }
-        ensures hands { let reach = ⟦<EnvOf<S, M, T> as Outside>⟧.reach in OnOk result (Made (reach env.old) (reach env.new) (λ reads. NoMoreRows (ScanHands (scan_of it.old) (reach env.old).meaning) reads (ScanHands (scan_of it.new) (reach env.old).meaning))) }
-        ensures again { IsUnrefused (scan_of it.old) → IfErr result (λ e. Keeps e (scan_of it.new)) }
-        ensures refused { (kept : SlateDBError) → IsRefusedScan kept (scan_of it.old) → AnswersAgain kept result × (it.new ≡ it.old) × (env.new ≡ env.old) }
-        ensures names { IsScanOf (id_of it.old) (number_of it.old) (scan_of it.old).order (scan_of it.old).range it.new }
-        ensures left { (m : Meaning) (rows : List RowEntry) → HasLeft m self.old it.old rows → OnOk result (HasLeft m self.new it.new (drop 1 rows)) }
+        ensures step { let reach = ⟦<EnvOf<S, M, T> as Outside>⟧.reach in
+            IsNext (reach env.old) (reach env.new) (env.new ≡ env.old) it.old it.new result }
+        ensures notes { Notes (id_of it.old) (steps.Next (number_of it.old)) self.old self.new
+            result }
+        ensures left { LeavesList (drop 1) self.old self.new it.old it.new result }
         ensures vouched { let reach = ⟦<EnvOf<S, M, T> as Outside>⟧.reach in
             let m = (reach env.old).meaning in
-            (w : World) (rows : List RowEntry) → Leaves (scan_of it.old) w rows → Sees w (reach env.old) (reach env.new) → HasLeft m self.old it.old rows →
+            (w : World) (rows : List RowEntry) → Leaves (scan_of it.old) w rows →
+            Sees w (reach env.old) (reach env.new) → HasLeft m self.old it.old rows →
             OnOk result ((other : List ℕ) → IsVouchedFor m self.old other → IsVouchedFor m self.new other) }
-        ensures same { OnErr result (self.new ≡ self.old) }
-        ensures kept { (m : Meaning) → IsKept m self.old → IsKept m self.new }
-        ensures settings { self.new.settings ≡ self.old.settings }
-        ensures within { let reach = ⟦<EnvOf<S, M, T> as Outside>⟧.reach in (paths : List (List ℕ)) → IsScanWithin (scan_of it.old) paths → ReadsAt paths (reach env.old) (reach env.new) × IsScanWithin (scan_of it.new) paths }
-        ensures reads { let reach = ⟦<EnvOf<S, M, T> as Outside>⟧.reach in OnlyReads (reach env.old) (reach env.new) }
-        ensures still { let reach = ⟦<EnvOf<S, M, T> as Outside>⟧.reach in
-            IsStill (reach env.old).faults (reach env.new).faults result }
-        ensures stay { StayOpen self.old self.new }
         ensures opened { IsOpenScan self.new it.new }
     {
         let answer = match it.rows.next(env) {
@@ -480,27 +332,14 @@ impl Core {
         env: &mut Env<'_, S, M, T>,
     ) -> Result<(), SlateDBError>
         requires { IsOpenScan self.old it.old }
-        ensures noted { OnOk result (self.new ≡ record self.old { state = noted self.old.state (id_of it.old) (steps.Seek (number_of it.old) key.now ∷ []) }) }
-        ensures rows { let reach = ⟦<EnvOf<S, M, T> as Outside>⟧.reach in (w : World) (rows : List RowEntry) → Leaves (scan_of it.old) w rows → Sees w (reach env.old) (reach env.new) →
-            OnOk result (Leaves (scan_of it.new) w (drop_before (scan_of it.old).order key.now rows)) }
-        ensures undamaged { let reach = ⟦<EnvOf<S, M, T> as Outside>⟧.reach in (w : World) (rows : List RowEntry) → Leaves (scan_of it.old) w rows → Sees w (reach env.old) (reach env.new) → IfErr result (IsFault (reach env.old) (reach env.new)) }
-        ensures checked { let reach = ⟦<EnvOf<S, M, T> as Outside>⟧.reach in (w : World) (rows : List RowEntry) → Leaves (scan_of it.old) w rows → OnOk result (Checks w (reach env.old) (reach env.new)) }
-        ensures later { let reach = ⟦<EnvOf<S, M, T> as Outside>⟧.reach in OnOk result (Made (reach env.old) (reach env.new) (λ reads. NoMore (ScanRefuses (scan_of it.old) (reach env.old).meaning) reads (ScanRefuses (scan_of it.new) (reach env.old).meaning))) }
-        ensures cause { let reach = ⟦<EnvOf<S, M, T> as Outside>⟧.reach in IfErr result (λ e. Made (reach env.old) (reach env.new) (λ reads. IsFault (reach env.old) (reach env.new) e ⊎ ScanRefuses (scan_of it.old) (reach env.old).meaning reads (Some key.now) e)) }
-        ensures hands { let reach = ⟦<EnvOf<S, M, T> as Outside>⟧.reach in OnOk result (Made (reach env.old) (reach env.new) (λ reads. NoMoreRows (ScanHands (scan_of it.old) (reach env.old).meaning) reads (ScanHands (scan_of it.new) (reach env.old).meaning))) }
-        ensures again { IsUnrefused (scan_of it.old) → IfErr result (λ e. Keeps e (scan_of it.new)) }
-        ensures refused { (kept : SlateDBError) → IsRefusedScan kept (scan_of it.old) → AnswersAgain kept result × (it.new ≡ it.old) × (env.new ≡ env.old) }
-        ensures names { IsScanOf (id_of it.old) (number_of it.old) (scan_of it.old).order (scan_of it.old).range it.new }
-        ensures left { (m : Meaning) (rows : List RowEntry) → HasLeft m self.old it.old rows → OnOk result (HasLeft m self.new it.new (drop_before (scan_of it.old).order key.now rows)) }
-        ensures vouched { OnOk result ((m : Meaning) (other : List ℕ) → IsVouchedFor m self.old other → IsVouchedFor m self.new other) }
-        ensures same { OnErr result (self.new ≡ self.old) }
-        ensures kept { (m : Meaning) → IsKept m self.old → IsKept m self.new }
-        ensures settings { self.new.settings ≡ self.old.settings }
-        ensures within { let reach = ⟦<EnvOf<S, M, T> as Outside>⟧.reach in (paths : List (List ℕ)) → IsScanWithin (scan_of it.old) paths → ReadsAt paths (reach env.old) (reach env.new) × IsScanWithin (scan_of it.new) paths }
-        ensures reads { let reach = ⟦<EnvOf<S, M, T> as Outside>⟧.reach in OnlyReads (reach env.old) (reach env.new) }
-        ensures still { let reach = ⟦<EnvOf<S, M, T> as Outside>⟧.reach in
-            IsStill (reach env.old).faults (reach env.new).faults result }
-        ensures stay { StayOpen self.old self.new }
+        ensures step { let reach = ⟦<EnvOf<S, M, T> as Outside>⟧.reach in
+            IsSeek key.now (reach env.old) (reach env.new) (env.new ≡ env.old) it.old it.new result }
+        ensures notes { Notes (id_of it.old) (λ _. steps.Seek (number_of it.old) key.now) self.old
+            self.new result }
+        ensures left { LeavesList (drop_before (scan_of it.old).order key.now) self.old self.new
+            it.old it.new result }
+        ensures vouched { OnOk result ((m : Meaning) (other : List ℕ) →
+            IsVouchedFor m self.old other → IsVouchedFor m self.new other) }
         ensures opened { IsOpenScan self.new it.new }
     {
         if let Err(error) = it.rows.seek(key, env) {

@@ -41,12 +41,12 @@ returns g c =
           (λ a put stand. run_is_put m layout c.args.number c.args.barrier _ c.in_ok-rows.rows.items parts prefixes a.0 a.1.items _ _ rows.some (rows.folded m operator) rows.order c.in_ok-parts.ensures.cut c.in_ok-parts.ensures.segments stand put)
           c.stored_runs.ensures.stored c.stored_runs.ensures.stand;
       acts = c.stored_runs.ensures.acts;
-      adds = c.stored_runs.ensures.adds;
-      refused = on_err_weaker c.stored_runs.result (some_of_flush m layout c.args.number c.args.barrier _ c.in_ok-rows.rows.items parts _ _ rows.some (rows.folded m operator) rows.order c.in_ok-parts.ensures.cut) c.stored_runs.ensures.refused;
-      cause = IfErr-weaker c.stored_runs.result _ _ (λ e h. run_cause before now after e later (λ large. (c.in_ok-rows.rows.items, rows.folded m operator, rows.order, has_too_large layout c.in_ok-rows.rows.items parts e c.in_ok-parts.ensures.cut large)) h) c.stored_runs.ensures.cause;
+      adds = c.stored_runs.ensures.leaves.adds;
+      refused = on_err_weaker c.stored_runs.result (some_of_flush m layout c.args.number c.args.barrier _ c.in_ok-rows.rows.items parts _ _ rows.some (rows.folded m operator) rows.order c.in_ok-parts.ensures.cut) c.stored_runs.ensures.leaves.refused;
+      cause = IfErr-weaker c.stored_runs.result _ _ (λ e h. run_cause before now after e later (λ large. (c.in_ok-rows.rows.items, rows.folded m operator, rows.order, has_too_large layout c.in_ok-rows.rows.items parts e c.in_ok-parts.ensures.cut large)) h) c.stored_runs.ensures.leaves.cause;
       wanted = λ none among. absurd (rows.wanted (sym operator ∙ none) among);
-      puts = puts_then before now after (puts_of before now same refl refl later refl) c.stored_runs.ensures.puts;
-      still = (let asked : now.faults.operator ≡ before.faults.operator = rows.still in still_then before.faults now.faults after.faults c.stored_runs.result (λ i. record before.faults { operator = asked i }) c.stored_runs.ensures.still);
+      puts = puts_then before now after (puts_of before now same refl refl later refl) c.stored_runs.ensures.leaves.puts;
+      still = (let asked : now.faults.operator ≡ before.faults.operator = rows.still in still_then before.faults now.faults after.faults c.stored_runs.result (λ i. record before.faults { operator = asked i }) c.stored_runs.ensures.leaves.still);
     }
 
 pub returns-in_err-rows : goal.returns-in_err-rows

@@ -43,8 +43,8 @@ returns-in-Ok-init g c =
       still = e.counts;
     }
 
-pub returns-clause-cause : goal.returns-clause-cause
-returns-clause-cause g c =
+pub returns : goal.returns
+returns g c =
     let a = reach_of g.S.Store g.M.MergeOperator g.T.BlockTransformer c.args.env.now in
     let b = reach_of g.S.Store g.M.MergeOperator g.T.BlockTransformer c.init.new.env in
     let sources = c.args.sources.items in
@@ -54,12 +54,18 @@ returns-clause-cause g c =
     let it = c.in-Ok.rows in
     let new = c.in-Ok.ensures.folding in
     let cause = c.in-Err.ensures.cause in
-    refusal_blamed source_refuses sources it.iterator.state (fresh_waits sources order merge made it new) a b c.in-Err.error c.refusal_of_opening.result c.refusal_of_opening.ensures.refusal cause.0 cause.1
-    (opening_own sources order merge made it new (λ u k reads answer x. merge_takes u k reads answer x) (λ u x k reads answer t. t.0.0) c.init.new.self a b cause.0 c.in-Err.error cause.2.1 cause.2.0)
-
-pub returns-clause-within : goal.returns-clause-within
-returns-clause-within g c = λ paths h.
-    ((c.in-Err.ensures.within paths (fresh_within c.args.sources.items c.args.order c.new_with_order-merge.result c.new_with_order-merge.ensures.merge c.in-Ok.rows c.in-Ok.ensures.folding paths h)).0, tt)
-
-pub returns-clause-still : goal.returns-clause-still
-returns-clause-still g c = opening_still _ _ c.in-Err.error c.refusal_of_opening.result c.refusal_of_opening.ensures.waits c.in-Err.ensures.counts
+    record {
+      going = tt;
+      sound = λ w can sees. tt;
+      rows = λ w can sees. tt;
+      operable = λ w can sees bases. tt;
+      checked = λ w can. tt;
+      later = tt;
+      brought = tt;
+      offered = tt;
+      cause = refusal_blamed source_refuses sources it.iterator.state (fresh_waits sources order merge made it new) a b c.in-Err.error c.refusal_of_opening.result c.refusal_of_opening.ensures.refusal cause.0 cause.1
+          (opening_own sources order merge made it new (λ u k reads answer x. merge_takes u k reads answer x) (λ u x k reads answer t. t.0.0) c.init.new.self a b cause.0 c.in-Err.error cause.2.1 cause.2.0);
+      within = λ paths h. ((c.in-Err.ensures.within paths (fresh_within sources order merge made it new paths h)).0, tt);
+      reads = c.in-Err.ensures.reads;
+      still = opening_still _ _ c.in-Err.error c.refusal_of_opening.result c.refusal_of_opening.ensures.waits c.in-Err.ensures.counts;
+    }

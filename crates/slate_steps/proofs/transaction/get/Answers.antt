@@ -11,28 +11,28 @@ get-requires-after_bounds g c κs lives = transaction_reads c.args.core.now c.ar
 
 pub returns-clause-within : goal.returns-clause-within
 returns-clause-within g c = λ d level ts h.
-    if_ok_map c.get.result _ _ (λ a is. within_noted d c.args.core.now c.get.new.self c.args.id.now level ts (steps.Get c.args.key.now a) refl is c.get.ensures.kept h) c.get.ensures.noted
+    if_ok_map c.get.result _ _ (λ a is. within_noted d c.args.core.now c.get.new.self c.args.id.now level ts (steps.Get c.args.key.now a) refl is c.get.ensures.notes.kept h) c.get.ensures.notes.noted
 
 pub returns-clause-sees : goal.returns-clause-sees
 returns-clause-sees g c = λ d level ts seg h settled sees.
     get_sees c.get.result _ seg _ _ d c.args.core.now c.get.new.self c.args.id.now c.args.key.now level ts
-    (if_ok_map c.get.result _ _ (λ a is. within_noted d c.args.core.now c.get.new.self c.args.id.now level ts (steps.Get c.args.key.now a) refl is c.get.ensures.kept h) c.get.ensures.noted)
-    c.get.ensures.vouched h settled sees
+    (if_ok_map c.get.result _ _ (λ a is. within_noted d c.args.core.now c.get.new.self c.args.id.now level ts (steps.Get c.args.key.now a) refl is c.get.ensures.notes.kept h) c.get.ensures.notes.noted)
+    c.get.ensures.gets.vouched h settled sees
 
 pub returns-clause-checked : goal.returns-clause-checked
 returns-clause-checked g c = λ d level ts seg h store sees.
     get_checked c.get.result _ seg _ _ d c.args.core.now c.get.new.self c.args.id.now c.args.key.now level ts
-    (if_ok_map c.get.result _ _ (λ a is. within_noted d c.args.core.now c.get.new.self c.args.id.now level ts (steps.Get c.args.key.now a) refl is c.get.ensures.kept h) c.get.ensures.noted)
-    c.get.ensures.vouched c.get.ensures.read.checked h store sees
+    (if_ok_map c.get.result _ _ (λ a is. within_noted d c.args.core.now c.get.new.self c.args.id.now level ts (steps.Get c.args.key.now a) refl is c.get.ensures.notes.kept h) c.get.ensures.notes.noted)
+    c.get.ensures.gets.vouched c.get.ensures.gets.read.checked h store sees
 
 pub returns-clause-undamaged : goal.returns-clause-undamaged
-returns-clause-undamaged g c = λ d level ts seg h settled. c.get.ensures.read.undamaged (answered_within _ seg _ _ d c.args.core.now c.args.id.now level ts h settled)
+returns-clause-undamaged g c = λ d level ts seg h settled. c.get.ensures.gets.read.undamaged (answered_within _ seg _ _ d c.args.core.now c.args.id.now level ts h settled)
 
 pub returns-clause-cause : goal.returns-clause-cause
-returns-clause-cause g c = get_error c.get.result _ c.args.id.now _ _ _ c.args.core.now c.get.ensures.read.cause
+returns-clause-cause g c = get_error c.get.result _ c.args.id.now _ _ _ c.args.core.now c.get.ensures.gets.read.cause
 
 pub returns-clause-open : goal.returns-clause-open
-returns-clause-open g c = (c.get.ensures.stay c.args.id.now).transaction c.requires
+returns-clause-open g c = (c.get.ensures.notes.stay c.args.id.now).transaction c.requires
 
 pub returns-clause-counts : goal.returns-clause-counts
-returns-clause-counts g c = c.get.ensures.read.still
+returns-clause-counts g c = c.get.ensures.gets.read.still

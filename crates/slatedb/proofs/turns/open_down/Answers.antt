@@ -14,32 +14,32 @@ scan-requires-clause-open g c κs lives = transaction_reads c.args.core.now c.ar
 
 pub take_turns-ended-requires-clause-both : goal.take_turns-ended-requires-clause-both
 take_turns-ended-requires-clause-both g c κs lives =
-    let left = opened_left _ c.args.core.now c.scan.new.self c.args.id.now _ _ c.in_ok-down.down c.open_scans.ensures.steps c.requires.begun c.in_ok-down.ensures.noted c.in_ok-down.ensures.names c.in_ok-down.ensures.left in
-    subst (λ (m : Meaning). AreBoth m c.scan.new.self c.args.up.now c.in_ok-down.down) (sym c.scan.ensures.reads.meaning)
-    (opened_both _ c.args.core.now c.scan.new.self c.args.id.now _ _ c.in_ok-down.down c.open_scans.ensures.steps c.requires.begun c.in_ok-down.ensures.noted c.in_ok-down.ensures.names
+    let left = opened_left _ c.args.core.now c.scan.new.self c.args.id.now _ _ c.in_ok-down.down c.open_scans.ensures.steps c.requires.begun c.in_ok-down.ensures.notes.noted c.in_ok-down.ensures.opens.names c.in_ok-down.ensures.opens.left in
+    subst (λ (m : Meaning). AreBoth m c.scan.new.self c.args.up.now c.in_ok-down.down) (sym c.scan.ensures.opens.reads.meaning)
+    (opened_both _ c.args.core.now c.scan.new.self c.args.id.now _ _ c.in_ok-down.down c.open_scans.ensures.steps c.requires.begun c.in_ok-down.ensures.notes.noted c.in_ok-down.ensures.opens.names
     c.args.up.now c.requires.left.0 c.open_scans.ensures.beside c.open_scans.ensures.is_open c.requires.named c.requires.left.1 left)
 
 pub returns-in_err-down : goal.returns-in_err-down
 returns-in_err-down g c = record {
-  alone = changes_none _ _ _ c.in_err-down.ensures.same;
-  stay = c.scan.ensures.stay;
-  meant = c.scan.ensures.reads.meaning;
+  alone = changes_none _ _ _ c.in_err-down.ensures.notes.same;
+  stay = c.scan.ensures.notes.stay;
+  meant = c.scan.ensures.opens.reads.meaning;
   vouched = λ stands x. IfOk-from_err c.from_residual.result _ c.from_residual.ensures.0;
 }
 
 pub returns : goal.returns
 returns g c =
     let policies = map (λ p. (goal.FilterPolicy-dyn g (p.vtable, p.value)).meaning p.value) c.args.laws.now.policies.items in
-    let left = opened_left _ c.args.core.now c.scan.new.self c.args.id.now _ _ c.in_ok-down.down c.open_scans.ensures.steps c.requires.begun c.in_ok-down.ensures.noted c.in_ok-down.ensures.names c.in_ok-down.ensures.left in
+    let left = opened_left _ c.args.core.now c.scan.new.self c.args.id.now _ _ c.in_ok-down.down c.open_scans.ensures.steps c.requires.begun c.in_ok-down.ensures.notes.noted c.in_ok-down.ensures.opens.names c.in_ok-down.ensures.opens.left in
     record {
-      alone = changes_then _ c.args.core.now c.scan.new.self c.take_turns-ended.new.core (changes_noted _ _ _ _ c.in_ok-down.ensures.noted) c.take_turns-ended.ensures.alone;
-      stay = stay_on c.args.core.now c.scan.new.self c.take_turns-ended.new.core c.scan.ensures.stay c.take_turns-ended.ensures.stay;
-      meant = c.take_turns-ended.ensures.meant ∙ c.scan.ensures.reads.meaning;
+      alone = changes_then _ c.args.core.now c.scan.new.self c.take_turns-ended.new.core (changes_noted _ _ _ _ c.in_ok-down.ensures.notes.noted) c.take_turns-ended.ensures.alone;
+      stay = stay_on c.args.core.now c.scan.new.self c.take_turns-ended.new.core c.scan.ensures.notes.stay c.take_turns-ended.ensures.stay;
+      meant = c.take_turns-ended.ensures.meant ∙ c.scan.ensures.opens.reads.meaning;
       vouched = λ stands x.
-          let next = scan_stands policies _ _ _ c.args.core.now c.scan.new.self c.args.id.now _ _ c.in_ok-down.ensures.noted c.in_ok-down.ensures.vouched c.scan.ensures.kept c.scan.ensures.reads stands in
-          let bare = opened_bare _ c.args.core.now c.scan.new.self c.args.id.now _ _ c.in_ok-down.down c.open_scans.ensures.steps c.requires.begun c.in_ok-down.ensures.noted c.in_ok-down.ensures.names policies _ _ refl c.in_ok-down.ensures.opened left stands in
+          let next = scan_stands policies _ _ _ c.args.core.now c.scan.new.self c.args.id.now _ _ c.in_ok-down.ensures.notes.noted c.in_ok-down.ensures.opens.vouched c.scan.ensures.notes.kept c.scan.ensures.opens.reads stands in
+          let bare = opened_bare _ c.args.core.now c.scan.new.self c.args.id.now _ _ c.in_ok-down.down c.open_scans.ensures.steps c.requires.begun c.in_ok-down.ensures.notes.noted c.in_ok-down.ensures.opens.names policies _ _ refl c.in_ok-down.ensures.opens.opened left stands in
           let other = bare_beside _ c.args.core.now c.scan.new.self c.args.up.now c.open_scans.ensures.beside
-          (opened_beside no_parts c.args.core.now c.scan.new.self c.args.id.now _ _ c.in_ok-down.down c.open_scans.ensures.steps c.requires.begun c.in_ok-down.ensures.noted c.in_ok-down.ensures.names c.args.up.now) x in
-          on_ok_weaker c.take_turns-ended.result (λ v. subst (λ (m : Meaning). IsVouchedCore m c.take_turns-ended.new.core) c.scan.ensures.reads.meaning v)
-          (c.take_turns-ended.ensures.vouched next (bare_meant _ _ _ _ (sym c.scan.ensures.reads.meaning) other) (bare_meant _ _ _ _ (sym c.scan.ensures.reads.meaning) bare));
+          (opened_beside no_parts c.args.core.now c.scan.new.self c.args.id.now _ _ c.in_ok-down.down c.open_scans.ensures.steps c.requires.begun c.in_ok-down.ensures.notes.noted c.in_ok-down.ensures.opens.names c.args.up.now) x in
+          on_ok_weaker c.take_turns-ended.result (λ v. subst (λ (m : Meaning). IsVouchedCore m c.take_turns-ended.new.core) c.scan.ensures.opens.reads.meaning v)
+          (c.take_turns-ended.ensures.vouched next (bare_meant _ _ _ _ (sym c.scan.ensures.opens.reads.meaning) other) (bare_meant _ _ _ _ (sym c.scan.ensures.opens.reads.meaning) bare));
     }

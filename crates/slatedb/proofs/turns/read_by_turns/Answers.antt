@@ -1,6 +1,7 @@
 use Rattle.std.proofs.Common.{map}
 use Rattle.std.proofs.lemmas.Result.{IfOk-from_err}
 use Rattle.slate_types.specs.declared.config.IsolationLevel.TheVariants.{SerializableSnapshot}
+use Rattle.slate_db.proofs.CommitFacts.{of_transaction}
 use Rattle.slatedb.proofs.Turning.{begin_stands, commit_alone}
 use Rattle.slatedb.proofs.Undone.{on_err, undone_back, undone_ended, undone_none}
 use Rattle.slatedb.proofs.turns.read_by_turns.Goals as goal
@@ -25,7 +26,8 @@ returns-in_err-seq g c = record {
   at_their_places = λ stands. IfOk-from_err c.from_residual-in_err-seq.result _ c.from_residual-in_err-seq.ensures.0;
   undone = on_err _ c.from_residual-in_err-seq.result
       (undone_ended c.args.core.now c.begin.new.self c.open_up-read.new.core c.commit.new.self c.in_ok-id.id SerializableSnapshot c.in_ok-id._begin c.in_ok-id.ensures.fresh c.in_ok-id.ensures.step
-      c.open_up-read.ensures.alone c.in_err-seq.ensures.ended);
+      c.open_up-read.ensures.alone
+      (of_transaction _ _ ((c.open_up-read.ensures.stay c.in_ok-id.id).transaction c.in_ok-id.ensures.open) (λ t is. (c.in_err-seq.ensures.commits t is).ended)));
 }
 
 pub returns-in-Err-clause-undone : goal.returns-in-Err-clause-undone
@@ -40,5 +42,5 @@ returns g c = record {
       let begun = begin_stands policies _ _ c.args.core.now c.begin.new.self c.in_ok-id.id SerializableSnapshot c.in_ok-id._begin c.transactions.ensures.other_events c.in_ok-id.ensures.event c.in_ok-id.ensures.others c.in_ok-id.ensures.kept stands in
       commit_alone _ c.open_up-read.new.core c.commit.new.self c.in_ok-id.id c.in_ok-seq.seq _ c.transactions.ensures.commits c.transactions.ensures.at_their_places
       ((c.open_up-read.ensures.stay c.in_ok-id.id).transaction c.in_ok-id.ensures.open) c.journal.ensures.replays
-      c.in_ok-seq.ensures.event c.journal-2.ensures.legal (c.in_default.ensures.vouched begun);
+      (λ t is. (c.in_ok-seq.ensures.commits t is).event) c.journal-2.ensures.legal (c.in_default.ensures.vouched begun);
 }

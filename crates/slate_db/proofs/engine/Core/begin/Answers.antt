@@ -1,5 +1,10 @@
-use Rattle.std.proofs.Common.{refl, false, ◌≡◌, ℕ, List, None, ◌+◌, ◌++◌, ◌∷◌, [], ◌≤◌, ap, sym, subst, ◌∙◌, Greater}
+use Rattle.std.proofs.Common.{inl, inr, refl, false, ◌≡◌, ℕ, List, None, ◌+◌, ◌++◌, ◌∷◌, [], ◌≤◌, ap, sym, subst, ◌∙◌, Greater}
 use Rattle.std.specs.List.{AllByRecursion}
+use Rattle.std.specs.Prelude.{Result, Err}
+use Rattle.std.proofs.lemmas.Result.{err_from_is_err_and}
+use Rattle.slate_types.specs.declared.config.IsolationLevel.{IsolationLevel}
+use Rattle.slate_types.specs.declared.error.SlateDBError.{SlateDBError}
+use Rattle.slate_types.specs.declared.error.SlateDBError.TheVariants as errors
 use Rattle.slate_types.specs.Keys.{key_cmp}
 use Rattle.slate_txn.specs.declared.line.Line.TheVariants as lines
 use Rattle.slate_txn.specs.Ids.{id_of}
@@ -9,14 +14,16 @@ use Rattle.slate_txn.specs.Reply.{Begun}
 use Rattle.slate_txn.specs.State.{begun, is_open}
 use Rattle.slate_txn.specs.Step.{step}
 use Rattle.slate_db.specs.declared.engine.Core.TheInside.{Inside}
-use Rattle.slate_db.specs.Log.{IsLog}
+use Rattle.slate_db.specs.Calls.Open.{Begins, IsRefusal}
+use Rattle.slate_db.specs.Flushed.{NoPlace}
+use Rattle.slate_db.specs.Log.{LIMIT, IsLog}
 use Rattle.slate_db.specs.Meaning.{rules_in}
 use Rattle.slate_db.specs.Model.{CoreModel}
 use Rattle.slate_db.specs.View.{view_of, unseen_of, IsWholeInside}
 use Rattle.slate_db.specs.Segmented.{IsSegmented}
 use Rattle.slate_db.specs.Sound.{IsKept}
 use Rattle.slate_db.specs.Vouched.{IsVouchedFor}
-use Rattle.slate_db.proofs.Calls.{begun_is}
+use Rattle.slate_db.proofs.Calls.{begun_is, event_begun, only_short_begin, past_place, placed}
 use Rattle.slate_db.proofs.Managing.{back_named, managed_back}
 use Rattle.slate_db.proofs.Opened.{has_named, stay_begun, stay_same, unopened}
 use Rattle.slate_db.proofs.Segmenting.{segmented_as}
@@ -65,76 +72,81 @@ invariant_of-self-in_default c =
     subst IsWholeInside (begun_is s c.enter.new.log c.enter.new.transactions n c.args.level c.in_ok-id.id c.in_ok-id.start id start c.in_default.ensures.log c.in_default.ensures.opened)
     (whole_begin (view_of s) (unseen_of s) c.args.level c.enter.new.log.spare n managed (c.in_ok-id.ensures.stands _) (subst IsLog c.in_default.ensures.log c.in_default.ensures.whole) c.self.invariant)
 
-pub returns-clause-step : goal.returns-clause-step
-returns-clause-step c m h =
+pub returns : goal.returns
+returns c =
     let s = c.self.inside in
     let id = c.in_ok-id.ensures.id ∙ ap (λ n. id_of (n + 1)) c.self.invariant.tied.manager.counted in
     let start = c.in_ok-id.ensures.opened.0 ∙ c.self.invariant.tied.manager.newest in
     let becomes = begun_is s c.enter.new.log c.enter.new.transactions c.new_transaction.new.self c.args.level c.in_ok-id.id c.in_ok-id.start id start c.in_default.ensures.log c.in_default.ensures.opened in
-    sym (ap (λ (v : CoreModel). step (rules_in v.settings m h) v.state (lines.Begin c.in_ok-id.id c.args.level)) c.self.view_is)
-    ∙ (λ i. step (rules_in (view_of c.self.inside).settings m h) (view_of c.self.inside).state (lines.Begin (id i) c.args.level))
-    ∙ step_begin m (view_of c.self.inside) (unseen_of c.self.inside) c.args.level c.enter.new.log.spare c.self.invariant
-    ∙ (let ids = sym id in let at = sym start in λ i. ((view_of (becomes i)).state, Begun (ids i) (at i)))
+    record {
+      step = λ m h. sym (ap (λ (v : CoreModel). step (rules_in v.settings m h) v.state (lines.Begin c.in_ok-id.id c.args.level)) c.self.view_is)
+          ∙ (λ i. step (rules_in (view_of c.self.inside).settings m h) (view_of c.self.inside).state (lines.Begin (id i) c.args.level))
+          ∙ step_begin m (view_of c.self.inside) (unseen_of c.self.inside) c.args.level c.enter.new.log.spare c.self.invariant
+          ∙ (let ids = sym id in let at = sym start in λ i. ((view_of (becomes i)).state, Begun (ids i) (at i)));
+      event = event_begun s c.args.self.now c.enter.new.log c.enter.new.transactions c.args.level c.in_ok-id.id c.in_ok-id.start c.self.view_is id start c.in_default.ensures.log;
+      vouched = λ m. subst (λ (s : Inside). IsVouchedFor m (view_of s) c.in_ok-id.id) becomes
+          (subst (λ (i : List ℕ). IsVouchedFor m (after_begin (view_of s) c.args.level s.log.last (id_of (s.log.ids + 1)) c.enter.new.log.spare) i) (sym id)
+          (vouched_begin m (view_of s) (id_of (s.log.ids + 1)) c.args.level s.log.last (fresh_begun (view_of s) (unseen_of s) c.self.invariant)));
+      others = λ m k h. subst (λ (s : Inside). IsVouchedFor m (view_of s) k) becomes
+          (others_begin m (view_of s) (id_of (s.log.ids + 1)) k c.args.level s.log.last c.enter.new.log.spare (subst (λ (v : CoreModel). IsVouchedFor m v k) (sym c.self.view_is) h));
+      segmented = λ h z. subst (λ (s : Inside). IsSegmented h (view_of s)) becomes
+          (segmented_as h (view_of c.self.inside) _ refl refl (subst (λ (v : CoreModel). IsSegmented h v) (sym c.self.view_is) z));
+      kept = λ m k. subst (λ (s : Inside). IsKept m (view_of s)) becomes
+          (kept_begin m (view_of c.self.inside) c.args.level c.self.inside.log.last (id_of (c.self.inside.log.ids + 1)) c.enter.new.log.spare
+          (subst (λ (v : CoreModel). IsKept m v) (sym c.self.view_is) k));
+      same = tt;
+      limit = placed (view_of s) c.args.self.now (unseen_of s) 2 c.self.view_is c.self.invariant c.in_ok-place.ensures.place;
+      cause = tt;
+      «open» = has_named _ s.transactions c.in_ok-id.id (begun c.args.level c.in_ok-id.start)
+          (subst (λ (i : List ℕ). find_named i s.transactions ≡ None) (sym id) (fresh_begun (view_of s) (unseen_of s) c.self.invariant)) c.in_default.ensures.opened;
+      fresh = subst (λ (v : CoreModel). is_open v.state c.in_ok-id.id ≡ false) c.self.view_is
+          (subst (λ (i : List ℕ). is_open (view_of s).state i ≡ false) (sym id)
+          (unopened (view_of s).state _ (fresh_begun (view_of s) (unseen_of s) c.self.invariant) (unshown_begun (view_of s) (unseen_of s) c.self.invariant)));
+      stay = stay_begun c.args.self.now _ c.in_ok-id.id (begun c.args.level c.in_ok-id.start)
+          (subst (λ (v : CoreModel). find_named c.in_ok-id.id v.state.snapshots ≡ None) c.self.view_is
+          (subst (λ (i : List ℕ). find_named i (view_of s).state.snapshots ≡ None) (sym id) (unshown_begun (view_of s) (unseen_of s) c.self.invariant)))
+          (c.in_default.ensures.opened ∙ ap (λ (v : CoreModel). v.state.txns ++ ((c.in_ok-id.id, begun c.args.level c.in_ok-id.start) ∷ [])) c.self.view_is)
+          (ap (λ (v : CoreModel). v.state.snapshots) c.self.view_is);
+    }
 
-pub returns-clause-segmented : goal.returns-clause-segmented
-returns-clause-segmented c h z =
-    let s = c.self.inside in
-    let id = c.in_ok-id.ensures.id ∙ ap (λ n. id_of (n + 1)) c.self.invariant.tied.manager.counted in
-    let start = c.in_ok-id.ensures.opened.0 ∙ c.self.invariant.tied.manager.newest in
-    let becomes = begun_is s c.enter.new.log c.enter.new.transactions c.new_transaction.new.self c.args.level c.in_ok-id.id c.in_ok-id.start id start c.in_default.ensures.log c.in_default.ensures.opened in
-    subst (λ (s : Inside). IsSegmented h (view_of s)) becomes
-    (segmented_as h (view_of c.self.inside) _ refl refl (subst (λ (v : CoreModel). IsSegmented h v) (sym c.self.view_is) z))
+-- ---- refusals: nothing is opened
 
-pub returns-clause-kept : goal.returns-clause-kept
-returns-clause-kept c m k =
-    let s = c.self.inside in
-    let id = c.in_ok-id.ensures.id ∙ ap (λ n. id_of (n + 1)) c.self.invariant.tied.manager.counted in
-    let start = c.in_ok-id.ensures.opened.0 ∙ c.self.invariant.tied.manager.newest in
-    let becomes = begun_is s c.enter.new.log c.enter.new.transactions c.new_transaction.new.self c.args.level c.in_ok-id.id c.in_ok-id.start id start c.in_default.ensures.log c.in_default.ensures.opened in
-    subst (λ (s : Inside). IsKept m (view_of s)) becomes
-    (kept_begin m (view_of c.self.inside) c.args.level c.self.inside.log.last (id_of (c.self.inside.log.ids + 1)) c.enter.new.log.spare
-    (subst (λ (v : CoreModel). IsKept m v) (sym c.self.view_is) k))
+refused : (level : IsolationLevel) (old new : CoreModel) (e : SlateDBError) → new ≡ old → (NoPlace 2 old → e ≡ errors.LimitReached LIMIT) → IsRefusal 2 old e → (let r : Result (List ℕ × ℕ) SlateDBError = Err e in Begins level old new r)
+refused level old new e same limit cause = record {
+  step = tt;
+  event = tt;
+  vouched = tt;
+  others = tt;
+  segmented = tt;
+  kept = tt;
+  same = same;
+  limit = λ past. ap Err (limit past);
+  cause = cause;
+  «open» = tt;
+  fresh = tt;
+  stay = stay_same old new same;
+}
 
-pub returns-clause-vouched : goal.returns-clause-vouched
-returns-clause-vouched c m =
+pub returns-in-Err : goal.returns-in-Err
+returns-in-Err c =
     let s = c.self.inside in
-    let id = c.in_ok-id.ensures.id ∙ ap (λ n. id_of (n + 1)) c.self.invariant.tied.manager.counted in
-    let start = c.in_ok-id.ensures.opened.0 ∙ c.self.invariant.tied.manager.newest in
-    let becomes = begun_is s c.enter.new.log c.enter.new.transactions c.new_transaction.new.self c.args.level c.in_ok-id.id c.in_ok-id.start id start c.in_default.ensures.log c.in_default.ensures.opened in
-    subst (λ (s : Inside). IsVouchedFor m (view_of s) c.in_ok-id.id) becomes
-    (subst (λ (i : List ℕ). IsVouchedFor m (after_begin (view_of s) c.args.level s.log.last (id_of (s.log.ids + 1)) c.enter.new.log.spare) i) (sym id)
-    (vouched_begin m (view_of s) (id_of (s.log.ids + 1)) c.args.level s.log.last (fresh_begun (view_of s) (unseen_of s) c.self.invariant)))
+    let log = c.in-Err.ensures.same_log in
+    let txns = c.in-Err.ensures.same in
+    refused c.args.level c.args.self.now _ _ ((λ i. view_of (record s { log = log i; transactions = txns i })) ∙ c.self.view_is)
+    (placed (view_of s) c.args.self.now (unseen_of s) 2 c.self.view_is c.self.invariant c.in_ok-place.ensures.place) (inl c.in-Err.ensures.cause)
 
-pub returns-clause-others : goal.returns-clause-others
-returns-clause-others c m k h =
+pub returns-in_err-id : goal.returns-in_err-id
+returns-in_err-id c =
     let s = c.self.inside in
-    let id = c.in_ok-id.ensures.id ∙ ap (λ n. id_of (n + 1)) c.self.invariant.tied.manager.counted in
-    let start = c.in_ok-id.ensures.opened.0 ∙ c.self.invariant.tied.manager.newest in
-    let becomes = begun_is s c.enter.new.log c.enter.new.transactions c.new_transaction.new.self c.args.level c.in_ok-id.id c.in_ok-id.start id start c.in_default.ensures.log c.in_default.ensures.opened in
-    subst (λ (s : Inside). IsVouchedFor m (view_of s) k) becomes
-    (others_begin m (view_of s) (id_of (s.log.ids + 1)) k c.args.level s.log.last c.enter.new.log.spare (subst (λ (v : CoreModel). IsVouchedFor m v k) (sym c.self.view_is) h))
+    let p = err_from_is_err_and c.from_residual-in_err-id.result c.from_residual-in_err-id.ensures.1 in
+    subst (Begins c.args.level c.args.self.now _) (sym (p.1 ∙ ap Err p.2)) (refused c.args.level c.args.self.now _ _ c.self.view_is
+    (placed (view_of s) c.args.self.now (unseen_of s) 2 c.self.view_is c.self.invariant c.in_ok-place.ensures.place)
+    (inl (only_short_begin (view_of s) (unseen_of s) _ c.self.invariant c.in_err-id.ensures.cause)))
 
-pub returns-clause-open : goal.returns-clause-open
-returns-clause-open c =
+pub returns-in_err-place : goal.returns-in_err-place
+returns-in_err-place c =
     let s = c.self.inside in
-    let id = c.in_ok-id.ensures.id ∙ ap (λ n. id_of (n + 1)) c.self.invariant.tied.manager.counted in
-    has_named _ s.transactions c.in_ok-id.id (begun c.args.level c.in_ok-id.start)
-    (subst (λ (i : List ℕ). find_named i s.transactions ≡ None) (sym id) (fresh_begun (view_of s) (unseen_of s) c.self.invariant)) c.in_default.ensures.opened
-
-pub returns-clause-fresh : goal.returns-clause-fresh
-returns-clause-fresh c =
-    let s = c.self.inside in
-    let id = c.in_ok-id.ensures.id ∙ ap (λ n. id_of (n + 1)) c.self.invariant.tied.manager.counted in
-    subst (λ (v : CoreModel). is_open v.state c.in_ok-id.id ≡ false) c.self.view_is
-    (subst (λ (i : List ℕ). is_open (view_of s).state i ≡ false) (sym id)
-    (unopened (view_of s).state _ (fresh_begun (view_of s) (unseen_of s) c.self.invariant) (unshown_begun (view_of s) (unseen_of s) c.self.invariant)))
-
-pub returns-clause-stay : goal.returns-clause-stay
-returns-clause-stay c =
-    let s = c.self.inside in
-    let id = c.in_ok-id.ensures.id ∙ ap (λ n. id_of (n + 1)) c.self.invariant.tied.manager.counted in
-    stay_begun c.args.self.now _ c.in_ok-id.id (begun c.args.level c.in_ok-id.start)
-    (subst (λ (v : CoreModel). find_named c.in_ok-id.id v.state.snapshots ≡ None) c.self.view_is
-    (subst (λ (i : List ℕ). find_named i (view_of s).state.snapshots ≡ None) (sym id) (unshown_begun (view_of s) (unseen_of s) c.self.invariant)))
-    (c.in_default.ensures.opened ∙ ap (λ (v : CoreModel). v.state.txns ++ ((c.in_ok-id.id, begun c.args.level c.in_ok-id.start) ∷ [])) c.self.view_is)
-    (ap (λ (v : CoreModel). v.state.snapshots) c.self.view_is)
+    let p = err_from_is_err_and c.from_residual.result c.from_residual.ensures.1 in
+    let limit = c.in_err-place.ensures.limit in
+    subst (Begins c.args.level c.args.self.now _) (sym (p.1 ∙ ap Err p.2)) (refused c.args.level c.args.self.now _ _ refl (λ past. limit.0)
+    (inr (limit.0, past_place (view_of s) c.args.self.now (unseen_of s) 2 c.self.view_is c.self.invariant limit.1)))

@@ -12,7 +12,7 @@ use Rattle.slate_txn.specs.State.{Tx, last_of}
 use Rattle.slate_db.specs.declared.engine.Core.TheInside.{Inside}
 use Rattle.slate_db.specs.declared.prepared.Prepared.{Prepared}
 use Rattle.slate_db.specs.BatchTests.{test_refusal}
-use Rattle.slate_db.specs.Committed.{IsCommitted, IsNextOf, after_commit, recorded_at, without_txn}
+use Rattle.slate_db.specs.Committed.{IsEnded, IsCommitted, IsNextOf, after_commit, recorded_at, without_txn}
 use Rattle.slate_db.specs.Layers.{AreLayers, in_memory}
 use Rattle.slate_db.specs.Load.{load}
 use Rattle.slate_db.specs.Log.{IsLog, with_commit, with_end}
@@ -119,62 +119,45 @@ committed c =
     subst (λ (s : Inside). IsCommitted (view_of c.self.inside) (view_of s) c.args.id.now c.in-Ok.made.seq c.args.now c.in-Some.owned) (becomes c w.combine w.segments w.is)
     (event_made (operator_at w.combine) w.segments (view_of c.self.inside) c.self.inside.log.last c.args.id.now c.in-Ok.made.seq c.args.now c.in-Some.owned c.push_commit.new.self.spare (next c))
 
-pub returns-in-Ok-clause-event : goal.returns-in-Ok-clause-event
-returns-in-Ok-clause-event c = λ t named.
-    subst (λ (u : Tx). IsCommitted c.args.self.now (view_of (core c)) c.args.id.now c.in-Ok.made.seq c.args.now u) (same_txn (view_of c.self.inside) c.args.self.now c.args.id.now c.in-Some.owned t c.self.view_is (sym c.in-Some.ensures.taken) named)
-    (subst (λ (v : CoreModel). IsCommitted v (view_of (core c)) c.args.id.now c.in-Ok.made.seq c.args.now c.in-Some.owned) c.self.view_is (committed c))
-
-pub returns-in-Ok-clause-ended : goal.returns-in-Ok-clause-ended
-returns-in-Ok-clause-ended c = tt
-
-pub returns-in-Ok-clause-others : goal.returns-in-Ok-clause-others
-returns-in-Ok-clause-others c = λ m k apart h.
-    others_commit m (view_of c.self.inside) (view_of (core c)) c.args.id.now k c.self.inside.log.last c.in-Ok.made.seq c.args.now c.in-Some.owned apart (below_next (view_of c.self.inside) (unseen_of c.self.inside) c.self.invariant) (next c) (committed c)
-    (subst (λ (v : CoreModel). IsVouchedFor m v k) (sym c.self.view_is) h)
-
-pub returns-in-Ok-clause-kept : goal.returns-in-Ok-clause-kept
-returns-in-Ok-clause-kept c = λ m k t named p kept.
-    let r = ready c m.combine k t named p in
-    subst (λ (s : Inside). IsKept m (view_of s)) (becomes c m.combine k r)
-    (kept_recorded m (after_commit (view_of c.self.inside) c.args.id.now c.in-Ok.made.seq c.args.now c.in-Some.owned (RowsAfter (combine_of m) (view_of c.self.inside) c.in-Ok.made.seq c.args.now c.in-Some.owned) c.push_commit.new.self.spare) _
-    (kept_made m (view_of c.self.inside) (unseen_of c.self.inside) c.args.id.now c.in-Ok.made.seq c.args.now c.in-Some.owned c.push_commit.new.self.spare k c.self.inside.segments (next c) (tested c m.combine k r) c.self.invariant
-    (subst (λ (v : CoreModel). IsKept m v) (sym c.self.view_is) kept)))
-
-pub returns-in-Ok-clause-kept_refused : goal.returns-in-Ok-clause-kept_refused
-returns-in-Ok-clause-kept_refused c = tt
-
-pub returns-in-Ok-clause-segmented : goal.returns-in-Ok-clause-segmented
-returns-in-Ok-clause-segmented c = λ m k t named p z.
-    let r = ready c m.combine k t named p in
-    subst (λ (s : Inside). IsSegmented k (view_of s)) (becomes c m.combine k r)
-    (segmented_made m k (view_of c.self.inside) c.args.id.now c.in-Ok.made.seq c.args.now c.in-Some.owned c.push_commit.new.self.spare (tested c m.combine k r)
-    (subst (λ (v : CoreModel). IsSegmented k v) (sym c.self.view_is) z))
-
-pub returns-in-Ok-clause-segmented_refused : goal.returns-in-Ok-clause-segmented_refused
-returns-in-Ok-clause-segmented_refused c = tt
-
-pub returns-in-Ok-clause-load : goal.returns-in-Ok-clause-load
-returns-in-Ok-clause-load c = λ t named.
-    let w = there c in
-    subst (λ (u : Tx). load (view_of (core c)) ≤ load c.args.self.now + length u.ops) (same_txn (view_of c.self.inside) c.args.self.now c.args.id.now c.in-Some.owned t c.self.view_is (sym c.in-Some.ensures.taken) named)
-    (subst (λ (v : CoreModel). load (view_of (core c)) ≤ load v + length c.in-Some.owned.ops) c.self.view_is
-    (subst (λ (s : Inside). load (view_of s) ≤ load (view_of c.self.inside) + length c.in-Some.owned.ops) (becomes c w.combine w.segments w.is)
-    (load_made (operator_at w.combine) (view_of c.self.inside) c.args.id.now c.in-Ok.made.seq c.args.now c.in-Some.owned c.push_commit.new.self.spare)))
-
-pub returns-in-Ok-clause-decided : goal.returns-in-Ok-clause-decided
-returns-in-Ok-clause-decided c = λ m k t named p.
-    decided_as short m.combine k c.args.now (view_of c.self.inside) c.args.self.now c.in-Some.owned t _ c.self.view_is (same_txn (view_of c.self.inside) c.args.self.now c.args.id.now c.in-Some.owned t c.self.view_is (sym c.in-Some.ensures.taken) named)
-    (record {
-      next = subst (λ (n : ℕ). IsNextOf n c.in-Some.owned.ops c.in-Ok.made.seq) c.self.invariant.log.last (next c);
-      free = c.in-Ok.ensures.free c.self.inside.log.commits c.self.invariant.tied.manager.stands;
-      tested = tested c m.combine k (ready c m.combine k t named p);
-      cause = tt;
-    })
-
-pub returns-in-Ok-clause-stay : goal.returns-in-Ok-clause-stay
-returns-in-Ok-clause-stay c =
-    stay_committed c.args.self.now (view_of (core c)) c.args.id.now c.in-Ok.made.seq c.args.now c.in-Some.owned
-    (subst (λ (v : CoreModel). IsCommitted v (view_of (core c)) c.args.id.now c.in-Ok.made.seq c.args.now c.in-Some.owned) c.self.view_is (committed c))
+pub returns-in-Ok : goal.returns-in-Ok
+returns-in-Ok c = record {
+  event = λ t named.
+      subst (λ (u : Tx). IsCommitted c.args.self.now (view_of (core c)) c.args.id.now c.in-Ok.made.seq c.args.now u) (same_txn (view_of c.self.inside) c.args.self.now c.args.id.now c.in-Some.owned t c.self.view_is (sym c.in-Some.ensures.taken) named)
+      (subst (λ (v : CoreModel). IsCommitted v (view_of (core c)) c.args.id.now c.in-Ok.made.seq c.args.now c.in-Some.owned) c.self.view_is (committed c));
+  ended = tt;
+  others = λ m k apart h.
+      others_commit m (view_of c.self.inside) (view_of (core c)) c.args.id.now k c.self.inside.log.last c.in-Ok.made.seq c.args.now c.in-Some.owned apart (below_next (view_of c.self.inside) (unseen_of c.self.inside) c.self.invariant) (next c) (committed c)
+      (subst (λ (v : CoreModel). IsVouchedFor m v k) (sym c.self.view_is) h);
+  kept = λ m k t named p kept.
+      let r = ready c m.combine k t named p in
+      subst (λ (s : Inside). IsKept m (view_of s)) (becomes c m.combine k r)
+      (kept_recorded m (after_commit (view_of c.self.inside) c.args.id.now c.in-Ok.made.seq c.args.now c.in-Some.owned (RowsAfter (combine_of m) (view_of c.self.inside) c.in-Ok.made.seq c.args.now c.in-Some.owned) c.push_commit.new.self.spare) _
+      (kept_made m (view_of c.self.inside) (unseen_of c.self.inside) c.args.id.now c.in-Ok.made.seq c.args.now c.in-Some.owned c.push_commit.new.self.spare k c.self.inside.segments (next c) (tested c m.combine k r) c.self.invariant
+      (subst (λ (v : CoreModel). IsKept m v) (sym c.self.view_is) kept)));
+  kept_refused = tt;
+  segmented = λ m k t named p z.
+      let r = ready c m.combine k t named p in
+      subst (λ (s : Inside). IsSegmented k (view_of s)) (becomes c m.combine k r)
+      (segmented_made m k (view_of c.self.inside) c.args.id.now c.in-Ok.made.seq c.args.now c.in-Some.owned c.push_commit.new.self.spare (tested c m.combine k r)
+      (subst (λ (v : CoreModel). IsSegmented k v) (sym c.self.view_is) z));
+  segmented_refused = tt;
+  load = λ t named.
+      let w = there c in
+      subst (λ (u : Tx). load (view_of (core c)) ≤ load c.args.self.now + length u.ops) (same_txn (view_of c.self.inside) c.args.self.now c.args.id.now c.in-Some.owned t c.self.view_is (sym c.in-Some.ensures.taken) named)
+      (subst (λ (v : CoreModel). load (view_of (core c)) ≤ load v + length c.in-Some.owned.ops) c.self.view_is
+      (subst (λ (s : Inside). load (view_of s) ≤ load (view_of c.self.inside) + length c.in-Some.owned.ops) (becomes c w.combine w.segments w.is)
+      (load_made (operator_at w.combine) (view_of c.self.inside) c.args.id.now c.in-Ok.made.seq c.args.now c.in-Some.owned c.push_commit.new.self.spare)));
+  decided = λ m k t named p.
+      decided_as short m.combine k c.args.now (view_of c.self.inside) c.args.self.now c.in-Some.owned t _ c.self.view_is (same_txn (view_of c.self.inside) c.args.self.now c.args.id.now c.in-Some.owned t c.self.view_is (sym c.in-Some.ensures.taken) named)
+      (record {
+        next = subst (λ (n : ℕ). IsNextOf n c.in-Some.owned.ops c.in-Ok.made.seq) c.self.invariant.log.last (next c);
+        free = c.in-Ok.ensures.free c.self.inside.log.commits c.self.invariant.tied.manager.stands;
+        tested = tested c m.combine k (ready c m.combine k t named p);
+        cause = tt;
+      });
+  stay = stay_committed c.args.self.now (view_of (core c)) c.args.id.now c.in-Ok.made.seq c.args.now c.in-Some.owned
+      (subst (λ (v : CoreModel). IsCommitted v (view_of (core c)) c.args.id.now c.in-Ok.made.seq c.args.now c.in-Some.owned) c.self.view_is (committed c));
+}
 
 -- ---- what is refused
 
@@ -195,17 +178,8 @@ invariant_of-self-in-Err c =
     (managed_dropped s.manager c.make_prepared-made.new.manager c.drop_txn.new.self s.log.ids s.log.last s.log.commits s.transactions c.args.id.now c.in-Err.ensures.grown c.drop_txn.ensures.dropped (c.drop_txn.ensures.stands _) c.self.invariant.tied.manager)
     (subst IsLog c.push_end.ensures.value c.push_end.ensures.whole) c.self.invariant)
 
-pub returns-in-Err-clause-event : goal.returns-in-Err-clause-event
-returns-in-Err-clause-event c = λ t named. tt
-
-pub returns-in-Err-clause-ended : goal.returns-in-Err-clause-ended
-returns-in-Err-clause-ended c =
-    sym (ap view_of (ends c)) ∙ ap (λ (v : CoreModel). record v { state = without_txn v.state c.args.id.now; events = v.events ++ (events.End c.args.id.now ∷ []); spare = c.push_end.new.self.spare }) c.self.view_is
-
-pub returns-in-Err-clause-others : goal.returns-in-Err-clause-others
-returns-in-Err-clause-others c = λ m k apart h.
-    subst (λ (s : Inside). IsVouchedFor m (view_of s) k) (ends c)
-    (others_end m (view_of c.self.inside) c.args.id.now k c.push_end.new.self.spare apart (subst (λ (v : CoreModel). IsVouchedFor m v k) (sym c.self.view_is) h))
+ended_so : (c : goal.After-push_end) → IsEnded c.args.self.now (view_of (left c)) c.args.id.now
+ended_so c = sym (ap view_of (ends c)) ∙ ap (λ (v : CoreModel). record v { state = without_txn v.state c.args.id.now; events = v.events ++ (events.End c.args.id.now ∷ []); spare = c.push_end.new.self.spare }) c.self.view_is
 
 still_kept : (c : goal.After-push_end) (m : Meaning) → IsKept m c.args.self.now → IsKept m (view_of (left c))
 still_kept c m k =
@@ -217,38 +191,33 @@ still_segmented c h z =
     subst (λ (s : Inside). IsSegmented h (view_of s)) (ends c)
     (segmented_as h (view_of c.self.inside) _ refl refl (subst (λ (v : CoreModel). IsSegmented h v) (sym c.self.view_is) z))
 
-pub returns-in-Err-clause-kept : goal.returns-in-Err-clause-kept
-returns-in-Err-clause-kept c = λ m k t named p kept. still_kept c m kept
-
-pub returns-in-Err-clause-kept_refused : goal.returns-in-Err-clause-kept_refused
-returns-in-Err-clause-kept_refused c = λ m k. still_kept c m k
-
-pub returns-in-Err-clause-segmented : goal.returns-in-Err-clause-segmented
-returns-in-Err-clause-segmented c = λ m k t named p z. still_segmented c k z
-
-pub returns-in-Err-clause-segmented_refused : goal.returns-in-Err-clause-segmented_refused
-returns-in-Err-clause-segmented_refused c = λ h z. still_segmented c h z
-
-pub returns-in-Err-clause-load : goal.returns-in-Err-clause-load
-returns-in-Err-clause-load c = λ t named.
-    subst (λ (v : CoreModel). load (view_of (left c)) ≤ load v + length t.ops) c.self.view_is
-    (subst (λ (s : Inside). load (view_of s) ≤ load (view_of c.self.inside) + length t.ops) (ends c) (load_ended (view_of c.self.inside) c.args.id.now c.push_end.new.self.spare (length t.ops)))
-
 -- what was prepared for the transaction of the core
 asked : (c : goal.After-push_end) (o : Option (List ℕ → Combine)) (k : Segments) (t : Tx) → find_named c.args.id.now c.args.self.now.state.txns ≡ Some t → IsPrepared (prepared_for o k c.args.self.now.settings.default_millis c.args.now (own_batch t.ops)) c.args.prepared →
     IsPrepared (prepared_for o k c.self.inside.default_millis c.args.now (own_batch c.in-Some.owned.ops)) c.args.prepared
 asked c o k t named p = of_parts (view_of c.self.inside) c.args.self.now c.args.id.now c.in-Some.owned t o k c.args.now c.args.prepared c.self.view_is (sym c.in-Some.ensures.taken) named p
 
-pub returns-in-Err-clause-decided : goal.returns-in-Err-clause-decided
-returns-in-Err-clause-decided c = λ m k t named p.
-    decided_as short m.combine k c.args.now (view_of c.self.inside) c.args.self.now c.in-Some.owned t _ c.self.view_is (same_txn (view_of c.self.inside) c.args.self.now c.args.id.now c.in-Some.owned t c.self.view_is (sym c.in-Some.ensures.taken) named)
-    (record {
-      next = tt;
-      free = tt;
-      tested = tt;
-      cause = prepared_cause m.combine k (view_of c.self.inside) c.last-last.result (last_of c.self.inside.log.start c.self.inside.log.commits) c.args.now c.in-Some.owned c.in-Err.error (c.last-last.ensures ∙ c.self.invariant.log.last)
-          (c.in-Err.ensures.cause m.combine k c.self.inside.default_millis c.args.now (asked c m.combine k t named p) c.self.inside.log.commits c.self.invariant.tied.manager.stands);
-    })
-
-pub returns-in-Err-clause-stay : goal.returns-in-Err-clause-stay
-returns-in-Err-clause-stay c = stay_but_ended c.args.self.now (view_of (left c)) c.args.id.now (returns-in-Err-clause-ended c)
+pub returns-in-Err : goal.returns-in-Err
+returns-in-Err c = record {
+  event = λ t named. tt;
+  ended = ended_so c;
+  others = λ m k apart h.
+      subst (λ (s : Inside). IsVouchedFor m (view_of s) k) (ends c)
+      (others_end m (view_of c.self.inside) c.args.id.now k c.push_end.new.self.spare apart (subst (λ (v : CoreModel). IsVouchedFor m v k) (sym c.self.view_is) h));
+  kept = λ m k t named p kept. still_kept c m kept;
+  kept_refused = λ m k. still_kept c m k;
+  segmented = λ m k t named p z. still_segmented c k z;
+  segmented_refused = λ h z. still_segmented c h z;
+  load = λ t named.
+      subst (λ (v : CoreModel). load (view_of (left c)) ≤ load v + length t.ops) c.self.view_is
+      (subst (λ (s : Inside). load (view_of s) ≤ load (view_of c.self.inside) + length t.ops) (ends c) (load_ended (view_of c.self.inside) c.args.id.now c.push_end.new.self.spare (length t.ops)));
+  decided = λ m k t named p.
+      decided_as short m.combine k c.args.now (view_of c.self.inside) c.args.self.now c.in-Some.owned t _ c.self.view_is (same_txn (view_of c.self.inside) c.args.self.now c.args.id.now c.in-Some.owned t c.self.view_is (sym c.in-Some.ensures.taken) named)
+      (record {
+        next = tt;
+        free = tt;
+        tested = tt;
+        cause = prepared_cause m.combine k (view_of c.self.inside) c.last-last.result (last_of c.self.inside.log.start c.self.inside.log.commits) c.args.now c.in-Some.owned c.in-Err.error (c.last-last.ensures ∙ c.self.invariant.log.last)
+            (c.in-Err.ensures.cause m.combine k c.self.inside.default_millis c.args.now (asked c m.combine k t named p) c.self.inside.log.commits c.self.invariant.tied.manager.stands);
+      });
+  stay = stay_but_ended c.args.self.now (view_of (left c)) c.args.id.now (ended_so c);
+}

@@ -12,6 +12,7 @@ use Rattle.slate_db.specs.declared.engine.Core.TheInside.{Inside}
 use Rattle.slate_db.specs.Answered.{AddsTables}
 use Rattle.slate_db.specs.Installs.{tables_of}
 use Rattle.slate_db.specs.Frozen.{IsFrozen}
+use Rattle.slate_db.specs.Calls.Flush.{IsRefusedLate}
 use Rattle.slate_db.specs.Flushed.{IsFlushError, Layout, NoPlaceToFlush, TooLarge, WantsOperator, idle, layout_of}
 use Rattle.slate_db.specs.Meaning.{segments_by}
 use Rattle.slate_db.specs.Model.{CoreModel, memory}
@@ -145,105 +146,63 @@ returns-in_err-freeze g c =
 noted : (s : Inside) (c : CoreModel) (l : LogModel) → view_of s ≡ c → l ≡ with_flush s.log → view_of (record s { log = l }) ≡ record c { state = record c.state { flushed = s.log.last } }
 noted s c l is log = ap (λ (x : LogModel). view_of (record s { log = x })) log ∙ ap (λ (v : CoreModel). record v { state = record v.state { flushed = s.log.last } }) is
 
-pub returns-then-is_empty-clause-step : goal.returns-then-is_empty-clause-step
-returns-then-is_empty-clause-step g c m h = step_flush m c.args.self.now c.freeze.new.self (view_of (record c.self.inside { log = c.note_flush.new.self })) c.last.result c.in_ok-freeze.ensures.event
-    (c.last.ensures ∙ ap (λ (l : LogModel). l.last) c.note_flush.ensures.value ∙ c.self.invariant.log.last ∙ ap (λ (v : CoreModel). last_of v.settings.start_seq v.state.commits) c.self.view_is)
-    (ap (λ (v : CoreModel). v.state) (noted c.self.inside c.freeze.new.self c.note_flush.new.self c.self.view_is c.note_flush.ensures.value) ∙ (let n = sym (c.last.ensures ∙ ap (λ (l : LogModel). l.last) c.note_flush.ensures.value) in λ i. record c.freeze.new.self.state { flushed = n i }))
+-- an answer of Ok is no refusal
+never_late : {P : Type 0} (n : ℕ) → (let r : Result ℕ SlateDBError = Ok n in IsRefusedLate r) → P
+never_late n (inl h) = cc
+never_late n (inr (inl h)) = cc
+never_late n (inr (inr (inl h))) = cc
+never_late n (inr (inr (inr h))) = let is = h.1 in cc
 
-pub returns-then-is_empty-clause-segmented : goal.returns-then-is_empty-clause-segmented
-returns-then-is_empty-clause-segmented g c h z =
-    subst (λ (v : CoreModel). IsSegmented h v) (sym (noted c.self.inside c.freeze.new.self c.note_flush.new.self c.self.view_is c.note_flush.ensures.value))
-    (segmented_as h c.freeze.new.self _ refl refl (segmented_frozen h c.args.self.now c.freeze.new.self c.in_ok-freeze.ensures.event z))
-
-pub returns-then-is_empty-clause-runs : goal.returns-then-is_empty-clause-runs
-returns-then-is_empty-clause-runs g c k z =
-    none_added (reach_of g.S.Store g.M.MergeOperator g.T.BlockTransformer c.args.env.now).meaning (segments_by g.X.PrefixExtractor.lengths c.args.laws.now.segments) c.args.self.now c.freeze.new.self (view_of (record c.self.inside { log = c.note_flush.new.self })) _ c.in_ok-freeze.ensures.event
-    (sym (ap (λ (v : CoreModel). v.frozen) c.self.view_is) ∙ sym c.frozen.ensures ∙ none_frozen c.frozen.result.now c.frozen.result.now c.is_empty.result c.is_empty.ensures c.if-is_empty.true refl)
-    (noted c.self.inside c.freeze.new.self c.note_flush.new.self c.self.view_is c.note_flush.ensures.value)
-
-pub returns-then-is_empty-clause-settings : goal.returns-then-is_empty-clause-settings
-returns-then-is_empty-clause-settings g c = ap (λ (v : CoreModel). v.settings) (noted c.self.inside c.freeze.new.self c.note_flush.new.self c.self.view_is c.note_flush.ensures.value) ∙ frozen_settings c.args.self.now c.freeze.new.self c.in_ok-freeze.ensures.event
-
-pub returns-then-is_empty-clause-quiet : goal.returns-then-is_empty-clause-quiet
-returns-then-is_empty-clause-quiet g c = subst (λ (v : CoreModel). IsQuiet v.events) (sym (noted c.self.inside c.freeze.new.self c.note_flush.new.self c.self.view_is c.note_flush.ensures.value)) c.in_ok-freeze.ensures.quiet
-
-pub returns-then-is_empty-clause-installed : goal.returns-then-is_empty-clause-installed
-returns-then-is_empty-clause-installed g c = (
-  c.freeze.new.self,
-  c.in_ok-freeze.ensures.event,
-  idle (sym (ap (λ (v : CoreModel). v.frozen) c.self.view_is) ∙ sym c.frozen.ensures ∙ none_frozen c.frozen.result.now c.frozen.result.now c.is_empty.result c.is_empty.ensures c.if-is_empty.true refl)
-      (noted c.self.inside c.freeze.new.self c.note_flush.new.self c.self.view_is c.note_flush.ensures.value ∙ (let n = sym (c.last.ensures ∙ ap (λ (l : LogModel). l.last) c.note_flush.ensures.value) in λ i. record c.freeze.new.self { state = record c.freeze.new.self.state { flushed = n i } })) refl,
-)
-
-pub returns-then-is_empty-clause-acts : goal.returns-then-is_empty-clause-acts
-returns-then-is_empty-clause-acts g c =
-    ([], ap (λ (l : LogModel). tables_of l.events) c.note_flush.ensures.value ∙ ap (λ (v : CoreModel). tables_of v.events) c.self.view_is ∙ frozen_tables c.args.self.now c.freeze.new.self c.in_ok-freeze.ensures.event ∙ sym (append-nil (tables_of c.args.self.now.events)), refl)
-
-pub returns-then-is_empty-clause-adds : goal.returns-then-is_empty-clause-adds
-returns-then-is_empty-clause-adds g c = adds_same _ _ refl
-
-pub returns-then-is_empty-clause-taken : goal.returns-then-is_empty-clause-taken
-returns-then-is_empty-clause-taken g c = (
-  ap (λ (v : CoreModel). v.active) c.self.view_is ∙ frozen_idle c.args.self.now c.freeze.new.self c.in_ok-freeze.ensures.event,
-  sym c.frozen.ensures ∙ none_frozen c.frozen.result.now c.frozen.result.now c.is_empty.result c.is_empty.ensures c.if-is_empty.true refl,
-)
-
-pub returns-then-is_empty-clause-full : goal.returns-then-is_empty-clause-full
-returns-then-is_empty-clause-full g c h = absurd (omega (arith, c.in_ok-place_for_flush.ensures.place, h))
-
-pub returns-then-is_empty-clause-unasked : goal.returns-then-is_empty-clause-unasked
-returns-then-is_empty-clause-unasked g c h = refl
-
-pub returns-then-is_empty-clause-limit : goal.returns-then-is_empty-clause-limit
-returns-then-is_empty-clause-limit g c h = absurd (omega (arith, c.in_ok-place_for_flush.ensures.place, h))
-
-pub returns-then-is_empty-clause-kept : goal.returns-then-is_empty-clause-kept
-returns-then-is_empty-clause-kept g c k =
-    let m = (reach_of g.S.Store g.M.MergeOperator g.T.BlockTransformer c.args.env.now).meaning in
-    subst (λ (l : LogModel). IsKept m (view_of (record c.self.inside { log = l }))) (sym c.note_flush.ensures.value)
-    (kept_flushed m (view_of c.self.inside) c.self.inside.log.last (subst (λ (v : CoreModel). IsKept m v) (sym c.self.view_is) (c.in_ok-freeze.ensures.kept m k)))
-
-pub returns-then-is_empty-clause-vouched : goal.returns-then-is_empty-clause-vouched
-returns-then-is_empty-clause-vouched g c m other h =
-    subst (λ (v : CoreModel). IsVouchedFor m v other) (sym (noted c.self.inside c.freeze.new.self c.note_flush.new.self c.self.view_is c.note_flush.ensures.value)) (c.in_ok-freeze.ensures.vouched m other h)
-
-pub returns-then-is_empty-clause-stay : goal.returns-then-is_empty-clause-stay
-returns-then-is_empty-clause-stay g c =
-    let is = noted c.self.inside c.freeze.new.self c.note_flush.new.self c.self.view_is c.note_flush.ensures.value in
-    stay_on c.args.self.now c.freeze.new.self _ c.freeze.ensures.stay (stay_as c.freeze.new.self _ (ap (λ (v : CoreModel). v.state.txns) is) (ap (λ (v : CoreModel). v.state.snapshots) is))
-
-pub returns-then-is_empty-clause-held : goal.returns-then-is_empty-clause-held
-returns-then-is_empty-clause-held g c = held_still c.args.self.now.events _ _ _
-    (ap (λ (l : LogModel). tables_of l.events) c.note_flush.ensures.value ∙ ap (λ (v : CoreModel). tables_of v.events) c.self.view_is ∙ frozen_tables c.args.self.now c.freeze.new.self c.in_ok-freeze.ensures.event) refl
-
-pub returns-then-is_empty-clause-told : goal.returns-then-is_empty-clause-told
-returns-then-is_empty-clause-told g c = tells_still c.args.self.now.events c.note_flush.new.self.events (g.S.Store.acts c.args.env.now.store.now) (g.S.Store.acts c.args.env.now.store.now)
-    (ap (λ (l : LogModel). tables_of l.events) c.note_flush.ensures.value ∙ ap (λ (v : CoreModel). tables_of v.events) c.self.view_is ∙ frozen_tables c.args.self.now c.freeze.new.self c.in_ok-freeze.ensures.event) refl
-
-pub returns-then-is_empty-clause-filtered : goal.returns-then-is_empty-clause-filtered
-returns-then-is_empty-clause-filtered g c h = subst (AreFiltered _ _)
-    (sym (ap (λ (l : LogModel). tables_of l.events) c.note_flush.ensures.value ∙ ap (λ (v : CoreModel). tables_of v.events) c.self.view_is ∙ frozen_tables c.args.self.now c.freeze.new.self c.in_ok-freeze.ensures.event)) h
-
-pub returns-then-is_empty-clause-puts : goal.returns-then-is_empty-clause-puts
-returns-then-is_empty-clause-puts g c = puts_none _
-
-pub returns-then-is_empty-clause-refused : goal.returns-then-is_empty-clause-refused
-returns-then-is_empty-clause-refused g c = tt
-
-pub returns-then-is_empty-clause-kept_refused : goal.returns-then-is_empty-clause-kept_refused
-returns-then-is_empty-clause-kept_refused g c = tt
-
-pub returns-then-is_empty-clause-wanted : goal.returns-then-is_empty-clause-wanted
-returns-then-is_empty-clause-wanted g c none among =
-    let clash : true ≡ false = sym among ∙ sym (among_frozen c.args.self.now c.freeze.new.self c.in_ok-freeze.ensures.event)
-    ∙ none_idle c.freeze.new.self (frozen_idle c.args.self.now c.freeze.new.self c.in_ok-freeze.ensures.event) (sym (ap (λ (v : CoreModel). v.frozen) c.self.view_is) ∙ sym c.frozen.ensures ∙ none_frozen c.frozen.result.now c.frozen.result.now c.is_empty.result c.is_empty.ensures c.if-is_empty.true refl) in
-    absurd cc
-
-pub returns-then-is_empty-clause-operable : goal.returns-then-is_empty-clause-operable
-returns-then-is_empty-clause-operable g c k = tt
-
-pub returns-then-is_empty-clause-cause : goal.returns-then-is_empty-clause-cause
-returns-then-is_empty-clause-cause g c = tt
+pub returns-then-is_empty : goal.returns-then-is_empty
+returns-then-is_empty g c = record {
+  step = λ m h. step_flush m c.args.self.now c.freeze.new.self (view_of (record c.self.inside { log = c.note_flush.new.self })) c.last.result c.in_ok-freeze.ensures.event
+      (c.last.ensures ∙ ap (λ (l : LogModel). l.last) c.note_flush.ensures.value ∙ c.self.invariant.log.last ∙ ap (λ (v : CoreModel). last_of v.settings.start_seq v.state.commits) c.self.view_is)
+      (ap (λ (v : CoreModel). v.state) (noted c.self.inside c.freeze.new.self c.note_flush.new.self c.self.view_is c.note_flush.ensures.value) ∙ (let n = sym (c.last.ensures ∙ ap (λ (l : LogModel). l.last) c.note_flush.ensures.value) in λ i. record c.freeze.new.self.state { flushed = n i }));
+  segmented = λ h z. subst (λ (v : CoreModel). IsSegmented h v) (sym (noted c.self.inside c.freeze.new.self c.note_flush.new.self c.self.view_is c.note_flush.ensures.value))
+      (segmented_as h c.freeze.new.self _ refl refl (segmented_frozen h c.args.self.now c.freeze.new.self c.in_ok-freeze.ensures.event z));
+  runs = λ k z. none_added (reach_of g.S.Store g.M.MergeOperator g.T.BlockTransformer c.args.env.now).meaning (segments_by g.X.PrefixExtractor.lengths c.args.laws.now.segments) c.args.self.now c.freeze.new.self (view_of (record c.self.inside { log = c.note_flush.new.self })) _ c.in_ok-freeze.ensures.event
+      (sym (ap (λ (v : CoreModel). v.frozen) c.self.view_is) ∙ sym c.frozen.ensures ∙ none_frozen c.frozen.result.now c.frozen.result.now c.is_empty.result c.is_empty.ensures c.if-is_empty.true refl)
+      (noted c.self.inside c.freeze.new.self c.note_flush.new.self c.self.view_is c.note_flush.ensures.value);
+  settings = ap (λ (v : CoreModel). v.settings) (noted c.self.inside c.freeze.new.self c.note_flush.new.self c.self.view_is c.note_flush.ensures.value) ∙ frozen_settings c.args.self.now c.freeze.new.self c.in_ok-freeze.ensures.event;
+  quiet = subst (λ (v : CoreModel). IsQuiet v.events) (sym (noted c.self.inside c.freeze.new.self c.note_flush.new.self c.self.view_is c.note_flush.ensures.value)) c.in_ok-freeze.ensures.quiet;
+  installed = (
+    c.freeze.new.self,
+    c.in_ok-freeze.ensures.event,
+    idle (sym (ap (λ (v : CoreModel). v.frozen) c.self.view_is) ∙ sym c.frozen.ensures ∙ none_frozen c.frozen.result.now c.frozen.result.now c.is_empty.result c.is_empty.ensures c.if-is_empty.true refl)
+        (noted c.self.inside c.freeze.new.self c.note_flush.new.self c.self.view_is c.note_flush.ensures.value ∙ (let n = sym (c.last.ensures ∙ ap (λ (l : LogModel). l.last) c.note_flush.ensures.value) in λ i. record c.freeze.new.self { state = record c.freeze.new.self.state { flushed = n i } })) refl,
+  );
+  acts = ([], ap (λ (l : LogModel). tables_of l.events) c.note_flush.ensures.value ∙ ap (λ (v : CoreModel). tables_of v.events) c.self.view_is ∙ frozen_tables c.args.self.now c.freeze.new.self c.in_ok-freeze.ensures.event ∙ sym (append-nil (tables_of c.args.self.now.events)), refl);
+  adds = adds_same _ _ refl;
+  taken = (
+    ap (λ (v : CoreModel). v.active) c.self.view_is ∙ frozen_idle c.args.self.now c.freeze.new.self c.in_ok-freeze.ensures.event,
+    sym c.frozen.ensures ∙ none_frozen c.frozen.result.now c.frozen.result.now c.is_empty.result c.is_empty.ensures c.if-is_empty.true refl,
+  );
+  full = λ h. absurd (omega (arith, c.in_ok-place_for_flush.ensures.place, h));
+  unasked = λ h. refl;
+  limit = λ h. absurd (omega (arith, c.in_ok-place_for_flush.ensures.place, h));
+  kept = λ k. let m = (reach_of g.S.Store g.M.MergeOperator g.T.BlockTransformer c.args.env.now).meaning in
+      subst (λ (l : LogModel). IsKept m (view_of (record c.self.inside { log = l }))) (sym c.note_flush.ensures.value)
+      (kept_flushed m (view_of c.self.inside) c.self.inside.log.last (subst (λ (v : CoreModel). IsKept m v) (sym c.self.view_is) (c.in_ok-freeze.ensures.kept m k)));
+  vouched = λ m other h. subst (λ (v : CoreModel). IsVouchedFor m v other) (sym (noted c.self.inside c.freeze.new.self c.note_flush.new.self c.self.view_is c.note_flush.ensures.value)) (c.in_ok-freeze.ensures.vouched m other h);
+  stay = let is = noted c.self.inside c.freeze.new.self c.note_flush.new.self c.self.view_is c.note_flush.ensures.value in
+      stay_on c.args.self.now c.freeze.new.self _ c.freeze.ensures.stay (stay_as c.freeze.new.self _ (ap (λ (v : CoreModel). v.state.txns) is) (ap (λ (v : CoreModel). v.state.snapshots) is));
+  held = held_still c.args.self.now.events _ _ _
+      (ap (λ (l : LogModel). tables_of l.events) c.note_flush.ensures.value ∙ ap (λ (v : CoreModel). tables_of v.events) c.self.view_is ∙ frozen_tables c.args.self.now c.freeze.new.self c.in_ok-freeze.ensures.event) refl;
+  told = tells_still c.args.self.now.events c.note_flush.new.self.events (g.S.Store.acts c.args.env.now.store.now) (g.S.Store.acts c.args.env.now.store.now)
+      (ap (λ (l : LogModel). tables_of l.events) c.note_flush.ensures.value ∙ ap (λ (v : CoreModel). tables_of v.events) c.self.view_is ∙ frozen_tables c.args.self.now c.freeze.new.self c.in_ok-freeze.ensures.event) refl;
+  filtered = λ h. subst (AreFiltered _ _)
+      (sym (ap (λ (l : LogModel). tables_of l.events) c.note_flush.ensures.value ∙ ap (λ (v : CoreModel). tables_of v.events) c.self.view_is ∙ frozen_tables c.args.self.now c.freeze.new.self c.in_ok-freeze.ensures.event)) h;
+  puts = puts_none _;
+  refused = tt;
+  kept_refused = tt;
+  wanted = λ none among. let clash : true ≡ false = sym among ∙ sym (among_frozen c.args.self.now c.freeze.new.self c.in_ok-freeze.ensures.event)
+      ∙ none_idle c.freeze.new.self (frozen_idle c.args.self.now c.freeze.new.self c.in_ok-freeze.ensures.event) (sym (ap (λ (v : CoreModel). v.frozen) c.self.view_is) ∙ sym c.frozen.ensures ∙ none_frozen c.frozen.result.now c.frozen.result.now c.is_empty.result c.is_empty.ensures c.if-is_empty.true refl) in
+      absurd cc;
+  operable = λ k. tt;
+  cause = tt;
+  still = refl;
+  frozen = λ h. never_late _ h;
+}
 
 -- ---- the install
 
@@ -303,6 +262,3 @@ returns g c =
       puts = c.install.ensures.puts;
       still = c.install.ensures.still;
     }
-
-pub returns-then-is_empty-clause-still : goal.returns-then-is_empty-clause-still
-returns-then-is_empty-clause-still g c = refl

@@ -32,6 +32,7 @@ use Rattle.slate_txn.proofs.NamedLaws.{IsNamed, open_is}
 use Rattle.slate_db.proofs.Behind.{asks_none}
 use Rattle.slate_db.proofs.Checks.{checks_err}
 use Rattle.slate_db.proofs.Notes.{step_get}
+use Rattle.slate_db.proofs.Noting.{notes_err, notes_ok, notes_refused}
 use Rattle.slate_db.proofs.Opened.{stay_noted, stay_same}
 use Rattle.slate_db.proofs.Operands.{own_updated}
 use Rattle.slate_db.proofs.Readers.{floor_at, own_at, reads_there, start_at, vouched_get}
@@ -51,76 +52,68 @@ pub returns-in_err-key : goal.returns-in_err-key
 returns-in_err-key g c =
     let p = err_from_is_err_and c.from_residual.result c.from_residual.ensures.1 in
     record {
-      noted = IfOk-from_err c.from_residual.result _ c.from_residual.ensures.0;
-      read = record {
-        answer = λ is. IfOk-from_err c.from_residual.result _ c.from_residual.ensures.0;
-        undamaged = λ is. let p = err_from_is_err_and c.from_residual.result c.from_residual.ensures.1 in rw (p.1, p.2) tt;
-        cause = rw (p.1, p.2) (inl tt);
-        checked = λ os is. checks_err c.from_residual.result os (reach_of g.S.Store g.M.MergeOperator g.T.BlockTransformer c.args.env.now) (reach_of g.S.Store g.M.MergeOperator g.T.BlockTransformer c.args.env.now) c.from_residual.ensures.0;
-        reads = reads_none _;
-        still = refl;
+      gets = record {
+        read = record {
+          answer = λ is. IfOk-from_err c.from_residual.result _ c.from_residual.ensures.0;
+          undamaged = λ is. let p = err_from_is_err_and c.from_residual.result c.from_residual.ensures.1 in rw (p.1, p.2) tt;
+          cause = rw (p.1, p.2) (inl tt);
+          checked = λ os is. checks_err c.from_residual.result os (reach_of g.S.Store g.M.MergeOperator g.T.BlockTransformer c.args.env.now) (reach_of g.S.Store g.M.MergeOperator g.T.BlockTransformer c.args.env.now) c.from_residual.ensures.0;
+          reads = reads_none _;
+          still = refl;
+        };
+        asks = asks_none (record { policies = map (λ p. (goal.FilterPolicy-dyn g (p.vtable, p.value)).meaning p.value) c.args.laws.now.policies.items; query = point_query c.args.key.now c.args.options.now.filter_context }) _ _ _ (call_none _);
+        finds = λ from found is needs. IfOk-from_err c.from_residual.result _ c.from_residual.ensures.0;
+        own = λ t op found one replaces. record { answer = IfOk-from_err c.from_residual.result _ c.from_residual.ensures.0; cause = rw (p.1, p.2) refl; reached = refl };
+        decided = λ t found some. (call_none _, refl);
+        folded = λ t found some lawful short. IfOk-from_err c.from_residual.result _ c.from_residual.ensures.0;
+        missing = λ t found lacks some. IfOk-from_err c.from_residual.result _ c.from_residual.ensures.0;
+        operand = λ from found lacks meets. IfOk-from_err c.from_residual.result _ c.from_residual.ensures.0;
+        vouched = λ is k h. h;
       };
-      asks = asks_none (record { policies = map (λ p. (goal.FilterPolicy-dyn g (p.vtable, p.value)).meaning p.value) c.args.laws.now.policies.items; query = point_query c.args.key.now c.args.options.now.filter_context }) _ _ _ (call_none _);
-      finds = λ from found is needs. IfOk-from_err c.from_residual.result _ c.from_residual.ensures.0;
-      own = λ t op found one replaces. record { answer = IfOk-from_err c.from_residual.result _ c.from_residual.ensures.0; cause = rw (p.1, p.2) refl; reached = refl };
-      decided = λ t found some. (call_none _, refl);
-      folded = λ t found some lawful short. IfOk-from_err c.from_residual.result _ c.from_residual.ensures.0;
-      missing = λ t found lacks some. IfOk-from_err c.from_residual.result _ c.from_residual.ensures.0;
-      operand = λ from found lacks meets. IfOk-from_err c.from_residual.result _ c.from_residual.ensures.0;
-      same = rw p.1 refl;
-      stay = stay_same c.args.self.now _ refl;
-      vouched = λ is k h. h;
-      kept = λ m k. k;
-      settings = refl;
+      notes = notes_refused _ _ _ _ _ _ p.1 refl;
     }
 
 pub returns-in-Err : goal.returns-in-Err
 returns-in-Err g c =
     record {
-      noted = tt;
-      read = record { answer = λ is. tt; undamaged = (c.in-Err.ensures.read (open_is _ c.requires).value (open_is _ c.requires).is).undamaged; cause = subst (λ (x : List ℕ × ℕ). IsReadError (record { policies = map (λ p. (goal.FilterPolicy-dyn g (p.vtable, p.value)).meaning p.value) c.args.laws.now.policies.items; query = point_query x.0 c.args.options.now.filter_context }) x.1 (reach_of g.S.Store g.M.MergeOperator g.T.BlockTransformer c.args.env.now) (reach_of g.S.Store g.M.MergeOperator g.T.BlockTransformer c.asked.new.env) c.args.self.now c.in-Err.error) (λ i. (c.in_ok-key.ensures i, reads_there c.args.self.now.state c.args.id.now c.in-Some.at c.in-Some.ensures i)) (c.in-Err.ensures.read (open_is _ c.requires).value (open_is _ c.requires).is).cause; checked = λ os is. tt; reads = (c.asked.ensures.read (open_is _ c.requires).value (open_is _ c.requires).is).reads; still = (c.in-Err.ensures.read (open_is _ c.requires).value (open_is _ c.requires).is).still };
-      asks = subst (λ (k : List ℕ). Asks (record { policies = map (λ p. (goal.FilterPolicy-dyn g (p.vtable, p.value)).meaning p.value) c.args.laws.now.policies.items; query = point_query k c.args.options.now.filter_context }) (reach_of g.S.Store g.M.MergeOperator g.T.BlockTransformer c.args.env.now) (reach_of g.S.Store g.M.MergeOperator g.T.BlockTransformer c.asked.new.env) c.args.self.now) c.in_ok-key.ensures c.asked.ensures.asks;
-      finds = λ from found is needs. tt;
-      own = λ t op found one replaces.
-          let own = c.in-Err.ensures.own t op found (ap (kept t.ops) c.in_ok-key.ensures ∙ one) replaces in
-          record { answer = tt; cause = own.cause; reached = own.reached };
-      decided = λ t found some. c.asked.ensures.decided t found (ap (λ (k : List ℕ). decides_own k t.ops) c.in_ok-key.ensures ∙ some);
-      folded = λ t found some lawful short. tt;
-      missing = λ t found lacks some. tt;
-      operand = λ from found lacks meets. tt;
-      same = refl;
-      stay = stay_same c.args.self.now _ refl;
-      vouched = λ is k h. h;
-      kept = λ m k. k;
-      settings = refl;
+      gets = record {
+        read = record { answer = λ is. tt; undamaged = (c.in-Err.ensures.read (open_is _ c.requires).value (open_is _ c.requires).is).undamaged; cause = subst (λ (x : List ℕ × ℕ). IsReadError (record { policies = map (λ p. (goal.FilterPolicy-dyn g (p.vtable, p.value)).meaning p.value) c.args.laws.now.policies.items; query = point_query x.0 c.args.options.now.filter_context }) x.1 (reach_of g.S.Store g.M.MergeOperator g.T.BlockTransformer c.args.env.now) (reach_of g.S.Store g.M.MergeOperator g.T.BlockTransformer c.asked.new.env) c.args.self.now c.in-Err.error) (λ i. (c.in_ok-key.ensures i, reads_there c.args.self.now.state c.args.id.now c.in-Some.at c.in-Some.ensures i)) (c.in-Err.ensures.read (open_is _ c.requires).value (open_is _ c.requires).is).cause; checked = λ os is. tt; reads = (c.asked.ensures.read (open_is _ c.requires).value (open_is _ c.requires).is).reads; still = (c.in-Err.ensures.read (open_is _ c.requires).value (open_is _ c.requires).is).still };
+        asks = subst (λ (k : List ℕ). Asks (record { policies = map (λ p. (goal.FilterPolicy-dyn g (p.vtable, p.value)).meaning p.value) c.args.laws.now.policies.items; query = point_query k c.args.options.now.filter_context }) (reach_of g.S.Store g.M.MergeOperator g.T.BlockTransformer c.args.env.now) (reach_of g.S.Store g.M.MergeOperator g.T.BlockTransformer c.asked.new.env) c.args.self.now) c.in_ok-key.ensures c.asked.ensures.asks;
+        finds = λ from found is needs. tt;
+        own = λ t op found one replaces.
+            let own = c.in-Err.ensures.own t op found (ap (kept t.ops) c.in_ok-key.ensures ∙ one) replaces in
+            record { answer = tt; cause = own.cause; reached = own.reached };
+        decided = λ t found some. c.asked.ensures.decided t found (ap (λ (k : List ℕ). decides_own k t.ops) c.in_ok-key.ensures ∙ some);
+        folded = λ t found some lawful short. tt;
+        missing = λ t found lacks some. tt;
+        operand = λ from found lacks meets. tt;
+        vouched = λ is k h. h;
+      };
+      notes = notes_err _ _ _ _ _ refl;
     }
 
 pub returns-in-Err-note_get : goal.returns-in-Err-note_get
 returns-in-Err-note_get g c =
     record {
-      noted = tt;
-      read = record {
-        answer = λ is. tt;
-        undamaged = λ is. subst (IsCounted _ _) (sym c.from.ensures) tt;
-        cause = inl (subst (IsCounted _ _) (sym c.from.ensures) tt);
-        checked = λ os is. tt;
-        reads = (c.asked.ensures.read (open_is _ c.requires).value (open_is _ c.requires).is).reads;
-        still = ap (unblamed c.from.result) (c.in-Ok.ensures.read (open_is _ c.requires).value (open_is _ c.requires).is).still;
+      gets = record {
+        read = record {
+          answer = λ is. tt;
+          undamaged = λ is. subst (IsCounted _ _) (sym c.from.ensures) tt;
+          cause = inl (subst (IsCounted _ _) (sym c.from.ensures) tt);
+          checked = λ os is. tt;
+          reads = (c.asked.ensures.read (open_is _ c.requires).value (open_is _ c.requires).is).reads;
+          still = ap (unblamed c.from.result) (c.in-Ok.ensures.read (open_is _ c.requires).value (open_is _ c.requires).is).still;
+        };
+        asks = subst (λ (k : List ℕ). Asks (record { policies = map (λ p. (goal.FilterPolicy-dyn g (p.vtable, p.value)).meaning p.value) c.args.laws.now.policies.items; query = point_query k c.args.options.now.filter_context }) (reach_of g.S.Store g.M.MergeOperator g.T.BlockTransformer c.args.env.now) (reach_of g.S.Store g.M.MergeOperator g.T.BlockTransformer c.asked.new.env) c.args.self.now) c.in_ok-key.ensures c.asked.ensures.asks;
+        finds = λ from found is needs. tt;
+        own = λ t op found one replaces. record { answer = tt; cause = c.from.ensures; reached = (c.asked.ensures.own t op found (ap (kept t.ops) c.in_ok-key.ensures ∙ one) replaces).reached };
+        decided = λ t found some. c.asked.ensures.decided t found (ap (λ (k : List ℕ). decides_own k t.ops) c.in_ok-key.ensures ∙ some);
+        folded = λ t found some lawful short. tt;
+        missing = λ t found lacks some. tt;
+        operand = λ from found lacks meets. tt;
+        vouched = λ is k h. let m = (reach_of g.S.Store g.M.MergeOperator g.T.BlockTransformer c.args.env.now).meaning in subst (λ (v : CoreModel). IsVouchedFor m v k) (sym (ap view_of (unnoted c.self.inside c.note_get.new.self c.in-Err-note_get.ensures.err) ∙ c.self.view_is)) h;
       };
-      asks = subst (λ (k : List ℕ). Asks (record { policies = map (λ p. (goal.FilterPolicy-dyn g (p.vtable, p.value)).meaning p.value) c.args.laws.now.policies.items; query = point_query k c.args.options.now.filter_context }) (reach_of g.S.Store g.M.MergeOperator g.T.BlockTransformer c.args.env.now) (reach_of g.S.Store g.M.MergeOperator g.T.BlockTransformer c.asked.new.env) c.args.self.now) c.in_ok-key.ensures c.asked.ensures.asks;
-      finds = λ from found is needs. tt;
-      own = λ t op found one replaces. record { answer = tt; cause = c.from.ensures; reached = (c.asked.ensures.own t op found (ap (kept t.ops) c.in_ok-key.ensures ∙ one) replaces).reached };
-      decided = λ t found some. c.asked.ensures.decided t found (ap (λ (k : List ℕ). decides_own k t.ops) c.in_ok-key.ensures ∙ some);
-      folded = λ t found some lawful short. tt;
-      missing = λ t found lacks some. tt;
-      operand = λ from found lacks meets. tt;
-      same = ap view_of (unnoted c.self.inside c.note_get.new.self c.in-Err-note_get.ensures.err) ∙ c.self.view_is;
-      stay = stay_same c.args.self.now _ (ap view_of (unnoted c.self.inside c.note_get.new.self c.in-Err-note_get.ensures.err) ∙ c.self.view_is);
-      vouched = λ is k h. let m = (reach_of g.S.Store g.M.MergeOperator g.T.BlockTransformer c.args.env.now).meaning in subst (λ (v : CoreModel). IsVouchedFor m v k) (sym (ap view_of (unnoted c.self.inside c.note_get.new.self c.in-Err-note_get.ensures.err) ∙ c.self.view_is)) h;
-      kept = (λ m kept_m.
-          subst (λ (s : Inside). IsKept m (view_of s)) (sym (unnoted c.self.inside c.note_get.new.self c.in-Err-note_get.ensures.err))
-          (subst (λ (v : CoreModel). IsKept m v) (sym c.self.view_is) kept_m));
-      settings = ap (λ (v : CoreModel). v.settings) c.self.view_is;
+      notes = notes_err _ _ _ _ _ (ap view_of (unnoted c.self.inside c.note_get.new.self c.in-Err-note_get.ensures.err) ∙ c.self.view_is);
     }
 
 -- the step that is noted
@@ -171,61 +164,55 @@ noted_is g c = sym (ap view_of (becomes g c)) ∙ ap (λ v. after_note v c.args.
 pub returns : goal.returns
 returns g c =
     record {
-      noted = noted_is g c;
-      read = record {
-        answer = (λ is h.
+      gets = record {
+        read = record {
+          answer = (λ is h.
+              let m = (reach_of g.S.Store g.M.MergeOperator g.T.BlockTransformer c.args.env.now).meaning in
+              let r = rules_of c.args.self.now.settings m in
+              let k = c.args.key.now in
+              step_get r c.args.self.now.state c.args.id.now k (who g c) c.in-Ok.row (from_is g c).is (row_is g c is)
+              ∙ (let a = sym c.answer-found.ensures in λ j. (noted c.args.self.now.state c.args.id.now (steps.Get k (a j) ∷ []), Found (a j)))
+              ∙ (let v = sym c.self.view_is in λ j. (noted (v j).state c.args.id.now (noted_step g c ∷ []), Found c.answer-found.result))
+              ∙ (λ j. ((view_of (becomes g c j)).state, Found c.answer-found.result)));
+          undamaged = λ is. tt;
+          cause = tt;
+          checked = (c.in-Ok.ensures.read (who g c) (from_is g c).is).checked;
+          reads = (c.asked.ensures.read (open_is _ c.requires).value (open_is _ c.requires).is).reads;
+          still = (c.in-Ok.ensures.read (open_is _ c.requires).value (open_is _ c.requires).is).still;
+        };
+        asks = subst (λ (k : List ℕ). Asks (record { policies = map (λ p. (goal.FilterPolicy-dyn g (p.vtable, p.value)).meaning p.value) c.args.laws.now.policies.items; query = point_query k c.args.options.now.filter_context }) (reach_of g.S.Store g.M.MergeOperator g.T.BlockTransformer c.args.env.now) (reach_of g.S.Store g.M.MergeOperator g.T.BlockTransformer c.asked.new.env) c.args.self.now) c.in_ok-key.ensures c.asked.ensures.asks;
+        finds = λ from found is needs.
             let m = (reach_of g.S.Store g.M.MergeOperator g.T.BlockTransformer c.args.env.now).meaning in
             let r = rules_of c.args.self.now.settings m in
-            let k = c.args.key.now in
-            step_get r c.args.self.now.state c.args.id.now k (who g c) c.in-Ok.row (from_is g c).is (row_is g c is)
-            ∙ (let a = sym c.answer-found.ensures in λ j. (noted c.args.self.now.state c.args.id.now (steps.Get k (a j) ∷ []), Found (a j)))
-            ∙ (let v = sym c.self.view_is in λ j. (noted (v j).state c.args.id.now (noted_step g c ∷ []), Found c.answer-found.result))
-            ∙ (λ j. ((view_of (becomes g c j)).state, Found c.answer-found.result)));
-        undamaged = λ is. tt;
-        cause = tt;
-        checked = (c.in-Ok.ensures.read (who g c) (from_is g c).is).checked;
-        reads = (c.asked.ensures.read (open_is _ c.requires).value (open_is _ c.requires).is).reads;
-        still = (c.in-Ok.ensures.read (open_is _ c.requires).value (open_is _ c.requires).is).still;
+            let key = c.in_ok-key.ensures in
+            let at = start_at c.self.inside c.args.self.now c.self.view_is c.args.id.now from found c.in-Some.at c.in-Some.ensures in
+            let above = subst (λ n. c.args.self.now.floor ≤ n) (sym at) (floor_at c.self.inside c.args.self.now c.self.view_is c.args.id.now from found c.self.invariant) in
+            subst (λ (j : List ℕ). Made (reach_of g.S.Store g.M.MergeOperator g.T.BlockTransformer c.args.env.now) (reach_of g.S.Store g.M.MergeOperator g.T.BlockTransformer c.asked.new.env) (ReadsKey m.encode j (tables_of c.args.self.now.events))) key
+            (c.in-Ok.ensures.finds from found above is ((λ i. needs_tables r c.args.self.now.state (at i) from.ops (key i)) ∙ needs));
+        own = λ t op found one replaces.
+            let own = c.in-Ok.ensures.own t op found (ap (kept t.ops) c.in_ok-key.ensures ∙ one) replaces in
+            record {
+              answer = λ combine. c.answer-found.ensures ∙ ap (λ (row : Option RowEntry). option_map key_value (option_and_then (λ r. hide_tombstone r.value r) row)) (own.answer ∙ ap (λ (j : List ℕ). Some (own_row j op)) c.in_ok-key.ensures);
+              cause = tt;
+              reached = own.reached;
+            };
+        decided = λ t found some. c.asked.ensures.decided t found (ap (λ (k : List ℕ). decides_own k t.ops) c.in_ok-key.ensures ∙ some);
+        folded = λ t found some lawful short.
+            let m = (reach_of g.S.Store g.M.MergeOperator g.T.BlockTransformer c.args.env.now).meaning in
+            let key = c.in_ok-key.ensures in
+            c.answer-found.ensures ∙ ap (λ (row : Option RowEntry). option_map key_value (option_and_then (λ r. hide_tombstone r.value r) row))
+            (c.in-Ok.ensures.folded t found (ap (λ (k : List ℕ). decides_own k t.ops) key ∙ some) (subst (λ (k : List ℕ). IsLawful (combine_of m k)) (sym key) lawful) (subst (λ (k : List ℕ). KeepsShort (combine_of m k)) (sym key) short)
+            ∙ ap (λ (k : List ℕ). fold_rows (combine_of m k) (map (own_row k) (kept t.ops k))) key);
+        operand = λ from found lacks meets.
+            let at = start_at c.self.inside c.args.self.now c.self.view_is c.args.id.now from found c.in-Some.at c.in-Some.ensures in
+            c.in-Ok.ensures.operand from found lacks
+            (subst (λ (k : List ℕ). MeetsOperand k c.in-Some.at from.ops c.args.self.now) (sym c.in_ok-key.ensures) (subst (λ n. MeetsOperand c.args.key.now n from.ops c.args.self.now) (sym at) meets));
+        missing = λ t found lacks some. c.in-Ok.ensures.missing t found lacks (ap (λ (k : List ℕ). keeps_merge k t.ops) c.in_ok-key.ensures ∙ some);
+        vouched = (λ is k h.
+            let m = (reach_of g.S.Store g.M.MergeOperator g.T.BlockTransformer c.args.env.now).meaning in
+            subst (λ (v : CoreModel). IsVouchedFor m v k) (sym (noted_is g c))
+            (vouched_get m c.args.self.now c.args.id.now k c.args.key.now c.answer-found.result (who g c) (from_is g c).is (own_at c.self.inside c.args.self.now c.self.view_is c.args.id.now c.self.invariant)
+            (c.answer-found.ensures ∙ ap (λ (row : Option RowEntry). option_map key_value (option_and_then (λ r. hide_tombstone r.value r) row)) (row_is g c is)) h));
       };
-      asks = subst (λ (k : List ℕ). Asks (record { policies = map (λ p. (goal.FilterPolicy-dyn g (p.vtable, p.value)).meaning p.value) c.args.laws.now.policies.items; query = point_query k c.args.options.now.filter_context }) (reach_of g.S.Store g.M.MergeOperator g.T.BlockTransformer c.args.env.now) (reach_of g.S.Store g.M.MergeOperator g.T.BlockTransformer c.asked.new.env) c.args.self.now) c.in_ok-key.ensures c.asked.ensures.asks;
-      finds = λ from found is needs.
-          let m = (reach_of g.S.Store g.M.MergeOperator g.T.BlockTransformer c.args.env.now).meaning in
-          let r = rules_of c.args.self.now.settings m in
-          let key = c.in_ok-key.ensures in
-          let at = start_at c.self.inside c.args.self.now c.self.view_is c.args.id.now from found c.in-Some.at c.in-Some.ensures in
-          let above = subst (λ n. c.args.self.now.floor ≤ n) (sym at) (floor_at c.self.inside c.args.self.now c.self.view_is c.args.id.now from found c.self.invariant) in
-          subst (λ (j : List ℕ). Made (reach_of g.S.Store g.M.MergeOperator g.T.BlockTransformer c.args.env.now) (reach_of g.S.Store g.M.MergeOperator g.T.BlockTransformer c.asked.new.env) (ReadsKey m.encode j (tables_of c.args.self.now.events))) key
-          (c.in-Ok.ensures.finds from found above is ((λ i. needs_tables r c.args.self.now.state (at i) from.ops (key i)) ∙ needs));
-      own = λ t op found one replaces.
-          let own = c.in-Ok.ensures.own t op found (ap (kept t.ops) c.in_ok-key.ensures ∙ one) replaces in
-          record {
-            answer = λ combine. c.answer-found.ensures ∙ ap (λ (row : Option RowEntry). option_map key_value (option_and_then (λ r. hide_tombstone r.value r) row)) (own.answer ∙ ap (λ (j : List ℕ). Some (own_row j op)) c.in_ok-key.ensures);
-            cause = tt;
-            reached = own.reached;
-          };
-      decided = λ t found some. c.asked.ensures.decided t found (ap (λ (k : List ℕ). decides_own k t.ops) c.in_ok-key.ensures ∙ some);
-      folded = λ t found some lawful short.
-          let m = (reach_of g.S.Store g.M.MergeOperator g.T.BlockTransformer c.args.env.now).meaning in
-          let key = c.in_ok-key.ensures in
-          c.answer-found.ensures ∙ ap (λ (row : Option RowEntry). option_map key_value (option_and_then (λ r. hide_tombstone r.value r) row))
-          (c.in-Ok.ensures.folded t found (ap (λ (k : List ℕ). decides_own k t.ops) key ∙ some) (subst (λ (k : List ℕ). IsLawful (combine_of m k)) (sym key) lawful) (subst (λ (k : List ℕ). KeepsShort (combine_of m k)) (sym key) short)
-          ∙ ap (λ (k : List ℕ). fold_rows (combine_of m k) (map (own_row k) (kept t.ops k))) key);
-      operand = λ from found lacks meets.
-          let at = start_at c.self.inside c.args.self.now c.self.view_is c.args.id.now from found c.in-Some.at c.in-Some.ensures in
-          c.in-Ok.ensures.operand from found lacks
-          (subst (λ (k : List ℕ). MeetsOperand k c.in-Some.at from.ops c.args.self.now) (sym c.in_ok-key.ensures) (subst (λ n. MeetsOperand c.args.key.now n from.ops c.args.self.now) (sym at) meets));
-      missing = λ t found lacks some. c.in-Ok.ensures.missing t found lacks (ap (λ (k : List ℕ). keeps_merge k t.ops) c.in_ok-key.ensures ∙ some);
-      same = tt;
-      stay = stay_noted c.args.self.now _ c.args.id.now (noted_step g c) (noted_is g c);
-      vouched = (λ is k h.
-          let m = (reach_of g.S.Store g.M.MergeOperator g.T.BlockTransformer c.args.env.now).meaning in
-          subst (λ (v : CoreModel). IsVouchedFor m v k) (sym (noted_is g c))
-          (vouched_get m c.args.self.now c.args.id.now k c.args.key.now c.answer-found.result (who g c) (from_is g c).is (own_at c.self.inside c.args.self.now c.self.view_is c.args.id.now c.self.invariant)
-          (c.answer-found.ensures ∙ ap (λ (row : Option RowEntry). option_map key_value (option_and_then (λ r. hide_tombstone r.value r) row)) (row_is g c is)) h));
-      kept = (λ m kept_m.
-          subst (λ (s : Inside). IsKept m (view_of s)) (becomes g c)
-          (kept_event m (view_of c.self.inside) (noted (view_of c.self.inside).state c.args.id.now (noted_step g c ∷ [])) c.self.inside.log.events c.self.inside.log.spare refl refl refl
-          (λ none own. own_updated c.args.id.now (λ t. record t { transcript = t.transcript ++ (noted_step g c ∷ []) }) c.self.inside.transactions (λ t h. h) own)
-          (subst (λ (v : CoreModel). IsKept m v) (sym c.self.view_is) kept_m)));
-      settings = ap (λ (v : CoreModel). v.settings) c.self.view_is;
+      notes = notes_ok _ _ _ _ c.answer-found.result (noted_is g c);
     }

@@ -16,46 +16,22 @@ use Rattle.slate_db.proofs.Wholes.{ends_are, replays_of}
 use Rattle.slate_db.proofs.engine.Core.journal.Goals as goal
 use Rattle.slate_types.proofs.Lists.{AllByRecursion_weaken}
 
-pub returns-clause-events : goal.returns-clause-events
-returns-clause-events c = c.journal.ensures.0 ∙ ap (λ (v : CoreModel). v.events) c.self.view_is
-
-pub returns-clause-legal : goal.returns-clause-legal
-returns-clause-legal c = subst (λ (v : CoreModel). IsLegal v.settings.start_seq v.events) c.self.view_is c.self.invariant.log.legal
-
-pub returns-clause-replays : goal.returns-clause-replays
-returns-clause-replays c = subst (λ (v : CoreModel). Replays v.events v.state) c.self.view_is (replays_of (view_of c.self.inside) (unseen_of c.self.inside) c.self.invariant)
-
-pub returns-clause-room : goal.returns-clause-room
-returns-clause-room c =
-    let room : ends_of (view_of c.self.inside).state ≤ (view_of c.self.inside).spare = omega (arith, ends_are (view_of c.self.inside) (unseen_of c.self.inside) c.self.invariant, c.self.invariant.log.room) in
-    subst (λ (v : CoreModel). ends_of v.state ≤ v.spare) c.self.view_is room
-
-pub returns-clause-flushed : goal.returns-clause-flushed
-returns-clause-flushed c = subst (λ (v : CoreModel). up_to v.state.flushed v.state.commits ≡ up_to (installed v.events) v.state.commits) c.self.view_is c.self.invariant.log.flushed_through
-
-pub returns-clause-floor : goal.returns-clause-floor
-returns-clause-floor c =
-    let last : c.self.inside.layers.floor ≤ last_of c.self.inside.log.start c.self.inside.log.commits = subst (λ n. c.self.inside.layers.floor ≤ n) c.self.invariant.log.last c.self.invariant.tied.floor_within in
-    subst (λ (v : CoreModel). v.floor ≤ last_of v.settings.start_seq v.state.commits) c.self.view_is last
-
-pub returns-clause-begins : goal.returns-clause-begins
-returns-clause-begins c = subst (λ (v : CoreModel). AllByRecursion (λ p. v.floor ≤ p.1.begin) v.state.txns) c.self.view_is (AllByRecursion_weaken _ _ (λ p h. h.0) c.self.inside.transactions c.self.invariant.tied.begins)
-
-pub returns-clause-shows : goal.returns-clause-shows
-returns-clause-shows c = subst (λ (v : CoreModel). AllByRecursion (λ p. v.floor ≤ p.1) v.state.snapshots) c.self.view_is (AllByRecursion_weaken _ _ (λ p h. h.0) c.self.inside.snapshots.active c.self.invariant.tied.shows)
-
-pub returns-clause-own : goal.returns-clause-own
-returns-clause-own c = subst (λ (v : CoreModel). AllByRecursion (λ p. p.1.ops ≡ own_of p.1.transcript) v.state.txns) c.self.view_is c.self.invariant.tied.own
-
-pub returns-clause-quiet : goal.returns-clause-quiet
-returns-clause-quiet c = subst (λ (v : CoreModel). v.active ≡ [] → IsQuiet v.events) c.self.view_is c.self.invariant.tied.quiet
-
-pub returns-clause-folds : goal.returns-clause-folds
-returns-clause-folds c m law kept =
-    subst (λ (v : CoreModel). FoldsToState m v) c.self.view_is
-    (folds_to_state m (view_of c.self.inside) (unseen_of c.self.inside) c.self.invariant law (subst (λ (v : CoreModel). IsKept m v) (sym c.self.view_is) kept))
-
-pub returns-clause-stored : goal.returns-clause-stored
-returns-clause-stored c m law kept =
-    subst (λ (v : CoreModel). StoresState m v) c.self.view_is
-    (stores_state m (view_of c.self.inside) (unseen_of c.self.inside) c.self.invariant law (subst (λ (v : CoreModel). IsKept m v) (sym c.self.view_is) kept))
+pub returns : goal.returns
+returns c = record {
+  events = c.journal.ensures.0 ∙ ap (λ (v : CoreModel). v.events) c.self.view_is;
+  legal = subst (λ (v : CoreModel). IsLegal v.settings.start_seq v.events) c.self.view_is c.self.invariant.log.legal;
+  replays = subst (λ (v : CoreModel). Replays v.events v.state) c.self.view_is (replays_of (view_of c.self.inside) (unseen_of c.self.inside) c.self.invariant);
+  room = let room : ends_of (view_of c.self.inside).state ≤ (view_of c.self.inside).spare = omega (arith, ends_are (view_of c.self.inside) (unseen_of c.self.inside) c.self.invariant, c.self.invariant.log.room) in
+      subst (λ (v : CoreModel). ends_of v.state ≤ v.spare) c.self.view_is room;
+  flushed = subst (λ (v : CoreModel). up_to v.state.flushed v.state.commits ≡ up_to (installed v.events) v.state.commits) c.self.view_is c.self.invariant.log.flushed_through;
+  floor = let last : c.self.inside.layers.floor ≤ last_of c.self.inside.log.start c.self.inside.log.commits = subst (λ n. c.self.inside.layers.floor ≤ n) c.self.invariant.log.last c.self.invariant.tied.floor_within in
+      subst (λ (v : CoreModel). v.floor ≤ last_of v.settings.start_seq v.state.commits) c.self.view_is last;
+  begins = subst (λ (v : CoreModel). AllByRecursion (λ p. v.floor ≤ p.1.begin) v.state.txns) c.self.view_is (AllByRecursion_weaken _ _ (λ p h. h.0) c.self.inside.transactions c.self.invariant.tied.begins);
+  shows = subst (λ (v : CoreModel). AllByRecursion (λ p. v.floor ≤ p.1) v.state.snapshots) c.self.view_is (AllByRecursion_weaken _ _ (λ p h. h.0) c.self.inside.snapshots.active c.self.invariant.tied.shows);
+  own = subst (λ (v : CoreModel). AllByRecursion (λ p. p.1.ops ≡ own_of p.1.transcript) v.state.txns) c.self.view_is c.self.invariant.tied.own;
+  quiet = subst (λ (v : CoreModel). v.active ≡ [] → IsQuiet v.events) c.self.view_is c.self.invariant.tied.quiet;
+  folds = λ m law kept. subst (λ (v : CoreModel). FoldsToState m v) c.self.view_is
+      (folds_to_state m (view_of c.self.inside) (unseen_of c.self.inside) c.self.invariant law (subst (λ (v : CoreModel). IsKept m v) (sym c.self.view_is) kept));
+  stored = λ m law kept. subst (λ (v : CoreModel). StoresState m v) c.self.view_is
+      (stores_state m (view_of c.self.inside) (unseen_of c.self.inside) c.self.invariant law (subst (λ (v : CoreModel). IsKept m v) (sym c.self.view_is) kept));
+}

@@ -15,6 +15,7 @@ use Rattle.slate_db.specs.View.{view_of, unseen_of, IsWholeInside}
 use Rattle.slate_db.specs.Sound.{IsKept}
 use Rattle.slate_db.specs.Vouched.{IsVouchedFor}
 use Rattle.slate_db.proofs.Keeps.{kept_event}
+use Rattle.slate_db.proofs.Noting.{notes_err, notes_ok}
 use Rattle.slate_db.proofs.Opened.{stay_noted, stay_same}
 use Rattle.slate_db.proofs.Operands.{own_updated}
 use Rattle.slate_db.proofs.ScanNotes.{next_left, vouched_next}
@@ -37,27 +38,25 @@ pub returns-in-Err : goal.returns-in-Err
 returns-in-Err g c =
     let n = c.in-Err.ensures in
     record {
-      noted = tt;
-      rows = λ w rows h sees. tt;
-      undamaged = n.undamaged;
-      checked = λ w rows h. tt;
-      later = tt;
-      cause = n.cause;
-      bases = λ none. tt;
-      hands = tt;
-      again = n.again;
-      refused = λ kept was. let r = n.refused kept was in (r.0, ap (λ (d : DbIterator). record c.args.it.now { rows = d }) r.1, r.2);
-      names = record { named = refl; number = refl; ordered = n.order; ranged = n.range };
+      step = record {
+        rows = λ w rows h sees. tt;
+        undamaged = n.undamaged;
+        checked = λ w rows h. tt;
+        later = tt;
+        cause = n.cause;
+        bases = λ none. tt;
+        hands = tt;
+        again = n.again;
+        refused = λ kept was. let r = n.refused kept was in (r.0, ap (λ (d : DbIterator). record c.args.it.now { rows = d }) r.1, r.2);
+        names = record { named = refl; number = refl; ordered = n.order; ranged = n.range };
+        within = n.within;
+        reads = n.reads;
+        still = n.still;
+      };
       left = λ m rows h. tt;
       vouched = λ w rows h sees left. tt;
-      same = refl;
-      stay = stay_same c.args.self.now _ refl;
       opened = c.requires;
-      kept = λ m k. k;
-      settings = refl;
-      within = n.within;
-      reads = n.reads;
-      still = n.still;
+      notes = notes_err _ _ _ _ _ refl;
     }
 
 pub returns-in-Err-note_next : goal.returns-in-Err-note_next
@@ -66,27 +65,25 @@ returns-in-Err-note_next g c =
     let r = c.refuse.ensures in
     let unmoved = unnoted c.self.inside c.note_next.new.self c.in-Err-note_next.ensures.err in
     record {
-      noted = tt;
-      rows = λ w rows h sees. tt;
-      undamaged = λ w rows h sees. subst (IsCounted _ _) (sym (r.same ∙ c.from.ensures)) tt;
-      checked = λ w rows h. tt;
-      later = tt;
-      cause = (n.later.0, n.later.1, inl (subst (IsCounted _ _) (sym (r.same ∙ c.from.ensures)) tt));
-      bases = λ none. tt;
-      hands = tt;
-      again = λ unrefused. rw r.same r.again;
-      refused = λ kept was. answered_once c.in-Ok.answer kept (n.refused kept was).0;
-      names = record { named = refl; number = refl; ordered = r.order ∙ n.order; ranged = r.range ∙ n.range };
+      step = record {
+        rows = λ w rows h sees. tt;
+        undamaged = λ w rows h sees. subst (IsCounted _ _) (sym (r.same ∙ c.from.ensures)) tt;
+        checked = λ w rows h. tt;
+        later = tt;
+        cause = (n.later.0, n.later.1, inl (subst (IsCounted _ _) (sym (r.same ∙ c.from.ensures)) tt));
+        bases = λ none. tt;
+        hands = tt;
+        again = λ unrefused. rw r.same r.again;
+        refused = λ kept was. answered_once c.in-Ok.answer kept (n.refused kept was).0;
+        names = record { named = refl; number = refl; ordered = r.order ∙ n.order; ranged = r.range ∙ n.range };
+        within = λ paths h. ((n.within paths h).0, keeps_within _ c.refuse.new.self paths r.again);
+        reads = n.reads;
+        still = ap (unblamed _) n.still;
+      };
       left = λ m rows h. tt;
       vouched = λ w rows h sees left. tt;
-      same = ap view_of unmoved ∙ c.self.view_is;
-      stay = stay_same c.args.self.now _ (ap view_of unmoved ∙ c.self.view_is);
       opened = (stay_same c.args.self.now _ (ap view_of unmoved ∙ c.self.view_is) c.args.it.now.id).scans c.args.it.now.scan c.requires;
-      kept = λ m k. subst (λ (s : Inside). IsKept m (view_of s)) (sym unmoved) (subst (λ (v : CoreModel). IsKept m v) (sym c.self.view_is) k);
-      settings = ap (λ (v : CoreModel). v.settings) c.self.view_is;
-      within = λ paths h. ((n.within paths h).0, keeps_within _ c.refuse.new.self paths r.again);
-      reads = n.reads;
-      still = ap (unblamed _) n.still;
+      notes = notes_err _ _ _ _ _ (ap view_of unmoved ∙ c.self.view_is);
     }
 
 -- the step that is noted
@@ -108,30 +105,24 @@ returns g c =
     let it = c.args.it.now in
     let m = (reach_of g.S.Store g.M.MergeOperator g.T.BlockTransformer c.args.env.now).meaning in
     record {
-      noted = noted_is g c;
-      rows = n.rows;
-      undamaged = λ w rows h sees. tt;
-      checked = n.checked;
-      later = n.later;
-      cause = tt;
-      bases = n.bases;
-      hands = n.hands;
-      again = λ unrefused. tt;
-      refused = λ kept was. answered_once c.in-Ok.answer kept (n.refused kept was).0;
-      names = record { named = refl; number = refl; ordered = n.order; ranged = n.range };
+      step = record {
+        rows = n.rows;
+        undamaged = λ w rows h sees. tt;
+        checked = n.checked;
+        later = n.later;
+        cause = tt;
+        bases = n.bases;
+        hands = n.hands;
+        again = λ unrefused. tt;
+        refused = λ kept was. answered_once c.in-Ok.answer kept (n.refused kept was).0;
+        names = record { named = refl; number = refl; ordered = n.order; ranged = n.range };
+        within = n.within;
+        reads = n.reads;
+        still = n.still;
+      };
       left = λ p rows h. subst (λ (v : CoreModel). HasLeft p v (record it { rows = c.next.new.self }) (drop 1 rows)) (sym (noted_is g c))
           (next_left p c.args.self.now it (record it { rows = c.next.new.self }) c.in-Ok.answer rows refl refl n.order h);
       vouched = λ w rows h sees left other k. subst (λ (v : CoreModel). IsVouchedFor m v other) (sym (noted_is g c)) (vouched_next m c.args.self.now it other c.in-Ok.answer rows left (n.rows w rows h sees).0 k);
-      same = tt;
-      stay = stay_noted c.args.self.now _ c.args.it.now.id (noted_step g c) (noted_is g c);
       opened = (stay_noted c.args.self.now _ c.args.it.now.id (noted_step g c) (noted_is g c) c.args.it.now.id).scans c.args.it.now.scan c.requires;
-      kept = λ p k.
-          subst (λ (s : Inside). IsKept p (view_of s)) (becomes g c)
-          (kept_event p (view_of c.self.inside) (noted (view_of c.self.inside).state it.id (noted_step g c ∷ [])) c.self.inside.log.events c.self.inside.log.spare refl refl refl
-          (λ none own. own_updated it.id (λ (t : Tx). record t { transcript = t.transcript ++ (noted_step g c ∷ []) }) (view_of c.self.inside).state.txns (λ t h. h) own)
-          (subst (λ (v : CoreModel). IsKept p v) (sym c.self.view_is) k));
-      settings = ap (λ (v : CoreModel). v.settings) c.self.view_is;
-      within = n.within;
-      reads = n.reads;
-      still = n.still;
+      notes = notes_ok _ _ _ _ c.in-Ok.answer (noted_is g c);
     }

@@ -41,37 +41,28 @@ reads g c from found =
     })
 
 pub returns : goal.returns
-returns g c =
-    let from : Reader = (open_is (reader c.args.self.now.state c.args.id.now) c.requires.open).value in
-    let found : reader c.args.self.now.state c.args.id.now ≡ Some from = (open_is (reader c.args.self.now.state c.args.id.now) c.requires.open).is in
-    let o = c.opened_over.ensures.opened c.args.self.now c.args.id.now from (stands g c) (reads g c from found) in
-    record {
-      opened = λ u at above a. (c.opened_over.ensures.opened c.args.self.now c.args.id.now u (stands g c) (reads g c u at)).opened above a;
-      checked = λ u at above os r. (c.opened_over.ensures.opened c.args.self.now c.args.id.now u (stands g c) (reads g c u at)).checked above os r;
-      later = o.later;
-      hands = o.hands;
-      undamaged = λ above a. o.undamaged above a;
-      cause = o.cause;
-      range = c.opened_over.ensures.range;
-      order = c.opened_over.ensures.order;
-      within = o.within;
-      reads = c.opened_over.ensures.reads;
-      still = c.opened_over.ensures.still;
-    }
+returns g c = record {
+  opened = λ from found. c.opened_over.ensures.opened c.args.self.now c.args.id.now from (stands g c) (reads g c from found);
+  range = c.opened_over.ensures.range;
+  order = c.opened_over.ensures.order;
+  reads = c.opened_over.ensures.reads;
+}
 
 pub returns-in_err-own : goal.returns-in_err-own
 returns-in_err-own g c =
     let fault = subst (IsFault (reach_of g.S.Store g.M.MergeOperator g.T.BlockTransformer c.args.env.now) (reach_of g.S.Store g.M.MergeOperator g.T.BlockTransformer c.args.env.now)) (sym c.in_err-own.ensures.cause) tt in
     record {
-      opened = λ u at from a. IfOk-from_err c.from_residual.result _ c.from_residual.ensures.0;
-      checked = λ u at above os r. IfOk-from_err c.from_residual.result _ c.from_residual.ensures.0;
-      later = IfOk-from_err c.from_residual.result _ c.from_residual.ensures.0;
-      hands = IfOk-from_err c.from_residual.result _ c.from_residual.ensures.0;
-      undamaged = λ from a. err_exit c.from_residual.result _ c.from_residual.ensures.1 _ fault;
-      cause = err_exit c.from_residual.result _ c.from_residual.ensures.1 _ (inl fault);
+      opened = λ u at. record {
+        opened = λ from a. IfOk-from_err c.from_residual.result _ c.from_residual.ensures.0;
+        checked = λ above os r. IfOk-from_err c.from_residual.result _ c.from_residual.ensures.0;
+        later = IfOk-from_err c.from_residual.result _ c.from_residual.ensures.0;
+        hands = IfOk-from_err c.from_residual.result _ c.from_residual.ensures.0;
+        within = none_within _ _ _ c.args.self.now (unseen_of c.self.inside) _ (subst (λ (v : CoreModel). IsWhole v (unseen_of c.self.inside)) c.self.view_is c.self.invariant) (IfOk-from_err c.from_residual.result _ c.from_residual.ensures.0);
+        undamaged = λ from a. err_exit c.from_residual.result _ c.from_residual.ensures.1 _ fault;
+        cause = err_exit c.from_residual.result _ c.from_residual.ensures.1 _ (inl fault);
+        still = refl;
+      };
       range = IfOk-from_err c.from_residual.result _ c.from_residual.ensures.0;
       order = IfOk-from_err c.from_residual.result _ c.from_residual.ensures.0;
-      within = none_within _ _ _ c.args.self.now (unseen_of c.self.inside) _ (subst (λ (v : CoreModel). IsWhole v (unseen_of c.self.inside)) c.self.view_is c.self.invariant) (IfOk-from_err c.from_residual.result _ c.from_residual.ensures.0);
       reads = reads_none _;
-      still = refl;
     }

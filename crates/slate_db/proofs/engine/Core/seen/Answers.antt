@@ -62,6 +62,4 @@ returns-in_err-near g c =
     }
 
 pub returns : goal.returns
-returns g c =
-    let s = c.seen_behind.ensures c.args.self.now c.args.own.items (rows g c) (near g c) (stands g c) (under g c) in
-    record { read = s.read; asks = s.asks; finds = s.finds; missing = s.missing; merged = s.merged }
+returns g c = c.seen_behind.ensures c.args.self.now c.args.own.items (rows g c) (near g c) (stands g c) (under g c)

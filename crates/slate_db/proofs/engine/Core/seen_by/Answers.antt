@@ -7,9 +7,10 @@ use Rattle.slate_types.specs.declared.error.SlateDBError.TheVariants.{OutOfMemor
 use Rattle.slate_types.specs.declared.filter_policy.PrefixTarget.TheVariants.{Point}
 use Rattle.slate_types.specs.declared.types.RowEntry.{RowEntry}
 use Rattle.slate_types.specs.Fold.{fold_rows}
-use Rattle.slate_types.specs.Outside.{Reach}
+use Rattle.slate_types.specs.Outside.{IsFault, Reach}
+use Rattle.slate_types.proofs.Exits.{err_exit}
 use Rattle.slate_types.proofs.Calls.{call_none}
-use Rattle.slate_types.proofs.Reaching.{adds_none, later_none, reads_of}
+use Rattle.slate_types.proofs.Reaching.{adds_none, later_none, reads_none, reads_of}
 use Rattle.slate_mem.specs.declared.WriteOp.{WriteOp}
 use Rattle.slate_mem.specs.Batch.{kept}
 use Rattle.slate_mem.specs.Lookup.{is_decided, is_merge_among}
@@ -30,7 +31,7 @@ use Rattle.slate_db.specs.View.{unseen_of, view_of}
 use Rattle.slate_db.proofs.Bases.{no_merge_among}
 use Rattle.slate_db.proofs.Behind.{asks_none}
 use Rattle.slate_db.proofs.Causes.{fold_fault}
-use Rattle.slate_db.proofs.Checks.{checks_ok, checks_quiet}
+use Rattle.slate_db.proofs.Checks.{checks_err, checks_ok, checks_quiet}
 use Rattle.slate_db.proofs.Gets.{own_pairs}
 use Rattle.slate_db.proofs.NoMerges.{own_bases_of}
 use Rattle.slate_db.proofs.Needs.{decided_needs}
@@ -40,7 +41,7 @@ use Rattle.slate_db.proofs.Runs.{all_handles}
 use Rattle.slate_db.proofs.Shown.{fold_refused, newer_found}
 use Rattle.slate_types.proofs.StillLaws.{asked_still}
 use Rattle.slate_db.proofs.engine.Core.seen_by.Goals as goal
-use Rattle.std.proofs.lemmas.Result.{IfOk-weaker, IfErr-weaker}
+use Rattle.std.proofs.lemmas.Result.{IfOk-from_err, IfOk-weaker, IfErr-weaker, err_from_is_err_and}
 
 pub seen-requires : goal.seen-requires
 seen-requires g c =
@@ -58,8 +59,28 @@ seen-requires g c =
       short = own_short k who.value.ops own rows (own_fine_of (view_of c.self.inside).state c.args.id.now who.value there c.own_rows.ensures.fine);
     }
 
-pub returns-in_err-own-clause-asks : goal.returns-in_err-own-clause-asks
-returns-in_err-own-clause-asks g c = asks_none (record { policies = map (λ p. (goal.FilterPolicy-dyn g (p.vtable, p.value)).meaning p.value) c.args.policies.now; query = c.args.query.now }) _ _ _ (call_none _)
+pub returns-in_err-own : goal.returns-in_err-own
+returns-in_err-own g c =
+    let p = err_from_is_err_and c.from_residual.result c.from_residual.ensures.1 in
+    let here : Reach = reach_of g.S.Store g.M.MergeOperator g.T.BlockTransformer c.args.env.now in
+    let fault = subst (IsFault here here) (sym c.in_err-own.ensures.cause) tt in
+    record {
+      read = λ from found. record {
+        answer = λ is. IfOk-from_err c.from_residual.result _ c.from_residual.ensures.0;
+        undamaged = λ is. err_exit c.from_residual.result _ c.from_residual.ensures.1 _ fault;
+        cause = err_exit c.from_residual.result _ c.from_residual.ensures.1 _ (inl fault);
+        checked = λ os is. checks_err c.from_residual.result os here here c.from_residual.ensures.0;
+        reads = reads_none _;
+        still = refl;
+      };
+      asks = asks_none (record { policies = map (λ p. (goal.FilterPolicy-dyn g (p.vtable, p.value)).meaning p.value) c.args.policies.now; query = c.args.query.now }) _ _ _ (call_none _);
+      finds = λ from found above is needs. IfOk-from_err c.from_residual.result _ c.from_residual.ensures.0;
+      own = λ t op found one replaces. record { answer = IfOk-from_err c.from_residual.result _ c.from_residual.ensures.0; cause = rw (p.1, p.2) c.in_err-own.ensures.cause; reached = refl };
+      decided = λ t found some. (call_none _, refl);
+      folded = λ t found some lawful short. IfOk-from_err c.from_residual.result _ c.from_residual.ensures.0;
+      missing = λ t found lacks some. IfOk-from_err c.from_residual.result _ c.from_residual.ensures.0;
+      operand = λ from found lacks meets. IfOk-from_err c.from_residual.result _ c.from_residual.ensures.0;
+    }
 
 pub returns-then-is_decided : goal.returns-then-is_decided
 returns-then-is_decided g c =

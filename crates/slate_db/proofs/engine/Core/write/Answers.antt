@@ -16,6 +16,8 @@ use Rattle.slate_txn.specs.Reply.{Written, Refused}
 use Rattle.slate_txn.specs.Step.{step}
 use Rattle.slate_db.specs.declared.engine.Core.TheInside.{Inside}
 use Rattle.slate_db.specs.BatchTests.{batch_refusal}
+use Rattle.slate_db.specs.Calls.Common.{Given, given_by}
+use Rattle.slate_db.specs.Calls.Write.{refusal_of, write_verdict}
 use Rattle.slate_db.specs.Load.{load}
 use Rattle.slate_db.specs.Meaning.{rules_in, combine_of, segments_by}
 use Rattle.slate_db.specs.Model.{CoreModel, Rows, at, versions, versions_in, IsSame}
@@ -24,10 +26,10 @@ use Rattle.slate_db.specs.Segmented.{IsSegmented}
 use Rattle.slate_db.specs.Sound.{IsKept}
 use Rattle.slate_db.specs.Vouched.{IsVouchedFor}
 use Rattle.slate_db.specs.Layers.{AreLayers, LayersModel, FitsMemory, AreRising}
-use Rattle.slate_db.specs.Log.{IsLog, LogModel, IsWhollyKept, with_write}
+use Rattle.slate_db.specs.Log.{LIMIT, IsLog, LogModel, IsWhollyKept, with_write}
 use Rattle.slate_db.specs.Written.{IsWritten, after_write}
 use Rattle.slate_types.proofs.StillLaws.{stays_at}
-use Rattle.slate_types.specs.Outside.{Meaning}
+use Rattle.slate_types.specs.Outside.{IsFault, Meaning}
 use Rattle.slate_types.proofs.Reaching.{reads_none}
 use Rattle.slate_store.specs.Reach.{reach_of}
 use Rattle.slate_db.proofs.Asks.{asked_call, asked_reads, call_none, callback_fault, short_fault}
@@ -47,85 +49,31 @@ use Rattle.slate_db.proofs.Tests.{batch_refusal_as, first_moved, none_some, refu
 use Rattle.slate_db.proofs.Unasked.{asked}
 use Rattle.slate_db.proofs.Vouches.{below_next, vouched_write}
 use Rattle.slate_db.proofs.Wholes.{whole_recorded, whole_write}
+use Rattle.slate_db.proofs.Verdicts.{decides_err, decides_ok}
+use Rattle.slate_db.proofs.WriteVerdicts.{asks_made, decides_either, decides_fault, decides_memory}
 use Rattle.slate_db.proofs.Writes.{kept_write}
+use Rattle.slate_db.proofs.Writing.{verdict_crowded, verdict_none, verdict_tested, write_idle, write_refused, write_spent}
 use Rattle.slate_db.proofs.engine.Core.write.Goals as goal
 use Rattle.slate_types.proofs.Lists.{AllByRecursion_behind, AllByRecursion_weaken}
 
 pub returns-then-is_empty : goal.returns-then-is_empty
 returns-then-is_empty g c =
-    record {
-      step = (λ z ops of fine.
-          step_nothing (rules_in c.args.self.now.settings (reach_of g.S.Store g.M.MergeOperator g.T.BlockTransformer c.args.env.now).meaning (segments_by g.X.PrefixExtractor.lengths c.args.laws.now.segments)) (at c.args.now c.args.self.now.state) ops c.args.batch of (c.is_empty.ensures.0 c.if-is_empty.true));
-      refused = λ z. tt;
-      segmented = λ z. z;
-      segmented_refused = tt;
-      event = (c.is_empty.ensures.0 c.if-is_empty.true, refl);
-      vouched = λ m k h. h;
-      kept = λ k. k;
-      load = λ ops of. omega arith;
-      kept_refused = tt;
-      same = tt;
-      idle = λ none. refl;
-      first = λ some below e is. absurd (some (c.is_empty.ensures.0 c.if-is_empty.true));
-      stay = stay_same c.args.self.now _ refl;
-      unasked = λ h. refl;
-      plain = λ h. refl;
-      outside = refl;
-      still = refl;
-      call = call_none _;
-      reads = reads_none _;
-      exhausted = λ some full. absurd (some (c.is_empty.ensures.0 c.if-is_empty.true));
-      limit = λ some below fine past. absurd (some (c.is_empty.ensures.0 c.if-is_empty.true));
-      cause = tt;
-    }
+    let before = reach_of g.S.Store g.M.MergeOperator g.T.BlockTransformer c.args.env.now in
+    write_idle (given_by before (segments_by g.X.PrefixExtractor.lengths c.args.laws.now.segments) c.args.now) c.args.batch before _ _ c.args.self.now (c.is_empty.ensures.0 c.if-is_empty.true) refl refl
 
 pub returns-then-last-ge18446744073709551614 : goal.returns-then-last-ge18446744073709551614
 returns-then-last-ge18446744073709551614 g c =
-    record {
-      step = λ z. tt;
-      segmented = tt;
-      segmented_refused = λ h z. z;
-      refused = (λ z. inr (inr (λ ops of fine.
-          let m : Meaning = (reach_of g.S.Store g.M.MergeOperator g.T.BlockTransformer c.args.env.now).meaning in
-          sym (ap (λ (v : CoreModel). step (rules_in v.settings m (segments_by g.X.PrefixExtractor.lengths c.args.laws.now.segments)) (at c.args.now v.state) (lines.Write ops)) c.self.view_is)
-          ∙ step_exhausted (rules_in (view_of c.self.inside).settings m (segments_by g.X.PrefixExtractor.lengths c.args.laws.now.segments)) (at c.args.now (view_of c.self.inside).state) ops c.args.batch c.self.inside.log.last of
-          (λ e. let t : true ≡ false = sym (c.is_empty.ensures.1 e) ∙ c.if-is_empty.false in cc) fine c.self.invariant.log.last
-          (let h : c.self.inside.log.last ≤ 2 ^ 64 - 2 = c.self.invariant.log.last_fits in omega (arith, c.last.ensures))
-          ∙ ap (λ (v : CoreModel). (at c.args.now v.state, Refused errors.SequenceExhausted)) c.self.view_is)));
-      event = tt;
-      vouched = tt;
-      kept = tt;
-      load = λ ops of. tt;
-      kept_refused = λ m k. k;
-      same = refl;
-      idle = λ none. absurd (true≢false (sym (c.is_empty.ensures.1 none) ∙ c.if-is_empty.false));
-      exhausted = λ some full. refl;
-      limit = λ some below fine past. let last = subst (λ n. n < 2 ^ 64 - 2) (sym (c.self.invariant.log.last ∙ ap (λ (v : CoreModel). last_of v.settings.start_seq v.state.commits) c.self.view_is)) below in absurd (omega (arith, last, c.last.ensures));
-      first = λ some below e is. let last = subst (λ n. n < 2 ^ 64 - 2) (sym (c.self.invariant.log.last ∙ ap (λ (v : CoreModel). last_of v.settings.start_seq v.state.commits) c.self.view_is)) below in absurd (omega (arith, last, c.last.ensures));
-      stay = stay_same c.args.self.now _ refl;
-      unasked = λ h. refl;
-      plain = λ h. refl;
-      outside = refl;
-      still = refl;
-      call = call_none _;
-      reads = reads_none _;
-      cause = (let fits : c.self.inside.log.last ≤ 2 ^ 64 - 2 = c.self.invariant.log.last_fits in let last : c.self.inside.log.last ≡ 2 ^ 64 - 2 = omega (arith, fits, c.last.ensures) in inr (inl (refl, sym (c.self.invariant.log.last ∙ ap (λ (v : CoreModel). last_of v.settings.start_seq v.state.commits) c.self.view_is) ∙ last)));
-    }
+    let before = reach_of g.S.Store g.M.MergeOperator g.T.BlockTransformer c.args.env.now in
+    let fits : c.self.inside.log.last ≤ 2 ^ 64 - 2 = c.self.invariant.log.last_fits in
+    let last : c.self.inside.log.last ≡ 2 ^ 64 - 2 = omega (arith, fits, c.last.ensures) in
+    write_spent (given_by before (segments_by g.X.PrefixExtractor.lengths c.args.laws.now.segments) c.args.now) c.args.batch before _ _ c.self.inside c.args.self.now c.self.invariant c.self.view_is
+    (λ none. true≢false (sym (c.is_empty.ensures.1 none) ∙ c.if-is_empty.false)) last refl refl
 
--- why the tests refused it
-refused_test : {Short Test Fault Limit Model : Type 0} → (Short → Fault) → (Test → Model) → Short ⊎ Test → Fault ⊎ Limit ⊎ Model
-refused_test f m (inl short) = inl (f short)
-refused_test f m (inr test) = inr (inr (m test))
+-- why the tests refused it, and why the rows weren't made
+by_test : {Short Test Verdict : Type 0} → (Test → Verdict) → Short ⊎ Test → Short ⊎ Verdict
+by_test f (inl short) = inl short
+by_test f (inr test) = inr (f test)
 
-cause_test : {Short Test Fault Full Limit Known : Type 0} → (Short → Fault) → (Test → Known) → Short ⊎ Test → Fault ⊎ Full ⊎ Limit ⊎ Known
-cause_test f m (inl short) = inl (f short)
-cause_test f m (inr test) = inr (inr (inr (m test)))
-
-or_short : {Short Test P Q : Type 0} → (Short → Q) → (Test → P ⊎ Q) → Short ⊎ Test → P ⊎ Q
-or_short f m (inl short) = inr (f short)
-or_short f m (inr test) = m test
-
--- why the rows weren't made
 either : {A B P : Type 0} → (A → P) → (B → P) → A ⊎ B → P
 either f m (inl a) = f a
 either f m (inr b) = m b
@@ -208,51 +156,57 @@ returns g c =
     let event : IsWritten c.args.self.now (view_of (record c.self.inside { log = c.push_write.new.self; layers = c.put_batch.new.layers; manager = c.put_batch.new.manager; segments = c.put_batch.new.segments })) (Some (c.last-seq.result + 1)) c.args.now c.args.batch.ops =
     sym (ap view_of becomes) ∙ ap (λ (v : CoreModel). record (after_write v (n + 1) c.args.now c.args.batch.ops (put_rows c.self.inside.layers.active (commit_rows f c.self.inside.default_millis (n + 1) c.args.now c.args.batch.ops)) c.push_write.new.self.spare) { segments = c.put_batch.new.segments }) c.self.view_is
     ∙ (let s = sym seq in let rows = sym (ap (λ (y : LayersModel). y.active) layers) in λ i. record (after_write c.args.self.now (s i) c.args.now c.args.batch.ops (rows i) c.push_write.new.self.spare) { segments = c.put_batch.new.segments }) in
+    let before = reach_of g.S.Store g.M.MergeOperator g.T.BlockTransformer c.args.env.now in
+    let after = reach_of g.S.Store g.M.MergeOperator g.T.BlockTransformer (record c.args.env.now { operator = c.rows_of_batch.new.operator }) in
+    let d : Given = given_by before by c.args.now in
+    let some : c.args.batch.ops ≡ [] → ⊥ = λ none. true≢false (sym (c.is_empty.ensures.1 none) ∙ c.if-is_empty.false) in
+    let known : refusal_of d c.args.self.now c.args.batch ≡ None = ap (λ (v : CoreModel). batch_refusal m.combine by v.segments v.settings.default_millis c.args.now c.args.batch) (sym c.self.view_is) ∙ tested in
+    let free : write_verdict d c.args.self.now c.args.batch ≡ None = verdict_none d c.args.batch c.self.inside c.args.self.now c.self.invariant c.self.view_is below known c.in_ok-place.ensures.place in
     record {
+      answer = decides_ok (write_verdict d c.args.self.now c.args.batch) (IsFault before after) (Some (c.last-seq.result + 1)) free;
+      idle = λ none. absurd (some none);
+      exhausted = λ some. none_left (view_of c.self.inside) c.args.self.now (unseen_of c.self.inside) (2 ^ 64 - 2) c.self.view_is c.self.invariant below;
       step = (λ z ops of fine.
           sym (ap (λ (v : CoreModel). step (rules_in v.settings m by) (at c.args.now v.state) (lines.Write ops)) c.self.view_is)
           ∙ step_tested (rules_in (view_of c.self.inside).settings m by) (at c.args.now (view_of c.self.inside).state) c.self.inside.segments ops c.args.batch n of (λ e. let t : true ≡ false = sym (c.is_empty.ensures.1 e) ∙ c.if-is_empty.false in cc) tested fine (subst (λ (v : CoreModel). IsSegmented by v) (sym c.self.view_is) z).recorded c.self.invariant.log.last below
           ∙ (let s = sym seq in λ i. (at c.args.now (view_of (becomes i)).state, Written (Some (s i)))));
       refused = λ z. tt;
-      segmented = (λ z.
-          subst (λ (s : Inside). IsSegmented by (view_of s)) becomes
-          (segmented_more m.combine by (view_of c.self.inside) (record (after_write (view_of c.self.inside) (n + 1) c.args.now c.args.batch.ops written c.push_write.new.self.spare) { segments = c.put_batch.new.segments })
-          c.self.inside.default_millis c.args.now c.args.batch.held_merge (record { seq = n + 1; now = c.args.now; ops = c.args.batch.ops; tracked = batch_keys c.args.batch.ops }) recorded refl tested
-          (subst (λ (v : CoreModel). IsSegmented by v) (sym c.self.view_is) z)));
-      segmented_refused = tt;
       event = event;
       vouched = (λ m k h.
           subst (λ (s : Inside). IsVouchedFor m (view_of s) k) becomes
           (vouched_write m (view_of c.self.inside) k (n + 1) c.args.now c.args.batch.ops written c.push_write.new.self.spare (below_next (view_of c.self.inside) (unseen_of c.self.inside) c.self.invariant)
           (subst (λ (v : CoreModel). IsVouchedFor m v k) (sym c.self.view_is) h)));
-      kept = (λ k.
-          let old : IsKept m (view_of c.self.inside) = subst (λ (v : CoreModel). IsKept m v) (sym c.self.view_is) k in
-          subst (λ (s : Inside). IsKept m (view_of s)) becomes
-          (kept_recorded m (after_write (view_of c.self.inside) (n + 1) c.args.now c.args.batch.ops written c.push_write.new.self.spare) c.put_batch.new.segments
-          (kept_write m (view_of c.self.inside) (unseen_of c.self.inside) c.args.now c.args.batch.ops _ c.push_write.new.self.spare
-          (λ j. versions_more f c.self.inside.default_millis (n + 1) c.args.now c.args.batch.ops c.self.inside.layers.active j (active_within m (view_of c.self.inside) (unseen_of c.self.inside) c.self.invariant old j))
-          (λ none. c.ops.ensures.plain (tested_plain m.combine by c.self.inside.segments c.args.batch.held_merge c.self.inside.default_millis c.args.now c.args.batch.ops none tested))
-          c.self.invariant old)));
-      load = (λ ops of.
+      keeps = record {
+        own = record {
+          rows = (λ k.
+              let old : IsKept m (view_of c.self.inside) = subst (λ (v : CoreModel). IsKept m v) (sym c.self.view_is) k in
+              subst (λ (s : Inside). IsKept m (view_of s)) becomes
+              (kept_recorded m (after_write (view_of c.self.inside) (n + 1) c.args.now c.args.batch.ops written c.push_write.new.self.spare) c.put_batch.new.segments
+              (kept_write m (view_of c.self.inside) (unseen_of c.self.inside) c.args.now c.args.batch.ops _ c.push_write.new.self.spare
+              (λ j. versions_more f c.self.inside.default_millis (n + 1) c.args.now c.args.batch.ops c.self.inside.layers.active j (active_within m (view_of c.self.inside) (unseen_of c.self.inside) c.self.invariant old j))
+              (λ none. c.ops.ensures.plain (tested_plain m.combine by c.self.inside.segments c.args.batch.held_merge c.self.inside.default_millis c.args.now c.args.batch.ops none tested))
+              c.self.invariant old)));
+          segments = (λ z.
+              subst (λ (s : Inside). IsSegmented by (view_of s)) becomes
+              (segmented_more m.combine by (view_of c.self.inside) (record (after_write (view_of c.self.inside) (n + 1) c.args.now c.args.batch.ops written c.push_write.new.self.spare) { segments = c.put_batch.new.segments })
+              c.self.inside.default_millis c.args.now c.args.batch.held_merge (record { seq = n + 1; now = c.args.now; ops = c.args.batch.ops; tracked = batch_keys c.args.batch.ops }) recorded refl tested
+              (subst (λ (v : CoreModel). IsSegmented by v) (sym c.self.view_is) z)));
+        };
+        refused = tt;
+      };
+      grows = (λ ops of.
           subst (λ (v : CoreModel). load (view_of (record c.self.inside { log = c.push_write.new.self; layers = c.put_batch.new.layers; manager = c.put_batch.new.manager; segments = c.put_batch.new.segments })) ≤ load v + length ops) c.self.view_is
           (subst (λ (s : Inside). load (view_of s) ≤ load (view_of c.self.inside) + length ops) becomes
           (write_load (view_of c.self.inside) f c.self.inside.default_millis (n + 1) c.args.now c.args.batch.ops ops of.0)));
-      kept_refused = tt;
       same = tt;
-      idle = λ none. absurd (true≢false (sym (c.is_empty.ensures.1 none) ∙ c.if-is_empty.false));
-      exhausted = λ some. none_left (view_of c.self.inside) c.args.self.now (unseen_of c.self.inside) (2 ^ 64 - 2) c.self.view_is c.self.invariant below;
-      limit = λ some below fine. placed (view_of c.self.inside) c.args.self.now (unseen_of c.self.inside) 1 c.self.view_is c.self.invariant c.in_ok-place.ensures.place;
-      first = λ some below e is. none_some e (sym (refusal_known (option_map g.M.MergeOperator.combine c.args.env.now.operator) (reach_of g.S.Store g.M.MergeOperator g.T.BlockTransformer c.args.env.now).meaning.combine (segments_by g.X.PrefixExtractor.lengths c.args.laws.now.segments) (view_of c.self.inside) c.args.self.now _ c.args.now c.args.batch _ (sym (combine_is g.M.MergeOperator.combine c.args.env.now.operator)) c.self.view_is (to_z-of_z w64 c.args.now c.ranges.now) c.in_ok-prefixes.ensures.tested) ∙ is);
-      cause = tt;
       stay = stay_written c.args.self.now _ (Some (c.last-seq.result + 1)) c.args.now c.args.batch.ops event;
-      unasked = λ h. asked (view_of c.self.inside) c.args.self.now (unseen_of c.self.inside) (reach_of g.S.Store g.M.MergeOperator g.T.BlockTransformer c.args.env.now).meaning.combine (segments_by g.X.PrefixExtractor.lengths c.args.laws.now.segments) c.args.now c.args.batch c.self.view_is c.self.invariant below
-          (λ none. true≢false (sym (c.is_empty.ensures.1 none) ∙ c.if-is_empty.false)) c.in_ok-place.ensures.place
-          (sym (batch_refusal_as (option_map g.M.MergeOperator.combine c.args.env.now.operator) (reach_of g.S.Store g.M.MergeOperator g.T.BlockTransformer c.args.env.now).meaning.combine (segments_by g.X.PrefixExtractor.lengths c.args.laws.now.segments) c.self.inside.segments c.self.inside.default_millis _ c.args.now c.args.batch (sym (combine_is g.M.MergeOperator.combine c.args.env.now.operator)) (to_z-of_z w64 c.args.now c.ranges.now)) ∙ c.in_ok-prefixes.ensures.tested) h;
-      plain = λ h. ap (λ o. record c.args.env.now { operator = o }) (c.rows_of_batch.ensures.plain h);
       outside = refl;
-      still = c.in_ok-rows.ensures.still;
-      call = asked_call g.S.Store g.M.MergeOperator g.T.BlockTransformer c.args.env.now c.rows_of_batch.new.operator c.rows_of_batch.ensures.same;
-      reads = asked_reads g.S.Store g.M.MergeOperator g.T.BlockTransformer c.args.env.now c.rows_of_batch.new.operator c.rows_of_batch.ensures.same c.rows_of_batch.ensures.later;
+      asks = record {
+        call = asked_call g.S.Store g.M.MergeOperator g.T.BlockTransformer c.args.env.now c.rows_of_batch.new.operator c.rows_of_batch.ensures.same;
+        reads = asked_reads g.S.Store g.M.MergeOperator g.T.BlockTransformer c.args.env.now c.rows_of_batch.new.operator c.rows_of_batch.ensures.same c.rows_of_batch.ensures.later;
+        still = c.in_ok-rows.ensures.still;
+      };
+      unasked = asks_made (write_verdict d c.args.self.now c.args.batch) c.args.batch free some (λ plain. ap (λ o. record c.args.env.now { operator = o }) (c.rows_of_batch.ensures.plain plain));
     }
 
 -- ---- refusals: at most room was made
@@ -276,217 +230,135 @@ invariant_of-self-in_err-put_batch g c = subst IsWholeInside (let y = sym c.in_e
 pub returns-in_err-prefixes : goal.returns-in_err-prefixes
 returns-in_err-prefixes g c =
     let p = err_from_is_err_and c.from_residual.result c.from_residual.ensures.1 in
-    let m : Meaning = (reach_of g.S.Store g.M.MergeOperator g.T.BlockTransformer c.args.env.now).meaning in
-    let below : c.self.inside.log.last < 2 ^ 64 - 2 = omega (arith, c.last.ensures) in
-    record {
-      step = λ z. IfOk-from_err c.from_residual.result _ c.from_residual.ensures.0;
-      refused = λ z. rw (p.1, p.2) (refused_test (short_fault (reach_of g.S.Store g.M.MergeOperator g.T.BlockTransformer c.args.env.now) (reach_of g.S.Store g.M.MergeOperator g.T.BlockTransformer c.args.env.now) c.in_err-prefixes.field-0.0)
-          (λ test ops of fine.
-          sym (ap (λ (v : CoreModel). step (rules_in v.settings m (segments_by g.X.PrefixExtractor.lengths c.args.laws.now.segments)) (at c.args.now v.state) (lines.Write ops)) c.self.view_is)
-          ∙ step_test_refused (rules_in (view_of c.self.inside).settings m (segments_by g.X.PrefixExtractor.lengths c.args.laws.now.segments)) (at c.args.now (view_of c.self.inside).state) c.self.inside.segments ops c.args.batch c.self.inside.log.last c.in_err-prefixes.field-0.0 of (λ none. let t : true ≡ false = sym (c.is_empty.ensures.1 none) ∙ c.if-is_empty.false in cc)
-          (ap (λ (v : CoreModel). batch_refusal m.combine (segments_by g.X.PrefixExtractor.lengths c.args.laws.now.segments) v.segments v.settings.default_millis c.args.now c.args.batch) c.self.view_is ∙ refusal_known (option_map g.M.MergeOperator.combine c.args.env.now.operator) (reach_of g.S.Store g.M.MergeOperator g.T.BlockTransformer c.args.env.now).meaning.combine (segments_by g.X.PrefixExtractor.lengths c.args.laws.now.segments) (view_of c.self.inside) c.args.self.now _ c.args.now c.args.batch _ (sym (combine_is g.M.MergeOperator.combine c.args.env.now.operator)) c.self.view_is (to_z-of_z w64 c.args.now c.ranges.now) test) fine (subst (λ (v : CoreModel). IsSegmented (segments_by g.X.PrefixExtractor.lengths c.args.laws.now.segments) v) (sym c.self.view_is) z).recorded c.self.invariant.log.last below
-          ∙ ap (λ (v : CoreModel). (at c.args.now v.state, Refused c.in_err-prefixes.field-0.0)) c.self.view_is) c.in_err-prefixes.ensures.cause);
-      event = IfOk-from_err c.from_residual.result _ c.from_residual.ensures.0;
-      vouched = IfOk-from_err c.from_residual.result _ c.from_residual.ensures.0;
-      kept = IfOk-from_err c.from_residual.result _ c.from_residual.ensures.0;
-      segmented = IfOk-from_err c.from_residual.result _ c.from_residual.ensures.0;
-      segmented_refused = rw p.1 (λ h z. z);
-      kept_refused = rw p.1 (λ m k. k);
-      load = λ ops of. IfOk-from_err c.from_residual.result _ c.from_residual.ensures.0;
-      same = rw p.1 refl;
-      idle = λ none. absurd (true≢false (sym (c.is_empty.ensures.1 none) ∙ c.if-is_empty.false));
-      exhausted = λ some. none_left (view_of c.self.inside) c.args.self.now (unseen_of c.self.inside) (2 ^ 64 - 2) c.self.view_is c.self.invariant below;
-      limit = λ some below fine past. or_short (λ short. p.1 ∙ ap Err (p.2 ∙ short)) (λ test. none_some c.in_err-prefixes.field-0.0 (sym fine ∙ refusal_known (option_map g.M.MergeOperator.combine c.args.env.now.operator) (reach_of g.S.Store g.M.MergeOperator g.T.BlockTransformer c.args.env.now).meaning.combine (segments_by g.X.PrefixExtractor.lengths c.args.laws.now.segments) (view_of c.self.inside) c.args.self.now _ c.args.now c.args.batch _ (sym (combine_is g.M.MergeOperator.combine c.args.env.now.operator)) c.self.view_is (to_z-of_z w64 c.args.now c.ranges.now) test)) c.in_err-prefixes.ensures.cause;
-      first = λ some lower e is. first_moved c.in_err-prefixes.field-0.0 e errors.OutOfMemory _ c.from_residual.result refl (p.1 ∙ ap Err p.2) (c.in_err-prefixes.ensures.first e (refusal_asked (option_map g.M.MergeOperator.combine c.args.env.now.operator) (reach_of g.S.Store g.M.MergeOperator g.T.BlockTransformer c.args.env.now).meaning.combine (segments_by g.X.PrefixExtractor.lengths c.args.laws.now.segments) (view_of c.self.inside) c.args.self.now _ c.args.now c.args.batch _ (sym (combine_is g.M.MergeOperator.combine c.args.env.now.operator)) c.self.view_is (to_z-of_z w64 c.args.now c.ranges.now) is));
-      cause = rw (p.1, p.2) (cause_test (short_fault (reach_of g.S.Store g.M.MergeOperator g.T.BlockTransformer c.args.env.now) (reach_of g.S.Store g.M.MergeOperator g.T.BlockTransformer c.args.env.now) c.in_err-prefixes.field-0.0) (λ test. refusal_known (option_map g.M.MergeOperator.combine c.args.env.now.operator) (reach_of g.S.Store g.M.MergeOperator g.T.BlockTransformer c.args.env.now).meaning.combine (segments_by g.X.PrefixExtractor.lengths c.args.laws.now.segments) (view_of c.self.inside) c.args.self.now _ c.args.now c.args.batch _ (sym (combine_is g.M.MergeOperator.combine c.args.env.now.operator)) c.self.view_is (to_z-of_z w64 c.args.now c.ranges.now) test) c.in_err-prefixes.ensures.cause);
-      stay = stay_same c.args.self.now _ refl;
-      unasked = λ h. refl;
-      plain = λ h. refl;
-      outside = refl;
-      still = rw (p.1, p.2) (stays_at _ _ c.in_err-prefixes.field-0.0 refl);
-      call = call_none _;
-      reads = reads_none _;
-    }
+    let before = reach_of g.S.Store g.M.MergeOperator g.T.BlockTransformer c.args.env.now in
+    let by : Segments = segments_by g.X.PrefixExtractor.lengths c.args.laws.now.segments in
+    let d : Given = given_by before by c.args.now in
+    let s = c.self.inside in
+    let old = c.args.self.now in
+    let b = c.args.batch in
+    let below : s.log.last < 2 ^ 64 - 2 = omega (arith, c.last.ensures) in
+    let some : b.ops ≡ [] → ⊥ = λ none. true≢false (sym (c.is_empty.ensures.1 none) ∙ c.if-is_empty.false) in
+    write_refused d b before before _ _ s old _ c.in_err-prefixes.field-0.0 c.from_residual.result c.self.invariant c.self.view_is
+    refl some below
+    (decides_either (Option ℕ) (write_verdict d old b) (IsFault before before) c.in_err-prefixes.field-0.0 tt
+    (by_test (λ test. verdict_tested d b s old c.in_err-prefixes.field-0.0 c.self.invariant c.self.view_is some below
+    (refusal_known (option_map g.M.MergeOperator.combine c.args.env.now.operator) before.meaning.combine by (view_of s) old _ c.args.now b _ (sym (combine_is g.M.MergeOperator.combine c.args.env.now.operator)) c.self.view_is (to_z-of_z w64 c.args.now c.ranges.now) test)) c.in_err-prefixes.ensures.cause))
+    refl (record { call = call_none before; reads = reads_none before; still = stays_at _ _ c.in_err-prefixes.field-0.0 refl })
+    (λ h. refl) (p.1 ∙ ap Err p.2)
 
 pub returns-in_err-place : goal.returns-in_err-place
 returns-in_err-place g c =
     let p = err_from_is_err_and c.from_residual-in_err-place.result c.from_residual-in_err-place.ensures.1 in
-    let limit = c.in_err-place.ensures.limit in
-    let below : c.self.inside.log.last < 2 ^ 64 - 2 = omega (arith, c.last.ensures) in
-    record {
-      step = λ z. IfOk-from_err c.from_residual-in_err-place.result _ c.from_residual-in_err-place.ensures.0;
-      refused = λ z. rw (p.1, p.2) (inr (inl limit.0));
-      event = IfOk-from_err c.from_residual-in_err-place.result _ c.from_residual-in_err-place.ensures.0;
-      vouched = IfOk-from_err c.from_residual-in_err-place.result _ c.from_residual-in_err-place.ensures.0;
-      kept = IfOk-from_err c.from_residual-in_err-place.result _ c.from_residual-in_err-place.ensures.0;
-      load = λ ops of. IfOk-from_err c.from_residual-in_err-place.result _ c.from_residual-in_err-place.ensures.0;
-      segmented = IfOk-from_err c.from_residual-in_err-place.result _ c.from_residual-in_err-place.ensures.0;
-      segmented_refused = rw p.1 (λ h z. z);
-      kept_refused = rw p.1 (λ m k. k);
-      same = rw p.1 refl;
-      idle = λ none. absurd (true≢false (sym (c.is_empty.ensures.1 none) ∙ c.if-is_empty.false));
-      exhausted = λ some. none_left (view_of c.self.inside) c.args.self.now (unseen_of c.self.inside) (2 ^ 64 - 2) c.self.view_is c.self.invariant below;
-      limit = λ some below fine past. inl (p.1 ∙ ap Err (p.2 ∙ limit.0));
-      first = λ some lower e is. none_some e (sym (refusal_known (option_map g.M.MergeOperator.combine c.args.env.now.operator) (reach_of g.S.Store g.M.MergeOperator g.T.BlockTransformer c.args.env.now).meaning.combine (segments_by g.X.PrefixExtractor.lengths c.args.laws.now.segments) (view_of c.self.inside) c.args.self.now _ c.args.now c.args.batch _ (sym (combine_is g.M.MergeOperator.combine c.args.env.now.operator)) c.self.view_is (to_z-of_z w64 c.args.now c.ranges.now) c.in_ok-prefixes.ensures.tested) ∙ is);
-      cause = rw (p.1, p.2) (inr (inr (inl (limit.0, past_place (view_of c.self.inside) c.args.self.now (unseen_of c.self.inside) 1 c.self.view_is c.self.invariant limit.1))));
-      stay = stay_same c.args.self.now _ refl;
-      unasked = λ h. refl;
-      plain = λ h. refl;
-      outside = refl;
-      still = rw (p.1, p.2) (stays_at _ _ c.in_err-place.field-0.0 refl);
-      call = call_none _;
-      reads = reads_none _;
-    }
+    let before = reach_of g.S.Store g.M.MergeOperator g.T.BlockTransformer c.args.env.now in
+    let by : Segments = segments_by g.X.PrefixExtractor.lengths c.args.laws.now.segments in
+    let d : Given = given_by before by c.args.now in
+    let s = c.self.inside in
+    let old = c.args.self.now in
+    let b = c.args.batch in
+    let below : s.log.last < 2 ^ 64 - 2 = omega (arith, c.last.ensures) in
+    let some : b.ops ≡ [] → ⊥ = λ none. true≢false (sym (c.is_empty.ensures.1 none) ∙ c.if-is_empty.false) in
+    let known : refusal_of d old b ≡ None = refusal_known (option_map g.M.MergeOperator.combine c.args.env.now.operator) before.meaning.combine by (view_of s) old _ c.args.now b _ (sym (combine_is g.M.MergeOperator.combine c.args.env.now.operator)) c.self.view_is (to_z-of_z w64 c.args.now c.ranges.now) c.in_ok-prefixes.ensures.tested in
+    write_refused d b before before _ _ s old _ (errors.LimitReached LIMIT) c.from_residual-in_err-place.result c.self.invariant c.self.view_is
+    refl some below
+    (decides_err (Option ℕ) (write_verdict d old b) (IsFault before before) (errors.LimitReached LIMIT)
+    (verdict_crowded d b s old c.self.invariant c.self.view_is some below known (past_place (view_of s) old (unseen_of s) 1 c.self.view_is c.self.invariant c.in_err-place.ensures.limit.1)))
+    refl (record { call = call_none before; reads = reads_none before; still = refl })
+    (λ h. refl) (p.1 ∙ ap Err (p.2 ∙ c.in_err-place.ensures.limit.0))
 
 pub returns-in_err-reserve : goal.returns-in_err-reserve
 returns-in_err-reserve g c =
     let p = err_from_is_err_and c.from_residual-in_err-reserve.result c.from_residual-in_err-reserve.ensures.1 in
-    let below : c.self.inside.log.last < 2 ^ 64 - 2 = omega (arith, c.last.ensures) in
-    record {
-      step = λ z. IfOk-from_err c.from_residual-in_err-reserve.result _ c.from_residual-in_err-reserve.ensures.0;
-      refused = λ z. rw (p.1, p.2) (inl tt);
-      event = IfOk-from_err c.from_residual-in_err-reserve.result _ c.from_residual-in_err-reserve.ensures.0;
-      vouched = IfOk-from_err c.from_residual-in_err-reserve.result _ c.from_residual-in_err-reserve.ensures.0;
-      kept = IfOk-from_err c.from_residual-in_err-reserve.result _ c.from_residual-in_err-reserve.ensures.0;
-      load = λ ops of. IfOk-from_err c.from_residual-in_err-reserve.result _ c.from_residual-in_err-reserve.ensures.0;
-      segmented = IfOk-from_err c.from_residual-in_err-reserve.result _ c.from_residual-in_err-reserve.ensures.0;
-      segmented_refused = rw p.1 (λ h z. segmented_same h c.args.self.now _ (subst (λ (v : CoreModel). IsSame v (view_of (record c.self.inside { log = c.reserve.new.self }))) c.self.view_is (room_made c.self.inside c.reserve.new.self c.reserve.ensures.value)) z);
-      kept_refused = rw p.1 (λ m k. kept_same m c.args.self.now _ (subst (λ (v : CoreModel). IsSame v (view_of (record c.self.inside { log = c.reserve.new.self }))) c.self.view_is (room_made c.self.inside c.reserve.new.self c.reserve.ensures.value)) k);
-      same = rw p.1 (subst (λ (v : CoreModel). IsSame v (view_of (record c.self.inside { log = c.reserve.new.self }))) c.self.view_is (room_made c.self.inside c.reserve.new.self c.reserve.ensures.value));
-      idle = λ none. absurd (true≢false (sym (c.is_empty.ensures.1 none) ∙ c.if-is_empty.false));
-      exhausted = λ some. none_left (view_of c.self.inside) c.args.self.now (unseen_of c.self.inside) (2 ^ 64 - 2) c.self.view_is c.self.invariant below;
-      limit = λ some below fine. placed (view_of c.self.inside) c.args.self.now (unseen_of c.self.inside) 1 c.self.view_is c.self.invariant c.in_ok-place.ensures.place;
-      first = λ some lower e is. none_some e (sym (refusal_known (option_map g.M.MergeOperator.combine c.args.env.now.operator) (reach_of g.S.Store g.M.MergeOperator g.T.BlockTransformer c.args.env.now).meaning.combine (segments_by g.X.PrefixExtractor.lengths c.args.laws.now.segments) (view_of c.self.inside) c.args.self.now _ c.args.now c.args.batch _ (sym (combine_is g.M.MergeOperator.combine c.args.env.now.operator)) c.self.view_is (to_z-of_z w64 c.args.now c.ranges.now) c.in_ok-prefixes.ensures.tested) ∙ is);
-      cause = rw (p.1, p.2) (inl tt);
-      stay = stay_room c.args.self.now _ (subst (λ (v : CoreModel). IsSame v (view_of (record c.self.inside { log = c.reserve.new.self }))) c.self.view_is (room_made c.self.inside c.reserve.new.self c.reserve.ensures.value));
-      unasked = λ h. refl;
-      plain = λ h. refl;
-      outside = refl;
-      still = rw (p.1, p.2) refl;
-      call = call_none _;
-      reads = reads_none _;
-    }
+    let before = reach_of g.S.Store g.M.MergeOperator g.T.BlockTransformer c.args.env.now in
+    let by : Segments = segments_by g.X.PrefixExtractor.lengths c.args.laws.now.segments in
+    let d : Given = given_by before by c.args.now in
+    let s = c.self.inside in
+    let old = c.args.self.now in
+    let b = c.args.batch in
+    let below : s.log.last < 2 ^ 64 - 2 = omega (arith, c.last.ensures) in
+    let some : b.ops ≡ [] → ⊥ = λ none. true≢false (sym (c.is_empty.ensures.1 none) ∙ c.if-is_empty.false) in
+    write_refused d b before before _ _ s old _ errors.OutOfMemory c.from_residual-in_err-reserve.result c.self.invariant c.self.view_is
+    (subst (λ (v : CoreModel). IsSame v (view_of (record s { log = c.reserve.new.self }))) c.self.view_is (room_made s c.reserve.new.self c.reserve.ensures.value)) some below
+    (decides_memory (Option ℕ) (write_verdict d old b) (IsFault before before) tt)
+    refl (record { call = call_none before; reads = reads_none before; still = refl })
+    (λ h. refl) (p.1 ∙ ap Err p.2)
 
 pub returns-in_err-rows : goal.returns-in_err-rows
 returns-in_err-rows g c =
     let p = err_from_is_err_and c.from_residual-in_err-rows.result c.from_residual-in_err-rows.ensures.1 in
-    let below : c.self.inside.log.last < 2 ^ 64 - 2 = omega (arith, c.last.ensures) in
-    record {
-      step = λ z. IfOk-from_err c.from_residual-in_err-rows.result _ c.from_residual-in_err-rows.ensures.0;
-      refused = λ z. rw (p.1, p.2) (inl (either (short_fault (reach_of g.S.Store g.M.MergeOperator g.T.BlockTransformer c.args.env.now) (reach_of g.S.Store g.M.MergeOperator g.T.BlockTransformer (record c.args.env.now { operator = c.rows_of_batch.new.operator })) c.in_err-rows.field-0.0) (callback_fault (reach_of g.S.Store g.M.MergeOperator g.T.BlockTransformer c.args.env.now) (reach_of g.S.Store g.M.MergeOperator g.T.BlockTransformer (record c.args.env.now { operator = c.rows_of_batch.new.operator })) c.in_err-rows.field-0.0) c.in_err-rows.ensures.cause));
-      event = IfOk-from_err c.from_residual-in_err-rows.result _ c.from_residual-in_err-rows.ensures.0;
-      vouched = IfOk-from_err c.from_residual-in_err-rows.result _ c.from_residual-in_err-rows.ensures.0;
-      kept = IfOk-from_err c.from_residual-in_err-rows.result _ c.from_residual-in_err-rows.ensures.0;
-      load = λ ops of. IfOk-from_err c.from_residual-in_err-rows.result _ c.from_residual-in_err-rows.ensures.0;
-      segmented = IfOk-from_err c.from_residual-in_err-rows.result _ c.from_residual-in_err-rows.ensures.0;
-      segmented_refused = rw p.1 (λ h z. segmented_same h c.args.self.now _ (subst (λ (v : CoreModel). IsSame v (view_of (record c.self.inside { log = c.reserve.new.self }))) c.self.view_is (room_made c.self.inside c.reserve.new.self c.reserve.ensures.value)) z);
-      kept_refused = rw p.1 (λ m k. kept_same m c.args.self.now _ (subst (λ (v : CoreModel). IsSame v (view_of (record c.self.inside { log = c.reserve.new.self }))) c.self.view_is (room_made c.self.inside c.reserve.new.self c.reserve.ensures.value)) k);
-      same = rw p.1 (subst (λ (v : CoreModel). IsSame v (view_of (record c.self.inside { log = c.reserve.new.self }))) c.self.view_is (room_made c.self.inside c.reserve.new.self c.reserve.ensures.value));
-      idle = λ none. absurd (true≢false (sym (c.is_empty.ensures.1 none) ∙ c.if-is_empty.false));
-      exhausted = λ some. none_left (view_of c.self.inside) c.args.self.now (unseen_of c.self.inside) (2 ^ 64 - 2) c.self.view_is c.self.invariant below;
-      limit = λ some below fine. placed (view_of c.self.inside) c.args.self.now (unseen_of c.self.inside) 1 c.self.view_is c.self.invariant c.in_ok-place.ensures.place;
-      first = λ some lower e is. none_some e (sym (refusal_known (option_map g.M.MergeOperator.combine c.args.env.now.operator) (reach_of g.S.Store g.M.MergeOperator g.T.BlockTransformer c.args.env.now).meaning.combine (segments_by g.X.PrefixExtractor.lengths c.args.laws.now.segments) (view_of c.self.inside) c.args.self.now _ c.args.now c.args.batch _ (sym (combine_is g.M.MergeOperator.combine c.args.env.now.operator)) c.self.view_is (to_z-of_z w64 c.args.now c.ranges.now) c.in_ok-prefixes.ensures.tested) ∙ is);
-      cause = rw (p.1, p.2) (inl (either (short_fault (reach_of g.S.Store g.M.MergeOperator g.T.BlockTransformer c.args.env.now) (reach_of g.S.Store g.M.MergeOperator g.T.BlockTransformer (record c.args.env.now { operator = c.rows_of_batch.new.operator })) c.in_err-rows.field-0.0) (callback_fault (reach_of g.S.Store g.M.MergeOperator g.T.BlockTransformer c.args.env.now) (reach_of g.S.Store g.M.MergeOperator g.T.BlockTransformer (record c.args.env.now { operator = c.rows_of_batch.new.operator })) c.in_err-rows.field-0.0) c.in_err-rows.ensures.cause));
-      stay = stay_room c.args.self.now _ (subst (λ (v : CoreModel). IsSame v (view_of (record c.self.inside { log = c.reserve.new.self }))) c.self.view_is (room_made c.self.inside c.reserve.new.self c.reserve.ensures.value));
-      unasked = λ h. asked (view_of c.self.inside) c.args.self.now (unseen_of c.self.inside) (reach_of g.S.Store g.M.MergeOperator g.T.BlockTransformer c.args.env.now).meaning.combine (segments_by g.X.PrefixExtractor.lengths c.args.laws.now.segments) c.args.now c.args.batch c.self.view_is c.self.invariant below
-          (λ none. true≢false (sym (c.is_empty.ensures.1 none) ∙ c.if-is_empty.false)) c.in_ok-place.ensures.place
-          (sym (batch_refusal_as (option_map g.M.MergeOperator.combine c.args.env.now.operator) (reach_of g.S.Store g.M.MergeOperator g.T.BlockTransformer c.args.env.now).meaning.combine (segments_by g.X.PrefixExtractor.lengths c.args.laws.now.segments) c.self.inside.segments c.self.inside.default_millis _ c.args.now c.args.batch (sym (combine_is g.M.MergeOperator.combine c.args.env.now.operator)) (to_z-of_z w64 c.args.now c.ranges.now)) ∙ c.in_ok-prefixes.ensures.tested) h;
-      plain = λ h. ap (λ o. record c.args.env.now { operator = o }) (c.rows_of_batch.ensures.plain h);
-      outside = refl;
-      still = rw (p.1, p.2) c.in_err-rows.ensures.still;
-      call = asked_call g.S.Store g.M.MergeOperator g.T.BlockTransformer c.args.env.now c.rows_of_batch.new.operator c.rows_of_batch.ensures.same;
-      reads = asked_reads g.S.Store g.M.MergeOperator g.T.BlockTransformer c.args.env.now c.rows_of_batch.new.operator c.rows_of_batch.ensures.same c.rows_of_batch.ensures.later;
-    }
+    let before = reach_of g.S.Store g.M.MergeOperator g.T.BlockTransformer c.args.env.now in
+    let after = reach_of g.S.Store g.M.MergeOperator g.T.BlockTransformer (record c.args.env.now { operator = c.rows_of_batch.new.operator }) in
+    let by : Segments = segments_by g.X.PrefixExtractor.lengths c.args.laws.now.segments in
+    let d : Given = given_by before by c.args.now in
+    let s = c.self.inside in
+    let old = c.args.self.now in
+    let b = c.args.batch in
+    let below : s.log.last < 2 ^ 64 - 2 = omega (arith, c.last.ensures) in
+    let some : b.ops ≡ [] → ⊥ = λ none. true≢false (sym (c.is_empty.ensures.1 none) ∙ c.if-is_empty.false) in
+    let known : refusal_of d old b ≡ None = refusal_known (option_map g.M.MergeOperator.combine c.args.env.now.operator) before.meaning.combine by (view_of s) old _ c.args.now b _ (sym (combine_is g.M.MergeOperator.combine c.args.env.now.operator)) c.self.view_is (to_z-of_z w64 c.args.now c.ranges.now) c.in_ok-prefixes.ensures.tested in
+    let free : write_verdict d old b ≡ None = verdict_none d b s old c.self.invariant c.self.view_is below known c.in_ok-place.ensures.place in
+    write_refused d b before after _ _ s old _ c.in_err-rows.field-0.0 c.from_residual-in_err-rows.result c.self.invariant c.self.view_is
+    (subst (λ (v : CoreModel). IsSame v (view_of (record s { log = c.reserve.new.self }))) c.self.view_is (room_made s c.reserve.new.self c.reserve.ensures.value)) some below
+    (decides_fault (Option ℕ) (write_verdict d old b) (IsFault before after) c.in_err-rows.field-0.0 free
+    (either (short_fault before after c.in_err-rows.field-0.0) (callback_fault before after c.in_err-rows.field-0.0) c.in_err-rows.ensures.cause))
+    refl (record { call = asked_call g.S.Store g.M.MergeOperator g.T.BlockTransformer c.args.env.now c.rows_of_batch.new.operator c.rows_of_batch.ensures.same; reads = asked_reads g.S.Store g.M.MergeOperator g.T.BlockTransformer c.args.env.now c.rows_of_batch.new.operator c.rows_of_batch.ensures.same c.rows_of_batch.ensures.later; still = c.in_err-rows.ensures.still })
+    (asks_made (write_verdict d old b) b free some (λ plain. ap (λ o. record c.args.env.now { operator = o }) (c.rows_of_batch.ensures.plain plain))) (p.1 ∙ ap Err p.2)
 
 pub returns-in_err-ops : goal.returns-in_err-ops
 returns-in_err-ops g c =
     let p = err_from_is_err_and c.from_residual-in_err-ops.result c.from_residual-in_err-ops.ensures.1 in
-    let below : c.self.inside.log.last < 2 ^ 64 - 2 = omega (arith, c.last.ensures) in
-    record {
-      step = λ z. IfOk-from_err c.from_residual-in_err-ops.result _ c.from_residual-in_err-ops.ensures.0;
-      refused = λ z. rw (p.1, p.2) (inl (short_fault (reach_of g.S.Store g.M.MergeOperator g.T.BlockTransformer c.args.env.now) (reach_of g.S.Store g.M.MergeOperator g.T.BlockTransformer (record c.args.env.now { operator = c.rows_of_batch.new.operator })) c.in_err-ops.field-0.0 c.in_err-ops.ensures.cause));
-      event = IfOk-from_err c.from_residual-in_err-ops.result _ c.from_residual-in_err-ops.ensures.0;
-      vouched = IfOk-from_err c.from_residual-in_err-ops.result _ c.from_residual-in_err-ops.ensures.0;
-      kept = IfOk-from_err c.from_residual-in_err-ops.result _ c.from_residual-in_err-ops.ensures.0;
-      load = λ ops of. IfOk-from_err c.from_residual-in_err-ops.result _ c.from_residual-in_err-ops.ensures.0;
-      segmented = IfOk-from_err c.from_residual-in_err-ops.result _ c.from_residual-in_err-ops.ensures.0;
-      segmented_refused = rw p.1 (λ h z. segmented_same h c.args.self.now _ (subst (λ (v : CoreModel). IsSame v (view_of (record c.self.inside { log = c.reserve.new.self }))) c.self.view_is (room_made c.self.inside c.reserve.new.self c.reserve.ensures.value)) z);
-      kept_refused = rw p.1 (λ m k. kept_same m c.args.self.now _ (subst (λ (v : CoreModel). IsSame v (view_of (record c.self.inside { log = c.reserve.new.self }))) c.self.view_is (room_made c.self.inside c.reserve.new.self c.reserve.ensures.value)) k);
-      same = rw p.1 (subst (λ (v : CoreModel). IsSame v (view_of (record c.self.inside { log = c.reserve.new.self }))) c.self.view_is (room_made c.self.inside c.reserve.new.self c.reserve.ensures.value));
-      idle = λ none. absurd (true≢false (sym (c.is_empty.ensures.1 none) ∙ c.if-is_empty.false));
-      exhausted = λ some. none_left (view_of c.self.inside) c.args.self.now (unseen_of c.self.inside) (2 ^ 64 - 2) c.self.view_is c.self.invariant below;
-      limit = λ some below fine. placed (view_of c.self.inside) c.args.self.now (unseen_of c.self.inside) 1 c.self.view_is c.self.invariant c.in_ok-place.ensures.place;
-      first = λ some lower e is. none_some e (sym (refusal_known (option_map g.M.MergeOperator.combine c.args.env.now.operator) (reach_of g.S.Store g.M.MergeOperator g.T.BlockTransformer c.args.env.now).meaning.combine (segments_by g.X.PrefixExtractor.lengths c.args.laws.now.segments) (view_of c.self.inside) c.args.self.now _ c.args.now c.args.batch _ (sym (combine_is g.M.MergeOperator.combine c.args.env.now.operator)) c.self.view_is (to_z-of_z w64 c.args.now c.ranges.now) c.in_ok-prefixes.ensures.tested) ∙ is);
-      cause = rw (p.1, p.2) (inl (short_fault (reach_of g.S.Store g.M.MergeOperator g.T.BlockTransformer c.args.env.now) (reach_of g.S.Store g.M.MergeOperator g.T.BlockTransformer (record c.args.env.now { operator = c.rows_of_batch.new.operator })) c.in_err-ops.field-0.0 c.in_err-ops.ensures.cause));
-      stay = stay_room c.args.self.now _ (subst (λ (v : CoreModel). IsSame v (view_of (record c.self.inside { log = c.reserve.new.self }))) c.self.view_is (room_made c.self.inside c.reserve.new.self c.reserve.ensures.value));
-      unasked = λ h. asked (view_of c.self.inside) c.args.self.now (unseen_of c.self.inside) (reach_of g.S.Store g.M.MergeOperator g.T.BlockTransformer c.args.env.now).meaning.combine (segments_by g.X.PrefixExtractor.lengths c.args.laws.now.segments) c.args.now c.args.batch c.self.view_is c.self.invariant below
-          (λ none. true≢false (sym (c.is_empty.ensures.1 none) ∙ c.if-is_empty.false)) c.in_ok-place.ensures.place
-          (sym (batch_refusal_as (option_map g.M.MergeOperator.combine c.args.env.now.operator) (reach_of g.S.Store g.M.MergeOperator g.T.BlockTransformer c.args.env.now).meaning.combine (segments_by g.X.PrefixExtractor.lengths c.args.laws.now.segments) c.self.inside.segments c.self.inside.default_millis _ c.args.now c.args.batch (sym (combine_is g.M.MergeOperator.combine c.args.env.now.operator)) (to_z-of_z w64 c.args.now c.ranges.now)) ∙ c.in_ok-prefixes.ensures.tested) h;
-      plain = λ h. ap (λ o. record c.args.env.now { operator = o }) (c.rows_of_batch.ensures.plain h);
-      outside = refl;
-      still = rw (p.1, p.2) (stays_at _ _ c.in_err-ops.field-0.0 c.in_ok-rows.ensures.still);
-      call = asked_call g.S.Store g.M.MergeOperator g.T.BlockTransformer c.args.env.now c.rows_of_batch.new.operator c.rows_of_batch.ensures.same;
-      reads = asked_reads g.S.Store g.M.MergeOperator g.T.BlockTransformer c.args.env.now c.rows_of_batch.new.operator c.rows_of_batch.ensures.same c.rows_of_batch.ensures.later;
-    }
+    let before = reach_of g.S.Store g.M.MergeOperator g.T.BlockTransformer c.args.env.now in
+    let after = reach_of g.S.Store g.M.MergeOperator g.T.BlockTransformer (record c.args.env.now { operator = c.rows_of_batch.new.operator }) in
+    let by : Segments = segments_by g.X.PrefixExtractor.lengths c.args.laws.now.segments in
+    let d : Given = given_by before by c.args.now in
+    let s = c.self.inside in
+    let old = c.args.self.now in
+    let b = c.args.batch in
+    let below : s.log.last < 2 ^ 64 - 2 = omega (arith, c.last.ensures) in
+    let some : b.ops ≡ [] → ⊥ = λ none. true≢false (sym (c.is_empty.ensures.1 none) ∙ c.if-is_empty.false) in
+    let known : refusal_of d old b ≡ None = refusal_known (option_map g.M.MergeOperator.combine c.args.env.now.operator) before.meaning.combine by (view_of s) old _ c.args.now b _ (sym (combine_is g.M.MergeOperator.combine c.args.env.now.operator)) c.self.view_is (to_z-of_z w64 c.args.now c.ranges.now) c.in_ok-prefixes.ensures.tested in
+    let free : write_verdict d old b ≡ None = verdict_none d b s old c.self.invariant c.self.view_is below known c.in_ok-place.ensures.place in
+    write_refused d b before after _ _ s old _ errors.OutOfMemory c.from_residual-in_err-ops.result c.self.invariant c.self.view_is
+    (subst (λ (v : CoreModel). IsSame v (view_of (record s { log = c.reserve.new.self }))) c.self.view_is (room_made s c.reserve.new.self c.reserve.ensures.value)) some below
+    (decides_memory (Option ℕ) (write_verdict d old b) (IsFault before after) tt)
+    refl (record { call = asked_call g.S.Store g.M.MergeOperator g.T.BlockTransformer c.args.env.now c.rows_of_batch.new.operator c.rows_of_batch.ensures.same; reads = asked_reads g.S.Store g.M.MergeOperator g.T.BlockTransformer c.args.env.now c.rows_of_batch.new.operator c.rows_of_batch.ensures.same c.rows_of_batch.ensures.later; still = c.in_ok-rows.ensures.still })
+    (asks_made (write_verdict d old b) b free some (λ plain. ap (λ o. record c.args.env.now { operator = o }) (c.rows_of_batch.ensures.plain plain))) (p.1 ∙ ap Err (p.2 ∙ c.in_err-ops.ensures.cause))
 
 pub returns-in_err-keys : goal.returns-in_err-keys
 returns-in_err-keys g c =
     let p = err_from_is_err_and c.from_residual-in_err-keys.result c.from_residual-in_err-keys.ensures.1 in
-    let below : c.self.inside.log.last < 2 ^ 64 - 2 = omega (arith, c.last.ensures) in
-    record {
-      step = λ z. IfOk-from_err c.from_residual-in_err-keys.result _ c.from_residual-in_err-keys.ensures.0;
-      refused = λ z. rw (p.1, p.2) (inl (short_fault (reach_of g.S.Store g.M.MergeOperator g.T.BlockTransformer c.args.env.now) (reach_of g.S.Store g.M.MergeOperator g.T.BlockTransformer (record c.args.env.now { operator = c.rows_of_batch.new.operator })) c.in_err-keys.field-0.0 c.in_err-keys.ensures.cause));
-      event = IfOk-from_err c.from_residual-in_err-keys.result _ c.from_residual-in_err-keys.ensures.0;
-      vouched = IfOk-from_err c.from_residual-in_err-keys.result _ c.from_residual-in_err-keys.ensures.0;
-      kept = IfOk-from_err c.from_residual-in_err-keys.result _ c.from_residual-in_err-keys.ensures.0;
-      load = λ ops of. IfOk-from_err c.from_residual-in_err-keys.result _ c.from_residual-in_err-keys.ensures.0;
-      segmented = IfOk-from_err c.from_residual-in_err-keys.result _ c.from_residual-in_err-keys.ensures.0;
-      segmented_refused = rw p.1 (λ h z. segmented_same h c.args.self.now _ (subst (λ (v : CoreModel). IsSame v (view_of (record c.self.inside { log = c.reserve.new.self }))) c.self.view_is (room_made c.self.inside c.reserve.new.self c.reserve.ensures.value)) z);
-      kept_refused = rw p.1 (λ m k. kept_same m c.args.self.now _ (subst (λ (v : CoreModel). IsSame v (view_of (record c.self.inside { log = c.reserve.new.self }))) c.self.view_is (room_made c.self.inside c.reserve.new.self c.reserve.ensures.value)) k);
-      same = rw p.1 (subst (λ (v : CoreModel). IsSame v (view_of (record c.self.inside { log = c.reserve.new.self }))) c.self.view_is (room_made c.self.inside c.reserve.new.self c.reserve.ensures.value));
-      idle = λ none. absurd (true≢false (sym (c.is_empty.ensures.1 none) ∙ c.if-is_empty.false));
-      exhausted = λ some. none_left (view_of c.self.inside) c.args.self.now (unseen_of c.self.inside) (2 ^ 64 - 2) c.self.view_is c.self.invariant below;
-      limit = λ some below fine. placed (view_of c.self.inside) c.args.self.now (unseen_of c.self.inside) 1 c.self.view_is c.self.invariant c.in_ok-place.ensures.place;
-      first = λ some lower e is. none_some e (sym (refusal_known (option_map g.M.MergeOperator.combine c.args.env.now.operator) (reach_of g.S.Store g.M.MergeOperator g.T.BlockTransformer c.args.env.now).meaning.combine (segments_by g.X.PrefixExtractor.lengths c.args.laws.now.segments) (view_of c.self.inside) c.args.self.now _ c.args.now c.args.batch _ (sym (combine_is g.M.MergeOperator.combine c.args.env.now.operator)) c.self.view_is (to_z-of_z w64 c.args.now c.ranges.now) c.in_ok-prefixes.ensures.tested) ∙ is);
-      cause = rw (p.1, p.2) (inl (short_fault (reach_of g.S.Store g.M.MergeOperator g.T.BlockTransformer c.args.env.now) (reach_of g.S.Store g.M.MergeOperator g.T.BlockTransformer (record c.args.env.now { operator = c.rows_of_batch.new.operator })) c.in_err-keys.field-0.0 c.in_err-keys.ensures.cause));
-      stay = stay_room c.args.self.now _ (subst (λ (v : CoreModel). IsSame v (view_of (record c.self.inside { log = c.reserve.new.self }))) c.self.view_is (room_made c.self.inside c.reserve.new.self c.reserve.ensures.value));
-      unasked = λ h. asked (view_of c.self.inside) c.args.self.now (unseen_of c.self.inside) (reach_of g.S.Store g.M.MergeOperator g.T.BlockTransformer c.args.env.now).meaning.combine (segments_by g.X.PrefixExtractor.lengths c.args.laws.now.segments) c.args.now c.args.batch c.self.view_is c.self.invariant below
-          (λ none. true≢false (sym (c.is_empty.ensures.1 none) ∙ c.if-is_empty.false)) c.in_ok-place.ensures.place
-          (sym (batch_refusal_as (option_map g.M.MergeOperator.combine c.args.env.now.operator) (reach_of g.S.Store g.M.MergeOperator g.T.BlockTransformer c.args.env.now).meaning.combine (segments_by g.X.PrefixExtractor.lengths c.args.laws.now.segments) c.self.inside.segments c.self.inside.default_millis _ c.args.now c.args.batch (sym (combine_is g.M.MergeOperator.combine c.args.env.now.operator)) (to_z-of_z w64 c.args.now c.ranges.now)) ∙ c.in_ok-prefixes.ensures.tested) h;
-      plain = λ h. ap (λ o. record c.args.env.now { operator = o }) (c.rows_of_batch.ensures.plain h);
-      outside = refl;
-      still = rw (p.1, p.2) (stays_at _ _ c.in_err-keys.field-0.0 c.in_ok-rows.ensures.still);
-      call = asked_call g.S.Store g.M.MergeOperator g.T.BlockTransformer c.args.env.now c.rows_of_batch.new.operator c.rows_of_batch.ensures.same;
-      reads = asked_reads g.S.Store g.M.MergeOperator g.T.BlockTransformer c.args.env.now c.rows_of_batch.new.operator c.rows_of_batch.ensures.same c.rows_of_batch.ensures.later;
-    }
+    let before = reach_of g.S.Store g.M.MergeOperator g.T.BlockTransformer c.args.env.now in
+    let after = reach_of g.S.Store g.M.MergeOperator g.T.BlockTransformer (record c.args.env.now { operator = c.rows_of_batch.new.operator }) in
+    let by : Segments = segments_by g.X.PrefixExtractor.lengths c.args.laws.now.segments in
+    let d : Given = given_by before by c.args.now in
+    let s = c.self.inside in
+    let old = c.args.self.now in
+    let b = c.args.batch in
+    let below : s.log.last < 2 ^ 64 - 2 = omega (arith, c.last.ensures) in
+    let some : b.ops ≡ [] → ⊥ = λ none. true≢false (sym (c.is_empty.ensures.1 none) ∙ c.if-is_empty.false) in
+    let known : refusal_of d old b ≡ None = refusal_known (option_map g.M.MergeOperator.combine c.args.env.now.operator) before.meaning.combine by (view_of s) old _ c.args.now b _ (sym (combine_is g.M.MergeOperator.combine c.args.env.now.operator)) c.self.view_is (to_z-of_z w64 c.args.now c.ranges.now) c.in_ok-prefixes.ensures.tested in
+    let free : write_verdict d old b ≡ None = verdict_none d b s old c.self.invariant c.self.view_is below known c.in_ok-place.ensures.place in
+    write_refused d b before after _ _ s old _ errors.OutOfMemory c.from_residual-in_err-keys.result c.self.invariant c.self.view_is
+    (subst (λ (v : CoreModel). IsSame v (view_of (record s { log = c.reserve.new.self }))) c.self.view_is (room_made s c.reserve.new.self c.reserve.ensures.value)) some below
+    (decides_memory (Option ℕ) (write_verdict d old b) (IsFault before after) tt)
+    refl (record { call = asked_call g.S.Store g.M.MergeOperator g.T.BlockTransformer c.args.env.now c.rows_of_batch.new.operator c.rows_of_batch.ensures.same; reads = asked_reads g.S.Store g.M.MergeOperator g.T.BlockTransformer c.args.env.now c.rows_of_batch.new.operator c.rows_of_batch.ensures.same c.rows_of_batch.ensures.later; still = c.in_ok-rows.ensures.still })
+    (asks_made (write_verdict d old b) b free some (λ plain. ap (λ o. record c.args.env.now { operator = o }) (c.rows_of_batch.ensures.plain plain))) (p.1 ∙ ap Err (p.2 ∙ c.in_err-keys.ensures.cause))
 
 pub returns-in_err-put_batch : goal.returns-in_err-put_batch
 returns-in_err-put_batch g c =
     let p = err_from_is_err_and c.from_residual-in_err-put_batch.result c.from_residual-in_err-put_batch.ensures.1 in
-    let below : c.self.inside.log.last < 2 ^ 64 - 2 = omega (arith, c.last.ensures) in
-    record {
-      step = λ z. IfOk-from_err c.from_residual-in_err-put_batch.result _ c.from_residual-in_err-put_batch.ensures.0;
-      refused = λ z. rw (p.1, p.2) (inl (short_fault (reach_of g.S.Store g.M.MergeOperator g.T.BlockTransformer c.args.env.now) (reach_of g.S.Store g.M.MergeOperator g.T.BlockTransformer (record c.args.env.now { operator = c.rows_of_batch.new.operator })) c.in_err-put_batch.field-0.0 c.in_err-put_batch.ensures.cause));
-      event = IfOk-from_err c.from_residual-in_err-put_batch.result _ c.from_residual-in_err-put_batch.ensures.0;
-      vouched = IfOk-from_err c.from_residual-in_err-put_batch.result _ c.from_residual-in_err-put_batch.ensures.0;
-      kept = IfOk-from_err c.from_residual-in_err-put_batch.result _ c.from_residual-in_err-put_batch.ensures.0;
-      load = λ ops of. IfOk-from_err c.from_residual-in_err-put_batch.result _ c.from_residual-in_err-put_batch.ensures.0;
-      segmented = IfOk-from_err c.from_residual-in_err-put_batch.result _ c.from_residual-in_err-put_batch.ensures.0;
-      segmented_refused = rw p.1 (λ h z. segmented_same h c.args.self.now _ ((let y = c.in_err-put_batch.ensures.same_layers in let ps = c.in_err-put_batch.ensures.same_segments in λ i. view_of (record c.self.inside { log = c.reserve.new.self; layers = y i; segments = ps i })) ∙ subst (λ (v : CoreModel). IsSame v (view_of (record c.self.inside { log = c.reserve.new.self }))) c.self.view_is (room_made c.self.inside c.reserve.new.self c.reserve.ensures.value)) z);
-      kept_refused = rw p.1 (λ m k. kept_same m c.args.self.now _ ((let y = c.in_err-put_batch.ensures.same_layers in let ps = c.in_err-put_batch.ensures.same_segments in λ i. view_of (record c.self.inside { log = c.reserve.new.self; layers = y i; segments = ps i })) ∙ subst (λ (v : CoreModel). IsSame v (view_of (record c.self.inside { log = c.reserve.new.self }))) c.self.view_is (room_made c.self.inside c.reserve.new.self c.reserve.ensures.value)) k);
-      same = rw p.1 ((let y = c.in_err-put_batch.ensures.same_layers in let ps = c.in_err-put_batch.ensures.same_segments in λ i. view_of (record c.self.inside { log = c.reserve.new.self; layers = y i; segments = ps i })) ∙ subst (λ (v : CoreModel). IsSame v (view_of (record c.self.inside { log = c.reserve.new.self }))) c.self.view_is (room_made c.self.inside c.reserve.new.self c.reserve.ensures.value));
-      idle = λ none. absurd (true≢false (sym (c.is_empty.ensures.1 none) ∙ c.if-is_empty.false));
-      exhausted = λ some. none_left (view_of c.self.inside) c.args.self.now (unseen_of c.self.inside) (2 ^ 64 - 2) c.self.view_is c.self.invariant below;
-      limit = λ some below fine. placed (view_of c.self.inside) c.args.self.now (unseen_of c.self.inside) 1 c.self.view_is c.self.invariant c.in_ok-place.ensures.place;
-      first = λ some lower e is. none_some e (sym (refusal_known (option_map g.M.MergeOperator.combine c.args.env.now.operator) (reach_of g.S.Store g.M.MergeOperator g.T.BlockTransformer c.args.env.now).meaning.combine (segments_by g.X.PrefixExtractor.lengths c.args.laws.now.segments) (view_of c.self.inside) c.args.self.now _ c.args.now c.args.batch _ (sym (combine_is g.M.MergeOperator.combine c.args.env.now.operator)) c.self.view_is (to_z-of_z w64 c.args.now c.ranges.now) c.in_ok-prefixes.ensures.tested) ∙ is);
-      cause = rw (p.1, p.2) (inl (short_fault (reach_of g.S.Store g.M.MergeOperator g.T.BlockTransformer c.args.env.now) (reach_of g.S.Store g.M.MergeOperator g.T.BlockTransformer (record c.args.env.now { operator = c.rows_of_batch.new.operator })) c.in_err-put_batch.field-0.0 c.in_err-put_batch.ensures.cause));
-      stay = stay_room c.args.self.now _ ((let y = c.in_err-put_batch.ensures.same_layers in let ps = c.in_err-put_batch.ensures.same_segments in λ i. view_of (record c.self.inside { log = c.reserve.new.self; layers = y i; segments = ps i })) ∙ subst (λ (v : CoreModel). IsSame v (view_of (record c.self.inside { log = c.reserve.new.self }))) c.self.view_is (room_made c.self.inside c.reserve.new.self c.reserve.ensures.value));
-      unasked = λ h. asked (view_of c.self.inside) c.args.self.now (unseen_of c.self.inside) (reach_of g.S.Store g.M.MergeOperator g.T.BlockTransformer c.args.env.now).meaning.combine (segments_by g.X.PrefixExtractor.lengths c.args.laws.now.segments) c.args.now c.args.batch c.self.view_is c.self.invariant below
-          (λ none. true≢false (sym (c.is_empty.ensures.1 none) ∙ c.if-is_empty.false)) c.in_ok-place.ensures.place
-          (sym (batch_refusal_as (option_map g.M.MergeOperator.combine c.args.env.now.operator) (reach_of g.S.Store g.M.MergeOperator g.T.BlockTransformer c.args.env.now).meaning.combine (segments_by g.X.PrefixExtractor.lengths c.args.laws.now.segments) c.self.inside.segments c.self.inside.default_millis _ c.args.now c.args.batch (sym (combine_is g.M.MergeOperator.combine c.args.env.now.operator)) (to_z-of_z w64 c.args.now c.ranges.now)) ∙ c.in_ok-prefixes.ensures.tested) h;
-      plain = λ h. ap (λ o. record c.args.env.now { operator = o }) (c.rows_of_batch.ensures.plain h);
-      outside = refl;
-      still = rw (p.1, p.2) (stays_at _ _ c.in_err-put_batch.field-0.0 c.in_ok-rows.ensures.still);
-      call = asked_call g.S.Store g.M.MergeOperator g.T.BlockTransformer c.args.env.now c.rows_of_batch.new.operator c.rows_of_batch.ensures.same;
-      reads = asked_reads g.S.Store g.M.MergeOperator g.T.BlockTransformer c.args.env.now c.rows_of_batch.new.operator c.rows_of_batch.ensures.same c.rows_of_batch.ensures.later;
-    }
+    let before = reach_of g.S.Store g.M.MergeOperator g.T.BlockTransformer c.args.env.now in
+    let after = reach_of g.S.Store g.M.MergeOperator g.T.BlockTransformer (record c.args.env.now { operator = c.rows_of_batch.new.operator }) in
+    let by : Segments = segments_by g.X.PrefixExtractor.lengths c.args.laws.now.segments in
+    let d : Given = given_by before by c.args.now in
+    let s = c.self.inside in
+    let old = c.args.self.now in
+    let b = c.args.batch in
+    let below : s.log.last < 2 ^ 64 - 2 = omega (arith, c.last.ensures) in
+    let some : b.ops ≡ [] → ⊥ = λ none. true≢false (sym (c.is_empty.ensures.1 none) ∙ c.if-is_empty.false) in
+    let known : refusal_of d old b ≡ None = refusal_known (option_map g.M.MergeOperator.combine c.args.env.now.operator) before.meaning.combine by (view_of s) old _ c.args.now b _ (sym (combine_is g.M.MergeOperator.combine c.args.env.now.operator)) c.self.view_is (to_z-of_z w64 c.args.now c.ranges.now) c.in_ok-prefixes.ensures.tested in
+    let free : write_verdict d old b ≡ None = verdict_none d b s old c.self.invariant c.self.view_is below known c.in_ok-place.ensures.place in
+    write_refused d b before after _ _ s old _ errors.OutOfMemory c.from_residual-in_err-put_batch.result c.self.invariant c.self.view_is
+    ((let y = c.in_err-put_batch.ensures.same_layers in let ps = c.in_err-put_batch.ensures.same_segments in λ i. view_of (record s { log = c.reserve.new.self; layers = y i; segments = ps i })) ∙ subst (λ (v : CoreModel). IsSame v (view_of (record s { log = c.reserve.new.self }))) c.self.view_is (room_made s c.reserve.new.self c.reserve.ensures.value)) some below
+    (decides_memory (Option ℕ) (write_verdict d old b) (IsFault before after) tt)
+    refl (record { call = asked_call g.S.Store g.M.MergeOperator g.T.BlockTransformer c.args.env.now c.rows_of_batch.new.operator c.rows_of_batch.ensures.same; reads = asked_reads g.S.Store g.M.MergeOperator g.T.BlockTransformer c.args.env.now c.rows_of_batch.new.operator c.rows_of_batch.ensures.same c.rows_of_batch.ensures.later; still = c.in_ok-rows.ensures.still })
+    (asks_made (write_verdict d old b) b free some (λ plain. ap (λ o. record c.args.env.now { operator = o }) (c.rows_of_batch.ensures.plain plain))) (p.1 ∙ ap Err (p.2 ∙ c.in_err-put_batch.ensures.cause))

@@ -61,12 +61,12 @@ returns-in-Err g c =
     let it = c.args.self.now in
     record {
       rows = λ w rows h sees. tt;
-      undamaged = λ w rows h sees. rw r.same (n.undamaged w it.range it.order sees h.sound h.operable h.meant);
+      undamaged = λ w rows h sees. rw r.same (n.undamaged w it.range it.order tt sees h.sound h.operable h.meant);
       checked = λ w rows h. tt;
       later = tt;
       bases = λ none. tt;
       hands = tt;
-      cause = rw r.same (n.cause it.range);
+      cause = rw r.same (n.cause it.range tt);
       again = λ unrefused. rw r.same r.again;
       refused = λ kept was. absurd (c.in_default.not-Refused kept was);
       range = r.range;

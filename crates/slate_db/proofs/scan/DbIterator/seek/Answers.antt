@@ -18,6 +18,7 @@ returns-in-Refused g c =
       undamaged = λ w rows h sees. never_sound it.order w it.state c.in-Refused.kept is h.sound;
       checked = λ w rows h. tt;
       later = tt;
+      bases = λ none. tt;
       hands = tt;
       cause = refused_again it.range (Some c.args.key.now) (reach_of g.S.Store g.M.MergeOperator g.T.BlockTransformer c.args.env.now) it.state c.in-Refused.kept c.copy_of.result is copies;
       again = λ unrefused. absurd (unrefused c.in-Refused.kept is);
@@ -36,10 +37,11 @@ returns-then-not-is_past_start g c =
     let s = c.pass_start.ensures in
     let below : is_past_start it.range.start c.args.key.now ≡ false = grind (arith, c.is_past_start.ensures, c.if-not-is_past_start.true) in
     record {
-      rows = λ w rows h sees. start_leaves it after c.args.key.now w rows below s.none s.all h;
+      rows = λ w rows h sees. (tt, start_leaves it after c.args.key.now w rows below s.none s.all h);
       undamaged = λ w rows h sees. tt;
       checked = λ w rows h. checks_none w _;
       later = ([], call_none _, start_later it after _ s.none s.all);
+      bases = λ none. ([], call_none _, tt);
       hands = ([], call_none _, start_hands it after _ s.none s.all);
       cause = tt;
       again = λ unrefused. tt;
@@ -61,10 +63,11 @@ returns-in-Ok g c =
     let a = reach_of g.S.Store g.M.MergeOperator g.T.BlockTransformer c.args.env.now in
     let b = reach_of g.S.Store g.M.MergeOperator g.T.BlockTransformer c.seek_in.new.env in
     record {
-      rows = λ w rows h sees. seek_leaves (Ok tt) it (record it { state = c.seek_in.new.state }) w a b (drop_before it.order c.args.key.now rows) refl refl sees.meaning (n.rows w it.range it.order rows sees h.sound (values_of it w rows h)) (n.operable w it.order sees h.sound h.operable) (n.sources it.range) h.meant;
+      rows = λ w rows h sees. (tt, seek_leaves (Ok tt) it (record it { state = c.seek_in.new.state }) w a b (drop_before it.order c.args.key.now rows) refl refl sees.meaning (n.rows w it.range it.order rows sees h.sound (values_of it w rows h)).1 (n.operable w it.order sees h.sound h.operable) (n.sources it.range) h.meant);
       undamaged = λ w rows h sees. tt;
       checked = λ w rows h. n.checked w it.order h.sound;
       later = n.later it.range;
+      bases = λ none. (n.hands.0, n.hands.1, tt);
       hands = n.hands;
       cause = tt;
       again = λ unrefused. tt;
@@ -84,9 +87,10 @@ returns-in-Err g c =
     let past : is_past_start it.range.start c.args.key.now ≡ true = grind (arith, c.is_past_start.ensures, c.if-not-is_past_start.false) in
     record {
       rows = λ w rows h sees. tt;
-      undamaged = λ w rows h sees. rw r.same (n.undamaged w it.range it.order past sees h.sound h.meant);
+      undamaged = λ w rows h sees. rw r.same (n.undamaged w it.range it.order past sees h.sound tt h.meant);
       checked = λ w rows h. tt;
       later = tt;
+      bases = λ none. tt;
       hands = tt;
       cause = rw r.same (n.cause it.range past);
       again = λ unrefused. rw r.same r.again;

@@ -57,7 +57,7 @@ returns g c =
     record {
       noted = c.in_default-note_seek.ensures.noted;
       step = record {
-        rows = λ w rows h sees. (tt, n.rows w rows h sees);
+        rows = n.rows;
         undamaged = λ w rows h sees. tt;
         checked = n.checked;
         later = n.later;

@@ -70,8 +70,8 @@ invariant_of-self-2 g c =
     let known : find_named c.args.name before.names ≡ Some id = find_named_lookup c.args.name before.names ∙ sym c.in-Some.ensures.value in
     let t : IsNamed (find_named id before.core.state.txns) = named_of (find_named id before.core.state.txns) (c.self.invariant.0.transactions.opened c.args.name id known) in
     let closed : Closes before.core c.commit.new.self id = elim c.match-commit.branch [
-      | in-Ok w ↦ closes_committed before.core c.commit.new.self id w.in-Ok.seq _ t.value (w.in-Ok.ensures.event t.value t.is)
-      | in-Err w ↦ closes_ended before.core c.commit.new.self id w.in-Err.ensures.ended
+      | in-Ok w ↦ closes_committed before.core c.commit.new.self id w.in-Ok.seq _ t.value ((w.in-Ok.ensures.commits t.value t.is).event)
+      | in-Err w ↦ closes_ended before.core c.commit.new.self id (w.in-Err.ensures.commits t.value t.is).ended
     ] in
     let updates : (q : List ℕ) → find_named q c.remove.new.self.entries ≡ cond (bytes_eq c.args.name q) None (find_named q before.names) = λ q. named_after c.args.name q None before.names c.remove.new.self.entries (c.remove.ensures.updates.0 q) in (
       subst (λ (ts : List (List ℕ × Tx)). NamesStand c.remove.new.self.entries before.snapshot_names ts c.commit.new.self.state.snapshots) (sym closed.txns)
@@ -82,6 +82,8 @@ invariant_of-self-2 g c =
 
 pub returns : goal.returns
 returns g c =
+    let t : IsNamed (find_named c.in-Some.id c.self.inside.core.state.txns) = named_of (find_named c.in-Some.id c.self.inside.core.state.txns)
+    (c.self.invariant.0.transactions.opened c.args.name c.in-Some.id (find_named_lookup c.args.name c.self.inside.names.entries ∙ sym c.in-Some.ensures.value)) in
     record {
       step = (λ given. let operable = given.0 in let segmented = given.1 in
           let seg = (segments_by g.X.PrefixExtractor.lengths c.args.laws.now.segments) in
@@ -92,10 +94,9 @@ returns g c =
           let held : IsSegmented seg before.core = subst (λ (v : SessionModel). IsSegmented seg v.core) (sym c.self.view_is) segmented in
           let id = c.in-Some.id in
           let known : find_named c.args.name before.names ≡ Some id = find_named_lookup c.args.name before.names ∙ sym c.in-Some.ensures.value in
-          let t : IsNamed (find_named id before.core.state.txns) = named_of (find_named id before.core.state.txns) (c.self.invariant.0.transactions.opened c.args.name id known) in
           let closed : Closes before.core c.commit.new.self id = elim c.match-commit.branch [
-            | in-Ok w ↦ closes_committed before.core c.commit.new.self id w.in-Ok.seq _ t.value (w.in-Ok.ensures.event t.value t.is)
-            | in-Err w ↦ closes_ended before.core c.commit.new.self id w.in-Err.ensures.ended
+            | in-Ok w ↦ closes_committed before.core c.commit.new.self id w.in-Ok.seq _ t.value ((w.in-Ok.ensures.commits t.value t.is).event)
+            | in-Err w ↦ closes_ended before.core c.commit.new.self id (w.in-Err.ensures.commits t.value t.is).ended
           ] in
           let updates : (q : List ℕ) → find_named q c.remove.new.self.entries ≡ cond (bytes_eq c.args.name q) None (find_named q before.names) = λ q. named_after c.args.name q None before.names c.remove.new.self.entries (c.remove.ensures.updates.0 q) in
           let after : SessionModel = record before { core = c.commit.new.self; names = c.remove.new.self.entries } in
@@ -103,41 +104,38 @@ returns g c =
           (elim c.match-commit.branch [
             | in-Ok w ↦ subst (λ (r : Result Answer SlateDBError). StepsAs m seg before after (lines.Commit c.args.name) r) (sym w.result-is)
                 (commit_as m seg before c.commit.new.self c.remove.new.self.entries c.args.name id (answers.Committed w.in-Ok.seq) c.self.invariant.0 known closed.txns closed.snapshots closed.flushed updates
-                (commit_moment (rules_in before.core.settings m seg) before.core c.commit.new.self id (Committed w.in-Ok.seq) (given_moment c.self.inside.now c.self.invariant.1) (w.in-Ok.ensures.step held)))
+                (commit_moment (rules_in before.core.settings m seg) before.core c.commit.new.self id (Committed w.in-Ok.seq) (given_moment c.self.inside.now c.self.invariant.1) ((w.in-Ok.ensures.commits t.value t.is).step held)))
             | in-Err w ↦ subst (λ (r : Result Answer SlateDBError). StepsAs m seg before after (lines.Commit c.args.name) r) (sym w.result-is)
                 (refused_as m seg old_counts new_counts before c.commit.new.self c.remove.new.self.entries c.args.name id w.in-Err.error w.refused.result
                 (λ a. commit_as m seg before c.commit.new.self c.remove.new.self.entries c.args.name id a c.self.invariant.0 known closed.txns closed.snapshots closed.flushed updates)
                 w.refused.ensures.reply w.refused.ensures.answered
                 (refused_moment m seg before.core c.commit.new.self id w.in-Err.error (given_moment c.self.inside.now c.self.invariant.1)
-                (w.in-Err.ensures.refused (subst (λ (v : SessionModel). IsOperable m v.core) (sym c.self.view_is) operable) held)))
+                ((w.in-Err.ensures.commits t.value t.is).refused (subst (λ (v : SessionModel). IsOperable m v.core) (sym c.self.view_is) operable) held)))
           ]));
       stores = (let seg = (segments_by g.X.PrefixExtractor.lengths c.args.laws.now.segments) in
           let before : SessionModel = record { core = c.self.inside.core; names = c.self.inside.names.entries; snapshot_names = c.self.inside.snapshot_names.entries; now = c.self.inside.now } in
           let id = c.in-Some.id in
           let known : find_named c.args.name before.names ≡ Some id = find_named_lookup c.args.name before.names ∙ sym c.in-Some.ensures.value in
-          let t : IsNamed (find_named id before.core.state.txns) = named_of (find_named id before.core.state.txns) (c.self.invariant.0.transactions.opened c.args.name id known) in
           let closed : Closes before.core c.commit.new.self id = elim c.match-commit.branch [
-            | in-Ok w ↦ closes_committed before.core c.commit.new.self id w.in-Ok.seq _ t.value (w.in-Ok.ensures.event t.value t.is)
-            | in-Err w ↦ closes_ended before.core c.commit.new.self id w.in-Err.ensures.ended
+            | in-Ok w ↦ closes_committed before.core c.commit.new.self id w.in-Ok.seq _ t.value ((w.in-Ok.ensures.commits t.value t.is).event)
+            | in-Err w ↦ closes_ended before.core c.commit.new.self id (w.in-Err.ensures.commits t.value t.is).ended
           ] in
           let m = meaning_of g.M.MergeOperator.combine g.T.BlockTransformer.encoded g.T.BlockTransformer.decoded c.args.env.now.operator c.args.env.now.transformer in
           subst (λ (v : SessionModel). OnOk c.match-commit.result (StoresNothing m seg v (record before { core = c.commit.new.self; names = c.remove.new.self.entries }))) c.self.view_is
-          (always c.match-commit.result (stores_by m seg before c.commit.new.self c.remove.new.self.entries before.snapshot_names before.now (leaves_closed before.core c.commit.new.self id closed) c.commit.ensures.kept c.commit.ensures.segmented)));
+          (always c.match-commit.result (stores_by m seg before c.commit.new.self c.remove.new.self.entries before.snapshot_names before.now (leaves_closed before.core c.commit.new.self id closed) (c.commit.ensures.commits t.value t.is).keeps.own.rows (c.commit.ensures.commits t.value t.is).keeps.own.segments)));
       grows = (let before : SessionModel = record { core = c.self.inside.core; names = c.self.inside.names.entries; snapshot_names = c.self.inside.snapshot_names.entries; now = c.self.inside.now } in
           let id = c.in-Some.id in
           let known : find_named c.args.name before.names ≡ Some id = find_named_lookup c.args.name before.names ∙ sym c.in-Some.ensures.value in
-          let t : IsNamed (find_named id before.core.state.txns) = named_of (find_named id before.core.state.txns) (c.self.invariant.0.transactions.opened c.args.name id known) in
           let closed : Closes before.core c.commit.new.self id = elim c.match-commit.branch [
-            | in-Ok w ↦ closes_committed before.core c.commit.new.self id w.in-Ok.seq _ t.value (w.in-Ok.ensures.event t.value t.is)
-            | in-Err w ↦ closes_ended before.core c.commit.new.self id w.in-Err.ensures.ended
+            | in-Ok w ↦ closes_committed before.core c.commit.new.self id w.in-Ok.seq _ t.value ((w.in-Ok.ensures.commits t.value t.is).event)
+            | in-Err w ↦ closes_ended before.core c.commit.new.self id (w.in-Err.ensures.commits t.value t.is).ended
           ] in
           subst (λ (v : SessionModel). OnOk c.match-commit.result (Grows (lines.Commit c.args.name) v (record before { core = c.commit.new.self; names = c.remove.new.self.entries }))) c.self.view_is
           (always c.match-commit.result (grows before c.commit.new.self c.remove.new.self.entries before.snapshot_names before.now (lines.Commit c.args.name) 0 (omega arith)
-          (takes_closed before.core c.commit.new.self id t.value closed t.is (c.commit.ensures.load t.value t.is)))));
+          (takes_closed before.core c.commit.new.self id t.value closed t.is (c.commit.ensures.commits t.value t.is).grows))));
       cause = (let before : SessionModel = record { core = c.self.inside.core; names = c.self.inside.names.entries; snapshot_names = c.self.inside.snapshot_names.entries; now = c.self.inside.now } in
           let id = c.in-Some.id in
           let known : find_named c.args.name before.names ≡ Some id = find_named_lookup c.args.name before.names ∙ sym c.in-Some.ensures.value in
-          let t : IsNamed (find_named id before.core.state.txns) = named_of (find_named id before.core.state.txns) (c.self.invariant.0.transactions.opened c.args.name id known) in
           let m = meaning_of g.M.MergeOperator.combine g.T.BlockTransformer.encoded g.T.BlockTransformer.decoded c.args.env.now.operator c.args.env.now.transformer in
           let old = counts_of (g.S.Store.faults c.args.env.now.store.now) g.M.MergeOperator.faults g.T.BlockTransformer.faults c.args.env.now.operator c.args.env.now.transformer in
           let new = counts_of (g.S.Store.faults c.commit.new.env.store.now) g.M.MergeOperator.faults g.T.BlockTransformer.faults c.commit.new.env.operator c.commit.new.env.transformer in
@@ -145,17 +143,17 @@ returns g c =
           (elim c.match-commit.branch [
             | in-Ok w ↦ subst (λ (r : Result Answer SlateDBError). IfErr r (λ e. IsCounted old new e ⊎ IsLimit before e)) (sym w.result-is) tt
             | in-Err w ↦ subst (λ (r : Result Answer SlateDBError). IfErr r (λ e. IsCounted old new e ⊎ IsLimit before e)) (sym w.result-is)
-                (commit_cause old new before (conflict before.core.state.commits t.value) m.combine _ _ _ _ _ t.value.ops w.in-Err.error w.refused.result w.refused.ensures.other (w.in-Err.ensures.cause t.value t.is))
+                (commit_cause before w.in-Err.error w.refused.result w.refused.ensures.other (w.in-Err.ensures.commits t.value t.is))
           ]));
-      call = c.commit.ensures.call;
-      reads = c.commit.ensures.reads;
+      call = (c.commit.ensures.commits t.value t.is).asks.call;
+      reads = (c.commit.ensures.commits t.value t.is).asks.reads;
       still = (let old = counts_of (g.S.Store.faults c.args.env.now.store.now) g.M.MergeOperator.faults g.T.BlockTransformer.faults c.args.env.now.operator c.args.env.now.transformer in
           let new = counts_of (g.S.Store.faults c.commit.new.env.store.now) g.M.MergeOperator.faults g.T.BlockTransformer.faults c.commit.new.env.operator c.commit.new.env.transformer in
           asked_still old new c.match-commit.result (ap (λ v. (reach_of g.S.Store g.M.MergeOperator g.T.BlockTransformer v).faults.store) c.commit.ensures.outside)
           (elim c.match-commit.branch [
-            | in-Ok w ↦ subst (λ (r : Result Answer SlateDBError). IsOperatorStill old.operator new.operator r) (sym w.result-is) w.in-Ok.ensures.still
+            | in-Ok w ↦ subst (λ (r : Result Answer SlateDBError). IsOperatorStill old.operator new.operator r) (sym w.result-is) (w.in-Ok.ensures.commits t.value t.is).asks.still
             | in-Err w ↦ subst (λ (r : Result Answer SlateDBError). IsOperatorStill old.operator new.operator r) (sym w.result-is)
-                (refused_still old.operator new.operator w.in-Err.error w.refused.result w.refused.ensures.answered w.refused.ensures.other w.in-Err.ensures.still)
+                (refused_still old.operator new.operator w.in-Err.error w.refused.result w.refused.ensures.answered w.refused.ensures.other (w.in-Err.ensures.commits t.value t.is).asks.still)
           ])
           (ap (λ v. (reach_of g.S.Store g.M.MergeOperator g.T.BlockTransformer v).faults.transformer) c.commit.ensures.outside));
     }

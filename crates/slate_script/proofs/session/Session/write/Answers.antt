@@ -49,14 +49,14 @@ returns g c =
           let m = meaning_of g.M.MergeOperator.combine g.T.BlockTransformer.encoded g.T.BlockTransformer.decoded c.args.env.now.operator c.args.env.now.transformer in
           subst (λ (v : SessionModel). OnOk c.match-write.result (StoresNothing m seg v (record before { core = c.write.new.self }))) c.self.view_is
           (always c.match-write.result (elim c.match-write.branch [
-            | in-Ok-write w ↦ stores_by m seg before c.write.new.self before.names before.snapshot_names before.now (leaves_written c.self.inside.core c.write.new.self w.in-Ok-write.seq _ c.in-Ok.batch.ops w.in-Ok-write.ensures.event) w.in-Ok-write.ensures.kept w.in-Ok-write.ensures.segmented
-            | in-Err-write w ↦ stores_by m seg before c.write.new.self before.names before.snapshot_names before.now (leaves_same c.self.inside.core c.write.new.self w.in-Err-write.ensures.same) (kept_same m c.self.inside.core c.write.new.self w.in-Err-write.ensures.same) (w.in-Err-write.ensures.segmented_refused seg)
+            | in-Ok-write w ↦ stores_by m seg before c.write.new.self before.names before.snapshot_names before.now (leaves_written c.self.inside.core c.write.new.self w.in-Ok-write.seq _ c.in-Ok.batch.ops w.in-Ok-write.ensures.event) w.in-Ok-write.ensures.keeps.own.rows w.in-Ok-write.ensures.keeps.own.segments
+            | in-Err-write w ↦ stores_by m seg before c.write.new.self before.names before.snapshot_names before.now (leaves_same c.self.inside.core c.write.new.self w.in-Err-write.ensures.same) (kept_same m c.self.inside.core c.write.new.self w.in-Err-write.ensures.same) w.in-Err-write.ensures.keeps.own.segments
           ])));
       grows = (let before : SessionModel = record { core = c.self.inside.core; names = c.self.inside.names.entries; snapshot_names = c.self.inside.snapshot_names.entries; now = c.self.inside.now } in
           subst (λ (v : SessionModel). OnOk c.match-write.result (Grows (lines.Write c.args.ops) v (record before { core = c.write.new.self }))) c.self.view_is
           (grows_where c.match-write.result (lines.Write c.args.ops) before (record before { core = c.write.new.self }) (elim c.match-write.branch [
             | in-Ok-write w ↦ grows before c.write.new.self before.names before.snapshot_names before.now (lines.Write c.args.ops) (length c.args.ops) (omega arith)
-                (takes_written c.self.inside.core c.write.new.self w.in-Ok-write.seq _ c.in-Ok.batch.ops (length c.args.ops) w.in-Ok-write.ensures.event (w.in-Ok-write.ensures.load c.args.ops c.in-Ok.ensures.batch))
+                (takes_written c.self.inside.core c.write.new.self w.in-Ok-write.seq _ c.in-Ok.batch.ops (length c.args.ops) w.in-Ok-write.ensures.event (w.in-Ok-write.ensures.grows c.args.ops c.in-Ok.ensures.batch))
             | in-Err-write w ↦ grows before c.write.new.self before.names before.snapshot_names before.now (lines.Write c.args.ops) 0 (omega arith) (takes_same c.self.inside.core c.write.new.self w.in-Err-write.ensures.same)
           ])));
       cause = (let before : SessionModel = record { core = c.self.inside.core; names = c.self.inside.names.entries; snapshot_names = c.self.inside.snapshot_names.entries; now = c.self.inside.now } in
@@ -67,17 +67,17 @@ returns g c =
           (elim c.match-write.branch [
             | in-Ok-write w ↦ subst (λ (r : Result Answer SlateDBError). IfErr r (λ e. IsCounted old new e ⊎ IsLimit before e)) (sym w.result-is) tt
             | in-Err-write w ↦ subst (λ (r : Result Answer SlateDBError). IfErr r (λ e. IsCounted old new e ⊎ IsLimit before e)) (sym w.result-is)
-                (write_cause old new before m.combine (segments_by g.X.PrefixExtractor.lengths c.args.laws.now.segments) before.core.segments before.core.settings.default_millis _ c.in-Ok.batch w.in-Err-write.error w.refused-in-Err-write.result w.refused-in-Err-write.ensures.other w.in-Err-write.ensures.cause)
+                (write_cause before w.in-Err-write.error w.refused-in-Err-write.result refl w.refused-in-Err-write.ensures.other w.in-Err-write.ensures)
           ]));
-      call = c.write.ensures.call;
-      reads = c.write.ensures.reads;
+      call = c.write.ensures.asks.call;
+      reads = c.write.ensures.asks.reads;
       still = (let old = counts_of (g.S.Store.faults c.args.env.now.store.now) g.M.MergeOperator.faults g.T.BlockTransformer.faults c.args.env.now.operator c.args.env.now.transformer in
           let new = counts_of (g.S.Store.faults c.write.new.env.store.now) g.M.MergeOperator.faults g.T.BlockTransformer.faults c.write.new.env.operator c.write.new.env.transformer in
           asked_still old new c.match-write.result (ap (λ v. (reach_of g.S.Store g.M.MergeOperator g.T.BlockTransformer v).faults.store) c.write.ensures.outside)
           (elim c.match-write.branch [
-            | in-Ok-write w ↦ subst (λ (r : Result Answer SlateDBError). IsOperatorStill old.operator new.operator r) (sym w.result-is) w.in-Ok-write.ensures.still
+            | in-Ok-write w ↦ subst (λ (r : Result Answer SlateDBError). IsOperatorStill old.operator new.operator r) (sym w.result-is) w.in-Ok-write.ensures.asks.still
             | in-Err-write w ↦ subst (λ (r : Result Answer SlateDBError). IsOperatorStill old.operator new.operator r) (sym w.result-is)
-                (refused_still old.operator new.operator w.in-Err-write.error w.refused-in-Err-write.result w.refused-in-Err-write.ensures.answered w.refused-in-Err-write.ensures.other w.in-Err-write.ensures.still)
+                (refused_still old.operator new.operator w.in-Err-write.error w.refused-in-Err-write.result w.refused-in-Err-write.ensures.answered w.refused-in-Err-write.ensures.other w.in-Err-write.ensures.asks.still)
           ])
           (ap (λ v. (reach_of g.S.Store g.M.MergeOperator g.T.BlockTransformer v).faults.transformer) c.write.ensures.outside));
     }
