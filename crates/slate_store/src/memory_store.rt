@@ -67,11 +67,7 @@ impl Store for MemoryStore {
         len: u64,
     ) -> Result<Option<Bytes>, StoreError> {
         self.plan.step()?;
-        let range = match self.objects.get_near(path, &mut self.last) {
-            Some(object) => range_of(object, start, len),
-            None => Ok(None),
-        };
-        Ok(range?)
+        Ok(read_near(&self.objects, path, start, len, &mut self.last)?)
     }
 
     fn len(&mut self, alloc: Global, path: &str) -> Result<Option<u64>, StoreError> {
@@ -116,6 +112,22 @@ pub(crate) fn object_len(objects: &ObjectList, path: &str) -> Option<u64>
     match objects.get(path) {
         Some(object) => Some(object.len() as u64),
         None => None,
+    }
+}
+
+/// As `read_object`, of an object that is looked for where the last one was found.
+fn read_near(
+    objects: &ObjectList,
+    path: &str,
+    start: u64,
+    len: u64,
+    last: &mut usize,
+) -> Result<Option<Bytes>, AllocError>
+    ensures { IfOk result (λ range. range ≡ part_of (object_at objects.now path.now) start len) }
+{
+    match objects.get_near(path, last) {
+        Some(object) => range_of(object, start, len),
+        None => Ok(None),
     }
 }
 

@@ -90,11 +90,7 @@ impl ObjectList {
 }
 
 /// The place of the object of a path, as `place` answers it, found without a search if it is the hint or the place before.
-fn place_near(
-    objects: &[(ByteStr, Bytes)],
-    path: &str,
-    hint: usize,
-) -> Result<usize, usize>
+fn place_near(objects: &[(ByteStr, Bytes)], path: &str, hint: usize) -> Result<usize, usize>
     requires { IsRising (paths_in objects.now) }
     ensures { IsPathPlace objects.now path.now result }
 {

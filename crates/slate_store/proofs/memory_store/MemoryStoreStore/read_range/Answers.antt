@@ -20,18 +20,18 @@ returns-in_err-step c =
       planned = fails _ (ap (λ s. Some s.plan) c.self.view_is) (c.in_err-step.ensures.planned.0 refl) (p.1 ∙ ap Err p.2);
     }
 
-pub returns-in_err-read_object : goal.returns-in_err-read_object
-returns-in_err-read_object c =
+pub returns-in_err-read_near : goal.returns-in_err-read_near
+returns-in_err-read_near c =
     record {
-      answer = λ os is. IfOk-from_err c.from_residual-in_err-read_object.result _ c.from_residual-in_err-read_object.ensures.0;
+      answer = λ os is. IfOk-from_err c.from_residual-in_err-read_near.result _ c.from_residual-in_err-read_near.ensures.0;
       objects = ap (λ s. Some s.objects) c.self.view_is;
-      act = IfOk-from_err c.from_residual-in_err-read_object.result _ c.from_residual-in_err-read_object.ensures.0;
-      refused_act = on_err c.from_residual-in_err-read_object.result refl;
+      act = IfOk-from_err c.from_residual-in_err-read_near.result _ c.from_residual-in_err-read_near.ensures.0;
+      refused_act = on_err c.from_residual-in_err-read_near.result refl;
       later = subst (λ s. s.faults ≤ c.step.new.self.faults.count) c.self.view_is c.in_ok-step.ensures.later;
       still = inr (c.in_ok-step.ensures.still ∙ ap (λ s. s.faults) c.self.view_is);
-      cause = λ e. absurd (no_fault c.from_residual-in_err-read_object.result c.from_residual-in_err-read_object.ensures.1 e);
+      cause = λ e. absurd (no_fault c.from_residual-in_err-read_near.result c.from_residual-in_err-read_near.ensures.1 e);
       counted = counts _ (ap (λ s. Some s.plan) c.self.view_is) c.in_ok-step.ensures.failing c.in_ok-step.ensures.counted;
-      planned = succeeds _ (ap (λ s. Some s.plan) c.self.view_is) (λ t. ok_is_no_error (c.in_ok-step.ensures.planned.1 t)) (no_fault c.from_residual-in_err-read_object.result c.from_residual-in_err-read_object.ensures.1);
+      planned = succeeds _ (ap (λ s. Some s.plan) c.self.view_is) (λ t. ok_is_no_error (c.in_ok-step.ensures.planned.1 t)) (no_fault c.from_residual-in_err-read_near.result c.from_residual-in_err-read_near.ensures.1);
     }
 
 pub returns-clause-counted : goal.returns-clause-counted
