@@ -19,7 +19,7 @@ returns-in-Walking g c =
     let a = reach_of g.S.Store g.M.MergeOperator g.T.BlockTransformer c.args.env.now in
     let b = reach_of g.S.Store g.M.MergeOperator g.T.BlockTransformer c.seek_values.new.env in
     record {
-      rows = λ w range order rows sees sound has. if_pair r (seek_walk r range order key rows w x u v is (λ s h. on_second r (n.rows w range rows sees s h)) (n.still w sees) n.going n.order sound has);
+      rows = λ w range order rows sees sound has. if_pair _ r (seek_walk r range order key rows w x u v is (λ s h. on_second _ r (n.rows w range rows sees s h)) (n.still w sees) n.going n.order sound has);
       operable = λ w order sees sound op. operable_walk r order w x u v is (n.operable w sees) n.going sound op;
       undamaged = λ w range order past sees sound needs meant.
           let s = sound_walk order w x u is sound in
@@ -27,7 +27,7 @@ returns-in-Walking g c =
       checked = λ w order sound. checked_walk r order w a b x u (Checks w a b) is (n.checked w) sound;
       sources = λ range. sources_walk r range a b x u v is n.sources;
       later = λ range. later_walk r range a b x u v is n.going n.later;
-      bases = λ none. bases_none r a b n.offered;
+      bases = λ none. bases_none _ r a b n.offered;
       hands = hands_walk r a b x u v is n.going n.offered;
       cause = λ range past. cause_walk r range (Some key) a b x u is past n.cause;
       within = λ paths h. within_walk paths a b x u v is (n.within paths) h;
