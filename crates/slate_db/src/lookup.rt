@@ -23,7 +23,7 @@ ghost use Rattle.slate_db.specs.Installs.{handles_of};
 ghost use Rattle.slate_mem.specs.Lookup.{IsRowUpTo, newest_first};
 ghost use Rattle.slate_db.specs.Lookup.{IsUnknown};
 ghost use Rattle.slate_db.specs.Model.{Rows};
-ghost use Rattle.slate_db.specs.Shown.{Asking, IsRowOf, IsUnreadable, LetsThrough, RefusesRow};
+ghost use Rattle.slate_db.specs.Shown.{Asking, IsRowOf, IsUnreadable, RefusesRow};
 ghost use Rattle.slate_db.specs.Calls.Find.{FindsBehindFilters, FindsInTable, FindsRows, LetsThrough};
 
 use crate::flush::ROOT;
