@@ -58,7 +58,7 @@ commit_step d c id = step (rules_under d c) (at d.now c.state) (lines.Commit id)
 abbrev pub CommitsLine : Given → List ℕ → CoreModel → CoreModel → Reply → Type 0
 CommitsLine d id old new reply = commit_step d old id ≡ (at d.now new.state, reply)
 
--- answer: refused just by the commit_verdict, but for faults and want of memory; step, refused: as the
+-- answer: refused just by the verdict, but for faults and want of memory; step, refused: as the
 -- model answers
 pub record CommitsOpen (d : Given) (id : List ℕ) (t : Tx) (before after : Reach) (old new : CoreModel)
     (result : Result (Option ℕ) SlateDBError) : Type 0 where
