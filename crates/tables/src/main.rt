@@ -1,12 +1,15 @@
 //! Reads the tables that a run left in a folder, with its lines to standard output.
 #![tactic(auto)]
 
+ghost use Rattle.std.specs.Prelude.{◌≡◌, [], ◌∷◌, None};
+ghost use Rattle.std.specs.String.{string_bytes};
+ghost use Rattle.slate_command.specs.FirstWord.{first_word};
+
+use slate_command::{FirstWord, print, words};
 use slate_language::Xor;
 use slate_store::{FileStore, WriterSink};
 use slate_table::SstReader;
 use slate_tables::run_tables;
-use std::env;
-use std::io::ErrorKind;
 use std::process::ExitCode;
 
 const HELP: &str = "Reads the tables that a run of slate left in a folder.
@@ -41,39 +44,41 @@ and a last one: tables N damaged N rows N. The status is
 A run that ended with another status than 0 may have left half a flush.
 docs/TABLES.md has more.";
 
+const VERSION: &str = "slate_tables 0.1.0, a reader of tables on Slate";
+
 fn main(rt: HostRuntime) -> ExitCode {
-    ExitCode::from(status(&rt))
-}
-
-fn status(rt: &HostRuntime) -> u8 {
-    let words = match env::args(rt) {
-        Ok(words) => words,
-        Err(error) if error.kind() == ErrorKind::OutOfMemory => return 20,
-        Err(_) => return 2,
+    let status = match words(&rt) {
+        Ok(words) => run(&rt, words),
+        Err(status) => status,
     };
-    let words: Result<Vec<String>, _> = words.skip(1).collect(rt.alloc());
-    match words {
-        Ok(words) => run(rt, words),
-        Err(_) => 20,
-    }
+    ExitCode::from(status)
 }
 
-fn run(rt: &HostRuntime, words: Vec<String>) -> u8 {
-    if asks_help(&words) {
-        return print(rt, HELP);
-    }
+/// Without a word, and where the first one names no folder, nothing is read or written.
+fn run(rt: &HostRuntime, words: Vec<String>) -> u8
+    ensures none { words.items ≡ [] → result ≡ 2 }
+    ensures unknown { (w : _) (ws : _) → words.items ≡ w ∷ ws →
+        first_word (string_bytes w) ≡ None → result ≡ 2 }
+{
     let mut words = words;
     if words.is_empty() {
         return 2;
     }
-    let folder = words.remove(0);
-    run_over(rt, folder.as_str(), words)
+    let first = words.remove(0);
+    let status = run_by(rt, FirstWord::read(first.as_bytes()), first.as_str(), words);
+    drop(first);
+    status
 }
 
-fn asks_help(words: &[String]) -> bool {
-    match words {
-        [word] => word.as_str() == "--help" || word.as_str() == "-h",
-        _ => false,
+/// Does what the first word asks for, by the words after it.
+fn run_by(rt: &HostRuntime, asks: Option<FirstWord>, first: &str, words: Vec<String>) -> u8
+    ensures { asks ≡ None → result ≡ 2 }
+{
+    match asks {
+        Some(FirstWord::Help) if words.is_empty() => print(rt, HELP),
+        Some(FirstWord::Version) if words.is_empty() => print(rt, VERSION),
+        Some(FirstWord::Folder) => run_over(rt, first, words),
+        _ => 2,
     }
 }
 
@@ -86,11 +91,4 @@ fn run_over(rt: &HostRuntime, folder: &str, words: Vec<String>) -> u8 {
     };
     let mut sink = WriterSink::new(rt.stdout());
     run_tables(rt.alloc(), words, &mut sink, &mut reader)
-}
-
-fn print(rt: &HostRuntime, text: &str) -> u8 {
-    match println!(rt; "{text}") {
-        Ok(()) => 0,
-        Err(_) => 6,
-    }
 }
