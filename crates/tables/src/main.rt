@@ -89,8 +89,8 @@ fn run_by(rt: &HostRuntime, asks: Option<FirstWord>, first: &str, words: Vec<Str
     }
 }
 
-/// Refuses what isn't there or is no folder, by the status to end with. A store over it would have no
-/// tables.
+/// Refuses what isn't there or is no folder, by the status to end with. A store over it would have
+/// no tables.
 fn test_folder(rt: &HostRuntime, folder: &str) -> Result<(), u8> {
     match fs::metadata(rt, folder) {
         Ok(found) if found.is_dir() => Ok(()),
