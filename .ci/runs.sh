@@ -45,7 +45,7 @@ why_word() {
         fi
         shift 3
     fi
-    [[ $program_name != slate ]] || setting=$(settings)
+    [[ $program_name != slate && $program_name != tables ]] || setting=$(settings)
     for word; do
         name=${word%%=*}
         [[ $name != filter ]] || filters+=" ${word#*=} "
@@ -112,8 +112,48 @@ damage() {
     esac
 }
 
+# why_not_read WORDS..: why no table was looked at.
+why_not_read() {
+    local word words=()
+    if (($# == 0)); then
+        echo "no word says in which folder the tables are; --help has the words"
+    elif why_first "$1"; then
+        return
+    elif [[ $1 == -?* ]]; then
+        echo "$1 takes no word behind it"
+    elif [[ $1 == - ]]; then
+        echo "a store in memory leaves no tables; the first word is a folder"
+    elif [[ ! ${2-} =~ ^(list|check|rows)$ ]]; then
+        echo "behind the folder stands a mode: list, check or rows"
+    else
+        for word in "${@:3}"; do
+            [[ $word == filter=* ]] || words+=("$word")
+        done
+        for word in 1 2; do
+            [[ $2 != rows || ! ${words-} =~ ^$(below 18446744073709551615)$ ]] || words=("${words[@]:1}")
+        done
+        why_word "${words[@]}" || echo "nothing was read; --help has the words"
+    fi
+}
+
+# meaning_of_reading STATUS WORDS..: what a status other than 0 says of a call of ./slate_tables.
+meaning_of_reading() {
+    case $1 in
+    2) why_not_read "${@:2}" ;;
+    6) echo "standard output couldn't be written" ;;
+    7) echo "the folder $2 couldn't be read" ;;
+    12 | 14 | 15 | 16 | 18 | 19) echo "a table in the folder $2 is damaged, or xor= isn't that of its run" ;;
+    20) echo "there is no more memory" ;;
+    *) return 1 ;;
+    esac
+}
+
 # meaning_of STATUS WORDS..: what a status other than 0 says of a run by these words.
 meaning_of() {
+    [[ $program_name != tables ]] || {
+        meaning_of_reading "$@"
+        return
+    }
     case $1 in
     2) why_not "${@:2}" ;;
     3) tell_line <"${kept:-/dev/null}" ;;

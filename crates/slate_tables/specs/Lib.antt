@@ -1,0 +1,14 @@
+pub mod Sequences
+pub mod Exported
+pub mod Loading
+pub mod LoadText
+pub mod Moved
+pub mod Merging
+pub mod Opened
+pub mod Listing
+pub mod Finds
+pub mod Good
+pub mod Tallies
+pub mod Checks
+pub mod Runs
+pub mod Alarms

@@ -1,0 +1,111 @@
+//! Reads the tables that a run left in a folder, with its lines to standard output.
+#![tactic(auto)]
+
+ghost use Rattle.std.specs.Prelude.{◌≡◌, [], ◌∷◌, None};
+ghost use Rattle.std.specs.String.{string_bytes};
+ghost use Rattle.slate_command.specs.FirstWord.{first_word};
+
+use slate_command::{FirstWord, print, words};
+use slate_language::Xor;
+use slate_store::{FileStore, WriterSink};
+use slate_table::SstReader;
+use slate_tables::run_tables;
+use std::fs;
+use std::io::ErrorKind;
+use std::process::ExitCode;
+
+const HELP: &str = "Reads the tables that a run of slate left in a folder.
+
+Usage: slate_tables FOLDER list [WORDS]
+       slate_tables FOLDER check [WORDS]
+       slate_tables FOLDER rows [FLUSH [PLACE]] [WORDS]
+
+The words are those of the run, as they were; xor= alone is used.
+
+  list    what each table says of itself; no block is read
+  check   reads each section and each block of each table
+  rows    the rows as they are stored: of all tables, of a flush's, or of one
+
+A line for each table, with the number of its flush and its place in the flush:
+
+  table FLUSH PLACE VERSION BYTES PUTS DELETES MERGES FIRST LAST FILTERS
+  whole FLUSH PLACE VERSION ROWS LEAST GREATEST FIRST LAST
+  damaged FLUSH PLACE PART NUMBER OFFSET ERROR
+
+or for each row, and for each file that is no table:
+
+  put, merge or delete FLUSH PLACE KEY VALUE SEQUENCE CREATED EXPIRES
+  other PATH
+
+and a last one: tables N damaged N rows N. The status is
+  0   if no table is damaged      2   if the words are not known
+  6   if standard output failed   7   if the folder failed
+  12, 14, 15, 16   that of the first damage
+  20  if there is no more memory
+
+A run that ended with another status than 0 may have left half a flush.
+docs/TABLES.md has more.";
+
+const VERSION: &str = "slate_tables 0.1.0, a reader of tables on Slate";
+
+fn main(rt: HostRuntime) -> ExitCode {
+    let status = match words(&rt) {
+        Ok(words) => run(&rt, words),
+        Err(status) => status,
+    };
+    ExitCode::from(status)
+}
+
+/// Without a word, and where the first one names no folder, nothing is read or written.
+fn run(rt: &HostRuntime, words: Vec<String>) -> u8
+    ensures none { words.items ≡ [] → result ≡ 2 }
+    ensures unknown { (w : _) (ws : _) → words.items ≡ w ∷ ws →
+        first_word (string_bytes w) ≡ None → result ≡ 2 }
+{
+    let mut words = words;
+    if words.is_empty() {
+        return 2;
+    }
+    let first = words.remove(0);
+    let status = run_by(rt, FirstWord::read(first.as_bytes()), first.as_str(), words);
+    drop(first);
+    status
+}
+
+/// Does what the first word asks for, by the words after it.
+fn run_by(rt: &HostRuntime, asks: Option<FirstWord>, first: &str, words: Vec<String>) -> u8
+    ensures { asks ≡ None → result ≡ 2 }
+{
+    match asks {
+        Some(FirstWord::Help) if words.is_empty() => print(rt, HELP),
+        Some(FirstWord::Version) if words.is_empty() => print(rt, VERSION),
+        Some(FirstWord::Folder) => {
+            match test_folder(rt, first) {
+                Ok(()) => run_over(rt, first, words),
+                Err(status) => status,
+            }
+        }
+        _ => 2,
+    }
+}
+
+/// Refuses what isn't there or is no folder, by the status to end with. A store over it would have
+/// no tables.
+fn test_folder(rt: &HostRuntime, folder: &str) -> Result<(), u8> {
+    match fs::metadata(rt, folder) {
+        Ok(found) if found.is_dir() => Ok(()),
+        Err(error) if error.kind() == ErrorKind::OutOfMemory => Err(20),
+        _ => Err(7),
+    }
+}
+
+fn run_over(rt: &HostRuntime, folder: &str, words: Vec<String>) -> u8 {
+    let Ok(store) = FileStore::new(rt.alloc(), rt, folder) else {
+        return 20;
+    };
+    let Ok(mut reader) = SstReader::new(rt.alloc(), "db", store, None::<Xor>) else {
+        return 20;
+    };
+    let mut sink = WriterSink::new(rt.stdout());
+    run_tables(rt.alloc(), words, &mut sink, &mut reader)
+}
