@@ -6,8 +6,6 @@
 --     HasText r result      the text is that of the reply
 --     IsTextOf answered result      so is that of an answer, unless there was no memory for it
 --     AnswersShown layout line before after old new result      a session's answer to a line, shown
---     AnswersMeant layout line before after old new result      the same, unless there was no memory
---                 to read the line
 use Rattle.std.specs.Prelude.{◌≡◌, ◌⊎◌, ℕ, List, [], ◌∷◌, ◌++◌, flat_map, length, Some, Result, Ok, Err, IfOk, codes, decimal}
 use Rattle.std.specs.Global.{Vec}
 use Rattle.slate_types.specs.declared.error.SlateDBError.{SlateDBError}
@@ -49,8 +47,3 @@ pub record AnswersShown (layout : Layout) (line : Line) (before after : Reach)
   pub answered : Result Answer SlateDBError
   pub answers : Answers layout line before after old new answered
   pub text : IsTextOf answered result
-
-abbrev pub AnswersMeant : Layout → Line → Reach → Reach → SessionModel → SessionModel → Text → Type 0
-AnswersMeant layout line before after old new result =
-    ((result ≡ Err OutOfMemory) × (new ≡ old))
-    ⊎ AnswersShown layout line before after old new result

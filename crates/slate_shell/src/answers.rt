@@ -1,5 +1,5 @@
 //! Answers to lines of the language, and their texts.
-ghost use Rattle.std.specs.Prelude.{◌≡◌, ◌++◌, IfOk, IsTrue, OnOk, map};
+ghost use Rattle.std.specs.Prelude.{◌≡◌, ◌++◌, ◌∷◌, [], IfOk, IsTrue, OnOk, codes, decimal, map};
 ghost use Rattle.slate_types.specs.Config.{IsValid};
 ghost use Rattle.slate_filter.specs.Laws.{AreValidNames};
 ghost use Rattle.slate_db.specs.Flushed.{layout_of};
@@ -7,7 +7,7 @@ ghost use Rattle.slate_db.specs.Meaning.{segments_by};
 ghost use Rattle.slate_language.specs.Answers.{reply_of};
 ghost use Rattle.slate_txn.specs.Reply.{RowsAre};
 ghost use Rattle.slate_script.specs.Session.{has_moment};
-ghost use Rattle.slate_shell.specs.Shown.{AnswersShown, row_line, shown_reply};
+ghost use Rattle.slate_shell.specs.Shown.{AnswersShown, IsTextOf, row_line, shown_reply};
 
 use slate_db::laws::Laws;
 use slate_language::{Answer, reply_text};
@@ -38,8 +38,16 @@ pub fn answer<S: Store, M: MergeOperator, T: BlockTransformer, X: PrefixExtracto
         let layout = layout_of laws.now.options policies seg in
         AnswersShown layout line (reach env.old) (reach env.new) session.old session.new result }
 {
-    match session.answer(line, env, laws) {
-        Ok(answer) => shown(alloc, answer).map_err(SlateDBError::from),
+    let answered = session.answer(line, env, laws);
+    text_of(alloc, answered)
+}
+
+/// The text of an answer, and an error as it is.
+fn text_of(alloc: Global, answered: Result<Answer, SlateDBError>) -> Result<Vec<u8>, SlateDBError>
+    ensures { IsTextOf answered result }
+{
+    match answered {
+        Ok(answer) => Ok(shown(alloc, answer)?),
         Err(error) => Err(error),
     }
 }
@@ -62,12 +70,18 @@ pub fn shown(alloc: Global, answer: Answer) -> Result<Vec<u8>, AllocError>
 fn shown_rows(alloc: Global, rows: Vec<KeyValue>) -> Result<Vec<u8>, AllocError>
     ensures { IfOk result (λ text. text.items ≡ shown_reply (RowsAre rows.items)) }
 {
-    let count = rows.len();
-    let mut text = format!(in alloc; "rows {count}\n")?.into_bytes();
+    let mut text = count_line(alloc, rows.len())?;
     for row in rows {
         push_row(alloc, &mut text, row)?;
     }
     Ok(text)
+}
+
+fn count_line(alloc: Global, count: usize) -> Result<Vec<u8>, AllocError>
+    ensures { IfOk result (λ text. text.items ≡ codes "rows " ++ (decimal count ++ (10 ∷ []))) }
+{
+    let text = format!(in alloc; "rows {count}\n")?;
+    Ok(text.into_bytes())
 }
 
 fn push_row(alloc: Global, text: &mut Vec<u8>, row: KeyValue) -> Result<(), AllocError>

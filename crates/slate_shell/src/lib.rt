@@ -6,6 +6,7 @@ pub mod answers;
 pub mod form;
 pub mod kind;
 pub mod program;
+pub mod reading;
 pub mod respond;
 pub mod run;
 pub mod spelling;
@@ -13,4 +14,5 @@ pub mod wrong;
 
 pub use answers::{answer, shown};
 pub use program::run_by_words;
-pub use run::{Pages, run_shell};
+pub use respond::respond;
+pub use run::{Pages, run_shell, write_response};

@@ -1,21 +1,19 @@
 //! The response to a line that a person types.
-ghost use Rattle.std.specs.Prelude.{◌≡◌, IfOk, IfSome, IsTrue, false, Some, map};
+ghost use Rattle.std.specs.Prelude.{◌≡◌, IfOk, IsTrue, map};
 ghost use Rattle.slate_types.specs.Config.{IsValid};
 ghost use Rattle.slate_filter.specs.Laws.{AreValidNames};
 ghost use Rattle.slate_txn.specs.declared.line.Line.{Line};
 ghost use Rattle.slate_db.specs.Flushed.{layout_of};
 ghost use Rattle.slate_db.specs.Meaning.{segments_by};
-ghost use Rattle.slate_language.specs.Parse.{parse};
-ghost use Rattle.slate_language.specs.Replies.{is_silent};
 ghost use Rattle.slate_script.specs.Session.{has_moment};
-ghost use Rattle.slate_shell.specs.Shown.{AnswersMeant};
+ghost use Rattle.slate_shell.specs.Typed.{HasMoment, Otherwise, ReadsAlone, Responds, own_name, under};
 
 use crate::answers::answer;
+use crate::reading::{Typed, read_typed};
 use crate::spelling::{SpellingError, respell};
 use crate::wrong::find_wrong;
 use bytes::Bytes;
 use slate_db::laws::Laws;
-use slate_language::parse_line;
 use slate_script::Session;
 use slate_store::{Env, EnvOf, Store};
 use slate_txn::line::Line;
@@ -27,9 +25,8 @@ const OWN_NAME: &[u8] = b"?";
 
 /// Returns what is written for the line with this number, which is nothing for a silent one. A line
 /// of the language is answered as the model answers it. Another one is spelled anew if it has a
-/// quoted text, is a read without a name if it begins as one, and is else told to be wrong. Errors
-/// are those of `Session::answer`.
-#[tactic(auto, using(slate_script::proofs::Running::one_moment))]
+/// quoted text, is a read without a name if it begins as one, and is else told to be wrong, and
+/// changes nothing. Errors are those of `Session::answer`.
 pub fn respond<S: Store, M: MergeOperator, T: BlockTransformer, X: PrefixExtractor>(
     alloc: Global,
     session: &mut Session,
@@ -44,17 +41,13 @@ pub fn respond<S: Store, M: MergeOperator, T: BlockTransformer, X: PrefixExtract
         let policies = map (λ p. meaning (p.vtable, p.value)) laws.now.policies.items in
         let seg = segments_by X.lengths laws.now.segments in
         let layout = layout_of laws.now.options policies seg in
-        (line : Line) → is_silent typed.now ≡ false → parse typed.now ≡ Some line →
-        AnswersMeant layout line (reach env.old) (reach env.new) session.old session.new result }
+        Responds layout typed.now (reach env.old) (reach env.new) session.old session.new result }
 {
-    let copy = Vec::from_slice(alloc, typed)?;
-    match parse_line(alloc, copy) {
-        Ok(Some(line)) => answer(alloc, session, line, env, laws),
-        Ok(None) => Ok(Vec::new(alloc)),
-        Err(SlateDBError::ScriptSyntax { .. }) => {
-            respond_otherwise(alloc, session, typed, number, env, laws)
-        }
-        Err(error) => Err(error),
+    let read = read_typed(alloc, typed)?;
+    match read {
+        Typed::Meant(line) => answer(alloc, session, line, env, laws),
+        Typed::Silent => Ok(Vec::new(alloc)),
+        Typed::Other => respond_otherwise(alloc, session, typed, number, env, laws),
     }
 }
 
@@ -69,16 +62,21 @@ fn respond_otherwise<S: Store, M: MergeOperator, T: BlockTransformer, X: PrefixE
 ) -> Result<Vec<u8>, SlateDBError>
     requires valid { IsValid laws.now.options }
     requires names { AreValidNames (map (λ p. (meaning (p.vtable, p.value)).name) laws.now.policies.items) }
+    ensures { let reach = ⟦<EnvOf<S, M, T> as Outside>⟧.reach in
+        let policies = map (λ p. meaning (p.vtable, p.value)) laws.now.policies.items in
+        let seg = segments_by X.lengths laws.now.segments in
+        let layout = layout_of laws.now.options policies seg in
+        Otherwise layout (reach env.old) (reach env.new) session.old session.new result }
 {
     let spelled = match respell(alloc, typed) {
         Ok(spelled) => spelled,
         Err(SpellingError::OutOfMemory) => return Err(SlateDBError::OutOfMemory),
         Err(error) => return Ok(told(alloc, number, None, error.expected())?),
     };
-    let line = spelled.as_slice();
-    match meaning_of(alloc, Vec::from_slice(alloc, line)?)? {
-        Some(meaning) => answer(alloc, session, meaning, env, laws),
-        None => respond_to_read(alloc, session, line, number, env, laws),
+    let read = read_typed(alloc, spelled.as_slice())?;
+    match read {
+        Typed::Meant(line) => answer(alloc, session, line, env, laws),
+        _ => respond_to_read(alloc, session, spelled.as_slice(), number, env, laws),
     }
 }
 
@@ -93,29 +91,29 @@ fn respond_to_read<S: Store, M: MergeOperator, T: BlockTransformer, X: PrefixExt
 ) -> Result<Vec<u8>, SlateDBError>
     requires valid { IsValid laws.now.options }
     requires names { AreValidNames (map (λ p. (meaning (p.vtable, p.value)).name) laws.now.policies.items) }
+    ensures { let reach = ⟦<EnvOf<S, M, T> as Outside>⟧.reach in
+        let policies = map (λ p. meaning (p.vtable, p.value)) laws.now.policies.items in
+        let seg = segments_by X.lengths laws.now.segments in
+        let layout = layout_of laws.now.options policies seg in
+        Otherwise layout (reach env.old) (reach env.new) session.old session.new result }
 {
-    let Some(named) = named(alloc, line)? else {
-        return Ok(wrong(alloc, line, number)?);
-    };
-    match meaning_of(alloc, named)? {
-        Some(read) => read_alone(alloc, session, read, env, laws),
-        None => Ok(wrong(alloc, line, number)?),
+    let read = read_named(alloc, line)?;
+    match read {
+        Typed::Meant(named) => read_alone(alloc, session, named, env, laws),
+        _ => Ok(wrong(alloc, line, number)?),
     }
 }
 
-/// What a line of the language means, and `None` for another one and a silent one.
-#[tactic(auto, using(slate_script::proofs::Running::one_moment))]
-fn meaning_of(alloc: Global, line: Vec<u8>) -> Result<Option<Line>, SlateDBError>
-    ensures moment { IfOk result (λ o. IfSome o (λ l. IsTrue (has_moment l))) }
+/// The line with a name after its first word, as the language reads it, if that is a read.
+fn read_named(alloc: Global, line: &[u8]) -> Result<Typed, SlateDBError>
+    ensures { IfOk result HasMoment }
 {
-    match parse_line(alloc, line) {
-        Ok(meaning) => Ok(meaning),
-        Err(SlateDBError::ScriptSyntax { .. }) => Ok(None),
-        Err(error) => Err(error),
+    match named(alloc, line)? {
+        Some(named) => read_typed(alloc, named.as_slice()),
+        None => Ok(Typed::Other),
     }
 }
 
-/// The line with a name after its first word, if that is a read.
 fn named(alloc: Global, line: &[u8]) -> Result<Option<Vec<u8>>, AllocError> {
     for word in [
         b"get ".as_slice(),
@@ -143,29 +141,58 @@ fn read_alone<S: Store, M: MergeOperator, T: BlockTransformer, X: PrefixExtracto
     requires moment { IsTrue (has_moment line) }
     requires valid { IsValid laws.now.options }
     requires names { AreValidNames (map (λ p. (meaning (p.vtable, p.value)).name) laws.now.policies.items) }
+    ensures { let reach = ⟦<EnvOf<S, M, T> as Outside>⟧.reach in
+        let policies = map (λ p. meaning (p.vtable, p.value)) laws.now.policies.items in
+        let seg = segments_by X.lengths laws.now.segments in
+        let layout = layout_of laws.now.options policies seg in
+        IfOk result (ReadsAlone layout line (reach env.old) (reach env.new) session.old session.new) }
 {
-    let own = Bytes::copy_from_slice(alloc, OWN_NAME)?;
-    let line = under(line, own.clone()?);
-    let opened = answer(
-        alloc,
-        session,
-        Line::Snapshot { name: own.clone()? },
-        env,
-        laws,
-    );
-    drop(opened?);
-    let text = answer(alloc, session, line, env, laws)?;
-    let closed = answer(alloc, session, Line::Rollback { name: own }, env, laws);
-    drop(closed?);
+    let opening = opening(alloc)?;
+    let closing = closing(alloc)?;
+    let read = read_under(alloc, line)?;
+    let opened = answer(alloc, session, opening, env, laws)?;
+    drop(opened);
+    let text = answer(alloc, session, read, env, laws)?;
+    let closed = answer(alloc, session, closing, env, laws)?;
+    drop(closed);
     Ok(text)
 }
 
+/// The line that opens the snapshot.
+fn opening(alloc: Global) -> Result<Line, AllocError>
+    ensures line { IfOk result (λ l. l ≡ Line.Snapshot own_name) }
+    ensures moment { IfOk result (λ l. IsTrue (has_moment l)) }
+{
+    let name = Bytes::copy_from_slice(alloc, OWN_NAME)?;
+    Ok(Line::Snapshot { name })
+}
+
+/// The line that closes it.
+fn closing(alloc: Global) -> Result<Line, AllocError>
+    ensures line { IfOk result (λ l. l ≡ Line.Rollback own_name) }
+    ensures moment { IfOk result (λ l. IsTrue (has_moment l)) }
+{
+    let name = Bytes::copy_from_slice(alloc, OWN_NAME)?;
+    Ok(Line::Rollback { name })
+}
+
+/// The read in the snapshot.
+fn read_under(alloc: Global, line: Line) -> Result<Line, AllocError>
+    requires { IsTrue (has_moment line) }
+    ensures line { IfOk result (λ l. l ≡ under own_name line) }
+    ensures moment { IfOk result (λ l. IsTrue (has_moment l)) }
+{
+    let name = Bytes::copy_from_slice(alloc, OWN_NAME)?;
+    Ok(under(line, name))
+}
+
 /// The read under this name.
-fn under(line: Line, own: Bytes) -> Line
+fn under(line: Line, name: Bytes) -> Line
+    ensures line { result ≡ under name line }
     ensures moment { IsTrue (has_moment line) → IsTrue (has_moment result) }
 {
     match line {
-        Line::Get { key, .. } => Line::Get { name: own, key },
+        Line::Get { key, .. } => Line::Get { name, key },
         Line::Scan {
             order,
             start,
@@ -173,7 +200,7 @@ fn under(line: Line, own: Bytes) -> Line
             steps,
             ..
         } => Line::Scan {
-            name: own,
+            name,
             order,
             start,
             end,
@@ -187,7 +214,7 @@ fn under(line: Line, own: Bytes) -> Line
             steps,
             ..
         } => Line::Prefix {
-            name: own,
+            name,
             order,
             prefix,
             start,

@@ -1,5 +1,5 @@
 //! Quoted texts, as `"a text \x20"`, in the language's spelling.
-ghost use Rattle.std.specs.Prelude.{◌<◌};
+ghost use Rattle.std.specs.Prelude.{◌<◌, ◌≤◌, IfOk, length};
 
 use std::alloc::{AllocError, Global};
 
@@ -34,18 +34,18 @@ impl SpellingError {
 /// `"` begins its token, or the key of a bound or a step.
 pub fn respell(alloc: Global, typed: &[u8]) -> Result<Vec<u8>, SpellingError> {
     let mut line = Vec::new(alloc);
-    match push_line(alloc, &mut line, typed) {
+    match push_line(&mut line, typed) {
         Ok(()) => Ok(line),
         Err(error) => Err(error),
     }
 }
 
-fn push_line(alloc: Global, line: &mut Vec<u8>, typed: &[u8]) -> Result<(), SpellingError> {
+fn push_line(line: &mut Vec<u8>, typed: &[u8]) -> Result<(), SpellingError> {
     let mut left = typed;
     while let Some((byte, rest)) = left.split_first() {
         left = rest;
         if *byte == b'"' && begins_text(line) {
-            left = push_quoted(alloc, line, rest)?;
+            left = push_quoted(line, rest)?;
         } else {
             line.extend_from_slice(&[*byte])?;
         }
@@ -64,11 +64,9 @@ fn begins_text(line: &[u8]) -> bool {
 }
 
 /// Adds the quoted text that stands at the front in hex, and gives what stands after its end.
-fn push_quoted<'a>(
-    alloc: Global,
-    line: &mut Vec<u8>,
-    quoted: &'a [u8],
-) -> Result<&'a [u8], SpellingError> {
+fn push_quoted<'a>(line: &mut Vec<u8>, quoted: &'a [u8]) -> Result<&'a [u8], SpellingError>
+    ensures { IfOk result (λ rest. length rest.now ≤ length quoted.now) }
+{
     line.extend_from_slice(b"0x")?;
     let mut left = quoted;
     while let Some((byte, rest)) = left.split_first() {
@@ -83,7 +81,9 @@ fn push_quoted<'a>(
 }
 
 /// Adds the byte that stands behind a backslash, and gives what stands after it.
-fn push_escaped<'a>(line: &mut Vec<u8>, escape: &'a [u8]) -> Result<&'a [u8], SpellingError> {
+fn push_escaped<'a>(line: &mut Vec<u8>, escape: &'a [u8]) -> Result<&'a [u8], SpellingError>
+    ensures { IfOk result (λ rest. length rest.now ≤ length escape.now) }
+{
     match escape {
         [b'\\', rest @ ..] => {
             push_hex(line, b'\\')?;
