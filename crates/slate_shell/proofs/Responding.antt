@@ -1,6 +1,9 @@
 -- What is written for a line, by how it is read.
 use Rattle.std.proofs.Common.{◌≡◌, ◌⊎◌, ◌++◌, ℕ, List, [], Option, Some, None, Result, Ok, Err, OnOk, IfOk, IsTrue, Bool, true, false, inl, inr, refl, sym, subst, ◌∙◌}
 use Rattle.std.specs.Global.{Vec}
+use Rattle.std.specs.declared.ops.Bound.{Bound}
+use Rattle.slate_types.specs.declared.iter.IterationOrder.{IterationOrder}
+use Rattle.slate_txn.specs.declared.line.ScanStep.{ScanStep}
 use Rattle.slate_types.specs.declared.error.SlateDBError.{SlateDBError}
 use Rattle.slate_types.specs.declared.error.SlateDBError.TheVariants.{OutOfMemory, ScriptSyntax}
 use Rattle.slate_types.specs.Outside.{Reach}
@@ -14,7 +17,7 @@ use Rattle.slate_script.proofs.Running.{one_moment}
 use Rattle.slate_shell.specs.declared.reading.Typed.{Typed}
 use Rattle.slate_shell.specs.declared.reading.Typed.TheVariants.{Silent, Meant, Other}
 use Rattle.slate_shell.specs.Shown.{AnswersShown, Text}
-use Rattle.slate_shell.specs.Typed.{HasMoment, IsRead, IsWritten, Otherwise, ReadsAlone, Responds, own_name, under}
+use Rattle.slate_shell.specs.Typed.{HasMoment, IsRead, IsWritten, Otherwise, ReadsAlone, Responds, own_name, read_under}
 
 not_both : (b : Bool) → b ≡ false → b ≡ true → ⊥
 not_both b is not = cc
@@ -55,7 +58,27 @@ pub alone_otherwise : {layout : Layout} {before after : Reach} {old new : Sessio
 alone_otherwise (Ok text) line alone = inr (inr (line, alone))
 alone_otherwise (Err e) line alone = tt
 
-pub reads_alone : {layout : Layout} {before at_opened at_read after : Reach} {old opened read new : SessionModel} {opening text closing : Vec ℕ} (line snapshot named rollback : Line) → snapshot ≡ lines.Snapshot own_name → named ≡ under own_name line → rollback ≡ lines.Rollback own_name →
+pub kept_line : (name : List ℕ) (line : Line) → ((n k : List ℕ) → line ≡ lines.Get n k → ⊥) → ((n : List ℕ) (o : IterationOrder) (s e : Bound (List ℕ)) (sts : List ScanStep) → line ≡ lines.Scan n o s e sts → ⊥) →
+    ((n : List ℕ) (o : IterationOrder) (p : List ℕ) (s e : Bound (List ℕ)) (sts : List ScanStep) → line ≡ lines.Prefix n o p s e sts → ⊥) → line ≡ read_under name line
+kept_line name (lines.Get n k) get scan prefix = absurd (get n k refl)
+kept_line name (lines.Scan n o s e sts) get scan prefix = absurd (scan n o s e sts refl)
+kept_line name (lines.Prefix n o p s e sts) get scan prefix = absurd (prefix n o p s e sts refl)
+kept_line name (lines.Now m) get scan prefix = refl
+kept_line name (lines.Begin n level) get scan prefix = refl
+kept_line name (lines.Snapshot n) get scan prefix = refl
+kept_line name (lines.Put n k v ttl) get scan prefix = refl
+kept_line name (lines.Merge n k v ttl) get scan prefix = refl
+kept_line name (lines.Delete n k) get scan prefix = refl
+kept_line name (lines.Mark n ks) get scan prefix = refl
+kept_line name (lines.Unmark n ks) get scan prefix = refl
+kept_line name (lines.Commit n) get scan prefix = refl
+kept_line name (lines.Rollback n) get scan prefix = refl
+kept_line name (lines.Write ops) get scan prefix = refl
+kept_line name lines.Freeze get scan prefix = refl
+kept_line name lines.Flush get scan prefix = refl
+kept_line name lines.Journal get scan prefix = refl
+
+pub reads_alone : {layout : Layout} {before at_opened at_read after : Reach} {old opened read new : SessionModel} {opening text closing : Vec ℕ} (line snapshot named rollback : Line) → snapshot ≡ lines.Snapshot own_name → named ≡ read_under own_name line → rollback ≡ lines.Rollback own_name →
     AnswersShown layout snapshot before at_opened old opened (Ok opening) → AnswersShown layout named at_opened at_read opened read (Ok text) → AnswersShown layout rollback at_read after read new (Ok closing) →
     ReadsAlone layout line before after old new text
 reads_alone {layout = layout} {before = before} {at_opened = at_opened} {at_read = at_read} {after = after} {old = old} {opened = opened} {read = read} {new = new} {opening = opening} {text = text} {closing = closing} line snapshot named rollback is_snapshot is_named is_rollback opens reads closes = record {

@@ -2,7 +2,7 @@
 --     IsRead typed r      the line is silent, means something, or is none of the language
 --     HasMoment r      what it means sets no moment but one of 64 bits
 --     DoesNothing before after old new      nothing was done
---     own_name, under name line      the name of a shell's own snapshots; the read under a name
+--     own_name, read_under name line      the name of a shell's own snapshots; the read under a name
 --     ReadsAlone layout line before after old new text      a read in a snapshot of its own
 --     Otherwise layout before after old new result      a line that is none of the language
 --     Responds layout typed before after old new result      what is written for a line
@@ -43,11 +43,11 @@ DoesNothing before after old new = (new ≡ old) × (after ≡ before)
 abbrev pub own_name : List ℕ
 own_name = 63 ∷ []
 
-abbrev pub under : List ℕ → Line → Line
-under name (lines.Get other k) = lines.Get name k
-under name (lines.Scan other order start end sts) = lines.Scan name order start end sts
-under name (lines.Prefix other order p start end sts) = lines.Prefix name order p start end sts
-under name line = line
+abbrev pub read_under : List ℕ → Line → Line
+read_under name (lines.Get other k) = lines.Get name k
+read_under name (lines.Scan other order start end sts) = lines.Scan name order start end sts
+read_under name (lines.Prefix other order p start end sts) = lines.Prefix name order p start end sts
+read_under name line = line
 
 -- three lines, of which the second one is shown
 pub record ReadsAlone (layout : Layout) (line : Line) (before after : Reach)
@@ -59,7 +59,7 @@ pub record ReadsAlone (layout : Layout) (line : Line) (before after : Reach)
   pub opening : Vec ℕ
   pub closing : Vec ℕ
   pub opens : AnswersShown layout (lines.Snapshot own_name) before at_opened old opened (Ok opening)
-  pub reads : AnswersShown layout (under own_name line) at_opened at_read opened read (Ok text)
+  pub reads : AnswersShown layout (read_under own_name line) at_opened at_read opened read (Ok text)
   pub closes : AnswersShown layout (lines.Rollback own_name) at_read after read new (Ok closing)
 
 -- ---- a line

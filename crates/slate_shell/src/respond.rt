@@ -6,7 +6,7 @@ ghost use Rattle.slate_txn.specs.declared.line.Line.{Line};
 ghost use Rattle.slate_db.specs.Flushed.{layout_of};
 ghost use Rattle.slate_db.specs.Meaning.{segments_by};
 ghost use Rattle.slate_script.specs.Session.{has_moment};
-ghost use Rattle.slate_shell.specs.Typed.{HasMoment, Otherwise, ReadsAlone, Responds, own_name, under};
+ghost use Rattle.slate_shell.specs.Typed.{HasMoment, Otherwise, ReadsAlone, Responds, own_name, read_under};
 
 use crate::answers::answer;
 use crate::reading::{Typed, read_typed};
@@ -179,7 +179,7 @@ fn closing(alloc: Global) -> Result<Line, AllocError>
 /// The read in the snapshot.
 fn read_under(alloc: Global, line: Line) -> Result<Line, AllocError>
     requires { IsTrue (has_moment line) }
-    ensures line { IfOk result (λ l. l ≡ under own_name line) }
+    ensures line { IfOk result (λ l. l ≡ read_under own_name line) }
     ensures moment { IfOk result (λ l. IsTrue (has_moment l)) }
 {
     let name = Bytes::copy_from_slice(alloc, OWN_NAME)?;
@@ -188,7 +188,7 @@ fn read_under(alloc: Global, line: Line) -> Result<Line, AllocError>
 
 /// The read under this name.
 fn under(line: Line, name: Bytes) -> Line
-    ensures line { result ≡ under name line }
+    ensures line { result ≡ read_under name line }
     ensures moment { IsTrue (has_moment line) → IsTrue (has_moment result) }
 {
     match line {
