@@ -31,7 +31,8 @@ pub fn answer<S: Store, M: MergeOperator, T: BlockTransformer, X: PrefixExtracto
 ) -> Result<Vec<u8>, SlateDBError>
     requires moment { IsTrue (has_moment line) }
     requires valid { IsValid laws.now.options }
-    requires names { AreValidNames (map (λ p. (meaning (p.vtable, p.value)).name) laws.now.policies.items) }
+    requires names { AreValidNames
+        (map (λ p. (meaning (p.vtable, p.value)).name) laws.now.policies.items) }
     ensures { let reach = ⟦<EnvOf<S, M, T> as Outside>⟧.reach in
         let policies = map (λ p. meaning (p.vtable, p.value)) laws.now.policies.items in
         let seg = segments_by X.lengths laws.now.segments in
@@ -70,7 +71,7 @@ pub fn shown(alloc: Global, answer: Answer) -> Result<Vec<u8>, AllocError>
 fn shown_rows(alloc: Global, rows: Vec<KeyValue>) -> Result<Vec<u8>, AllocError>
     ensures { IfOk result (λ text. text.items ≡ shown_reply (RowsAre rows.items)) }
 {
-    let mut text = count_line(alloc, rows.len())?;
+    let mut text = count_line(alloc, rows.as_slice().len())?;
     for row in rows {
         push_row(alloc, &mut text, row)?;
     }

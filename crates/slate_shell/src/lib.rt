@@ -14,5 +14,4 @@ pub mod wrong;
 
 pub use answers::{answer, shown};
 pub use program::run_by_words;
-pub use respond::respond;
 pub use run::{Pages, run_shell, write_response};

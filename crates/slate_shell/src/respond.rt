@@ -36,7 +36,8 @@ pub fn respond<S: Store, M: MergeOperator, T: BlockTransformer, X: PrefixExtract
     laws: &Laws<X>,
 ) -> Result<Vec<u8>, SlateDBError>
     requires valid { IsValid laws.now.options }
-    requires names { AreValidNames (map (λ p. (meaning (p.vtable, p.value)).name) laws.now.policies.items) }
+    requires names { AreValidNames
+        (map (λ p. (meaning (p.vtable, p.value)).name) laws.now.policies.items) }
     ensures { let reach = ⟦<EnvOf<S, M, T> as Outside>⟧.reach in
         let policies = map (λ p. meaning (p.vtable, p.value)) laws.now.policies.items in
         let seg = segments_by X.lengths laws.now.segments in
@@ -61,7 +62,8 @@ fn respond_otherwise<S: Store, M: MergeOperator, T: BlockTransformer, X: PrefixE
     laws: &Laws<X>,
 ) -> Result<Vec<u8>, SlateDBError>
     requires valid { IsValid laws.now.options }
-    requires names { AreValidNames (map (λ p. (meaning (p.vtable, p.value)).name) laws.now.policies.items) }
+    requires names { AreValidNames
+        (map (λ p. (meaning (p.vtable, p.value)).name) laws.now.policies.items) }
     ensures { let reach = ⟦<EnvOf<S, M, T> as Outside>⟧.reach in
         let policies = map (λ p. meaning (p.vtable, p.value)) laws.now.policies.items in
         let seg = segments_by X.lengths laws.now.segments in
@@ -90,7 +92,8 @@ fn respond_to_read<S: Store, M: MergeOperator, T: BlockTransformer, X: PrefixExt
     laws: &Laws<X>,
 ) -> Result<Vec<u8>, SlateDBError>
     requires valid { IsValid laws.now.options }
-    requires names { AreValidNames (map (λ p. (meaning (p.vtable, p.value)).name) laws.now.policies.items) }
+    requires names { AreValidNames
+        (map (λ p. (meaning (p.vtable, p.value)).name) laws.now.policies.items) }
     ensures { let reach = ⟦<EnvOf<S, M, T> as Outside>⟧.reach in
         let policies = map (λ p. meaning (p.vtable, p.value)) laws.now.policies.items in
         let seg = segments_by X.lengths laws.now.segments in
@@ -140,12 +143,14 @@ fn read_alone<S: Store, M: MergeOperator, T: BlockTransformer, X: PrefixExtracto
 ) -> Result<Vec<u8>, SlateDBError>
     requires moment { IsTrue (has_moment line) }
     requires valid { IsValid laws.now.options }
-    requires names { AreValidNames (map (λ p. (meaning (p.vtable, p.value)).name) laws.now.policies.items) }
+    requires names { AreValidNames
+        (map (λ p. (meaning (p.vtable, p.value)).name) laws.now.policies.items) }
     ensures { let reach = ⟦<EnvOf<S, M, T> as Outside>⟧.reach in
         let policies = map (λ p. meaning (p.vtable, p.value)) laws.now.policies.items in
         let seg = segments_by X.lengths laws.now.segments in
         let layout = layout_of laws.now.options policies seg in
-        IfOk result (ReadsAlone layout line (reach env.old) (reach env.new) session.old session.new) }
+        IfOk result
+        (ReadsAlone layout line (reach env.old) (reach env.new) session.old session.new) }
 {
     let opening = opening(alloc)?;
     let closing = closing(alloc)?;

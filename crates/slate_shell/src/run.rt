@@ -45,7 +45,8 @@ pub fn run_shell<
     pages: Pages<'_>,
 ) -> Result<(), SlateDBError>
     requires valid { IsValid laws.now.options }
-    requires names { AreValidNames (map (λ p. (meaning (p.vtable, p.value)).name) laws.now.policies.items) }
+    requires names { AreValidNames
+        (map (λ p. (meaning (p.vtable, p.value)).name) laws.now.policies.items) }
 {
     let mut lines = Lines::new(alloc);
     let mut session = Session::new(alloc, &laws.options);
@@ -87,7 +88,8 @@ fn step<R: Source, W: Sink, S: Store, M: MergeOperator, T: BlockTransformer, X: 
     number: u64,
 ) -> Result<bool, SlateDBError>
     requires valid { IsValid laws.now.options }
-    requires names { AreValidNames (map (λ p. (meaning (p.vtable, p.value)).name) laws.now.policies.items) }
+    requires names { AreValidNames
+        (map (λ p. (meaning (p.vtable, p.value)).name) laws.now.policies.items) }
 {
     write_all(sink, pages.prompt.as_bytes())?;
     let Some(line) = lines.next(source)? else {
@@ -116,7 +118,8 @@ pub fn write_response<W: Sink, S: Store, M: MergeOperator, T: BlockTransformer, 
     laws: &Laws<X>,
 ) -> Result<(), SlateDBError>
     requires valid { IsValid laws.now.options }
-    requires names { AreValidNames (map (λ p. (meaning (p.vtable, p.value)).name) laws.now.policies.items) }
+    requires names { AreValidNames
+        (map (λ p. (meaning (p.vtable, p.value)).name) laws.now.policies.items) }
     ensures { let reach = ⟦<EnvOf<S, M, T> as Outside>⟧.reach in
         let policies = map (λ p. meaning (p.vtable, p.value)) laws.now.policies.items in
         let seg = segments_by X.lengths laws.now.segments in

@@ -8,5 +8,5 @@ returns g c = record {
   note = c.note.result.now;
   responds = c.respond-text.ensures;
   is_note = c.note.ensures;
-  written = wrote c.write_all.result c.in_ok-text.text c.respond-text.result c.note.result.now c.as_slice.result.now _ _ c.in_ok-text.was (c.as_slice.ensures.value ∙ c.in_ok-extend_from_slice.ensures.items) c.write_all.ensures.ok;
+  written = wrote c.write_all.result c.in_ok-text.field-0 c.respond-text.result c.note.result.now c.as_slice.result.now _ _ c.in_ok-text.was (c.as_slice.ensures.value ∙ c.in_ok-extend_from_slice.ensures.items) c.write_all.ensures.ok;
 }
