@@ -6,3 +6,6 @@ answer-requires-clause-moment g c = λ κs lives. its_moment c.in_ok-read.field-
 
 pub returns-in-Meant : goal.returns-in-Meant
 returns-in-Meant g c = answered_otherwise _ c.in-Meant.line c.answer.ensures
+
+pub returns-in_default : goal.returns-in_default
+returns-in_default g c = c.respond_to_read.ensures
