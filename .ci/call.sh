@@ -1,6 +1,6 @@
 # shellcheck shell=bash
 # What ./slate, ./slate_stock, ./slate_index and ./slate_queue do. Source this file with `top` set to the repository's folder and `call` to the
-# file's name, behind the name of the program's crate and then the words.
+# file's name, behind the name of the program's crate and then the words. `./slate shell` is the program of the crate `shell`.
 #
 # Where the program is proved and built for this source it starts at once. Else it is built unproved, once for each source, in some minutes,
 # and from then on starts at once too. Standard output is the program's alone. Where standard error is a terminal, or the first word is `tell`,
@@ -14,6 +14,10 @@ if [[ ${1-} == tell ]]; then
     telling=1
     shift
 fi
+if [[ $crate == slate && ${1-} == shell ]]; then
+    crate=shell call+=' shell'
+    shift
+fi
 choose_program "$crate"
 if [[ ${1-} == --prove && $# -eq 1 ]]; then
     prepare
@@ -25,6 +29,10 @@ if ! is_current; then
     . "$top/.ci/unproved.sh"
     prepare_unproved
     say "this program is unproved; ./$call --prove proves and builds it, once"
+fi
+# Line editing at a terminal is that of rlwrap, where it is there.
+if [[ $program_name == shell && -t 0 && -t 1 ]] && type -P rlwrap >/dev/null; then
+    exec rlwrap "$program" "$@"
 fi
 [[ -n $telling ]] || exec "$program" "$@"
 . "$top/.ci/runs.sh"

@@ -157,6 +157,25 @@ check_kept() {
     rm -rf "${room:?}"/*
 }
 
+# A session of a shell with wrong lines gives the replies that are stored beside it, byte for byte, and goes on to its end.
+check_shell() {
+    local got
+    choose_program shell
+    if has_proved "a shell's session"; then
+        got=$(./slate shell <examples/typed.shell | sha256sum; printf '%s' "${PIPESTATUS[0]}")
+        [[ ${got%$'\n'*} == "$(sha256sum <examples/typed.replies)" ]] || fail "examples/typed.shell doesn't give examples/typed.replies"
+        [[ ${got##*$'\n'} == 0 ]] || fail "examples/typed.shell ends with status ${got##*$'\n'}"
+        starter=slate
+        for got in op=concat help '- blck=3' '- --help' '--version x'; do
+            # shellcheck disable=SC2086
+            ends_with 2 shell $got
+        done
+        ends_with 0 shell - op=concat
+        say "a shell's session: checked"
+    fi
+    choose_program slate
+}
+
 check_first_hour() {
     local room starter got
     room=$(mktemp -d) || { fail "no folder for runs"; return; }
@@ -172,6 +191,7 @@ check_first_hour() {
         check_sum
         say "first calls of $starter: checked"
     done
+    check_shell
     choose_program slate
     check_kept
     say "a program that is kept unproved: checked"

@@ -20,7 +20,7 @@ why_first() {
     --help | -h | --version | -) return 1 ;;
     '') echo "an empty word names no folder" ;;
     help) echo "help isn't known, --help is; a folder of that name is ./help" ;;
-    shell | tell) echo "$1 is kept for calls of programs; a folder of that name is ./$1" ;;
+    shell | tell) echo "$1 is a word of ./slate alone, and stands first; a folder of that name is ./$1" ;;
     -*) echo "$1 isn't known; a folder of that name is ./$1" ;;
     *)
         if [[ ${1:${#named}:1} == = ]]; then
@@ -45,7 +45,7 @@ why_word() {
         fi
         shift 3
     fi
-    [[ $program_name != slate && $program_name != tables ]] || setting=$(settings)
+    [[ $program_name != slate && $program_name != tables && $program_name != shell ]] || setting=$(settings)
     for word; do
         name=${word%%=*}
         [[ $name != filter ]] || filters+=" ${word#*=} "

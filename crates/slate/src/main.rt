@@ -25,6 +25,11 @@ Usage: slate - [WORDS] < SCRIPT
        slate FOLDER [WORDS] < SCRIPT
        slate - gen N S [WORDS]
        slate FOLDER gen N S [WORDS]
+       slate shell [-] [WORDS]
+       slate shell FOLDER [WORDS]
+
+With shell lines are answered as they are typed, and a wrong one ends nothing;
+slate shell --help has more.
 
 A store begins empty, so the folder must have no tables yet, and it is one run's
 while that lives. A name that begins with -, has = before its first slash, or is
