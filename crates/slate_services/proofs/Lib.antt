@@ -1,2 +1,4 @@
 pub mod PlainLaws
 pub mod PaymentLaws
+pub mod RecordLaws
+pub mod JobLaws

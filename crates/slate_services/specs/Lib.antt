@@ -1,2 +1,5 @@
 pub mod Plain
 pub mod Payments
+pub mod Records
+pub mod Jobs
+pub mod Claims

@@ -2,4 +2,6 @@
 //! threads leave, without a premise on what any thread does.
 #![tactic(auto)]
 
+pub mod jobs;
 pub mod payments;
+pub mod records;
