@@ -50,7 +50,7 @@ module _ (before after : Reach) (old new : PassModel) where
   commit_worked : (form : Form) (call : Call) (a : Answer) (now : ℤ) → before.objects ≡ Some [] →
       (h : CommitsOn form call a now defaults no_parts [] before after old new) →
       IsQueueCommit SerializableSnapshot now (kept_ops h.txn.tx.ops) (batch_keys h.txn.tx.ops)
-          h.txn.tx.transcript →
+      h.txn.tx.transcript →
       PlainWorked IsQueueCommit old new 1
   commit_worked form call a now told h is =
       one_plain IsQueueCommit old new (call_commits form call a now h) is

@@ -2,3 +2,4 @@ pub mod PlainLaws
 pub mod PaymentLaws
 pub mod RecordLaws
 pub mod JobLaws
+pub mod FlushingLaws

@@ -192,8 +192,16 @@ pub fn claim_by_two<R: Threads + Wait + Sync>(
     let (db, mut pass) = Database::<Plain>::new(alloc, &laws.options)?;
     let added = add(rt, alloc, &db, &mut pass, &laws, payload, jobs);
     let other = pass.split(&db);
-    let ((mut pass, first), (other, second)) =
-        work_beside(rt, alloc, &db, (pass, other), &laws, now, ms, turns);
+    let ((mut pass, first), (other, second)) = work_beside(
+        rt,
+        alloc,
+        &db,
+        (pass, other),
+        &laws,
+        now,
+        ms,
+        turns,
+    );
     pass.join(&db, other);
     let (core, copied) = close(rt, db, pass);
     core.close();

@@ -146,8 +146,16 @@ pub fn put_by_two<F: Fields + Sync, R: Threads + Wait + Sync>(
     let (db, mut pass) = Database::<Plain>::new(alloc, &laws.options)?;
     let other = pass.split(&db);
     let records = ((id, values.0), (id, values.1));
-    let ((mut pass, first), (other, second)) =
-        put_beside(rt, alloc, &db, (pass, other), &laws, fields, records, turns);
+    let ((mut pass, first), (other, second)) = put_beside(
+        rt,
+        alloc,
+        &db,
+        (pass, other),
+        &laws,
+        fields,
+        records,
+        turns,
+    );
     pass.join(&db, other);
     let (core, copied) = close(rt, db, pass);
     core.close();

@@ -8,12 +8,12 @@ pub loop-turn-preserved : goal.loop-turn-preserved
 loop-turn-preserved g c =
     let fits : c.loop-turn.made ≤ c.loop-turn._turn = c.loop-turn.invariant.fits in
     elim c.match-attempt.branch [
-    in-Ok w ↦ record {
+      | in-Ok w ↦ record {
         worked = plain_on (change_kind (g.F.Fields.model c.args.fields.now)) _ _ _ c.loop-turn.made 1 c.match-attempt.made
             c.loop-turn.invariant.worked w.in-Ok.ensures w.made-is;
         fits = omega (arith, w.made-is, fits);
       }
-    | in-Err w ↦ record {
+      | in-Err w ↦ record {
         worked = plain_on (change_kind (g.F.Fields.model c.args.fields.now)) _ _ _ c.loop-turn.made 0 c.match-attempt.made
             c.loop-turn.invariant.worked w.in-Err.ensures (omega (arith, w.made-is));
         fits = omega (arith, w.made-is, fits);
