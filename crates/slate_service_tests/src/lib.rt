@@ -4,4 +4,10 @@
 #[cfg(test)]
 mod copies;
 #[cfg(test)]
+mod flushing;
+#[cfg(test)]
+mod jobs;
+#[cfg(test)]
 mod payments;
+#[cfg(test)]
+mod records;

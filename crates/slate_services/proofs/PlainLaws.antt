@@ -139,6 +139,12 @@ pub copy_of_kind : (kind : Kind) (p : PassModel) (es core : List Event) (made : 
 copy_of_kind kind p es core made h copy =
     whole_of_kind kind p es copy.seen (copy.whole h.parts) h.of_kind
 
+pub zero_first : (es : List Event) (a b : ℕ) → IsCount es (0 + a + b) → IsCount es (a + b)
+zero_first es a b h = subst (λ (n : ℕ). IsCount es n) (less a b) h
+  where
+    less : (a b : ℕ) → 0 + a + b ≡ a + b
+    less a b = omega arith
+
 -- ---- what a copy is, if there is one
 
 pub whole_if : (p : PassModel) (core : List Event) (r : Result JournalModel SlateDBError)

@@ -1,2 +1,7 @@
 pub mod Plain
 pub mod Payments
+pub mod Records
+pub mod Jobs
+pub mod Claims
+pub mod Stores
+pub mod Leaving

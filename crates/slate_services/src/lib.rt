@@ -2,4 +2,7 @@
 //! threads leave, without a premise on what any thread does.
 #![tactic(auto)]
 
+pub mod flushing;
+pub mod jobs;
 pub mod payments;
+pub mod records;
