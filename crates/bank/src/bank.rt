@@ -26,8 +26,8 @@ fn patient() -> TransactOptions
     }
 }
 
-/// Counts a visit, and returns the count. It is committed as one more than what the counter was,
-/// and nothing else is.
+/// Counts a visit, and returns the count. It is committed as one more than what the counter
+/// was, and nothing else is.
 pub fn count<R: Wait, S: Store>(
     db: &mut Connection<'_, R, S>,
     key: &[u8],

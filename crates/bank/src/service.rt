@@ -11,8 +11,8 @@ use std::sync::Wait;
 use std::thread;
 use std::thread::Threads;
 
-/// Serves a bank by two threads, one of which stores it too. Returns what all accounts have at the
-/// end. The two stores are to reach the same objects.
+/// Serves a bank by two threads, one of which stores it too. Returns what all accounts have at
+/// the end. The two stores are to reach the same objects.
 pub fn serve<R: Threads + Wait + Sync, S: Store + Send>(
     rt: &R,
     alloc: Global,

@@ -49,7 +49,7 @@ module _ (p : Terms) (k : List ℕ) (t u : Opened) (before after : Reach) (meant
   pub goes_get : (r : Result (Option KeyValue) SlateDBError) → Got r → GoesOn p before after t u
   goes_get r g =
       let more = get_more p.options p.meaning (record { policies = p.policies; query = point_query k None }) k t u before after r g in
-      record { table = more.0; id = more.1.0; seen = more.1.1; opens = λ from level h. get_opens r g from level h; vouched = λ from level h s v. get_vouched r g from level h s v }
+      record { table = more.0; id = more.1; seen = more.2; opens = λ from level h. get_opens r g from level h; vouched = λ from level h s v. get_vouched r g from level h s v }
 
   pub get_noted : (r : Result (Option KeyValue) SlateDBError) → Got r → IfOk r (λ a. u.tx.transcript ≡ t.tx.transcript ++ (steps.Get k a ∷ []))
   get_noted (Ok a) g = ap (λ (x : Opened). x.tx.transcript) g.noted
@@ -71,8 +71,8 @@ module _ {A : Type 0} (p : Terms) (a : Reach) (t u : Opened) (k : List ℕ) (op 
       let more = own_same t u k op r is same in
       record {
         table = more.0;
-        id = more.1.0;
-        seen = subst (λ (es : List Event). IsPrefix t.seen es) (sym more.1.1) (prefix_self t.seen);
+        id = more.1;
+        seen = subst (λ (es : List Event). IsPrefix t.seen es) (sym more.2) (prefix_self t.seen);
         opens = λ from level h. own_opens r is same from level h;
         vouched = λ from level h s v. own_vouched t u k op r is p.options p.meaning same v;
       }

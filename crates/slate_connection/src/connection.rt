@@ -101,8 +101,12 @@ impl<'a, R: Wait, S: Store> Connection<'a, R, S> {
     /// own. Takes no memory and no lock.
     pub fn split<T: Store>(&mut self, store: &'a mut T) -> Connection<'a, R, T>
         requires parts { 1 < self.old.pass.parts }
-        ensures same { (self.new.pass.table ≡ self.old.pass.table) × (self.new.pass.parts + 1 ≡ self.old.pass.parts) × (self.new.pass.seen ≡ self.old.pass.seen) × (self.new.pass.own ≡ self.old.pass.own) }
-        ensures new { (result.pass.table ≡ self.old.pass.table) × (result.pass.parts ≡ 1) × (result.pass.seen ≡ self.old.pass.seen) × (result.pass.own ≡ []) × (result.txn ≡ None) }
+        ensures same { (self.new.pass.table ≡ self.old.pass.table)
+            × (self.new.pass.parts + 1 ≡ self.old.pass.parts)
+            × (self.new.pass.seen ≡ self.old.pass.seen) × (self.new.pass.own ≡ self.old.pass.own) }
+        ensures new { (result.pass.table ≡ self.old.pass.table) × (result.pass.parts ≡ 1)
+            × (result.pass.seen ≡ self.old.pass.seen) × (result.pass.own ≡ [])
+            × (result.txn ≡ None) }
         ensures still { (self.new.txn ≡ self.old.txn) × (reach_in self.new ≡ reach_in self.old) }
     {
         let pass = self.pass.split(self.db);
@@ -114,8 +118,10 @@ impl<'a, R: Wait, S: Store> Connection<'a, R, S> {
     pub fn join<T: Store>(&mut self, other: Connection<'_, R, T>)
         requires table { other.pass.table ≡ self.old.pass.table }
         ensures table { self.new.pass.table ≡ self.old.pass.table }
-        ensures seen { IsPrefix self.old.pass.seen self.new.pass.seen × IsPrefix other.entry.pass.seen self.new.pass.seen }
-        ensures own { (self.new.pass.own ≡ self.old.pass.own ++ other.entry.pass.own) × (self.new.pass.parts ≡ self.old.pass.parts + other.entry.pass.parts) }
+        ensures seen { IsPrefix self.old.pass.seen self.new.pass.seen
+            × IsPrefix other.entry.pass.seen self.new.pass.seen }
+        ensures own { (self.new.pass.own ≡ self.old.pass.own ++ other.entry.pass.own)
+            × (self.new.pass.parts ≡ self.old.pass.parts + other.entry.pass.parts) }
         ensures still { (self.new.txn ≡ self.old.txn) × (reach_in self.new ≡ reach_in self.old) }
     {
         self.pass.join(self.db, other.close());
@@ -140,8 +146,10 @@ impl<'a, R: Wait, S: Store> Connection<'a, R, S> {
         batch: WriteBatch,
         now: i64,
     ) -> Result<Option<WriteHandle<Plain>>, SlateDBError>
-        ensures written { HasWritten (IsFault (reach_in self.old) (reach_in self.new)) no_parts None (settings_of defaults) now batch self.old.pass self.new.pass result }
-        ensures same { (self.new.pass.table ≡ self.old.pass.table) × (self.new.pass.parts ≡ self.old.pass.parts) }
+        ensures written { HasWritten (IsFault (reach_in self.old) (reach_in self.new)) no_parts None
+            (settings_of defaults) now batch self.old.pass self.new.pass result }
+        ensures same { (self.new.pass.table ≡ self.old.pass.table)
+            × (self.new.pass.parts ≡ self.old.pass.parts) }
         ensures reads { OnlyReads (reach_in self.old) (reach_in self.new) }
         ensures still { self.new.txn ≡ self.old.txn }
     {
@@ -153,7 +161,10 @@ impl<'a, R: Wait, S: Store> Connection<'a, R, S> {
     /// Puts a value by a commit of its own, with the default options. Refuses as `WriteBatch::put`
     /// and `write` do, and then nothing is committed.
     pub fn put(&mut self, key: &[u8], value: &[u8]) -> Result<(), SlateDBError>
-        ensures written { OnOk result ((n : Option ℕ) × HasWritten (IsFault (reach_in self.old) (reach_in self.new)) no_parts None (settings_of defaults) (pos 0) (with_op no_ops key.now (plain_put value.now)) self.old.pass self.new.pass (Ok n)) }
+        ensures written { OnOk result ((n : Option ℕ)
+            × HasWritten (IsFault (reach_in self.old) (reach_in self.new)) no_parts None
+            (settings_of defaults) (pos 0) (with_op no_ops key.now (plain_put value.now))
+            self.old.pass self.new.pass (Ok n)) }
         ensures refused { OnErr result (SeesOnly self.old.pass self.new.pass) }
         ensures reads { OnlyReads (reach_in self.old) (reach_in self.new) }
         ensures still { self.new.txn ≡ self.old.txn }
@@ -164,10 +175,35 @@ impl<'a, R: Wait, S: Store> Connection<'a, R, S> {
         Ok(())
     }
 
+    /// Puts a value by a commit of its own. Refuses as `WriteBatch::put_with_options` and `write`
+    /// do, and then nothing is committed.
+    pub fn put_with(
+        &mut self,
+        key: &[u8],
+        value: &[u8],
+        options: &PutOptions,
+    ) -> Result<(), SlateDBError>
+        ensures written { OnOk result ((n : Option ℕ)
+            × HasWritten (IsFault (reach_in self.old) (reach_in self.new)) no_parts None
+            (settings_of defaults) (pos 0) (with_op no_ops key.now
+            (WriteOp.Put value.now options.now)) self.old.pass self.new.pass (Ok n)) }
+        ensures refused { OnErr result (SeesOnly self.old.pass self.new.pass) }
+        ensures reads { OnlyReads (reach_in self.old) (reach_in self.new) }
+        ensures still { self.new.txn ≡ self.old.txn }
+    {
+        let mut batch = WriteBatch::new(self.alloc);
+        batch.put_with_options(key, value, options)?;
+        self.write(batch, 0)?;
+        Ok(())
+    }
+
     /// Deletes a key by a commit of its own. Refuses as `WriteBatch::delete` and `write` do, and
     /// then nothing is committed.
     pub fn delete(&mut self, key: &[u8]) -> Result<(), SlateDBError>
-        ensures written { OnOk result ((n : Option ℕ) × HasWritten (IsFault (reach_in self.old) (reach_in self.new)) no_parts None (settings_of defaults) (pos 0) (with_op no_ops key.now WriteOp.Delete) self.old.pass self.new.pass (Ok n)) }
+        ensures written { OnOk result ((n : Option ℕ)
+            × HasWritten (IsFault (reach_in self.old) (reach_in self.new)) no_parts None
+            (settings_of defaults) (pos 0) (with_op no_ops key.now WriteOp.Delete) self.old.pass
+            self.new.pass (Ok n)) }
         ensures refused { OnErr result (SeesOnly self.old.pass self.new.pass) }
         ensures reads { OnlyReads (reach_in self.old) (reach_in self.new) }
         ensures still { self.new.txn ≡ self.old.txn }

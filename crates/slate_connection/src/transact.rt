@@ -33,7 +33,8 @@ pub struct TransactOptions {
 impl TransactOptions {
     /// Returns eight attempts at a serializable transaction at moment 0.
     pub fn new() -> TransactOptions
-        ensures { (result.attempts ≡ 8) × (result.level ≡ Level.SerializableSnapshot) × (result.now ≡ pos 0) }
+        ensures { (result.attempts ≡ 8) × (result.level ≡ Level.SerializableSnapshot)
+            × (result.now ≡ pos 0) }
     {
         TransactOptions {
             attempts: 8,
@@ -56,7 +57,8 @@ pub trait Transact {
     /// and then none is open.
     fn begin(&mut self, level: IsolationLevel) -> Result<(), SlateDBError>
         ensures only { SeesOnly (seen self.old).pass (seen self.new).pass }
-        ensures begun { OnOk result ((t : Opened) × ((seen self.new).txn ≡ Some t) × IsAttempt terms.options (seen self.old).pass.seen level [] t) }
+        ensures begun { OnOk result ((t : Opened) × ((seen self.new).txn ≡ Some t)
+            × IsAttempt terms.options (seen self.old).pass.seen level [] t) }
         ensures unbegun { IfErr result (IsUnbegun (seen self.old).pass (seen self.new).pass) }
         ensures none { OnErr result ((seen self.new).txn ≡ None) }
         ensures still { (seen self.new).reach ≡ (seen self.old).reach };
@@ -65,19 +67,24 @@ pub trait Transact {
     /// nothing. It ends either way. Refuses as `DbTransaction::commit` does, and by
     /// `UnknownTransaction` if nothing is open, and then nothing is committed.
     fn commit(&mut self, now: i64) -> Result<Option<u64>, SlateDBError>
-        ensures committed { (t : Opened) (from : List Event) (level : Level) → (seen self.old).txn ≡ Some t → IsOpen terms from level t →
-            IfOk result (λ n. HasCommittedBehind terms.options t n now (seen self.old).pass (seen self.new).pass) }
+        ensures committed { (t : Opened) (from : List Event) (level : Level) →
+            (seen self.old).txn ≡ Some t → IsOpen terms from level t →
+            IfOk result (λ n. HasCommittedBehind terms.options t n now (seen self.old).pass
+            (seen self.new).pass) }
         ensures legal { OnOk result (IsLegal terms.options.start_seq (seen self.new).pass.seen) }
         ensures refused { OnErr result (SeesOnly (seen self.old).pass (seen self.new).pass) }
-        ensures cause { (t : Opened) (from : List Event) (level : Level) → (seen self.old).txn ≡ Some t → IsOpen terms from level t →
-            IfErr result (λ e. IsFault (seen self.old).reach (seen self.new).reach e ⊎ IsRefusedBehind terms.options t (seen self.old).pass (seen self.new).pass e) }
+        ensures cause { (t : Opened) (from : List Event) (level : Level) →
+            (seen self.old).txn ≡ Some t → IsOpen terms from level t →
+            IfErr result (λ e. IsFault (seen self.old).reach (seen self.new).reach e
+            ⊎ IsRefusedBehind terms.options t (seen self.old).pass (seen self.new).pass e) }
         ensures none { (seen self.new).txn ≡ None }
         ensures reads { OnlyReads (seen self.old).reach (seen self.new).reach };
 
     /// Rolls back what is open.
     fn end(&mut self)
         ensures only { SeesOnly (seen self.old).pass (seen self.new).pass }
-        ensures known { (t : Opened) → (seen self.old).txn ≡ Some t → IsPrefix t.seen (seen self.new).pass.seen }
+        ensures known { (t : Opened) → (seen self.old).txn ≡ Some t →
+            IsPrefix t.seen (seen self.new).pass.seen }
         ensures none { (seen self.new).txn ≡ None }
         ensures still { (seen self.new).reach ≡ (seen self.old).reach };
 
@@ -86,10 +93,14 @@ pub trait Transact {
     /// then it took no step.
     fn get_within(&mut self, key: &[u8]) -> Result<Option<KeyValue>, SlateDBError>
         ensures stays { Stays terms (seen self.old) (seen self.new) }
-        ensures noted { IfOk result (λ a. taken (seen self.new) ≡ taken (seen self.old) ++ (steps.Get key.now a ∷ [])) }
+        ensures noted { IfOk result (λ a. taken (seen self.new) ≡ taken (seen self.old) ++
+            (steps.Get key.now a ∷ [])) }
         ensures same { OnErr result (taken (seen self.new) ≡ taken (seen self.old)) }
-        ensures cause { (t : Opened) (from : List Event) (level : Level) → (seen self.old).txn ≡ Some t → IsOpen terms from level t →
-            IfErr result (λ e. (u : Opened) × ((seen self.new).txn ≡ Some u) × IsReadErrorOn terms.options terms.policies (seen self.old).reach (seen self.new).reach u.seen e) };
+        ensures cause { (t : Opened) (from : List Event) (level : Level) →
+            (seen self.old).txn ≡ Some t → IsOpen terms from level t →
+            IfErr result (λ e. (u : Opened) × ((seen self.new).txn ≡ Some u)
+            × IsReadErrorOn terms.options terms.policies (seen self.old).reach (seen self.new).reach
+            u.seen e) };
 
     /// Puts a value by the open transaction. Refuses as `DbTransaction::put_with_options` does, and
     /// by `UnknownTransaction` if nothing is open, and then it took no step.
@@ -100,19 +111,26 @@ pub trait Transact {
         options: &PutOptions,
     ) -> Result<(), SlateDBError>
         ensures stays { Stays terms (seen self.old) (seen self.new) }
-        ensures noted { OnOk result (taken (seen self.new) ≡ taken (seen self.old) ++ (steps.Own key.now (WriteOp.Put value.now options.now) ∷ [])) }
+        ensures noted { OnOk result (taken (seen self.new) ≡ taken (seen self.old) ++
+            (steps.Own key.now (WriteOp.Put value.now options.now) ∷ [])) }
         ensures same { OnErr result ((seen self.new) ≡ (seen self.old)) }
-        ensures cause { IfErr result (λ e. ((seen self.old).txn ≡ None) ⊎ (e ≡ SlateDBError.OutOfMemory) ⊎ (op_refusal key.now (WriteOp.Put value.now options.now) ≡ Some e)) }
-        ensures test { (t : Opened) (e : SlateDBError) → (seen self.old).txn ≡ Some t → op_refusal key.now (WriteOp.Put value.now options.now) ≡ Some e → result ≡ Err e };
+        ensures cause { IfErr result (λ e. ((seen self.old).txn ≡ None)
+            ⊎ (e ≡ SlateDBError.OutOfMemory)
+            ⊎ (op_refusal key.now (WriteOp.Put value.now options.now) ≡ Some e)) }
+        ensures test { (t : Opened) (e : SlateDBError) → (seen self.old).txn ≡ Some t →
+            op_refusal key.now (WriteOp.Put value.now options.now) ≡ Some e → result ≡ Err e };
 
     /// Deletes a key by the open transaction. Refuses as `DbTransaction::delete` does, and by
     /// `UnknownTransaction` if nothing is open, and then it took no step.
     fn delete_within(&mut self, key: &[u8]) -> Result<(), SlateDBError>
         ensures stays { Stays terms (seen self.old) (seen self.new) }
-        ensures noted { OnOk result (taken (seen self.new) ≡ taken (seen self.old) ++ (steps.Own key.now WriteOp.Delete ∷ [])) }
+        ensures noted { OnOk result (taken (seen self.new) ≡ taken (seen self.old) ++
+            (steps.Own key.now WriteOp.Delete ∷ [])) }
         ensures same { OnErr result ((seen self.new) ≡ (seen self.old)) }
-        ensures cause { IfErr result (λ e. ((seen self.old).txn ≡ None) ⊎ (e ≡ SlateDBError.OutOfMemory) ⊎ (op_refusal key.now WriteOp.Delete ≡ Some e)) }
-        ensures test { (t : Opened) (e : SlateDBError) → (seen self.old).txn ≡ Some t → op_refusal key.now WriteOp.Delete ≡ Some e → result ≡ Err e };
+        ensures cause { IfErr result (λ e. ((seen self.old).txn ≡ None)
+            ⊎ (e ≡ SlateDBError.OutOfMemory) ⊎ (op_refusal key.now WriteOp.Delete ≡ Some e)) }
+        ensures test { (t : Opened) (e : SlateDBError) → (seen self.old).txn ≡ Some t →
+            op_refusal key.now WriteOp.Delete ≡ Some e → result ≡ Err e };
 
     /// Begins a transaction, runs the closure on it, and commits it. If another thread's commit
     /// conflicts with it, it begins again, and the closure reads again, up to the number of
@@ -126,11 +144,16 @@ pub trait Transact {
         work: F,
     ) -> Result<A, SlateDBError>
         requires callable { (f : F) (t : _) → F.pre f t }
-        requires stays { (f g : F) (s t : _) (r : _) → F.step f s r t g → StaysIn terms seen s.now.db t.now.db }
-        ensures committed { IfOk result (HasTransacted (λ t. seen t.now.db.now) F.step terms options.entry.now.level options.entry.now.now (seen self.old) (seen self.new)) }
-        ensures tried { (n : ℕ) × (n < max 1 options.entry.now.attempts) × (mid : ConnectionModel) × (f : F)
-            × AfterConflicts (λ t. seen t.now.db.now) F.step terms options.entry.now.level n (seen self.old) work mid f
-            × IsLast (λ t. seen t.now.db.now) F.step terms options.entry.now.level mid (seen self.new) f result }
+        requires stays { (f g : F) (s t : _) (r : _) → F.step f s r t g →
+            StaysIn terms seen s.now.db t.now.db }
+        ensures committed { IfOk result (HasTransacted (λ t. seen t.now.db.now) F.step terms
+            options.entry.now.level options.entry.now.now (seen self.old) (seen self.new)) }
+        ensures tried { (n : ℕ) × (n < max 1 options.entry.now.attempts) × (mid : ConnectionModel)
+            × (f : F)
+            × AfterConflicts (λ t. seen t.now.db.now) F.step terms options.entry.now.level n
+            (seen self.old) work mid f
+            × IsLast (λ t. seen t.now.db.now) F.step terms options.entry.now.level mid
+            (seen self.new) f result }
         ensures refused { OnErr result (SeesOnly (seen self.old).pass (seen self.new).pass) }
         ensures none { (seen self.new).txn ≡ None }
         ensures reads { OnlyReads (seen self.old).reach (seen self.new).reach }
@@ -148,8 +171,9 @@ pub trait Transact {
 
     /// Returns the row at a key, by a transaction of its own that commits nothing. Refuses as
     /// `begin` and `get_within` do.
-    final fn get_key_value(&mut self, key: &[u8]) -> Result<Option<KeyValue>, SlateDBError>
-        ensures read { IfOk result (λ a. HasRead terms (seen self.old) (seen self.new) (steps.Get key.now a ∷ [])) }
+    final fn get_row(&mut self, key: &[u8]) -> Result<Option<KeyValue>, SlateDBError>
+        ensures read { IfOk result (λ a. HasRead terms (seen self.old) (seen self.new)
+            (steps.Get key.now a ∷ [])) }
         ensures only { SeesOnly (seen self.old).pass (seen self.new).pass }
         ensures none { (seen self.new).txn ≡ None }
         ensures reads { OnlyReads (seen self.old).reach (seen self.new).reach }
@@ -162,12 +186,14 @@ pub trait Transact {
 
     /// Returns the value of that row.
     final fn get(&mut self, key: &[u8]) -> Result<Option<Bytes>, SlateDBError>
-        ensures read { IfOk result (λ a. (row : Option KeyValue) × (a ≡ option_map (λ r. r.value) row) × HasRead terms (seen self.old) (seen self.new) (steps.Get key.now row ∷ [])) }
+        ensures read { IfOk result (λ a. (row : Option KeyValue)
+            × (a ≡ option_map (λ r. r.value) row)
+            × HasRead terms (seen self.old) (seen self.new) (steps.Get key.now row ∷ [])) }
         ensures only { SeesOnly (seen self.old).pass (seen self.new).pass }
         ensures none { (seen self.new).txn ≡ None }
         ensures reads { OnlyReads (seen self.old).reach (seen self.new).reach }
     {
-        match self.get_key_value(key) {
+        match self.get_row(key) {
             Ok(Some(KeyValue { value, .. })) => Ok(Some(value)),
             Ok(None) => Ok(None),
             Err(error) => Err(error),
@@ -183,10 +209,12 @@ pub struct Transaction<'t, D> {
 
 impl<'t, D: Transact> Transaction<'t, D> {
     /// Returns the row that it sees at a key. Refuses as `DbTransaction::get_key_value` does.
-    pub fn get_key_value(&mut self, key: &[u8]) -> Result<Option<KeyValue>, SlateDBError>
+    pub fn get_row(&mut self, key: &[u8]) -> Result<Option<KeyValue>, SlateDBError>
         ensures stays { StaysIn D.terms D.seen self.old.db self.new.db }
-        ensures noted { IfOk result (λ a. taken (D.seen self.new.db.now) ≡ taken (D.seen self.old.db.now) ++ (steps.Get key.now a ∷ [])) }
-        ensures same { OnErr result (taken (D.seen self.new.db.now) ≡ taken (D.seen self.old.db.now)) }
+        ensures noted { IfOk result (λ a. taken (D.seen self.new.db.now) ≡ taken
+            (D.seen self.old.db.now) ++ (steps.Get key.now a ∷ [])) }
+        ensures same { OnErr result (taken (D.seen self.new.db.now) ≡ taken
+            (D.seen self.old.db.now)) }
     {
         self.db.get_within(key)
     }
@@ -194,8 +222,12 @@ impl<'t, D: Transact> Transaction<'t, D> {
     /// Returns the value of that row.
     pub fn get(&mut self, key: &[u8]) -> Result<Option<Bytes>, SlateDBError>
         ensures stays { StaysIn D.terms D.seen self.old.db self.new.db }
-        ensures noted { IfOk result (λ a. (row : Option KeyValue) × (a ≡ option_map (λ r. r.value) row) × (taken (D.seen self.new.db.now) ≡ taken (D.seen self.old.db.now) ++ (steps.Get key.now row ∷ []))) }
-        ensures same { OnErr result (taken (D.seen self.new.db.now) ≡ taken (D.seen self.old.db.now)) }
+        ensures noted { IfOk result (λ a. (row : Option KeyValue)
+            × (a ≡ option_map (λ r. r.value) row)
+            × (taken (D.seen self.new.db.now) ≡ taken (D.seen self.old.db.now) ++
+            (steps.Get key.now row ∷ []))) }
+        ensures same { OnErr result (taken (D.seen self.new.db.now) ≡ taken
+            (D.seen self.old.db.now)) }
     {
         match self.db.get_within(key) {
             Ok(Some(KeyValue { value, .. })) => Ok(Some(value)),
@@ -208,21 +240,23 @@ impl<'t, D: Transact> Transaction<'t, D> {
     /// nothing is put.
     pub fn put(&mut self, key: &[u8], value: &[u8]) -> Result<(), SlateDBError>
         ensures stays { StaysIn D.terms D.seen self.old.db self.new.db }
-        ensures noted { OnOk result (taken (D.seen self.new.db.now) ≡ taken (D.seen self.old.db.now) ++ (steps.Own key.now (plain_put value.now) ∷ [])) }
+        ensures noted { OnOk result (taken (D.seen self.new.db.now) ≡ taken (D.seen self.old.db.now)
+            ++ (steps.Own key.now (plain_put value.now) ∷ [])) }
         ensures same { OnErr result (D.seen self.new.db.now ≡ D.seen self.old.db.now) }
     {
         self.db.put_within(key, value, &PutOptions::default())
     }
 
     /// Puts a value. Refuses as `DbTransaction::put_with_options` does, and then nothing is put.
-    pub fn put_with_options(
+    pub fn put_with(
         &mut self,
         key: &[u8],
         value: &[u8],
         options: &PutOptions,
     ) -> Result<(), SlateDBError>
         ensures stays { StaysIn D.terms D.seen self.old.db self.new.db }
-        ensures noted { OnOk result (taken (D.seen self.new.db.now) ≡ taken (D.seen self.old.db.now) ++ (steps.Own key.now (WriteOp.Put value.now options.now) ∷ [])) }
+        ensures noted { OnOk result (taken (D.seen self.new.db.now) ≡ taken (D.seen self.old.db.now)
+            ++ (steps.Own key.now (WriteOp.Put value.now options.now) ∷ [])) }
         ensures same { OnErr result (D.seen self.new.db.now ≡ D.seen self.old.db.now) }
     {
         self.db.put_within(key, value, options)
@@ -231,7 +265,8 @@ impl<'t, D: Transact> Transaction<'t, D> {
     /// Deletes a key. Refuses as `DbTransaction::delete` does, and then nothing is deleted.
     pub fn delete(&mut self, key: &[u8]) -> Result<(), SlateDBError>
         ensures stays { StaysIn D.terms D.seen self.old.db self.new.db }
-        ensures noted { OnOk result (taken (D.seen self.new.db.now) ≡ taken (D.seen self.old.db.now) ++ (steps.Own key.now WriteOp.Delete ∷ [])) }
+        ensures noted { OnOk result (taken (D.seen self.new.db.now) ≡ taken (D.seen self.old.db.now)
+            ++ (steps.Own key.now WriteOp.Delete ∷ [])) }
         ensures same { OnErr result (D.seen self.new.db.now ≡ D.seen self.old.db.now) }
     {
         self.db.delete_within(key)
@@ -240,7 +275,8 @@ impl<'t, D: Transact> Transaction<'t, D> {
 
 /// Tells whether it is no conflict, after which an attempt begins again.
 fn is_settled<A>(ended: &Result<A, SlateDBError>) -> bool
-    ensures { result ≡ false → (seq : _) × (ended.now ≡ Err (SlateDBError.TransactionConflict seq)) }
+    ensures { result ≡ false → (seq : _)
+        × (ended.now ≡ Err (SlateDBError.TransactionConflict seq)) }
 {
     !matches!(ended, Err(SlateDBError::TransactionConflict { .. }))
 }
@@ -253,10 +289,13 @@ fn attempt<D: Transact, A: Drop, F: FnMut(&mut Transaction<'_, D>) -> Result<A, 
     work: &mut F,
 ) -> Result<A, SlateDBError>
     requires callable { (f : F) (t : _) → F.pre f t }
-    requires stays { (f g : F) (s t : _) (r : _) → F.step f s r t g → StaysIn D.terms D.seen s.now.db t.now.db }
-    ensures committed { IfOk result (HasTransacted (λ t. D.seen t.now.db.now) F.step D.terms level now (D.seen db.old) (D.seen db.new)) }
+    requires stays { (f g : F) (s t : _) (r : _) → F.step f s r t g →
+        StaysIn D.terms D.seen s.now.db t.now.db }
+    ensures committed { IfOk result (HasTransacted (λ t. D.seen t.now.db.now) F.step D.terms level
+        now (D.seen db.old) (D.seen db.new)) }
     ensures ran { IfOk result (λ a. (s : _) × (t : _) × F.step work.old s (Ok a) t work.new) }
-    ensures cause { IfErr result (IsRefused (λ t. D.seen t.now.db.now) F.step D.terms level (D.seen db.old) (D.seen db.new) work.old work.new) }
+    ensures cause { IfErr result (IsRefused (λ t. D.seen t.now.db.now) F.step D.terms level
+        (D.seen db.old) (D.seen db.new) work.old work.new) }
     ensures refused { OnErr result (SeesOnly (D.seen db.old).pass (D.seen db.new).pass) }
     ensures none { (D.seen db.new).txn ≡ None }
     ensures reads { OnlyReads (D.seen db.old).reach (D.seen db.new).reach }
@@ -280,9 +319,11 @@ fn run<D: Transact, A: Drop, F: FnMut(&mut Transaction<'_, D>) -> Result<A, Slat
     work: &mut F,
 ) -> Result<A, SlateDBError>
     requires callable { (f : F) (t : _) → F.pre f t }
-    requires stays { (f g : F) (s t : _) (r : _) → F.step f s r t g → StaysIn D.terms D.seen s.now.db t.now.db }
+    requires stays { (f g : F) (s t : _) (r : _) → F.step f s r t g →
+        StaysIn D.terms D.seen s.now.db t.now.db }
     ensures stays { Stays D.terms (D.seen db.old) (D.seen db.new) }
-    ensures ran { (s : _) × (t : _) × F.step work.old s result t work.new × (s.now.db.now ≡ db.old) × (t.now.db.now ≡ db.new) }
+    ensures ran { (s : _) × (t : _) × F.step work.old s result t work.new × (s.now.db.now ≡ db.old)
+        × (t.now.db.now ≡ db.new) }
 {
     let mut txn = Transaction { db };
     work(&mut txn)

@@ -10,7 +10,7 @@ returns-in-Some-clause-stays g c =
     let was : c.self.inside.txn ≡ Some c.in-Some.txn = search rules in
     rw (← c.self.view_is)
     (stays_got plain_terms c.args.key.now _ _ c.in-Some.txn c.get_key_value.new.self _ _ c.get_key_value.result was refl
-    (reach_is _ _ _ _ (λ o. refl) (λ o. refl) meant) (reach_is _ _ _ _ (λ o. refl) (λ o. refl) (e.reads.meaning ∙ meant)) meant e refl)
+    (reach_is g.S.Store _ _ c.self.inside.env (λ o. refl) (λ o. refl) meant) (reach_is g.S.Store _ _ c.get_key_value.new.env (λ o. refl) (λ o. refl) (e.reads.meaning ∙ meant)) meant e refl)
 
 pub returns-in-Some-clause-cause : goal.returns-in-Some-clause-cause
 returns-in-Some-clause-cause g c =
@@ -18,5 +18,5 @@ returns-in-Some-clause-cause g c =
     let meant = c.self.invariant.2 in
     let was : c.self.inside.txn ≡ Some c.in-Some.txn = search rules in
     rw (← c.self.view_is)
-    (cause_got plain_terms c.args.key.now _ _ c.in-Some.txn c.get_key_value.new.self _ _ c.get_key_value.result was refl
-    (reach_is _ _ _ _ (λ o. refl) (λ o. refl) meant) (reach_is _ _ _ _ (λ o. refl) (λ o. refl) (e.reads.meaning ∙ meant)) meant e)
+    (cause_got plain_terms c.args.key.now (record { pass = c.self.inside.pass; txn = _; reach = _ }) (record { pass = c.self.inside.pass; txn = _; reach = _ }) c.in-Some.txn c.get_key_value.new.self _ _ c.get_key_value.result was refl
+    (reach_is g.S.Store _ _ c.self.inside.env (λ o. refl) (λ o. refl) meant) (reach_is g.S.Store _ _ c.get_key_value.new.env (λ o. refl) (λ o. refl) (e.reads.meaning ∙ meant)) meant e)

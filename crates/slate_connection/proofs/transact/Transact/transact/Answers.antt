@@ -1,4 +1,5 @@
 use Rattle.std.proofs.Common.{◌≡◌, ◌∙◌, suc, ℤ, w64, ap, rules, subst}
+use native.Mathlib.Numerals.{unary_clauses}
 use Rattle.std.proofs.lemmas.Int.{to_z-of_z}
 use Rattle.std.proofs.lemmas.Result.{IfOk-weaker}
 use Rattle.slate_types.proofs.Reaching.{reads_then}
@@ -38,7 +39,7 @@ loop-tried-preserved g c =
     let (n, index, within, after) = c.loop-tried.invariant.2 in (
       sees_only_then _ _ _ c.loop-tried.invariant.0 (on_err _ ended.result _ e.1 ended.ensures.refused),
       reads_then _ _ _ c.loop-tried.invariant.1 ended.ensures.reads,
-      (suc n, ap suc index, search rules, (d.seen c.loop-tried.self, c.loop-tried.work, after, (e.0, if_err _ ended.result _ e.1 ended.ensures.cause))),
+      (suc n, simp unary_clauses (ap suc index), search rules, (d.seen c.loop-tried.self, c.loop-tried.work, after, (e.0, if_err _ ended.result _ e.1 ended.ensures.cause))),
     )
 
 pub returns-then-is_settled-clause-tried : goal.returns-then-is_settled-clause-tried

@@ -2,7 +2,7 @@ use Rattle.std.proofs.Common.{◌≡◌, ◌∷◌, []}
 use Rattle.std.proofs.lemmas.Result.{IfOk-weaker}
 use Rattle.slate_txn.specs.declared.event.TranscriptStep.TheVariants as steps
 use Rattle.slate_connection.proofs.Going.{read_through, reads_same, reads_through, sees_through}
-use Rattle.slate_connection.proofs.transact.Transact.get_key_value.Goals as goal
+use Rattle.slate_connection.proofs.transact.Transact.get_row.Goals as goal
 
 pub returns-clause-read : goal.returns-clause-read
 returns-clause-read g c =
