@@ -54,9 +54,9 @@ pub answered_otherwise : {layout : Layout} {before after : Reach} {old new : Ses
 answered_otherwise (Ok text) line shown = inr (inl (line, shown))
 answered_otherwise (Err e) line shown = tt
 
-pub alone_otherwise : {layout : Layout} {before after : Reach} {old new : SessionModel} (result : Text) (line : Line) → IfOk result (ReadsAlone layout line before after old new) → Otherwise layout before after old new result
-alone_otherwise (Ok text) line alone = inr (inr (line, alone))
-alone_otherwise (Err e) line alone = tt
+pub alone_otherwise : (layout : Layout) (before after : Reach) (old new : SessionModel) (result : Text) (line : Line) → IfOk result (ReadsAlone layout line before after old new) → Otherwise layout before after old new result
+alone_otherwise layout before after old new (Ok text) line alone = inr (inr (line, alone))
+alone_otherwise layout before after old new (Err e) line alone = tt
 
 pub kept_line : (name : List ℕ) (line : Line) → ((n k : List ℕ) → line ≡ lines.Get n k → ⊥) → ((n : List ℕ) (o : IterationOrder) (s e : Bound (List ℕ)) (sts : List ScanStep) → line ≡ lines.Scan n o s e sts → ⊥) →
     ((n : List ℕ) (o : IterationOrder) (p : List ℕ) (s e : Bound (List ℕ)) (sts : List ScanStep) → line ≡ lines.Prefix n o p s e sts → ⊥) → line ≡ read_under name line
@@ -97,7 +97,7 @@ reads_alone {layout = layout} {before = before} {at_opened = at_opened} {at_read
 
 pub failed_responds : {layout : Layout} {reach : Reach} {session : SessionModel} (typed : List ℕ) (result : Text) → result ≡ Err OutOfMemory → Responds layout typed reach reach session session result
 failed_responds {layout = layout} {reach = reach} {session = session} typed result is = record {
-  meant = λ line loud means. inl (is, refl, refl);
+  meant = λ line loud means. inl (is, (refl, refl));
   silent = λ silent. ((refl, refl), subst (λ (r : Text). IfOk r (λ text. text.items ≡ [])) (sym is) tt);
   other = subst (λ (r : Text). Otherwise layout reach reach session session r) (sym is) tt;
 }
@@ -134,3 +134,6 @@ other_responds typed result read h is other =
 pub wrote : (result : Result (Unit {0}) SlateDBError) (t : Vec ℕ) (text : Text) (note piece : List ℕ) (sunk later : Option (List ℕ)) → text ≡ Ok t → piece ≡ t.items ++ note → ((before : List ℕ) → sunk ≡ Some before → OnOk result (later ≡ Some (before ++ piece))) → OnOk result (IsWritten text note sunk later)
 wrote (Ok u) t text note piece sunk later is same h = (t, is, λ before told. subst (λ (p : List ℕ). later ≡ Some (before ++ p)) same (h before told))
 wrote (Err e) t text note piece sunk later is same h = tt
+
+pub unwritten : (X : Type 0) (result : Result (Unit {0}) SlateDBError) (e : SlateDBError) → result ≡ Err e → OnOk result X
+unwritten X result e is = subst (λ (r : Result (Unit {0}) SlateDBError). OnOk r X) (sym is) tt

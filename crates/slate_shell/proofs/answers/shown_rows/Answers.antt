@@ -8,7 +8,7 @@ use Rattle.slate_shell.proofs.answers.shown_rows.Goals as goal
 pub loop-row-init : goal.loop-row-init
 loop-row-init c =
     record {
-      shown = none_shown c.in_ok-text.field-0.items c.len.result (into_iter_items c.into_iter-row-iterator.result) c.in_ok-text.ensures (c.len.ensures ∙ ap length (c.as_slice.ensures.value ∙ sym c.into_iter-row-iterator.ensures.into_iter_gives.0));
+      shown = none_shown c.in_ok-text.text.items (length c.as_slice.result.now) (into_iter_items c.into_iter-row-iterator.result) c.in_ok-text.ensures (ap length (c.as_slice.ensures.value ∙ sym c.into_iter-row-iterator.ensures.into_iter_gives.0));
       left = search rules;
     }
 

@@ -1,8 +1,8 @@
 use Rattle.std.proofs.Common.{◌≤◌, length}
 use Rattle.slate_shell.proofs.spelling.push_quoted.Given as goal
 
-abbrev pub invariant-loop-left : goal.invariant-loop-left
-invariant-loop-left l = length l.left ≤ length l.quoted
+abbrev pub invariant-loop-byte : goal.invariant-loop-byte
+invariant-loop-byte l = length l.left ≤ length l.quoted
 
-abbrev pub decreases-loop-left : goal.decreases-loop-left
-decreases-loop-left l = length l.left
+abbrev pub decreases-loop-byte : goal.decreases-loop-byte
+decreases-loop-byte l = length l.left
