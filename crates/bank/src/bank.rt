@@ -5,7 +5,7 @@ ghost use Rattle.slate_types.specs.declared.types.KeyValue.{KeyValue};
 ghost use Rattle.slate_txn.specs.declared.event.TranscriptStep.{TranscriptStep};
 ghost use Rattle.slate_steps.specs.Attempts.{SeesOnly};
 ghost use Rattle.slate_connection.specs.Connected.{StaysIn, connected, plain_terms, taken};
-ghost use Rattle.slate_connection.specs.Transacted.{HasCommitted};
+ghost use Rattle.slate_connection.specs.Transacted.{CommitsSteps};
 ghost use Rattle.bank.specs.Bank.{IsCount, IsTransfer, amount_of};
 
 use bytes::Bytes;
@@ -32,7 +32,7 @@ pub fn count<R: Wait, S: Store>(
     db: &mut Connection<'_, R, S>,
     key: &[u8],
 ) -> Result<u64, SlateDBError>
-    ensures counted { IfOk result (λ n. (ts : List TranscriptStep) × HasCommitted plain_terms Level.SerializableSnapshot (pos 0) (connected db.old) (connected db.new) ts × IsCount key.now n ts) }
+    ensures counted { IfOk result (λ n. (ts : List TranscriptStep) × CommitsSteps plain_terms Level.SerializableSnapshot (pos 0) (connected db.old) (connected db.new) ts × IsCount key.now n ts) }
     ensures refused { OnErr result (SeesOnly db.old.pass db.new.pass) }
 {
     db.transact(&patient(), |txn| add_one(txn, key))
@@ -55,7 +55,7 @@ pub fn transfer<R: Wait, S: Store>(
     to: u8,
     amount: u64,
 ) -> Result<bool, SlateDBError>
-    ensures moved { IfOk result (λ moved. (ts : List TranscriptStep) × HasCommitted plain_terms Level.SerializableSnapshot (pos 0) (connected db.old) (connected db.new) ts × IsTransfer moved from to amount ts) }
+    ensures moved { IfOk result (λ moved. (ts : List TranscriptStep) × CommitsSteps plain_terms Level.SerializableSnapshot (pos 0) (connected db.old) (connected db.new) ts × IsTransfer moved from to amount ts) }
     ensures refused { OnErr result (SeesOnly db.old.pass db.new.pass) }
 {
     db.transact(&patient(), |txn| move_amount(txn, from, to, amount))

@@ -5,7 +5,7 @@
 mod bank;
 mod service;
 
-use service::serve;
+use crate::service::serve;
 use slate_connection::SharedStore;
 use slate_store::MemoryStore;
 use std::process::ExitCode;

@@ -17,8 +17,8 @@ use Rattle.slate_steps.specs.Attempts.{HasCommittedBehind, IsAttempt, IsStoreChe
 use Rattle.slate_steps.proofs.Attempts.{attempt_steps, vouched_begun}
 use Rattle.slate_steps.proofs.OnPass.{committed_then, sees_only_then}
 use Rattle.slate_steps.proofs.StoreTruth.{checked_earlier, checked_later}
-use Rattle.slate_connection.specs.Connected.{ConnectionModel, GoesOn, HasStayed, HasStayedBy, IsOpen, Stays, Terms, taken, taken_by}
-use Rattle.slate_connection.specs.Transacted.{HasCommitted, HasRead, HasTransacted, IsLast, IsRefused}
+use Rattle.slate_connection.specs.Connected.{ConnectionModel, GoesOn, HasStayed, HasStayedBy, IsOpenAttempt, Stays, Terms, taken, taken_by}
+use Rattle.slate_connection.specs.Transacted.{CommitsSteps, HasRead, HasTransacted, IsLast, EndsByRefusal}
 
 -- ---- a transaction
 
@@ -71,7 +71,7 @@ reads_same a b is = subst (λ (x : Reach). OnlyReads a x) (sym is) (reads_none a
 -- ---- an attempt
 
 -- its steps are its transcript's
-pub open_as : (p : Terms) (from : List Event) (level : IsolationLevel) (ts : List TranscriptStep) (t : Opened) → IsAttempt p.options from level ts t → IsOpen p from level t
+pub open_as : (p : Terms) (from : List Event) (level : IsolationLevel) (ts : List TranscriptStep) (t : Opened) → IsAttempt p.options from level ts t → IsOpenAttempt p from level t
 open_as p from level ts t a = subst (λ us. IsAttempt p.options from level us t) (sym (attempt_steps p.options from level ts t a)) a
 
 pub attempt_later : (o : Options) (first from : List Event) (level : IsolationLevel) (ts : List TranscriptStep) (t : Opened) → IsPrefix first from → IsAttempt o from level ts t → IsAttempt o first level ts t
@@ -92,16 +92,16 @@ module _ (p : Terms) (old mid next new : ConnectionModel) (only : SeesOnly old.p
   sees_through last = sees_only_then old.pass mid.pass new.pass only (subst (λ (q : PassModel). SeesOnly q new.pass) kept.pass last)
 
   -- what the transaction is then, and that it is open still
-  pub kept_open : (from : List Event) (level : IsolationLevel) (t : Opened) → mid.txn ≡ Some t → IsAttempt p.options from level [] t → (u : Opened) × (next.txn ≡ Some u) × IsOpen p from level u
+  pub kept_open : (from : List Event) (level : IsolationLevel) (t : Opened) → mid.txn ≡ Some t → IsAttempt p.options from level [] t → (u : Opened) × (next.txn ≡ Some u) × IsOpenAttempt p from level u
   kept_open from level t there begins =
       let (u, on, g) = kept.txn t there in
       (u, on, g.opens from level (open_as p from level [] t begins))
 
   pub committed_through : (level : IsolationLevel) (now : ℤ) (t : Opened) → mid.txn ≡ Some t → IsAttempt p.options old.pass.seen level [] t → OnlyReads next.reach new.reach → (n : Option ℕ) →
-      ((u : Opened) → next.txn ≡ Some u → IsOpen p old.pass.seen level u → HasCommittedBehind p.options u n now next.pass new.pass) → IsLegal p.options.start_seq new.pass.seen → HasCommitted p level now old new (taken next)
+      ((u : Opened) → next.txn ≡ Some u → IsOpenAttempt p old.pass.seen level u → HasCommittedBehind p.options u n now next.pass new.pass) → IsLegal p.options.start_seq new.pass.seen → CommitsSteps p level now old new (taken next)
   committed_through level now t there begins last n commits legal =
       let (u, on, g) = kept.txn t there in
-      let still_open : IsOpen p old.pass.seen level u = g.opens old.pass.seen level (open_as p old.pass.seen level [] t begins) in
+      let still_open : IsOpenAttempt p old.pass.seen level u = g.opens old.pass.seen level (open_as p old.pass.seen level [] t begins) in
       let behind : HasCommittedBehind p.options u n now mid.pass new.pass = subst (λ (q : PassModel). HasCommittedBehind p.options u n now q new.pass) kept.pass (commits u on still_open) in
       let before : HasCommittedBehind p.options u n now old.pass new.pass = committed_then p.options u n now old.pass mid.pass new.pass only behind in
       record {
@@ -127,7 +127,7 @@ pub read_through : (p : Terms) (old mid next new : ConnectionModel) (t : Opened)
 read_through p old mid next new t ts still ran ends there begins known steps_are =
     let then = stayed p mid next ran in
     let (u, on, g) = then.txn t there in
-    let as_open : IsOpen p old.pass.seen Snapshot u = g.opens old.pass.seen Snapshot (open_as p old.pass.seen Snapshot [] t begins) in
+    let as_open : IsOpenAttempt p old.pass.seen Snapshot u = g.opens old.pass.seen Snapshot (open_as p old.pass.seen Snapshot [] t begins) in
     let steps_of : u.tx.transcript ≡ ts = sym (ap taken_by on) ∙ steps_are ∙ ap (λ (us : List TranscriptStep). us ++ ts) (ap taken_by there ∙ attempt_steps p.options old.pass.seen Snapshot [] t begins) in
     record {
       done = u;
@@ -146,7 +146,7 @@ read_through p old mid next new t ts still ran ends there begins known steps_are
 
 -- what an attempt after others left, by a connection that only saw more in these
 pub committed_later : (p : Terms) (level : IsolationLevel) (now : ℤ) (first old new : ConnectionModel) (ts : List TranscriptStep) → SeesOnly first.pass old.pass → OnlyReads first.reach old.reach → OnlyReads old.reach new.reach →
-    HasCommitted p level now old new ts → HasCommitted p level now first new ts
+    CommitsSteps p level now old new ts → CommitsSteps p level now first new ts
 committed_later p level now first old new ts only reads last h = record {
   done = h.done;
   attempt = attempt_later p.options first.pass.seen old.pass.seen level ts h.done only.more.seen h.attempt;
@@ -199,11 +199,11 @@ pub if_err : {A E : Type 0} (P : E → Type 0) (r : Result A E) (e : E) → r �
 if_err {A} {E} P r e is h = subst (λ (x : Result A E). IfErr x P) is h
 
 pub last_of_attempt : {F V A : Type 0} (seen : V → ConnectionModel) (step : F → V → Result A SlateDBError → V → F → Type 0) (p : Terms) (level : IsolationLevel) (old new : ConnectionModel) (f g : F) (r : Result A SlateDBError) →
-    IfOk r (λ a. (s : V) × (t : V) × step f s (Ok a) t g) → IfErr r (IsRefused seen step p level old new f g) → IsLast seen step p level old new f r
+    IfOk r (λ a. (s : V) × (t : V) × step f s (Ok a) t g) → IfErr r (EndsByRefusal seen step p level old new f g) → IsLast seen step p level old new f r
 last_of_attempt seen step p level old new f g (Ok a) ran cause = (g, ran.0, ran.1, ran.2)
 last_of_attempt seen step p level old new f g (Err e) ran cause = (g, cause)
 
 -- ---- for callers
 
-pub committed_at : (p : Terms) (level by : IsolationLevel) (now z : ℤ) (old new : ConnectionModel) (ts : List TranscriptStep) → by ≡ level → z ≡ now → HasCommitted p by z old new ts → HasCommitted p level now old new ts
-committed_at p level by now z old new ts same moment h = subst (λ (x : IsolationLevel × ℤ). HasCommitted p x.0 x.1 old new ts) (λ i. (same i, moment i)) h
+pub committed_at : (p : Terms) (level by : IsolationLevel) (now z : ℤ) (old new : ConnectionModel) (ts : List TranscriptStep) → by ≡ level → z ≡ now → CommitsSteps p by z old new ts → CommitsSteps p level now old new ts
+committed_at p level by now z old new ts same moment h = subst (λ (x : IsolationLevel × ℤ). CommitsSteps p x.0 x.1 old new ts) (λ i. (same i, moment i)) h

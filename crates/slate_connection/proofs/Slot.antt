@@ -29,7 +29,7 @@ use Rattle.slate_steps.specs.Attempts.{HasCommittedBehind, IsReadErrorOn, IsRefu
 use Rattle.slate_steps.proofs.Attempts.{attempt_own_more, vouched_on}
 use Rattle.slate_steps.proofs.OnPass.{commit_made_behind, commit_only, commit_refusal, get_attempt, get_cause, get_checked, get_more, get_refused, own_same, own_vouched}
 use Rattle.slate_steps.proofs.Reading.{if_err_map, on_ok_map}
-use Rattle.slate_connection.specs.Connected.{ConnectionModel, GoesOn, IsOpen, Stays, Terms, taken, taken_by}
+use Rattle.slate_connection.specs.Connected.{ConnectionModel, GoesOn, IsOpenAttempt, Stays, Terms, taken, taken_by}
 use Rattle.slate_connection.proofs.Going.{open_as, stays}
 
 -- ---- a get
@@ -38,11 +38,11 @@ module _ (p : Terms) (k : List ℕ) (t u : Opened) (before after : Reach) (meant
   abbrev Got : Result (Option KeyValue) SlateDBError → Type 0
   Got r = IsGet p.options p.meaning (record { policies = p.policies; query = point_query k None }) k t u before after r
 
-  get_opens : (r : Result (Option KeyValue) SlateDBError) → Got r → (from : List Event) (level : IsolationLevel) → IsOpen p from level t → IsOpen p from level u
+  get_opens : (r : Result (Option KeyValue) SlateDBError) → Got r → (from : List Event) (level : IsolationLevel) → IsOpenAttempt p from level t → IsOpenAttempt p from level u
   get_opens (Ok a) g from level h = open_as p from level _ u (get_attempt p.options p.meaning p.policies (point_query k None) k t u before after (Ok a) g from level t.tx.transcript h)
   get_opens (Err e) g from level h = open_as p from level _ u (get_refused p.options p.meaning p.policies (point_query k None) k t u before after (Err e) g from level t.tx.transcript h)
 
-  get_vouched : (r : Result (Option KeyValue) SlateDBError) → Got r → (from : List Event) (level : IsolationLevel) → IsOpen p from level t → IsStoreChecked p.policies p.meaning u.seen before after → IsVouchedThere p.options p.meaning t → IsVouchedThere p.options p.meaning u
+  get_vouched : (r : Result (Option KeyValue) SlateDBError) → Got r → (from : List Event) (level : IsolationLevel) → IsOpenAttempt p from level t → IsStoreChecked p.policies p.meaning u.seen before after → IsVouchedThere p.options p.meaning t → IsVouchedThere p.options p.meaning u
   get_vouched (Ok a) g from level h s v = get_checked p.options p.meaning p.policies (point_query k None) k t u before after meant (Ok a) g from level t.tx.transcript h s v
   get_vouched (Err e) g from level h s v = vouched_on p.options p.meaning t u (ap (λ (x : Opened). x.tx) g.unnoted) g.seen v
 
@@ -62,9 +62,9 @@ module _ (p : Terms) (k : List ℕ) (t u : Opened) (before after : Reach) (meant
 -- ---- a put or a delete
 
 module _ {A : Type 0} (p : Terms) (a : Reach) (t u : Opened) (k : List ℕ) (op : WriteOp) (no_merge : is_merge_op (k, op) ≡ false) where
-  own_opens : (r : Result A SlateDBError) → OnOk r (u ≡ record t { tx = with_op k op t.tx }) → OnErr r (u ≡ t) → (from : List Event) (level : IsolationLevel) → IsOpen p from level t → IsOpen p from level u
+  own_opens : (r : Result A SlateDBError) → OnOk r (u ≡ record t { tx = with_op k op t.tx }) → OnErr r (u ≡ t) → (from : List Event) (level : IsolationLevel) → IsOpenAttempt p from level t → IsOpenAttempt p from level u
   own_opens (Ok x) is same from level h = open_as p from level _ u (attempt_own_more p.options from level t.tx.transcript t u k op no_merge is h)
-  own_opens (Err e) is same from level h = subst (IsOpen p from level) (sym same) h
+  own_opens (Err e) is same from level h = subst (IsOpenAttempt p from level) (sym same) h
 
   pub goes_own : (r : Result A SlateDBError) → OnOk r (u ≡ record t { tx = with_op k op t.tx }) → OnErr r (u ≡ t) → GoesOn p a a t u
   goes_own r is same =
@@ -121,10 +121,10 @@ module _ (p : Terms) (k : List ℕ) (s n : ConnectionModel) (t u : Opened) (a b 
   pub stays_got : n.pass ≡ s.pass → Stays p s n
   stays_got same = stays_by p s n t u was is same read.reads (goes_get p k t u s.reach n.reach here r read)
 
-  pub cause_got : (x : Opened) (from : List Event) (level : IsolationLevel) → s.txn ≡ Some x → IsOpen p from level x → IfErr r (λ e. (y : Opened) × (n.txn ≡ Some y) × IsReadErrorOn p.options p.policies s.reach n.reach y.seen e)
+  pub cause_got : (x : Opened) (from : List Event) (level : IsolationLevel) → s.txn ≡ Some x → IsOpenAttempt p from level x → IfErr r (λ e. (y : Opened) × (n.txn ≡ Some y) × IsReadErrorOn p.options p.policies s.reach n.reach y.seen e)
   cause_got x from level there h =
       if_err_map r _ _ (λ e refusal. (u, is, refusal))
-      (get_cause p.options p.meaning p.policies (point_query k None) k t u s.reach n.reach r read from level t.tx.transcript (subst (IsOpen p from level) (sym (same_Some t x (sym was ∙ there))) h) (sym here))
+      (get_cause p.options p.meaning p.policies (point_query k None) k t u s.reach n.reach r read from level t.tx.transcript (subst (IsOpenAttempt p from level) (sym (same_Some t x (sym was ∙ there))) h) (sym here))
 
 -- a commit of what was open; z: its moment as the call has it
 module _ (p : Terms) (now z : ℤ) (t : Opened) (old new : PassModel) (a b before after : Reach) (r q : Result (Option ℕ) SlateDBError) (moment : z ≡ now) (answer : q ≡ r) (from_is : a ≡ before) (to_is : b ≡ after) (same : (new.table ≡ old.table) × (new.parts ≡ old.parts))
@@ -132,15 +132,15 @@ module _ (p : Terms) (now z : ℤ) (t : Opened) (old new : PassModel) (a b befor
   ends : HasEnded (IsFault before after) p.meaning p.segments (settings_of p.options) now t old new q
   ends = subst (λ (x : (Reach × Reach) × ℤ × Result (Option ℕ) SlateDBError). HasEnded (IsFault x.0.0 x.0.1) p.meaning p.segments (settings_of p.options) x.1 t old new x.2) (λ i. ((from_is i, to_is i), moment i, sym answer i)) ended
 
-  pub commits : (x : Opened) (from : List Event) (level : IsolationLevel) → t ≡ x → IsOpen p from level x → IfOk q (λ n. HasCommittedBehind p.options x n now old new)
+  pub commits : (x : Opened) (from : List Event) (level : IsolationLevel) → t ≡ x → IsOpenAttempt p from level x → IfOk q (λ n. HasCommittedBehind p.options x n now old new)
   commits x from level is h =
       subst (λ (y : Opened). IfOk q (λ n. HasCommittedBehind p.options y n now old new)) is
-      (commit_made_behind (IsFault before after) p.meaning p.segments p.options now t old new same q ends from level t.tx.transcript (subst (IsOpen p from level) (sym is) h))
+      (commit_made_behind (IsFault before after) p.meaning p.segments p.options now t old new same q ends from level t.tx.transcript (subst (IsOpenAttempt p from level) (sym is) h))
 
   pub commit_sees : OnErr q (SeesOnly old new)
   commit_sees = commit_only (IsFault before after) p.meaning p.segments p.options now t old new same q ends
 
-  pub commit_cause : p.segments ≡ None → (x : Opened) (from : List Event) (level : IsolationLevel) → t ≡ x → IsOpen p from level x → IfErr q (λ e. IsFault before after e ⊎ IsRefusedBehind p.options x old new e)
+  pub commit_cause : p.segments ≡ None → (x : Opened) (from : List Event) (level : IsolationLevel) → t ≡ x → IsOpenAttempt p from level x → IfErr q (λ e. IsFault before after e ⊎ IsRefusedBehind p.options x old new e)
   commit_cause plain x from level is h =
       subst (λ (y : Opened). IfErr q (λ e. IsFault before after e ⊎ IsRefusedBehind p.options y old new e)) is
-      (commit_refusal (IsFault before after) p.meaning p.segments p.options now t old new same q ends from level t.tx.transcript (subst (IsOpen p from level) (sym is) h) plain)
+      (commit_refusal (IsFault before after) p.meaning p.segments p.options now t old new same q ends from level t.tx.transcript (subst (IsOpenAttempt p from level) (sym is) h) plain)

@@ -5,7 +5,7 @@
 --     PlainModel, connected c      a connection without parts, and what is seen of it
 --     reach_in c      what it reaches
 --     taken c      the steps that the open transaction took so far; none if nothing is open
---     IsOpen p from level t      t is an attempt whose steps are those of its transcript
+--     IsOpenAttempt p from level t      t is an attempt whose steps are those of its transcript
 --     GoesOn p before after t u      u is the transaction t after calls between these reaches: it has seen more, and if it was vouched for, it still is
 --     HasStayedBy p s t, HasStayed p s t      what calls of an open transaction leave: the pass is as it was, the transaction goes on, and outside it only read
 --     Stays p s t      whatever has stayed so until s has stayed so until t
@@ -60,15 +60,15 @@ taken_by (Some t) = t.tx.transcript
 abbrev pub taken : ConnectionModel → List TranscriptStep
 taken c = taken_by c.txn
 
-abbrev pub IsOpen : Terms → List Event → IsolationLevel → Opened → Type 0
-IsOpen p from level t = IsAttempt p.options from level t.tx.transcript t
+abbrev pub IsOpenAttempt : Terms → List Event → IsolationLevel → Opened → Type 0
+IsOpenAttempt p from level t = IsAttempt p.options from level t.tx.transcript t
 
 pub record GoesOn (p : Terms) (before after : Reach) (t u : Opened) : Type 0 where
   pub table : u.table ≡ t.table
   pub id : u.id ≡ t.id
   pub seen : IsPrefix t.seen u.seen
-  pub opens : (from : List Event) (level : IsolationLevel) → IsOpen p from level t → IsOpen p from level u
-  pub vouched : (from : List Event) (level : IsolationLevel) → IsOpen p from level t → IsStoreChecked p.policies p.meaning u.seen before after → IsVouchedThere p.options p.meaning t → IsVouchedThere p.options p.meaning u
+  pub opens : (from : List Event) (level : IsolationLevel) → IsOpenAttempt p from level t → IsOpenAttempt p from level u
+  pub vouched : (from : List Event) (level : IsolationLevel) → IsOpenAttempt p from level t → IsStoreChecked p.policies p.meaning u.seen before after → IsVouchedThere p.options p.meaning t → IsVouchedThere p.options p.meaning u
 
 pub record HasStayedBy (p : Terms) (s t : ConnectionModel) : Type 0 where
   pub pass : t.pass ≡ s.pass

@@ -13,8 +13,8 @@ ghost use Rattle.slate_txn.specs.declared.event.TranscriptStep.TheVariants as st
 ghost use Rattle.slate_txn.specs.Replay.{IsLegal};
 ghost use Rattle.slate_shared.specs.Passes.{Opened};
 ghost use Rattle.slate_steps.specs.Attempts.{HasCommittedBehind, IsAttempt, IsReadErrorOn, IsRefusedBehind, IsUnbegun, SeesOnly};
-ghost use Rattle.slate_connection.specs.Connected.{IsOpen, Stays, StaysIn, taken};
-ghost use Rattle.slate_connection.specs.Transacted.{AfterConflicts, HasRead, HasTransacted, IsLast, IsRefused};
+ghost use Rattle.slate_connection.specs.Connected.{IsOpenAttempt, Stays, StaysIn, taken};
+ghost use Rattle.slate_connection.specs.Transacted.{AfterConflicts, HasRead, HasTransacted, IsLast, EndsByRefusal};
 
 use bytes::Bytes;
 use slate_types::{IsolationLevel, KeyValue, PutOptions, SlateDBError};
@@ -68,13 +68,13 @@ pub trait Transact {
     /// `UnknownTransaction` if nothing is open, and then nothing is committed.
     fn commit(&mut self, now: i64) -> Result<Option<u64>, SlateDBError>
         ensures committed { (t : Opened) (from : List Event) (level : Level) →
-            (seen self.old).txn ≡ Some t → IsOpen terms from level t →
+            (seen self.old).txn ≡ Some t → IsOpenAttempt terms from level t →
             IfOk result (λ n. HasCommittedBehind terms.options t n now (seen self.old).pass
             (seen self.new).pass) }
         ensures legal { OnOk result (IsLegal terms.options.start_seq (seen self.new).pass.seen) }
         ensures refused { OnErr result (SeesOnly (seen self.old).pass (seen self.new).pass) }
         ensures cause { (t : Opened) (from : List Event) (level : Level) →
-            (seen self.old).txn ≡ Some t → IsOpen terms from level t →
+            (seen self.old).txn ≡ Some t → IsOpenAttempt terms from level t →
             IfErr result (λ e. IsFault (seen self.old).reach (seen self.new).reach e
             ⊎ IsRefusedBehind terms.options t (seen self.old).pass (seen self.new).pass e) }
         ensures none { (seen self.new).txn ≡ None }
@@ -97,7 +97,7 @@ pub trait Transact {
             (steps.Get key.now a ∷ [])) }
         ensures same { OnErr result (taken (seen self.new) ≡ taken (seen self.old)) }
         ensures cause { (t : Opened) (from : List Event) (level : Level) →
-            (seen self.old).txn ≡ Some t → IsOpen terms from level t →
+            (seen self.old).txn ≡ Some t → IsOpenAttempt terms from level t →
             IfErr result (λ e. (u : Opened) × ((seen self.new).txn ≡ Some u)
             × IsReadErrorOn terms.options terms.policies (seen self.old).reach (seen self.new).reach
             u.seen e) };
@@ -294,7 +294,7 @@ fn attempt<D: Transact, A: Drop, F: FnMut(&mut Transaction<'_, D>) -> Result<A, 
     ensures committed { IfOk result (HasTransacted (λ t. D.seen t.now.db.now) F.step D.terms level
         now (D.seen db.old) (D.seen db.new)) }
     ensures ran { IfOk result (λ a. (s : _) × (t : _) × F.step work.old s (Ok a) t work.new) }
-    ensures cause { IfErr result (IsRefused (λ t. D.seen t.now.db.now) F.step D.terms level
+    ensures cause { IfErr result (EndsByRefusal (λ t. D.seen t.now.db.now) F.step D.terms level
         (D.seen db.old) (D.seen db.new) work.old work.new) }
     ensures refused { OnErr result (SeesOnly (D.seen db.old).pass (D.seen db.new).pass) }
     ensures none { (D.seen db.new).txn ≡ None }

@@ -4,7 +4,7 @@ use Rattle.slate_types.proofs.Exits.{err_exit}
 use Rattle.slate_steps.specs.Attempts.{HasCommittedBehind, SeesOnly}
 use Rattle.slate_txn.specs.Replay.{IsLegal}
 use Rattle.slate_connection.specs.Connected.{taken}
-use Rattle.slate_connection.specs.Transacted.{HasCommitted}
+use Rattle.slate_connection.specs.Transacted.{CommitsSteps}
 use Rattle.slate_connection.proofs.Going.{attempt_nothing, committed_through, if_err, if_ok, kept_open, on_err, on_err_always, on_ok, ran_to, reads_same, reads_through, sees_through}
 use Rattle.slate_connection.proofs.transact.attempt.Given as given
 use Rattle.slate_connection.proofs.transact.attempt.Goals as goal
@@ -26,7 +26,7 @@ returns-in_ok-commit-in-Ok-clause-committed g c =
       left = p.1;
       ran = ran_to (given.F-step g) c.args.work.now p.0 _ _ p.1 c.run.new.work c.in-Ok.is p.2;
       bare = ap (λ x. taken (d.seen x)) p.3 ∙ attempt_nothing d.terms old.pass.seen c.args.level mid b.0 b.1 b.2;
-      committed = subst (λ x. HasCommitted d.terms c.args.level c.args.now old new (taken (d.seen x))) (sym p.4)
+      committed = subst (λ x. CommitsSteps d.terms c.args.level c.args.now old new (taken (d.seen x))) (sym p.4)
           (committed_through d.terms old mid next new c.begin.ensures.only c.begin.ensures.still c.run.ensures.stays c.args.level c.args.now b.0 b.1 b.2 c.commit.ensures.reads n
           (λ u on h.
           subst (λ (z : ℤ). HasCommittedBehind d.terms.options u n z next.pass new.pass) (to_z-of_z w64 c.args.now c.ranges.now)
