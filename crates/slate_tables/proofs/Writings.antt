@@ -1,0 +1,78 @@
+-- Rows that are written one by one.
+use Rattle.std.proofs.Common.{◌≡◌, ◌⊎◌, inl, inr, ℕ, ◌+◌, ◌-◌, ◌^◌, ◌≤◌, min, max, Bool, true, false, not, ◌&&◌, cond, List, [], ◌∷◌, ◌++◌, flat_map, length, Option, Some, None, refl, sym, ap, subst, ◌∙◌, arith, append-nil, append_assoc}
+use Rattle.std.specs.Prelude.{count_by}
+use Rattle.std.specs.List.{AllByRecursion}
+use Rattle.std.proofs.lemmas.List.{length-append}
+use Rattle.std.proofs.lemmas.List.Concat.{flat_map-append}
+use Rattle.std.proofs.lemmas.Bool.Decides.{nat_tests}
+use Rattle.slate_types.specs.declared.error.SlateDBError.{SlateDBError}
+use Rattle.slate_types.specs.declared.types.RowEntry.{RowEntry}
+use Rattle.slate_types.specs.Outside.{Act, Meaning, Reach}
+use Rattle.slate_types.specs.World.{World}
+use Rattle.slate_types.proofs.Lists.{AllByRecursion_push}
+use Rattle.slate_types.proofs.Walked.{Walked}
+use Rattle.slate_tables.specs.declared.export.Form.{Form}
+use Rattle.slate_tables.specs.declared.export.Written.{Written}
+use Rattle.slate_tables.specs.LoadText.{capped, ends_before, greatest_seq, moved}
+use Rattle.slate_tables.specs.Writing.{Passes, WritesRows, form_text, tallied, tally}
+
+-- ---- counts
+
+count_last : (p : RowEntry → Bool) (rows : List RowEntry) (r : RowEntry) → count_by p (rows ++ (r ∷ [])) ≡ count_by p rows + cond (p r) 1 0
+count_last p [] r = refl
+count_last p (x ∷ rows) r = let later = count_last p rows r in omega (arith, later)
+
+greatest_last : (rows : List RowEntry) (r : RowEntry) → greatest_seq (rows ++ (r ∷ [])) ≡ max (greatest_seq rows) r.seq
+greatest_last [] r = omega arith
+greatest_last (x ∷ rows) r = ap (max x.seq) (greatest_last rows r) ∙ omega arith
+
+capped_more : (n : ℕ) → capped (n + 1) ≡ capped (capped n + 1)
+capped_more n = omega arith
+
+capped_max : (n m : ℕ) → m ≤ 2 ^ 64 - 1 → capped (max n m) ≡ max (capped n) m
+capped_max n m h = omega (arith, h)
+
+pub tally_last : (rows : List RowEntry) (r : RowEntry) → r.seq ≤ 2 ^ 64 - 1 → tallied (tally rows) r ≡ tally (rows ++ (r ∷ []))
+tally_last rows r small = λ i. record {
+  rows = (sym (capped_more (length rows)) ∙ ap capped (sym (length-append rows (r ∷ [])))) i;
+  moved = by (ends_before r) refl i;
+  greatest_seq = (sym (capped_max (greatest_seq rows) r.seq small) ∙ ap capped (sym (greatest_last rows r))) i;
+}
+  where
+    by : (b : Bool) → ends_before r ≡ b → cond b (capped (capped (moved rows) + 1)) (capped (moved rows)) ≡ capped (moved (rows ++ (r ∷ [])))
+    by true e = sym (capped_more (moved rows)) ∙ ap capped (sym (count_last ends_before rows r ∙ ap (λ t. moved rows + cond t 1 0) e))
+    by false e = ap capped (sym (count_last ends_before rows r ∙ ap (λ t. moved rows + cond t 1 0) e ∙ omega arith))
+
+-- ---- an operand has an operator
+
+pub has_it : (o h : Bool) → (o && not h) ≡ false → o ≡ true → h ≡ true
+has_it true true none is = refl
+has_it true false none is = cc
+has_it false h none is = cc
+
+-- ---- some rows were written
+
+module _ {A : Type 0} (rest : A → World → List RowEntry) (sound : A → World → Type 0) (refuses : A → Meaning → List Act → Option (List ℕ) → SlateDBError → Type 0) (takes : A → Meaning → List Act → Option RowEntry → A → Type 0) (form : Form) (has : Bool) where
+  pub record SoFar (a b : Reach) (x y : A) (t : Written) (before after : Option (List ℕ)) : Type 0 where
+    pub taken : List RowEntry
+    pub walked : Walked rest sound refuses takes a b x y taken
+    pub passed : AllByRecursion (Passes form has) taken
+    pub counts : t ≡ tally taken
+    pub wrote : (front : List ℕ) → before ≡ Some front → after ≡ Some (front ++ flat_map (form_text form) taken)
+
+  pub one_more : (a b c : Reach) (x y z : A) (t : Written) (before after next : Option (List ℕ)) (row : RowEntry) (text : List ℕ) (so_far : SoFar a b x y t before after) → Walked rest sound refuses takes a c x z (so_far.taken ++ (row ∷ [])) →
+      row.seq ≤ 2 ^ 64 - 1 → Passes form has row → text ≡ form_text form row → ((front : List ℕ) → after ≡ Some front → next ≡ Some (front ++ text)) → SoFar a c x z (tallied t row) before next
+  one_more a b c x y z t before after next row text s went small passes is wrote = record {
+    taken = s.taken ++ (row ∷ []);
+    walked = went;
+    passed = AllByRecursion_push (Passes form has) s.taken row s.passed passes;
+    counts = ap (λ (u : Written). tallied u row) s.counts ∙ tally_last s.taken row small;
+    wrote = λ front is_front.
+        wrote (front ++ flat_map (form_text form) s.taken) (s.wrote front is_front)
+        ∙ ap Some (append_assoc front (flat_map (form_text form) s.taken) text
+        ∙ ap (λ (l : List ℕ). front ++ l) (ap (λ (l : List ℕ). flat_map (form_text form) s.taken ++ l) (is ∙ sym (append-nil (form_text form row))) ∙ sym (flat_map-append (form_text form) s.taken (row ∷ []))));
+  }
+
+  pub all_written : (a b : Reach) (x y : A) (t : Written) (before : List ℕ) (start after : Option (List ℕ)) (rows : List RowEntry) (s : SoFar a b x y t start after) → start ≡ Some before → s.taken ≡ rows → WritesRows form has rows before after t
+  all_written a b x y t before start after rows s is whole =
+      subst (λ (l : List RowEntry). WritesRows form has l before after t) whole (record { passed = s.passed; text = s.wrote before is; counts = s.counts })
