@@ -16,6 +16,26 @@ leave() {
     printf '%b' "$3" | ./slate "$1" $2 >/dev/null || fail "a run into a folder doesn't end with 0: words '$2', script $3"
 }
 
+# put_byte PLACE BYTE: the table of one row with another byte at a place, in three octal digits.
+put_byte() {
+    table_of_one_row | head -c "$1"
+    printf '%b' "\\0$2"
+    table_of_one_row | tail -c "+$(($1 + 2))"
+}
+
+# part_at PLACE: the part of that table to which a byte belongs, as a line of damage has it.
+part_at() {
+    if (($1 < 35)); then
+        echo "block 0 0"
+    elif (($1 < 54)); then
+        echo "index - 35"
+    elif (($1 < 108)); then
+        echo "stats - 54"
+    else
+        echo "info - -"
+    fi
+}
+
 # The table that docs/FORMATS.md has whole, as each mode tells it; and with each of its bytes changed.
 check_known_table() {
     local folder=$1/known file=$1/known/$first i byte
@@ -39,15 +59,17 @@ check_known_table() {
     printf 'note' >"$folder/${first%0.sst}f.sst"
     reads 16 "$folder" check "whole 1 0 1 1 1 1 'a 'a\ndamaged 1 15 info - - EmptySSTable 4\ntables 2 damaged 1 rows 1\n"
     rm -f "$folder/${first%0.sst}f.sst"
-    # A row of the block, the block's checksum, and the statistics.
-    table_of_one_row | { head -c 26; printf '2'; tail -c +28; } >"$file"
-    [[ $(./slate_tables "$folder" check) == "damaged 1 0 block 0 0 ChecksumMismatch 3827995144 "*$'\n'"tables 1 damaged 1 rows 0" ]] || fail "a changed block isn't told as one"
+    # The row's value, 2 in the place of 1: the block's checksum, and the one of the changed bytes. No list reads a block.
+    put_byte 26 062 >"$file"
+    for byte in check rows; do
+        reads 12 "$folder" "$byte" "damaged 1 0 block 0 0 ChecksumMismatch 3827995144 2743789784\ntables 1 damaged 1 rows 0\n"
+    done
     reads 0 "$folder" list "table 1 0 1 182 1 0 0 'a 'a\ntables 1 damaged 0 rows 1\n"
     for ((i = 0; i < 182; i++)); do
         printf -v byte '%03o' $((8#$(table_of_one_row | od -An -to1 -j "$i" -N 1 | tr -d ' ') ^ 1))
-        table_of_one_row | { head -c "$i"; printf '%b' "\\0$byte"; } >"$file"
-        table_of_one_row | tail -c "+$((i + 2))" >>"$file"
-        [[ $(./slate_tables "$folder" check) == damaged\ 1\ 0\ *$'\n'"tables 1 damaged 1 rows 0" ]] || fail "a change of byte $i of a table isn't told"
+        put_byte "$i" "$byte" >"$file"
+        byte=$(./slate_tables "$folder" check)
+        [[ $byte == "damaged 1 0 $(part_at "$i") "*$'\n'"tables 1 damaged 1 rows 0" ]] || fail "a change of byte $i of a table isn't told of its part: $byte"
     done
 }
 

@@ -24,7 +24,7 @@ use Rattle.slate_table.specs.FileReading.{AreRowsRead, RefusesRows, rows_in}
 use Rattle.slate_table.specs.Parts.{Encode}
 use Rattle.slate_table.specs.Reading.{AreBlocksRead, FailsBlocks, IsBlockRead, IsRead, IsStoreFault, ReadsBlocks, RefusesBlock, RefusesBlocks, SectionRead, block_answer, block_start, blocks_size, of_block, of_blocks, whole_answer}
 use Rattle.slate_table.proofs.Damaged.{block_refusal}
-use Rattle.slate_tables.specs.Finds.{FindsBlock, RefusesRowsOf, asked}
+use Rattle.slate_tables.specs.Finds.{FindsBlock, RefusesRowsOf, asked_of}
 use Rattle.slate_tables.proofs.FindLaws.{store_counted, transformer_counted}
 
 -- ---- one of one
@@ -122,8 +122,8 @@ block_damage e (inr damage) = inr (in_block e damage)
     in_block _ h = absurd h
 
 pub rows_refused : (begun : Reach) (root : List ℕ) (acts : Option (List Act)) (h : SsTableHandle) (entries : List (ℕ × List ℕ)) (at : ℕ) (block : Block) (e : SlateDBError) (old new : Reach) →
-    EachIsAByte block.body → FindsBlock (asked begun root acts) h entries at block → (e ≡ OutOfMemory) ⊎ (rows_in h.format_version block ≡ Err e) → (e ≡ OutOfMemory) ⊎ IsDamage e →
-    IsFault old new e ⊎ (IsDamage e × RefusesRowsOf (asked begun root acts) h entries at e)
+    EachIsAByte block.body → FindsBlock (asked_of begun root acts) h entries at block → (e ≡ OutOfMemory) ⊎ (rows_in h.format_version block ≡ Err e) → (e ≡ OutOfMemory) ⊎ IsDamage e →
+    IsFault old new e ⊎ (IsDamage e × RefusesRowsOf (asked_of begun root acts) h entries at e)
 rows_refused begun root acts h entries at block e old new fits f (inl memory) d = inl (subst (λ (x : SlateDBError). IsFault old new x) (sym memory) tt)
 rows_refused begun root acts h entries at block e old new fits f (inr is) (inl memory) = inl (subst (λ (x : SlateDBError). IsFault old new x) (sym memory) tt)
 rows_refused begun root acts h entries at block e old new fits f (inr is) (inr damage) = inr (damage, (f.0, f.1, f.2, (f.3.0, f.3.1, inr (block, fits, f.3.2, is)), f.4))

@@ -25,7 +25,7 @@ use Rattle.slate_tables.specs.declared.check.Tallied.TheVariants as tallies
 use Rattle.slate_tables.specs.declared.tally.Tally.{Tally}
 use Rattle.slate_tables.specs.declared.check.Flaw.{Flaw}
 use Rattle.slate_tables.specs.Checks.{HasBadRows, HasBlocks, HasParts, IsOutsideError, IsRead, IsTallied, IsTallyOf, Tells}
-use Rattle.slate_tables.specs.Finds.{Asked, FindsRows}
+use Rattle.slate_tables.specs.Finds.{Asked, FindsRowsOf}
 use Rattle.slate_tables.specs.Good.{AreGood, counted, rows_of}
 use Rattle.slate_tables.specs.Tallies.{IsTally}
 use Rattle.slate_tables.proofs.FindLaws.{store_counted, transformer_counted}
@@ -94,28 +94,28 @@ at_end (c ∷ bs) b x (suc i) at = by (at_end bs b x i at)
     by (inl h) = inl h
     by (inr h) = inr (omega (arith, h.0), h.1)
 
-pub has_more : (w : Asked) (h : SsTableHandle) (entries : List (ℕ × List ℕ)) (blocks : List (List RowEntry)) (rows : List RowEntry) → HasBlocks w h entries blocks → FindsRows w h entries (length blocks) rows → HasBlocks w h entries (blocks ++ (rows ∷ []))
+pub has_more : (w : Asked) (h : SsTableHandle) (entries : List (ℕ × List ℕ)) (blocks : List (List RowEntry)) (rows : List RowEntry) → HasBlocks w h entries blocks → FindsRowsOf w h entries (length blocks) rows → HasBlocks w h entries (blocks ++ (rows ∷ []))
 has_more w h entries blocks rows has found i more at = by (at_end blocks rows more i at)
   where
-    by : (slice_get blocks i ≡ Some more) ⊎ ((i ≡ length blocks) × (more ≡ rows)) → FindsRows w h entries i more
+    by : (slice_get blocks i ≡ Some more) ⊎ ((i ≡ length blocks) × (more ≡ rows)) → FindsRowsOf w h entries i more
     by (inl there) = has i more there
     by (inr here) =
-        let P : ℕ → Type 0 = λ n. FindsRows w h entries n more in
-        let Q : List RowEntry → Type 0 = λ l. FindsRows w h entries (length blocks) l in
+        let P : ℕ → Type 0 = λ n. FindsRowsOf w h entries n more in
+        let Q : List RowEntry → Type 0 = λ l. FindsRowsOf w h entries (length blocks) l in
         subst P (sym here.0) (subst Q (sym here.1) found)
 
 pub block_said : (w : Asked) (h : SsTableHandle) (entries : List (ℕ × List ℕ)) (blocks : List (List RowEntry)) (rows : List RowEntry) (n : ℕ) (at : Option ℕ) (added : Result (Option Tally) SlateDBError) (r : Result Tallied SlateDBError) →
-    HasBlocks w h entries blocks → length blocks ≡ n → FindsRows w h entries n rows → at ≡ Some (block_start h.info.filter_offset entries n) →
+    HasBlocks w h entries blocks → length blocks ≡ n → FindsRowsOf w h entries n rows → at ≡ Some (block_start h.info.filter_offset entries n) →
     IfOk added (λ next. MatchOption next (AreGood (blocks ++ (rows ∷ [])) → ⊥) (IsTally (blocks ++ (rows ∷ [])))) → IfOk r (IsTallyOf added n at) → IfOk r (IsTallied w h entries (n + 1))
 block_said w h entries blocks rows n at added (Err e) has count found place tally of = tt
 block_said w h entries blocks rows n at added (Ok (tallies.Good next)) has count found place tally of =
     let P : Result (Option Tally) SlateDBError → Type 0 = λ a. IfOk a (λ o. MatchOption o (AreGood (blocks ++ (rows ∷ [])) → ⊥) (IsTally (blocks ++ (rows ∷ [])))) in
-    let Q : ℕ → Type 0 = λ m. FindsRows w h entries m rows in
+    let Q : ℕ → Type 0 = λ m. FindsRowsOf w h entries m rows in
     let both = length-append blocks (rows ∷ []) in
     (blocks ++ (rows ∷ []), omega (arith, both, count), has_more w h entries blocks rows has (subst Q (sym count) found), subst P of tally)
 block_said w h entries blocks rows n at added (Ok (tallies.Flawed flaw)) has count found place tally of =
     let P : Result (Option Tally) SlateDBError → Type 0 = λ a. IfOk a (λ o. MatchOption o (AreGood (blocks ++ (rows ∷ [])) → ⊥) (IsTally (blocks ++ (rows ∷ [])))) in
-    let Q : ℕ → Type 0 = λ m. FindsRows w h entries m rows in
+    let Q : ℕ → Type 0 = λ m. FindsRowsOf w h entries m rows in
     (n, omega arith, of.1, of.2 ∙ place, inr (blocks, rows, count, has_more w h entries blocks rows has (subst Q (sym count) found), subst P of.0 tally))
 
 pub block_cause : (a b : Reach) (added : Result (Option Tally) SlateDBError) (r : Result Tallied SlateDBError) → IfErr added (λ e. e ≡ OutOfMemory) → IfErr r (λ e. added ≡ Err e) → IfErr r (IsFault a b)

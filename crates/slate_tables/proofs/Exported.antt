@@ -20,7 +20,7 @@ use Rattle.slate_merge.specs.MergeLaws.{merged_in_order}
 use Rattle.slate_table.specs.Stored.{by_seq}
 use Rattle.slate_table.specs.Table.{AreInOrder}
 use Rattle.slate_types.proofs.IterationLaws.{in_order_filtered}
-use Rattle.slate_tables.specs.Exported.{ExportIsStored, KeysCome, exported, is_live, row_at, table_rows}
+use Rattle.slate_tables.specs.Exported.{ExportIsStored, KeysCome, exported, is_live, row_with_key, table_rows}
 use Rattle.slate_tables.proofs.Merged.{AtMostOne, filter_both, merged_by_seq, none_merged}
 use Rattle.slate_tables.proofs.Folds.{folded_of_key}
 use Rattle.slate_tables.proofs.Together.{one_before}
@@ -118,11 +118,11 @@ abbrev pub first_row : List RowEntry → Option RowEntry
 first_row [] = None
 first_row (r ∷ rows) = Some r
 
-pub first_at : (rows : List RowEntry) (k : List ℕ) → row_at rows k ≡ first_row (of_key k rows)
+pub first_at : (rows : List RowEntry) (k : List ℕ) → row_with_key rows k ≡ first_row (of_key k rows)
 first_at [] k = refl
 first_at (r ∷ rows) k = by (bytes_eq r.key k) (first_at rows k)
   where
-    by : (b : Bool) → row_at rows k ≡ first_row (of_key k rows) → cond b (Some r) (row_at rows k) ≡ first_row (cond b (r ∷ of_key k rows) (of_key k rows))
+    by : (b : Bool) → row_with_key rows k ≡ first_row (of_key k rows) → cond b (Some r) (row_with_key rows k) ≡ first_row (cond b (r ∷ of_key k rows) (of_key k rows))
     by true later = refl
     by false later = later
 

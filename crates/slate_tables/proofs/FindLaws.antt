@@ -14,7 +14,7 @@ use Rattle.slate_table.specs.declared.sst_reader.SstReader.{SstReader}
 use Rattle.slate_table.specs.Opening.{IsMeasured, IsOpened, MayOpen}
 use Rattle.slate_table.specs.Decoded.{Info}
 use Rattle.slate_table.specs.Reading.{IsRead, IsStoreFault, Reads, SectionRead, FailsDecoding}
-use Rattle.slate_tables.specs.Finds.{Finds, Within, asked, reader_reach}
+use Rattle.slate_tables.specs.Finds.{Finds, Within, asked_of, reader_reach}
 
 -- ---- moments
 
@@ -22,18 +22,18 @@ abbrev Part : Type 1
 Part = Option Objects → (List ℕ → List ℕ) → Option (List Act) → Option (List Act) → Type 0
 
 pub finds_now : (P : Option Objects → (List ℕ → List ℕ) → Option (List Act) → Option (List Act) → Type 0) (begun now : Reach) (root : List ℕ) (after : Option (List Act)) →
-    OnlyReads begun now → P now.objects now.meaning.decode now.acts after → Finds (asked begun root after) P
+    OnlyReads begun now → P now.objects now.meaning.decode now.acts after → Finds (asked_of begun root after) P
 finds_now P begun now root after r p =
     let Q : Option Objects → Type 0 = λ o. P o now.meaning.decode now.acts after in
     let R : Meaning → Type 0 = λ m. P begun.objects m.decode now.acts after in
     (now.acts, after, r.acts, subst R r.meaning (subst Q r.objects p), adds_none after)
 
 pub finds_later : (P : Option Objects → (List ℕ → List ℕ) → Option (List Act) → Option (List Act) → Type 0) (begun : Reach) (root : List ℕ) (before after : Option (List Act)) →
-    AddsReads before after → Finds (asked begun root before) P → Finds (asked begun root after) P
+    AddsReads before after → Finds (asked_of begun root before) P → Finds (asked_of begun root after) P
 finds_later P begun root before after more f = (f.0, f.1, f.2, f.3, adds_both f.1 before after f.4 more)
 
 pub finds_earlier : (P : Option Objects → (List ℕ → List ℕ) → Option (List Act) → Option (List Act) → Type 0) (begun now : Reach) (root : List ℕ) (after : Option (List Act)) →
-    OnlyReads begun now → Finds (asked now root after) P → Finds (asked begun root after) P
+    OnlyReads begun now → Finds (asked_of now root after) P → Finds (asked_of begun root after) P
 finds_earlier P begun now root after r f =
     let Q : Option Objects → Type 0 = λ o. P o now.meaning.decode f.0 f.1 in
     let R : Meaning → Type 0 = λ m. P begun.objects m.decode f.0 f.1 in

@@ -37,7 +37,7 @@ use Rattle.slate_tables.specs.declared.check.Part.{Part}
 use Rattle.slate_tables.specs.declared.check.Part.TheVariants as parts
 use Rattle.slate_tables.specs.Alarms.{NoFalseAlarm}
 use Rattle.slate_tables.specs.Checks.{HasBadRows, HasBlocks, HasOtherKeys, HasOtherStats, IsFlawed, IsFlawedIn, IsRead}
-use Rattle.slate_tables.specs.Finds.{Asked, FindsEntries, FindsRows, FindsStats, Opens, RefusesFiltersOf, RefusesIndexOf, RefusesRowsOf, RefusesStatsOf}
+use Rattle.slate_tables.specs.Finds.{Asked, FindsEntries, FindsRowsOf, FindsStats, OpensTo, RefusesFiltersOf, RefusesIndexOf, RefusesRowsOf, RefusesStatsOf}
 use Rattle.slate_tables.specs.Good.{AreGood, FitsStats, rows_of}
 use Rattle.slate_tables.proofs.TallyLaws.{front_in_order}
 
@@ -50,7 +50,7 @@ record Known (encode : Encode) (w : Asked) (h : SsTableHandle) (blocks : List (L
   info : seen_info h.info ≡ table_info encode h.format_version h.id.0 blocks filters
 
 known : (encode : Encode) (w : Asked) (h : SsTableHandle) (id version : ℕ) (blocks : List (List RowEntry)) (filters : List (List ℕ × List ℕ)) → IsLawfulTransform encode w.begun.meaning.decode →
-    (holds : HoldsTable encode w.begun.objects (path_of w.root id) version id blocks filters) → EachIsAByte holds.bytes → h.id.0 ≡ id → Opens w h → Known encode w h blocks filters
+    (holds : HoldsTable encode w.begun.objects (path_of w.root id) version id blocks filters) → EachIsAByte holds.bytes → h.id.0 ≡ id → OpensTo w h → Known encode w h blocks filters
 known encode w h id version blocks filters lawful holds bytes named o =
     let here : HoldsTable encode w.begun.objects (path_of w.root h.id.0) version h.id.0 blocks filters = subst (λ (n : ℕ). HoldsTable encode w.begun.objects (path_of w.root n) version n blocks filters) (sym named) holds in
     let found = opened encode w.begun.objects o.0 o.1 (path_of w.root h.id.0) version h.format_version h.id.0 blocks filters (seen_info h.info) here o.3 in
@@ -115,7 +115,7 @@ block_alarm encode w h blocks filters entries n e k x within f =
 
 -- ---- rows that were read
 
-rows_are : (encode : Encode) (w : Asked) (h : SsTableHandle) (blocks : List (List RowEntry)) (filters : List (List ℕ × List ℕ)) (entries : List (ℕ × List ℕ)) (n : ℕ) (rows : List RowEntry) → Known encode w h blocks filters → FindsEntries w h entries → n < length entries → FindsRows w h entries n rows →
+rows_are : (encode : Encode) (w : Asked) (h : SsTableHandle) (blocks : List (List RowEntry)) (filters : List (List ℕ × List ℕ)) (entries : List (ℕ × List ℕ)) (n : ℕ) (rows : List RowEntry) → Known encode w h blocks filters → FindsEntries w h entries → n < length entries → FindsRowsOf w h entries n rows →
     (written : List RowEntry) × (slice_get blocks n ≡ Some written) × (rows ≡ map (as_read h.format_version) written)
 unfolding ReadsRows
 rows_are encode w h blocks filters entries n rows k x within f =

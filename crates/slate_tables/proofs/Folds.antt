@@ -15,7 +15,7 @@ use Rattle.slate_merge.specs.Merge.{decided_after, decides, is_hidden, merged}
 use Rattle.slate_merge.specs.MergeLaws.{merged_in_order, merged_in_turn}
 use Rattle.slate_merge.proofs.FoldedKeys.{cut_whole}
 use Rattle.slate_merge.proofs.FoldedTurns.{none_rises_in_turn}
-use Rattle.slate_tables.proofs.Together.{Rows, AreTogether, Leads, order_together}
+use Rattle.slate_tables.proofs.Together.{AreTogether, Leads, Rows, order_together}
 use Rattle.slate_types.proofs.Lists.{AllByRecursion_behind}
 
 -- ---- rows of one key are one group

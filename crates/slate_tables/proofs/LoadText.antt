@@ -26,7 +26,7 @@ use Rattle.slate_language.specs.Text.{hex, hex_digit, is_visible, shown_bytes}
 use Rattle.slate_language.proofs.ParseLaws.{neg_below, parse_is, pos_below}
 use Rattle.slate_language.proofs.SpelledLaws.{shown_spells}
 use Rattle.slate_tables.specs.Loading.{load_lines, load_op, moment, time_to_live, value_op}
-use Rattle.slate_tables.specs.LoadText.{CanSpell, ScriptSpells, capped, first_line, greatest_seq, last_line, last_words, load_script, moved, now_line, op_words, script_of, ttl_words, write_line}
+use Rattle.slate_tables.specs.LoadText.{CanSpell, ScriptSpells, capped, count_moved, first_line, greatest_of, last_line, last_words, load_script, now_line, op_words, script_of, ttl_words, write_line}
 
 -- ---- no line has an end in it
 
@@ -196,7 +196,7 @@ capped_fits : (n : ℕ) → capped n < 2 ^ 64
 capped_fits n = grind (arith, nat_tests)
 
 last_no_end : (rows : List RowEntry) → NoEnd (last_line rows)
-last_no_end rows = words_no_end (capped (length rows)) (capped (moved rows)) (capped (greatest_seq rows)) (capped_fits (length rows)) (capped_fits (moved rows)) (capped_fits (greatest_seq rows))
+last_no_end rows = words_no_end (capped (length rows)) (capped (count_moved rows)) (capped (greatest_of rows)) (capped_fits (length rows)) (capped_fits (count_moved rows)) (capped_fits (greatest_of rows))
 
 last_silent : (rows : List RowEntry) → meanings (lines_of (last_line rows ++ (10 ∷ []))) ≡ []
 last_silent rows = ap meanings (cut (last_line rows) [] (last_no_end rows))

@@ -38,7 +38,7 @@ use Rattle.slate_txn.specs.Reply.{Reply, NowIs, Written}
 use Rattle.slate_txn.specs.State.{Commit, Rules, State, combine_at, last, last_of, opening}
 use Rattle.slate_txn.specs.Step.{after, answers, as_commit, refused_or, step, with_commit, with_reply, write}
 use Rattle.slate_txn.proofs.Growing.{all_up_to, last_more}
-use Rattle.slate_tables.specs.Loading.{CanLoad, IsReached, LoadsRows, created, earlier, load_lines, load_op, load_replies, loaded_row, moment, reloaded, row_prefixes, time_to_live, value_op}
+use Rattle.slate_tables.specs.Loading.{CanLoad, IsReached, LoadsRows, created, earlier, load_lines, load_op, load_replies, loaded_row, moment, prefixes_of_rows, reloaded, time_to_live, value_op}
 use Rattle.slate_tables.specs.Exported.{KeysCome}
 use Rattle.slate_tables.proofs.Moments.{later_reached}
 
@@ -138,10 +138,10 @@ middle_apart before own rest h =
     let here = AllByRecursion_behind fine before own (AllByRecursion_front fine (before ++ own) rest h) in
     AllByRecursion_weaken fine (λ p. AllByRecursion (λ q. nest p q ≡ false) (before ++ own)) (λ p k. AllByRecursion_front (λ q. nest p q ≡ false) (before ++ own) rest k) own here
 
-own_prefixes : (segments : Segments) (row : RowEntry) (rows : List RowEntry) → row_prefixes segments (row ∷ rows) ≡ prefixes segments (one_op row) ++ row_prefixes segments rows
+own_prefixes : (segments : Segments) (row : RowEntry) (rows : List RowEntry) → prefixes_of_rows segments (row ∷ rows) ≡ prefixes segments (one_op row) ++ prefixes_of_rows segments rows
 own_prefixes segments row rows = by (prefix_by segments row.key)
   where
-    by : (o : Option (List ℕ)) → cons_option o (row_prefixes segments rows) ≡ cons_option o [] ++ row_prefixes segments rows
+    by : (o : Option (List ℕ)) → cons_option o (prefixes_of_rows segments rows) ≡ cons_option o [] ++ prefixes_of_rows segments rows
     by None = refl
     by (Some p) = refl
 
@@ -181,7 +181,7 @@ module _ (r : Rules) where
     commits : (after r s (load_lines rows)).commits ≡ s.commits ++ load_commits (last r s) rows
 
   abbrev Tested : State → List RowEntry → Type 0
-  Tested s rows = let all = committed_prefixes r s.commits ++ row_prefixes r.segment rows in AreApart all all
+  Tested s rows = let all = committed_prefixes r s.commits ++ prefixes_of_rows r.segment rows in AreApart all all
 
   loads : (s : State) (rows : List RowEntry) → AllByRecursion (λ row. segment_refusal r.segment row.key ≡ None) rows → Tested s rows → AllByRecursion (CanLoad r.combine) rows → last r s + length rows < 2 ^ 64 - 1 → Loads s rows
   loads s [] pass apart can room = record { replies = refl; commits = sym (append-nil s.commits) }
@@ -189,8 +189,8 @@ module _ (r : Rules) where
       let here : last r s < 2 ^ 64 - 2 = omega (arith, room) in
       let before = committed_prefixes r s.commits in
       let own = prefixes r.segment (one_op row) in
-      let rest = row_prefixes r.segment rows in
-      let split : before ++ row_prefixes r.segment (row ∷ rows) ≡ (before ++ own) ++ rest = ap (λ (l : List (List ℕ)). before ++ l) (own_prefixes r.segment row rows) ∙ sym (append_assoc before own rest) in
+      let rest = prefixes_of_rows r.segment rows in
+      let split : before ++ prefixes_of_rows r.segment (row ∷ rows) ≡ (before ++ own) ++ rest = ap (λ (l : List (List ℕ)). before ++ l) (own_prefixes r.segment row rows) ∙ sym (append_assoc before own rest) in
       let three : AreApart ((before ++ own) ++ rest) ((before ++ own) ++ rest) = subst (λ (l : List (List ℕ)). AreApart l l) split apart in
       let next_split : (before ++ own) ++ rest ≡ committed_prefixes r (behind s row).commits ++ rest = ap (λ (l : List (List ℕ)). l ++ rest) (sym (prefixes_behind s row)) in
       let is = wrote s row can.0 pass.0 (nests_fine before own (middle_apart before own rest three)) here in

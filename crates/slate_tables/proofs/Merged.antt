@@ -27,11 +27,11 @@ use Rattle.slate_merge.specs.MergeLaws.{merged_in_turn, merged_kept}
 use Rattle.slate_merge.specs.Turns.{in_turn_already}
 use Rattle.slate_merge.proofs.FoldedTurns.{not_greater}
 use Rattle.slate_table.specs.Stored.{by_seq}
-use Rattle.slate_tables.specs.Sequences.{of_seq, Climb}
+use Rattle.slate_tables.specs.Sequences.{Climb, of_seq}
 use Rattle.slate_table.specs.Table.{AreInOrder}
 use Rattle.slate_read.specs.TableWalk.{is_in}
 use Rattle.slate_tables.specs.Exported.{table_rows}
-use Rattle.slate_tables.proofs.Sequences.{sorted_once, keeps_places}
+use Rattle.slate_tables.proofs.Sequences.{keeps_places, sorted_once}
 
 -- ---- filters
 

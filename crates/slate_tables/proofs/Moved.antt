@@ -13,18 +13,18 @@ use Rattle.slate_txn.specs.Reply.{Reply}
 use Rattle.slate_txn.specs.State.{Rules, State, combine_at, last, opening}
 use Rattle.slate_txn.specs.Step.{after, answers}
 use Rattle.slate_language.specs.Replies.{reply_line}
-use Rattle.slate_tables.specs.Exported.{row_at}
+use Rattle.slate_tables.specs.Exported.{row_with_key}
 use Rattle.slate_tables.specs.Loading.{CanLoad, loaded_row, reloaded}
 use Rattle.slate_tables.specs.LoadText.{CanSpell}
-use Rattle.slate_tables.specs.Moved.{CanMove, ScriptLoadsState, as_moved, as_shown}
+use Rattle.slate_tables.specs.Moved.{CanMove, ScriptLoadsState, as_moved, as_unnumbered}
 use Rattle.slate_tables.proofs.Loading.{loads_rows}
 use Rattle.slate_tables.proofs.LoadText.{script_spells}
 
-moved_row : (n : ℕ) (rows : List RowEntry) (k : List ℕ) → option_map as_shown (loaded_row n rows k) ≡ option_map as_moved (row_at rows k)
+moved_row : (n : ℕ) (rows : List RowEntry) (k : List ℕ) → option_map as_unnumbered (loaded_row n rows k) ≡ option_map as_moved (row_with_key rows k)
 moved_row n [] k = refl
 moved_row n (r ∷ rows) k = by (bytes_eq r.key k) (moved_row (n + 1) rows k)
   where
-    by : (b : Bool) → option_map as_shown (loaded_row (n + 1) rows k) ≡ option_map as_moved (row_at rows k) → option_map as_shown (cond b (Some (reloaded (n + 1) r)) (loaded_row (n + 1) rows k)) ≡ option_map as_moved (cond b (Some r) (row_at rows k))
+    by : (b : Bool) → option_map as_unnumbered (loaded_row (n + 1) rows k) ≡ option_map as_moved (row_with_key rows k) → option_map as_unnumbered (cond b (Some (reloaded (n + 1) r)) (loaded_row (n + 1) rows k)) ≡ option_map as_moved (cond b (Some r) (row_with_key rows k))
     by true later = refl
     by false later = later
 
@@ -37,8 +37,8 @@ script_loads_state r rows out is pass can room =
     record {
       replied = ap (λ (ls : List Line). flat_map reply_line (answers r opening ls)) meant ∙ ap (flat_map reply_line) loaded.0;
       state = λ k.
-          ap (λ (ls : List Line). option_map as_shown (state_at r (after r opening ls).commits (last r (after r opening ls)) k)) meant
-          ∙ ap (option_map as_shown) (loaded.1 k)
+          ap (λ (ls : List Line). option_map as_unnumbered (state_at r (after r opening ls).commits (last r (after r opening ls)) k)) meant
+          ∙ ap (option_map as_unnumbered) (loaded.1 k)
           ∙ moved_row r.start_seq out k
           ∙ ap (option_map as_moved) (is.each k);
     }

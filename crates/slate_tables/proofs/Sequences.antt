@@ -5,7 +5,7 @@ use Rattle.std.specs.List.{AllByRecursion}
 use Rattle.std.proofs.lemmas.Bool.Decides.{nat_tests}
 use Rattle.slate_types.specs.declared.types.RowEntry.{RowEntry}
 use Rattle.slate_table.specs.Stored.{insert_row, by_seq}
-use Rattle.slate_tables.specs.Sequences.{of_seq, Climb, SortedOnce, KeepsPlaces}
+use Rattle.slate_tables.specs.Sequences.{Climb, KeepsPlaces, SortedOnce, of_seq}
 
 -- ---- one sequence
 

@@ -14,7 +14,7 @@ use Rattle.slate_table.specs.Decoded.{Counts, FitCounts, Stats}
 use Rattle.slate_table.specs.FileLaws.{row_counts, table_stats}
 use Rattle.slate_table.specs.Parts.{last_key}
 use Rattle.slate_table.specs.Table.{AreInOrder, some_first, some_last}
-use Rattle.slate_tables.specs.Good.{AreGood, FitsStats, first_seq, greatest_seq, least_seq, rows_of}
+use Rattle.slate_tables.specs.Good.{AreGood, FitsStats, greatest_from, least_seq, rows_of, seq_of_first}
 use Rattle.slate_block.specs.declared.block.BlockStats.{BlockStats}
 use Rattle.slate_table.specs.declared.sst_stats.SstStats.{SstStats}
 use Rattle.slate_table.specs.StatsReading.{counts_of, stats_of}
@@ -124,7 +124,7 @@ least_more : (n : ℕ) (rows : List RowEntry) (row : RowEntry) → least_seq n (
 least_more n [] row = refl
 least_more n (r ∷ rows) row = least_more (min n r.seq) rows row
 
-greatest_more : (n : ℕ) (rows : List RowEntry) (row : RowEntry) → greatest_seq n (rows ++ (row ∷ [])) ≡ max (greatest_seq n rows) row.seq
+greatest_more : (n : ℕ) (rows : List RowEntry) (row : RowEntry) → greatest_from n (rows ++ (row ∷ [])) ≡ max (greatest_from n rows) row.seq
 greatest_more n [] row = refl
 greatest_more n (r ∷ rows) row = greatest_more (max n r.seq) rows row
 
@@ -140,7 +140,7 @@ last_there rows row = ap (slice_get (rows ++ (row ∷ []))) place ∙ at rows
 
 -- rows of which there are some
 some_more : (rows : List RowEntry) (row : RowEntry) (first : List ℕ) → some_first rows ≡ Some first →
-    (some_first (rows ++ (row ∷ [])) ≡ Some first) × (some_last (rows ++ (row ∷ [])) ≡ Some row.key) × (first_seq (rows ++ (row ∷ [])) ≡ first_seq rows)
+    (some_first (rows ++ (row ∷ [])) ≡ Some first) × (some_last (rows ++ (row ∷ [])) ≡ Some row.key) × (seq_of_first (rows ++ (row ∷ [])) ≡ seq_of_first rows)
 some_more [] row first is = absurd cc
 some_more (r ∷ rows) row first is = (is, ap (λ (k : List ℕ). Some k) (last_key_more r.key rows row), refl)
 
@@ -150,7 +150,7 @@ span_first row = record { row = row; last_row = refl; key = refl; seq = refl; fi
 pub span_more : (rows : List RowEntry) (row : RowEntry) (s : Span) → IsSpanOf rows s → IsSpanOf (rows ++ (row ∷ [])) (record { first = s.first; last = row.key; last_seq = row.seq; least = min s.least row.seq; greatest = max s.greatest row.seq })
 span_more rows row s h =
     let more = some_more rows row s.first h.first in
-    let n = first_seq rows in
+    let n = seq_of_first rows in
     record {
       row = row;
       last_row = last_there rows row;
@@ -159,7 +159,7 @@ span_more rows row s h =
       first = more.0;
       last = more.1;
       least = ap (λ (k : ℕ). min k row.seq) h.least ∙ sym (least_more n rows row) ∙ ap (λ (k : ℕ). least_seq k (rows ++ (row ∷ []))) (sym more.2);
-      greatest = ap (λ (k : ℕ). max k row.seq) h.greatest ∙ sym (greatest_more n rows row) ∙ ap (λ (k : ℕ). greatest_seq k (rows ++ (row ∷ []))) (sym more.2);
+      greatest = ap (λ (k : ℕ). max k row.seq) h.greatest ∙ sym (greatest_more n rows row) ∙ ap (λ (k : ℕ). greatest_from k (rows ++ (row ∷ []))) (sym more.2);
     }
 
 behind_is : (rows : List RowEntry) (row : RowEntry) (s : Span) (h : IsSpanOf rows s) → stands_behind s row ≡ row_lt h.row row

@@ -30,8 +30,8 @@ use Rattle.slate_read.specs.Readable.{kept_of}
 use Rattle.slate_read.specs.TableWalk.{IsReadable, path_in, root}
 use Rattle.slate_read.proofs.Readable.{readable}
 use Rattle.slate_txn.specs.Named.{find_named}
-use Rattle.slate_tables.specs.Merging.{AreEach, AreReadable, IsTableIn}
-use Rattle.slate_tables.specs.Opened.{AreHeld, AreTables, IsHeld, IsTableHere, IsWorldOf, TablesAreHeld, TablesAreInAWorld, WasOpened}
+use Rattle.slate_tables.specs.Merging.{AreReadableTables, IsTableIn, MatchEach}
+use Rattle.slate_tables.specs.Opened.{AreHeldTables, AreTablesOf, IsHeld, IsTableHere, IsWorldHolding, TablesAreHeld, TablesAreInAWorld, WasOpened}
 use Rattle.slate_tables.proofs.TableInfos.{has_info}
 
 -- ---- what was opened is held
@@ -107,7 +107,7 @@ module _ (m : Meaning) (os : Objects) where
   abbrev kept_by : (h : SsTableHandle) (rows : List RowEntry) → IsHeld m.encode os h rows → Kept
   kept_by h rows t = kept_of m.encode h.format_version h.id.0 t.blocks t.filters t.bytes
 
-  abbrev kepts : (handles : List SsTableHandle) (tables : List (List RowEntry)) → AreEach (IsHeld m.encode os) handles tables → List (List ℕ × Kept)
+  abbrev kepts : (handles : List SsTableHandle) (tables : List (List RowEntry)) → MatchEach (IsHeld m.encode os) handles tables → List (List ℕ × Kept)
   kepts [] [] are = []
   kepts (h ∷ handles) (rows ∷ tables) are = (path_in h, kept_by h rows are.0) ∷ kepts handles tables are.1
   kepts [] (rows ∷ tables) are = absurd are
@@ -149,7 +149,7 @@ module _ (m : Meaning) (os : Objects) where
   abbrev Extends : List (List ℕ × Kept) → List (List ℕ × Kept) → Type 0
   Extends whole here = (h : SsTableHandle) (rows : List RowEntry) (t : IsHeld m.encode os h rows) → find_named (path_in h) here ≡ Some (kept_by h rows t) → find_named (path_in h) whole ≡ Some (kept_by h rows t)
 
-  all_in : IsLawfulTransform m.encode m.decode → (whole : List (List ℕ × Kept)) (handles : List SsTableHandle) (tables : List (List RowEntry)) (are : AreEach (IsHeld m.encode os) handles tables) → Extends whole (kepts handles tables are) → AreReadable (world_of whole) handles tables
+  all_in : IsLawfulTransform m.encode m.decode → (whole : List (List ℕ × Kept)) (handles : List SsTableHandle) (tables : List (List RowEntry)) (are : MatchEach (IsHeld m.encode os) handles tables) → Extends whole (kepts handles tables are) → AreReadableTables (world_of whole) handles tables
   all_in lawful whole [] [] are extends = tt
   all_in lawful whole (h ∷ handles) (rows ∷ tables) are extends = (
     one_in lawful whole h rows are.0 (extends h rows are.0 (first_found h rows are.0 (kepts handles tables are.1))),
@@ -158,7 +158,7 @@ module _ (m : Meaning) (os : Objects) where
   all_in lawful whole [] (rows ∷ tables) are extends = absurd are
   all_in lawful whole (h ∷ handles) [] are extends = absurd are
 
-  all_hold : (handles : List SsTableHandle) (tables : List (List RowEntry)) (are : AreEach (IsHeld m.encode os) handles tables) (path : List ℕ) (kept : Kept) → find_named path (kepts handles tables are) ≡ Some kept → object_at os path ≡ Some kept.bytes
+  all_hold : (handles : List SsTableHandle) (tables : List (List RowEntry)) (are : MatchEach (IsHeld m.encode os) handles tables) (path : List ℕ) (kept : Kept) → find_named path (kepts handles tables are) ≡ Some kept → object_at os path ≡ Some kept.bytes
   unfolding path_in
   all_hold [] [] are path kept is = cc
   all_hold (h ∷ handles) (rows ∷ tables) are path kept is = by (bytes_eq (path_in h) path) refl is (all_hold handles tables are.1 path kept)

@@ -12,5 +12,8 @@ use Rattle.slate_tables.specs.Checks.{IsFlawed}
 use Rattle.slate_tables.specs.Finds.{Asked}
 
 abbrev pub NoFalseAlarm : Type 0
-NoFalseAlarm = (encode : Encode) (w : Asked) (id version : ℕ) (blocks : List (List RowEntry)) (filters : List (List ℕ × List ℕ)) (flaw : Flaw) → IsLawfulTransform encode w.begun.meaning.decode →
-    (holds : HoldsTable encode w.begun.objects (path_of w.root id) version id blocks filters) → EachIsAByte holds.bytes → IsFlawed w id flaw → ⊥
+NoFalseAlarm = (encode : Encode) (w : Asked) (id version : ℕ) (blocks : List (List RowEntry))
+    (filters : List (List ℕ × List ℕ)) (flaw : Flaw) →
+    IsLawfulTransform encode w.begun.meaning.decode →
+    (holds : HoldsTable encode w.begun.objects (path_of w.root id) version id blocks filters) →
+    EachIsAByte holds.bytes → IsFlawed w id flaw → ⊥

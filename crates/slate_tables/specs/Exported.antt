@@ -4,7 +4,7 @@
 --     exported c order lists      of each key the fold of the rows of all lists, no tombstones;
 --                                 the list of the newest table comes first
 --     KeysCome order rows      keys come in the order, each once
---     row_at rows k      the row of a key
+--     row_with_key rows k      the row of a key
 --     IsExport c order range rows out      in the range, of each key the row that all rows fold
 --                                          to, and no other row
 --     IsState c rows out      the same of all keys, keys rising
@@ -41,21 +41,21 @@ KeysCome order [] = Unit {0}
 KeysCome order (r ∷ rows) =
     AllByRecursion (λ s. comes_before order r.key s.key ≡ true) rows × KeysCome order rows
 
-abbrev pub row_at : List RowEntry → List ℕ → Option RowEntry
-row_at [] k = None
-row_at (r ∷ rows) k = if bytes_eq r.key k then Some r else row_at rows k
+abbrev pub row_with_key : List RowEntry → List ℕ → Option RowEntry
+row_with_key [] k = None
+row_with_key (r ∷ rows) k = if bytes_eq r.key k then Some r else row_with_key rows k
 
 pub record IsExport (c : List ℕ → Combine) (order : IterationOrder) (range : BytesRange)
     (rows out : List RowEntry) : Type 0 where
   pub come : KeysCome order out
   pub within : AllByRecursion (λ r. in_range range r.key ≡ true) out
   pub live : AllByRecursion (λ r. is_tombstone r ≡ false) out
-  pub each : (k : List ℕ) → in_range range k ≡ true → row_at out k ≡ stored (c k) rows k
+  pub each : (k : List ℕ) → in_range range k ≡ true → row_with_key out k ≡ stored (c k) rows k
 
 pub record IsState (c : List ℕ → Combine) (rows out : List RowEntry) : Type 0 where
   pub rise : KeysCome Ascending out
   pub live : AllByRecursion (λ r. is_tombstone r ≡ false) out
-  pub each : (k : List ℕ) → row_at out k ≡ stored (c k) rows k
+  pub each : (k : List ℕ) → row_with_key out k ≡ stored (c k) rows k
 
 -- tables: the rows of each, in the order of their paths
 abbrev pub ExportIsStored : Type 0

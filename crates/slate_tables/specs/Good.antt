@@ -1,6 +1,7 @@
 -- What a whole table has.
 --     counted rows      how many rows there are, in 64 bits
---     summary_of version rows      its version, how many rows, their least and greatest sequence, and the first and the last key
+--     summary_of version rows      its version, how many rows, their least and greatest sequence,
+--                            and the first and the last key
 --     rows_of blocks      the rows of blocks, one after another
 --     FitsStats s      statistics whose numbers fit their fields
 --     AreGood blocks      the rows stand in a table's order, and their statistics fit
@@ -25,13 +26,13 @@ abbrev pub least_seq : ℕ → List RowEntry → ℕ
 least_seq n [] = n
 least_seq n (r ∷ rows) = least_seq (min n r.seq) rows
 
-abbrev pub greatest_seq : ℕ → List RowEntry → ℕ
-greatest_seq n [] = n
-greatest_seq n (r ∷ rows) = greatest_seq (max n r.seq) rows
+abbrev pub greatest_from : ℕ → List RowEntry → ℕ
+greatest_from n [] = n
+greatest_from n (r ∷ rows) = greatest_from (max n r.seq) rows
 
-abbrev pub first_seq : List RowEntry → ℕ
-first_seq [] = 0
-first_seq (r ∷ rows) = r.seq
+abbrev pub seq_of_first : List RowEntry → ℕ
+seq_of_first [] = 0
+seq_of_first (r ∷ rows) = r.seq
 
 -- how many there are, or the greatest number
 abbrev pub counted : List RowEntry → ℕ
@@ -41,8 +42,8 @@ abbrev pub summary_of : ℕ → List RowEntry → Summary
 summary_of version rows = record {
   version = version;
   rows = counted rows;
-  least = least_seq (first_seq rows) rows;
-  greatest = greatest_seq (first_seq rows) rows;
+  least = least_seq (seq_of_first rows) rows;
+  greatest = greatest_from (seq_of_first rows) rows;
   first = some_first rows;
   last = some_last rows;
 }

@@ -1,7 +1,7 @@
 -- The text of a script that loads rows.
 --     now_line r, write_line r, load_script rows      the lines of a row, and of rows
---     moved rows      how many rows end before they were made
---     greatest_seq rows      the greatest sequence, or 0
+--     count_moved rows      how many rows end before they were made
+--     greatest_of rows      the greatest sequence, or 0
 --     capped n      a number, or the greatest of 64 bits
 --     first_line, last_line rows      two comments. The last one says how many rows there are, so
 --                                     that a script that was cut is seen, how many of them end
@@ -52,15 +52,15 @@ abbrev pub is_before : Option ℤ → ℤ → Bool
 is_before None now = false
 is_before (Some end) now = int_lt end now
 
-abbrev pub ends_before : RowEntry → Bool
-ends_before r = is_before r.expire_ts (created r)
+abbrev pub ends_before_made : RowEntry → Bool
+ends_before_made r = is_before r.expire_ts (created r)
 
-abbrev pub moved : List RowEntry → ℕ
-moved rows = count_by ends_before rows
+abbrev pub count_moved : List RowEntry → ℕ
+count_moved rows = count_by ends_before_made rows
 
-abbrev pub greatest_seq : List RowEntry → ℕ
-greatest_seq [] = 0
-greatest_seq (r ∷ rows) = max r.seq (greatest_seq rows)
+abbrev pub greatest_of : List RowEntry → ℕ
+greatest_of [] = 0
+greatest_of (r ∷ rows) = max r.seq (greatest_of rows)
 
 abbrev pub first_line : List ℕ
 first_line = codes "# for a new store"
@@ -76,7 +76,7 @@ capped n = min n (2 ^ 64 - 1)
 
 abbrev pub last_line : List RowEntry → List ℕ
 last_line rows =
-    last_words (capped (length rows)) (capped (moved rows)) (capped (greatest_seq rows))
+    last_words (capped (length rows)) (capped (count_moved rows)) (capped (greatest_of rows))
 
 abbrev pub script_of : List RowEntry → List ℕ
 script_of rows = first_line ++ (10 ∷ (load_script rows ++ (last_line rows ++ (10 ∷ []))))

@@ -6,7 +6,7 @@
 --     load_replies n rows      the replies to these lines, after the sequence n
 --     CanLoad combine r      what lines can make again: a row within the limits of keys, values and
 --                            of moments, no tombstone, and an operand only under an operator
---     row_prefixes segments rows      the segment prefixes of the rows' keys
+--     prefixes_of_rows segments rows      the segment prefixes of the rows' keys
 --     KeysPass segments rows      the tests of keys refuse none: each key has a prefix, none nests
 --     reloaded n r      the row under another sequence, made at its line's moment
 --     loaded_row n rows k      the row that is loaded for a key, after the sequence n
@@ -80,12 +80,12 @@ pub record CanLoad (combine : Option (List ℕ → Combine)) (r : RowEntry) : Ty
   pub operator : is_operand r ≡ true → is_some combine ≡ true
   pub expiry : IfSome r.expire_ts IsReached
 
-abbrev pub row_prefixes : Segments → List RowEntry → List (List ℕ)
-row_prefixes segments rows = filter_map (λ r. prefix_by segments r.key) rows
+abbrev pub prefixes_of_rows : Segments → List RowEntry → List (List ℕ)
+prefixes_of_rows segments rows = filter_map (λ r. prefix_by segments r.key) rows
 
 pub record KeysPass (segments : Segments) (rows : List RowEntry) : Type 0 where
   pub each : AllByRecursion (λ r. segment_refusal segments r.key ≡ None) rows
-  pub apart : let all = row_prefixes segments rows in
+  pub apart : let all = prefixes_of_rows segments rows in
       AllByRecursion (λ p. AllByRecursion (λ q. nest p q ≡ false) all) all
 
 abbrev pub reloaded : ℕ → RowEntry → RowEntry

@@ -1,12 +1,12 @@
 -- The rows of several tables as one merge, folded, without tombstones.
 --     Merge, Export      the merge of tables' rows, and what folds it
---     source_rows, merge_rows, merge_sound, merge_order      what these are in a world
+--     rows_of_source, rows_of_merge, merge_sound, merge_order      what these are in a world
 --     export_rows it w, export_sound it w      what is left in a world, and what that rests on
---     AreEach R xs ys      two lists of one length, of which R is true place by place
+--     MatchEach R xs ys      two lists of one length, of which R is true place by place
 --     IsTableSource range order h s      the source is new, of the rows of a table in a range
 --     IsExportOf order sources it      the export is new, and merges these sources
---     IsTableIn w h rows, AreReadable w handles tables      in a world a table has these rows, and
---                                                           is read; so are several
+--     IsTableIn w h rows, AreReadableTables w handles tables      in a world a table has these
+--                            rows, and is read; so are several
 use Rattle.std.specs.Prelude.{◌≡◌, ℕ, true, List, [], ◌∷◌, filter, flat_map, None}
 use Rattle.slate_types.specs.declared.bytes_range.BytesRange.{BytesRange}
 use Rattle.slate_types.specs.declared.iter.IterationOrder.{IterationOrder}
@@ -34,8 +34,8 @@ Export = FilterIterator (MergeOperatorIterator Merge) Live
 
 -- ---- in a world
 
-abbrev pub source_rows : InternalSstIterator → World → List RowEntry
-source_rows s w = sst_rest s.rows w
+abbrev pub rows_of_source : InternalSstIterator → World → List RowEntry
+rows_of_source s w = sst_rest s.rows w
 
 abbrev pub source_sound : InternalSstIterator → World → Type 0
 source_sound s w = sst_sound s.rows w
@@ -43,28 +43,28 @@ source_sound s w = sst_sound s.rows w
 abbrev pub source_order : InternalSstIterator → IterationOrder
 source_order s = s.rows.iterator.iterator.order
 
-abbrev pub merge_rows : Merge → World → List RowEntry
-merge_rows m w = rest_of_merge source_rows m w
+abbrev pub rows_of_merge : Merge → World → List RowEntry
+rows_of_merge m w = rest_of_merge rows_of_source m w
 
 abbrev pub merge_sound : Merge → World → Type 0
-merge_sound m w = IsSoundMerge source_rows source_sound source_order m w
+merge_sound m w = IsSoundMerge rows_of_source source_sound source_order m w
 
 abbrev pub merge_order : Merge → IterationOrder
 merge_order m = m.order
 
 abbrev pub export_rows : Export → World → List RowEntry
-export_rows it w = filter is_live (rest_folding merge_rows it.iterator w)
+export_rows it w = filter is_live (rest_folding rows_of_merge it.iterator w)
 
 abbrev pub export_sound : Export → World → Type 0
-export_sound it w = sound_folding merge_rows merge_sound merge_order it.iterator w
+export_sound it w = sound_folding rows_of_merge merge_sound merge_order it.iterator w
 
 -- ---- new ones
 
-abbrev pub AreEach : {A B : Type 0} → (A → B → Type 0) → List A → List B → Type 0
-AreEach R [] [] = Unit {0}
-AreEach R (x ∷ xs) (y ∷ ys) = R x y × AreEach R xs ys
-AreEach R [] (y ∷ ys) = ⊥
-AreEach R (x ∷ xs) [] = ⊥
+abbrev pub MatchEach : {A B : Type 0} → (A → B → Type 0) → List A → List B → Type 0
+MatchEach R [] [] = Unit {0}
+MatchEach R (x ∷ xs) (y ∷ ys) = R x y × MatchEach R xs ys
+MatchEach R [] (y ∷ ys) = ⊥
+MatchEach R (x ∷ xs) [] = ⊥
 
 abbrev pub IsTableSource : BytesRange → IterationOrder → SsTableHandle → InternalSstIterator →
     Type 0
@@ -87,5 +87,5 @@ pub record IsTableIn (w : World) (h : SsTableHandle) (rows : List RowEntry) : Ty
   pub has : flat_map (λ b. b) kept.blocks ≡ rows
   pub order : AreInOrder rows
 
-abbrev pub AreReadable : World → List SsTableHandle → List (List RowEntry) → Type 0
-AreReadable w handles tables = AreEach (IsTableIn w) handles tables
+abbrev pub AreReadableTables : World → List SsTableHandle → List (List RowEntry) → Type 0
+AreReadableTables w handles tables = MatchEach (IsTableIn w) handles tables

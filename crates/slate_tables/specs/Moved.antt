@@ -1,5 +1,5 @@
 -- A state that is moved: exported of tables as a script, and loaded into a new store.
---     as_shown r      the row as a reader gets it, but for its sequence
+--     as_unnumbered r      the row as a reader gets it, but for its sequence
 --     as_moved r      the same, made at its line's moment
 --     CanMove r row      the row can be loaded and spelled
 --     Moves r rows out      the script's replies, and the state at the last commit after it
@@ -18,8 +18,8 @@ use Rattle.slate_tables.specs.Exported.{IsState}
 use Rattle.slate_tables.specs.Loading.{CanLoad, KeysPass, load_replies, moment}
 use Rattle.slate_tables.specs.LoadText.{CanSpell, script_of}
 
-abbrev pub as_shown : RowEntry → KeyValue
-as_shown r = record (key_value r) { seq = 0 }
+abbrev pub as_unnumbered : RowEntry → KeyValue
+as_unnumbered r = record (key_value r) { seq = 0 }
 
 abbrev pub as_moved : RowEntry → KeyValue
 as_moved r = record (key_value r) { seq = 0; create_ts = moment r }
@@ -31,7 +31,7 @@ CanMove r row = CanLoad r.combine row × CanSpell row
 pub record Moves (r : Rules) (rows out : List RowEntry) : Type 0 where
   pub replied : replies r (script_of out) ≡ flat_map reply_line (load_replies r.start_seq out)
   pub state : (k : List ℕ) → let s = after_lines r opening (lines_of (script_of out)) in
-      option_map as_shown (state_at r s.commits (last r s) k)
+      option_map as_unnumbered (state_at r s.commits (last r s) k)
       ≡ option_map as_moved (stored (combine_at r k) rows k)
 
 -- The new store has the same operator. Its default time to live may be another one.

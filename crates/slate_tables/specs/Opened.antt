@@ -1,11 +1,12 @@
 -- Tables that are opened.
 --     IsTableHere encode os id rows      the objects hold a table of the id and these rows
---     AreTables encode os ids tables      the same of several
+--     AreTablesOf encode os ids tables      the same of several
 --     WasOpened objects id h      a handle is what a store answered when the table was opened
 --     IsHeld encode os h rows      the objects hold the table of a handle, with these rows
---     AreHeld m os handles tables      the same of several, under a transformer that is undone
+--     AreHeldTables m os handles tables      the same of several, under a transformer that is
+--                            undone
 --     TablesAreHeld      tables that the objects hold, and that were opened, are held
---     IsWorldOf os m w      a world of these objects
+--     IsWorldHolding os m w      a world of these objects
 --     TablesAreInAWorld      tables that are held are read in a world of the objects
 --     MayRefuse objects ids e      a store's answers refuse to open one of these tables
 use Rattle.std.specs.Prelude.{◌≡◌, ℕ, List, map, flat_map, Contains, Option, Some}
@@ -25,7 +26,7 @@ use Rattle.slate_table.specs.Paths.{path_of}
 use Rattle.slate_table.specs.Table.{IsTable, IsTableOf}
 use Rattle.slate_table.specs.TableEnd.{HasInfo}
 use Rattle.slate_read.specs.TableWalk.{root}
-use Rattle.slate_tables.specs.Merging.{AreEach, AreReadable}
+use Rattle.slate_tables.specs.Merging.{AreReadableTables, MatchEach}
 
 -- ---- of ids
 
@@ -37,8 +38,8 @@ pub record IsTableHere (encode : Encode) (os : Objects) (id : Ulid) (rows : List
   pub each : EachIsAByte bytes
   pub table : IsTable encode bytes version id.0 rows
 
-abbrev pub AreTables : Encode → Objects → List Ulid → List (List RowEntry) → Type 0
-AreTables encode os ids tables = AreEach (IsTableHere encode os) ids tables
+abbrev pub AreTablesOf : Encode → Objects → List Ulid → List (List RowEntry) → Type 0
+AreTablesOf encode os ids tables = MatchEach (IsTableHere encode os) ids tables
 
 -- before, after: the acts that the store told
 pub record WasOpened (objects : Option Objects) (id : Ulid) (h : SsTableHandle) : Type 0 where
@@ -66,22 +67,22 @@ pub record IsHeld (encode : Encode) (os : Objects) (h : SsTableHandle) (rows : L
   pub info : HasInfo bytes h.format_version h.id.0 (seen_info h.info)
   pub has : rows ≡ map (as_read h.format_version) (flat_map (λ b. b) blocks)
 
-abbrev pub AreHeld : Meaning → Objects → List SsTableHandle → List (List RowEntry) → Type 0
-AreHeld m os handles tables =
-    IsLawfulTransform m.encode m.decode × AreEach (IsHeld m.encode os) handles tables
+abbrev pub AreHeldTables : Meaning → Objects → List SsTableHandle → List (List RowEntry) → Type 0
+AreHeldTables m os handles tables =
+    IsLawfulTransform m.encode m.decode × MatchEach (IsHeld m.encode os) handles tables
 
 abbrev pub TablesAreHeld : Type 0
 TablesAreHeld = (encode : Encode) (os : Objects) (ids : List Ulid) (handles : List SsTableHandle)
-    (tables : List (List RowEntry)) → AreTables encode os ids tables →
-    AreEach (WasOpened (Some os)) ids handles → AreEach (IsHeld encode os) handles tables
+    (tables : List (List RowEntry)) → AreTablesOf encode os ids tables →
+    MatchEach (WasOpened (Some os)) ids handles → MatchEach (IsHeld encode os) handles tables
 
 -- ---- a world
 
-pub record IsWorldOf (os : Objects) (m : Meaning) (w : World) : Type 0 where
+pub record IsWorldHolding (os : Objects) (m : Meaning) (w : World) : Type 0 where
   pub meaning : w.meaning ≡ m
   pub holds : HoldsWorld os w
 
 abbrev pub TablesAreInAWorld : Type 0
 TablesAreInAWorld = (m : Meaning) (os : Objects) (handles : List SsTableHandle)
-    (tables : List (List RowEntry)) → AreHeld m os handles tables →
-    (w : World) × IsWorldOf os m w × AreReadable w handles tables
+    (tables : List (List RowEntry)) → AreHeldTables m os handles tables →
+    (w : World) × IsWorldHolding os m w × AreReadableTables w handles tables

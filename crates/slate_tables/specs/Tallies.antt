@@ -4,12 +4,15 @@
 --     whole_sums s      those of statistics
 --     stands_behind span row      the row stands behind the last row in a table's order
 --     FitsSums s      each number has at most 64 bits
---     IsSpan rows span      the first key, the last row and the least and greatest sequence, of rows if there are some
+--     IsSpan rows span      the first key, the last row and the least and greatest sequence, of
+--                           rows if there are some
 --     IsTally blocks tally      the statistics and the span of good blocks
-use Rattle.std.specs.Prelude.{◌≡◌, ℕ, ◌+◌, ◌-◌, ◌^◌, ◌<◌, Bool, List, [], ◌∷◌, length, slice_get, sum_by, count_by, Option, Some, None}
+use Rattle.std.specs.Prelude.{◌≡◌, ℕ, ◌+◌, ◌-◌, ◌^◌, ◌<◌, Bool, List, [], ◌∷◌, length, slice_get}
+use Rattle.std.specs.Prelude.{sum_by, count_by, Option, Some, None}
 use Rattle.std.specs.Ordering.{is_lt}
 use Rattle.slate_types.specs.declared.types.RowEntry.{RowEntry}
-use Rattle.slate_types.specs.Rows.{operand, is_operand, is_put, is_tombstone, sequenced, sequenced_cmp}
+use Rattle.slate_types.specs.Rows.{operand, is_operand, is_put, is_tombstone, sequenced}
+use Rattle.slate_types.specs.Rows.{sequenced_cmp}
 use Rattle.slate_table.specs.declared.sst_stats.SstStats.{SstStats}
 use Rattle.slate_table.specs.FileLaws.{table_stats}
 use Rattle.slate_table.specs.StatsReading.{stats_of}
@@ -17,7 +20,7 @@ use Rattle.slate_table.specs.Table.{some_first, some_last}
 use Rattle.slate_tables.specs.declared.tally.Span.{Span}
 use Rattle.slate_tables.specs.declared.tally.Sums.{Sums}
 use Rattle.slate_tables.specs.declared.tally.Tally.{Tally}
-use Rattle.slate_tables.specs.Good.{AreGood, first_seq, greatest_seq, least_seq, rows_of}
+use Rattle.slate_tables.specs.Good.{AreGood, greatest_from, least_seq, rows_of, seq_of_first}
 
 abbrev pub sums_of : List RowEntry → Sums
 sums_of rows = record {
@@ -45,10 +48,17 @@ pub record FitsSums (s : Sums) : Type 0 where
   pub value_bytes : s.value_bytes < 2 ^ 64
 
 abbrev pub whole_sums : SstStats → Sums
-whole_sums s = record { puts = s.num_puts; deletes = s.num_deletes; merges = s.num_merges; key_bytes = s.raw_key_size; value_bytes = s.raw_val_size }
+whole_sums s = record {
+  puts = s.num_puts;
+  deletes = s.num_deletes;
+  merges = s.num_merges;
+  key_bytes = s.raw_key_size;
+  value_bytes = s.raw_val_size;
+}
 
 abbrev pub stands_behind : Span → RowEntry → Bool
-stands_behind s r = is_lt (sequenced_cmp (record { user_key = s.last; seq = s.last_seq }) (sequenced r))
+stands_behind s r = is_lt
+    (sequenced_cmp (record { user_key = s.last; seq = s.last_seq }) (sequenced r))
 
 pub record IsSpanOf (rows : List RowEntry) (s : Span) : Type 0 where
   pub row : RowEntry
@@ -57,8 +67,8 @@ pub record IsSpanOf (rows : List RowEntry) (s : Span) : Type 0 where
   pub seq : row.seq ≡ s.last_seq
   pub first : some_first rows ≡ Some s.first
   pub last : some_last rows ≡ Some s.last
-  pub least : s.least ≡ least_seq (first_seq rows) rows
-  pub greatest : s.greatest ≡ greatest_seq (first_seq rows) rows
+  pub least : s.least ≡ least_seq (seq_of_first rows) rows
+  pub greatest : s.greatest ≡ greatest_from (seq_of_first rows) rows
 
 abbrev pub IsSpan : List RowEntry → Option Span → Type 0
 IsSpan rows None = rows ≡ []

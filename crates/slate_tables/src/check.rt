@@ -1,5 +1,6 @@
 //! Whether a table is whole: each of its sections is read, and each block.
-ghost use Rattle.std.specs.Prelude.{◌≡◌, ◌<◌, ◌+◌, ℕ, List, length, string_bytes, IfOk, IfErr, IsTrue, ◌↔◌, Err};
+ghost use Rattle.std.specs.Prelude.{◌≡◌, ◌<◌, ◌+◌, ℕ, List, length, string_bytes, IfOk, IfErr};
+ghost use Rattle.std.specs.Prelude.{IsTrue, ◌↔◌, Err};
 ghost use Rattle.slate_types.specs.declared.types.RowEntry.{RowEntry};
 ghost use Rattle.slate_types.specs.Outside.{IsFault, IsStill, OnlyReads, Reach};
 ghost use Rattle.slate_table.specs.FileLaws.{table_stats};
@@ -7,8 +8,10 @@ ghost use Rattle.slate_table.specs.IndexValue.{entries_of};
 ghost use Rattle.slate_table.specs.Reading.{block_start};
 ghost use Rattle.slate_table.specs.StatsReading.{stats_of};
 ghost use Rattle.slate_tables.specs.Alarms.{NoFalseAlarm};
-ghost use Rattle.slate_tables.specs.Checks.{HasBlocks, HasParts, IsChecked, IsRead, IsTallied, IsTallyOf, Tells, seen_summary};
-ghost use Rattle.slate_tables.specs.Finds.{Asked, FindsEntries, FindsStats, Opens, asked, reader_reach};
+ghost use Rattle.slate_tables.specs.Checks.{HasBlocks, HasParts, IsChecked, IsRead, IsTallied};
+ghost use Rattle.slate_tables.specs.Checks.{IsTallyOf, Tells, seen_summary};
+ghost use Rattle.slate_tables.specs.Finds.{Asked, FindsEntries, FindsStats, OpensTo, asked_of};
+ghost use Rattle.slate_tables.specs.Finds.{reader_reach};
 ghost use Rattle.slate_tables.specs.Good.{AreGood, counted, rows_of, summary_of};
 ghost use Rattle.slate_tables.specs.Tallies.{IsSpan, IsTally};
 
@@ -21,8 +24,8 @@ use slate_table::{SstFile, SstIndex, SstReader, SstStats, TableStore};
 use slate_types::{BlockTransformer, SlateDBError, Ulid};
 use std::alloc::Global;
 
-/// The parts of a table, in the order in which they are read: the last bytes and the info that they lead to, the statistics, the index,
-/// the filters, and each block, numbered from 0.
+/// The parts of a table, in the order in which they are read: the last bytes and the info that they
+/// lead to, the statistics, the index, the filters, and each block, numbered from 0.
 #[derive(Clone, Copy, PartialEq, Eq)]
 pub enum Part {
     Info,
@@ -32,8 +35,8 @@ pub enum Part {
     Block(u64),
 }
 
-/// Where a check stopped: the part, the offset of its section, if that is known, and the error that a reader of it meets. Parts that are
-/// read and disagree have `CorruptTable` at 0.
+/// Where a check stopped: the part, the offset of its section, if that is known, and the error that
+/// a reader of it meets. Parts that are read and disagree have `CorruptTable` at 0.
 #[derive(Drop)]
 pub struct Flaw {
     pub part: Part,
@@ -41,7 +44,8 @@ pub struct Flaw {
     pub error: SlateDBError,
 }
 
-/// What a whole table has: its version, how many rows, their least and greatest sequence, and the first and the last key.
+/// What a whole table has: its version, how many rows, their least and greatest sequence, and the
+/// first and the last key.
 #[derive(Drop)]
 pub struct TableSummary {
     pub version: u16,
@@ -73,12 +77,16 @@ pub fn check_table<S: Store, T: BlockTransformer>(
     id: Ulid,
 ) -> Result<Checked, SlateDBError>
     ensures said { let reach = reader_reach S.Store T.BlockTransformer in
-        (begun : Reach) (root : List ℕ) → root ≡ string_bytes reader.old.root_path → OnlyReads begun (reach reader.old) →
-        IfOk result (IsChecked (asked begun root (reach reader.new).acts) id.0) }
+        (begun : Reach) (root : List ℕ) → root ≡ string_bytes reader.old.root_path →
+        OnlyReads begun (reach reader.old) →
+        IfOk result (IsChecked (asked_of begun root (reach reader.new).acts) id.0) }
     ensures root { reader.new.root_path ≡ reader.old.root_path }
-    ensures cause { let reach = reader_reach S.Store T.BlockTransformer in IfErr result (IsFault (reach reader.old) (reach reader.new)) }
-    ensures reads { let reach = reader_reach S.Store T.BlockTransformer in OnlyReads (reach reader.old) (reach reader.new) }
-    ensures counts { let reach = reader_reach S.Store T.BlockTransformer in IsStill (reach reader.old).faults (reach reader.new).faults result }
+    ensures cause { let reach = reader_reach S.Store T.BlockTransformer in
+        IfErr result (IsFault (reach reader.old) (reach reader.new)) }
+    ensures reads { let reach = reader_reach S.Store T.BlockTransformer in
+        OnlyReads (reach reader.old) (reach reader.new) }
+    ensures counts { let reach = reader_reach S.Store T.BlockTransformer in
+        IsStill (reach reader.old).faults (reach reader.new).faults result }
 {
     match reader.open(alloc, id) {
         Ok(file) => {
@@ -97,13 +105,17 @@ fn check_stats<S: Store, T: BlockTransformer>(
     file: &SstFile,
 ) -> Result<Checked, SlateDBError>
     ensures said { let reach = reader_reach S.Store T.BlockTransformer in
-        (begun : Reach) (root : List ℕ) → root ≡ string_bytes reader.old.root_path → OnlyReads begun (reach reader.old) →
-        Opens (asked begun root (reach reader.old).acts) file.now.handle →
-        IfOk result (IsChecked (asked begun root (reach reader.new).acts) file.now.handle.id.0) }
+        (begun : Reach) (root : List ℕ) → root ≡ string_bytes reader.old.root_path →
+        OnlyReads begun (reach reader.old) →
+        OpensTo (asked_of begun root (reach reader.old).acts) file.now.handle →
+        IfOk result (IsChecked (asked_of begun root (reach reader.new).acts) file.now.handle.id.0) }
     ensures root { reader.new.root_path ≡ reader.old.root_path }
-    ensures cause { let reach = reader_reach S.Store T.BlockTransformer in IfErr result (IsFault (reach reader.old) (reach reader.new)) }
-    ensures reads { let reach = reader_reach S.Store T.BlockTransformer in OnlyReads (reach reader.old) (reach reader.new) }
-    ensures counts { let reach = reader_reach S.Store T.BlockTransformer in IsStill (reach reader.old).faults (reach reader.new).faults result }
+    ensures cause { let reach = reader_reach S.Store T.BlockTransformer in
+        IfErr result (IsFault (reach reader.old) (reach reader.new)) }
+    ensures reads { let reach = reader_reach S.Store T.BlockTransformer in
+        OnlyReads (reach reader.old) (reach reader.new) }
+    ensures counts { let reach = reader_reach S.Store T.BlockTransformer in
+        IsStill (reach reader.old).faults (reach reader.new).faults result }
 {
     let offset = file.handle.info.stats_offset;
     match file.stats(alloc, reader) {
@@ -127,14 +139,19 @@ fn check_index<S: Store, T: BlockTransformer>(
     stats: &SstStats,
 ) -> Result<Checked, SlateDBError>
     ensures said { let reach = reader_reach S.Store T.BlockTransformer in
-        (begun : Reach) (root : List ℕ) → root ≡ string_bytes reader.old.root_path → OnlyReads begun (reach reader.old) →
-        Opens (asked begun root (reach reader.old).acts) file.now.handle →
-        FindsStats (asked begun root (reach reader.old).acts) file.now.handle (stats_of stats.now) →
-        IfOk result (IsChecked (asked begun root (reach reader.new).acts) file.now.handle.id.0) }
+        (begun : Reach) (root : List ℕ) → root ≡ string_bytes reader.old.root_path →
+        OnlyReads begun (reach reader.old) →
+        OpensTo (asked_of begun root (reach reader.old).acts) file.now.handle →
+        FindsStats (asked_of begun root (reach reader.old).acts) file.now.handle
+        (stats_of stats.now) →
+        IfOk result (IsChecked (asked_of begun root (reach reader.new).acts) file.now.handle.id.0) }
     ensures root { reader.new.root_path ≡ reader.old.root_path }
-    ensures cause { let reach = reader_reach S.Store T.BlockTransformer in IfErr result (IsFault (reach reader.old) (reach reader.new)) }
-    ensures reads { let reach = reader_reach S.Store T.BlockTransformer in OnlyReads (reach reader.old) (reach reader.new) }
-    ensures counts { let reach = reader_reach S.Store T.BlockTransformer in IsStill (reach reader.old).faults (reach reader.new).faults result }
+    ensures cause { let reach = reader_reach S.Store T.BlockTransformer in
+        IfErr result (IsFault (reach reader.old) (reach reader.new)) }
+    ensures reads { let reach = reader_reach S.Store T.BlockTransformer in
+        OnlyReads (reach reader.old) (reach reader.new) }
+    ensures counts { let reach = reader_reach S.Store T.BlockTransformer in
+        IsStill (reach reader.old).faults (reach reader.new).faults result }
 {
     match file.index(alloc, reader) {
         Ok(index) => {
@@ -155,15 +172,21 @@ fn check_filters<S: Store, T: BlockTransformer>(
     index: &SstIndex,
 ) -> Result<Checked, SlateDBError>
     ensures said { let reach = reader_reach S.Store T.BlockTransformer in
-        (begun : Reach) (root : List ℕ) → root ≡ string_bytes reader.old.root_path → OnlyReads begun (reach reader.old) →
-        Opens (asked begun root (reach reader.old).acts) file.now.handle →
-        FindsStats (asked begun root (reach reader.old).acts) file.now.handle (stats_of stats.now) →
-        FindsEntries (asked begun root (reach reader.old).acts) file.now.handle (entries_of index.now) →
-        IfOk result (IsChecked (asked begun root (reach reader.new).acts) file.now.handle.id.0) }
+        (begun : Reach) (root : List ℕ) → root ≡ string_bytes reader.old.root_path →
+        OnlyReads begun (reach reader.old) →
+        OpensTo (asked_of begun root (reach reader.old).acts) file.now.handle →
+        FindsStats (asked_of begun root (reach reader.old).acts) file.now.handle
+        (stats_of stats.now) →
+        FindsEntries (asked_of begun root (reach reader.old).acts) file.now.handle
+        (entries_of index.now) →
+        IfOk result (IsChecked (asked_of begun root (reach reader.new).acts) file.now.handle.id.0) }
     ensures root { reader.new.root_path ≡ reader.old.root_path }
-    ensures cause { let reach = reader_reach S.Store T.BlockTransformer in IfErr result (IsFault (reach reader.old) (reach reader.new)) }
-    ensures reads { let reach = reader_reach S.Store T.BlockTransformer in OnlyReads (reach reader.old) (reach reader.new) }
-    ensures counts { let reach = reader_reach S.Store T.BlockTransformer in IsStill (reach reader.old).faults (reach reader.new).faults result }
+    ensures cause { let reach = reader_reach S.Store T.BlockTransformer in
+        IfErr result (IsFault (reach reader.old) (reach reader.new)) }
+    ensures reads { let reach = reader_reach S.Store T.BlockTransformer in
+        OnlyReads (reach reader.old) (reach reader.new) }
+    ensures counts { let reach = reader_reach S.Store T.BlockTransformer in
+        IsStill (reach reader.old).faults (reach reader.new).faults result }
 {
     let root = reader.root_path.as_str();
     let transformer = &mut reader.transformer;
@@ -185,13 +208,18 @@ fn check_blocks<S: Store, T: BlockTransformer>(
     index: &SstIndex,
 ) -> Result<Checked, SlateDBError>
     ensures said { let reach = reader_reach S.Store T.BlockTransformer in
-        (begun : Reach) (root : List ℕ) → root ≡ string_bytes reader.old.root_path → OnlyReads begun (reach reader.old) →
-        HasParts (asked begun root (reach reader.old).acts) file.now.handle (stats_of stats.now) (entries_of index.now) →
-        IfOk result (IsChecked (asked begun root (reach reader.new).acts) file.now.handle.id.0) }
+        (begun : Reach) (root : List ℕ) → root ≡ string_bytes reader.old.root_path →
+        OnlyReads begun (reach reader.old) →
+        HasParts (asked_of begun root (reach reader.old).acts) file.now.handle (stats_of stats.now)
+        (entries_of index.now) →
+        IfOk result (IsChecked (asked_of begun root (reach reader.new).acts) file.now.handle.id.0) }
     ensures root { reader.new.root_path ≡ reader.old.root_path }
-    ensures cause { let reach = reader_reach S.Store T.BlockTransformer in IfErr result (IsFault (reach reader.old) (reach reader.new)) }
-    ensures reads { let reach = reader_reach S.Store T.BlockTransformer in OnlyReads (reach reader.old) (reach reader.new) }
-    ensures counts { let reach = reader_reach S.Store T.BlockTransformer in IsStill (reach reader.old).faults (reach reader.new).faults result }
+    ensures cause { let reach = reader_reach S.Store T.BlockTransformer in
+        IfErr result (IsFault (reach reader.old) (reach reader.new)) }
+    ensures reads { let reach = reader_reach S.Store T.BlockTransformer in
+        OnlyReads (reach reader.old) (reach reader.new) }
+    ensures counts { let reach = reader_reach S.Store T.BlockTransformer in
+        IsStill (reach reader.old).faults (reach reader.new).faults result }
 {
     match tally_blocks(alloc, reader, file, index) {
         Ok(tallied) => Ok(outcome(file, stats, tallied)),
@@ -201,7 +229,9 @@ fn check_blocks<S: Store, T: BlockTransformer>(
 
 /// What is said of a table whose blocks were read, or of which one is flawed.
 fn outcome(file: &SstFile, stats: &SstStats, tallied: Tallied) -> Checked
-    ensures { (w : Asked) (entries : List (ℕ × List ℕ)) → HasParts w file.now.handle (stats_of stats.now) entries → IsTallied w file.now.handle entries (length entries) tallied →
+    ensures { (w : Asked) (entries : List (ℕ × List ℕ)) →
+        HasParts w file.now.handle (stats_of stats.now) entries →
+        IsTallied w file.now.handle entries (length entries) tallied →
         IsChecked w file.now.handle.id.0 result }
 {
     match tallied {
@@ -218,12 +248,17 @@ fn tally_blocks<S: Store, T: BlockTransformer>(
     index: &SstIndex,
 ) -> Result<Tallied, SlateDBError>
     ensures said { let reach = reader_reach S.Store T.BlockTransformer in
-        (begun : Reach) (root : List ℕ) → root ≡ string_bytes reader.old.root_path → OnlyReads begun (reach reader.old) →
-        IfOk result (IsTallied (asked begun root (reach reader.new).acts) file.now.handle (entries_of index.now) (length (entries_of index.now))) }
+        (begun : Reach) (root : List ℕ) → root ≡ string_bytes reader.old.root_path →
+        OnlyReads begun (reach reader.old) →
+        IfOk result (IsTallied (asked_of begun root (reach reader.new).acts) file.now.handle
+        (entries_of index.now) (length (entries_of index.now))) }
     ensures root { reader.new.root_path ≡ reader.old.root_path }
-    ensures cause { let reach = reader_reach S.Store T.BlockTransformer in IfErr result (IsFault (reach reader.old) (reach reader.new)) }
-    ensures reads { let reach = reader_reach S.Store T.BlockTransformer in OnlyReads (reach reader.old) (reach reader.new) }
-    ensures counts { let reach = reader_reach S.Store T.BlockTransformer in IsStill (reach reader.old).faults (reach reader.new).faults result }
+    ensures cause { let reach = reader_reach S.Store T.BlockTransformer in
+        IfErr result (IsFault (reach reader.old) (reach reader.new)) }
+    ensures reads { let reach = reader_reach S.Store T.BlockTransformer in
+        OnlyReads (reach reader.old) (reach reader.new) }
+    ensures counts { let reach = reader_reach S.Store T.BlockTransformer in
+        IsStill (reach reader.old).faults (reach reader.new).faults result }
 {
     let mut tally = Tally::new(alloc);
     for block in 0..index.len() {
@@ -246,14 +281,20 @@ fn tally_block<S: Store, T: BlockTransformer>(
 ) -> Result<Tallied, SlateDBError>
     requires { block < length (entries_of index.now) }
     ensures said { let reach = reader_reach S.Store T.BlockTransformer in
-        (begun : Reach) (root : List ℕ) (blocks : List (List RowEntry)) → root ≡ string_bytes reader.old.root_path → OnlyReads begun (reach reader.old) →
-        HasBlocks (asked begun root (reach reader.old).acts) file.now.handle (entries_of index.now) blocks →
+        (begun : Reach) (root : List ℕ) (blocks : List (List RowEntry)) →
+        root ≡ string_bytes reader.old.root_path → OnlyReads begun (reach reader.old) →
+        HasBlocks (asked_of begun root (reach reader.old).acts) file.now.handle
+        (entries_of index.now) blocks →
         length blocks ≡ block → IsTally blocks tally →
-        IfOk result (IsTallied (asked begun root (reach reader.new).acts) file.now.handle (entries_of index.now) (block + 1)) }
+        IfOk result (IsTallied (asked_of begun root (reach reader.new).acts) file.now.handle
+        (entries_of index.now) (block + 1)) }
     ensures root { reader.new.root_path ≡ reader.old.root_path }
-    ensures cause { let reach = reader_reach S.Store T.BlockTransformer in IfErr result (IsFault (reach reader.old) (reach reader.new)) }
-    ensures reads { let reach = reader_reach S.Store T.BlockTransformer in OnlyReads (reach reader.old) (reach reader.new) }
-    ensures counts { let reach = reader_reach S.Store T.BlockTransformer in IsStill (reach reader.old).faults (reach reader.new).faults result }
+    ensures cause { let reach = reader_reach S.Store T.BlockTransformer in
+        IfErr result (IsFault (reach reader.old) (reach reader.new)) }
+    ensures reads { let reach = reader_reach S.Store T.BlockTransformer in
+        OnlyReads (reach reader.old) (reach reader.new) }
+    ensures counts { let reach = reader_reach S.Store T.BlockTransformer in
+        IsStill (reach reader.old).faults (reach reader.new).faults result }
 {
     let offset = Some(offset_of(index, file.handle.info.filter_offset, block));
     match block_rows(alloc, reader, &file.handle, index, block) {
@@ -271,7 +312,11 @@ fn tally_block<S: Store, T: BlockTransformer>(
 
 /// A block that was refused.
 fn flawed(block: usize, offset: Option<u64>, error: SlateDBError) -> Result<Tallied, SlateDBError>
-    ensures { Tells (λ f. Tallied.Flawed f) (record { part = Part.Block block; offset = offset; error = error }) result }
+    ensures { Tells (λ f. Tallied.Flawed f) (record {
+      part = Part.Block block;
+      offset = offset;
+      error = error;
+    }) result }
 {
     match flaw_of(Part::Block(block as u64), offset, error) {
         Ok(flaw) => Ok(Tallied::Flawed(flaw)),
@@ -304,9 +349,11 @@ fn outcome_of(
     }
 }
 
-/// Compares the sums of the rows with the statistics, and their first and last key with those of the info.
+/// Compares the sums of the rows with the statistics, and their first and last key with those of
+/// the info.
 fn compared(file: &SstFile, stats: &SstStats, tally: Tally) -> Checked
-    ensures { (w : Asked) (blocks : List (List RowEntry)) → Opens w file.now.handle → IsRead w file.now.handle (stats_of stats.now) blocks → IsTally blocks tally →
+    ensures { (w : Asked) (blocks : List (List RowEntry)) → OpensTo w file.now.handle →
+        IsRead w file.now.handle (stats_of stats.now) blocks → IsTally blocks tally →
         IsChecked w file.now.handle.id.0 result }
 {
     let Tally {
@@ -324,7 +371,9 @@ fn compared(file: &SstFile, stats: &SstStats, tally: Tally) -> Checked
 
 /// Compares the first and the last key of the rows with those of the info.
 fn summed_up(file: &SstFile, rows: u64, span: Option<Span>) -> Checked
-    ensures { (w : Asked) (blocks : List (List RowEntry)) → Opens w file.now.handle → IsRead w file.now.handle (table_stats blocks) blocks → AreGood blocks → IsSpan (rows_of blocks) span →
+    ensures { (w : Asked) (blocks : List (List RowEntry)) → OpensTo w file.now.handle →
+        IsRead w file.now.handle (table_stats blocks) blocks → AreGood blocks →
+        IsSpan (rows_of blocks) span →
         rows ≡ counted (rows_of blocks) → IsChecked w file.now.handle.id.0 result }
 {
     let summary = summary_of(file.handle.format_version, rows, span);
@@ -337,7 +386,8 @@ fn summed_up(file: &SstFile, rows: u64, span: Option<Span>) -> Checked
 
 /// What a table of rows with this span has.
 fn summary_of(version: u16, rows: u64, span: Option<Span>) -> TableSummary
-    ensures { (all : List RowEntry) → IsSpan all span → rows ≡ counted all → seen_summary result ≡ summary_of version all }
+    ensures { (all : List RowEntry) → IsSpan all span → rows ≡ counted all →
+        seen_summary result ≡ summary_of version all }
 {
     match span {
         None => TableSummary {
@@ -369,14 +419,19 @@ fn summary_of(version: u16, rows: u64, span: Option<Span>) -> TableSummary
 
 /// Whether the info has these keys.
 fn has_keys(file: &SstFile, summary: &TableSummary) -> bool
-    ensures { IsTrue result ↔ ((file.now.handle.info.first_entry ≡ summary.now.first) × (file.now.handle.info.last_entry ≡ summary.now.last)) }
+    ensures { IsTrue result ↔ ((file.now.handle.info.first_entry ≡ summary.now.first)
+        × (file.now.handle.info.last_entry ≡ summary.now.last)) }
 {
     file.handle.info.first_entry == summary.first && file.handle.info.last_entry == summary.last
 }
 
 /// A part that was refused: a fault ends the check, and anything else is what the check says.
 fn refused(part: Part, offset: Option<u64>, error: SlateDBError) -> Result<Checked, SlateDBError>
-    ensures { Tells (λ f. Checked.Damaged f) (record { part = part; offset = offset; error = error }) result }
+    ensures { Tells (λ f. Checked.Damaged f) (record {
+      part = part;
+      offset = offset;
+      error = error;
+    }) result }
 {
     match flaw_of(part, offset, error) {
         Ok(flaw) => Ok(Checked::Damaged(flaw)),
@@ -384,7 +439,8 @@ fn refused(part: Part, offset: Option<u64>, error: SlateDBError) -> Result<Check
     }
 }
 
-/// Tells a fault from damage: `StoreFault`, `BlockTransformError` and `OutOfMemory` stay errors, and any other is a flaw of the part.
+/// Tells a fault from damage: `StoreFault`, `BlockTransformError` and `OutOfMemory` stay errors,
+/// and any other is a flaw of the part.
 pub(crate) fn flaw_of(
     part: Part,
     offset: Option<u64>,
@@ -405,14 +461,22 @@ pub(crate) fn flaw_of(
 }
 
 fn torn(part: Part, offset: Option<u64>) -> Checked
-    ensures { result ≡ Checked.Damaged (record { part = part; offset = offset; error = SlateDBError.CorruptTable 0 }) }
+    ensures { result ≡ Checked.Damaged (record {
+      part = part;
+      offset = offset;
+      error = SlateDBError.CorruptTable 0;
+    }) }
 {
     Checked::Damaged(disagreement(part, offset))
 }
 
 /// That of parts that are read and disagree.
 pub(crate) fn disagreement(part: Part, offset: Option<u64>) -> Flaw
-    ensures { result ≡ record { part = part; offset = offset; error = SlateDBError.CorruptTable 0 } }
+    ensures { result ≡ record {
+      part = part;
+      offset = offset;
+      error = SlateDBError.CorruptTable 0;
+    } }
 {
     Flaw {
         part,
@@ -421,7 +485,8 @@ pub(crate) fn disagreement(part: Part, offset: Option<u64>) -> Flaw
     }
 }
 
-/// Says that a check raises no false alarm: over a store that holds a table of the id it finds no flaw.
+/// Says that a check raises no false alarm: over a store that holds a table of the id it finds no
+/// flaw.
 pub fn no_false_alarm()
     ensures { NoFalseAlarm }
 {}

@@ -12,8 +12,8 @@ use slate_table::{SstFile, SstReader, SstStats, TableStore};
 use slate_types::{BlockTransformer, SlateDBError, Ulid};
 use std::alloc::Global;
 
-/// What a table says of itself: its version, its size in bytes, how many rows of each kind, the first and the last key, and the names
-/// of its filters.
+/// What a table says of itself: its version, its size in bytes, how many rows of each kind, the
+/// first and the last key, and the names of its filters.
 #[derive(Drop)]
 pub struct Description {
     pub version: u16,
@@ -39,8 +39,10 @@ pub fn describe_table<S: Store, T: BlockTransformer>(
     reader: &mut SstReader<S, T>,
     id: Ulid,
 ) -> Result<Described, SlateDBError>
-    ensures reads { let reach = reader_reach S.Store T.BlockTransformer in OnlyReads (reach reader.old) (reach reader.new) }
-    ensures counts { let reach = reader_reach S.Store T.BlockTransformer in IsStill (reach reader.old).faults (reach reader.new).faults result }
+    ensures reads { let reach = reader_reach S.Store T.BlockTransformer in
+        OnlyReads (reach reader.old) (reach reader.new) }
+    ensures counts { let reach = reader_reach S.Store T.BlockTransformer in
+        IsStill (reach reader.old).faults (reach reader.new).faults result }
 {
     match reader.open(alloc, id) {
         Ok(file) => {
@@ -57,8 +59,10 @@ fn describe_stats<S: Store, T: BlockTransformer>(
     reader: &mut SstReader<S, T>,
     file: &SstFile,
 ) -> Result<Described, SlateDBError>
-    ensures reads { let reach = reader_reach S.Store T.BlockTransformer in OnlyReads (reach reader.old) (reach reader.new) }
-    ensures counts { let reach = reader_reach S.Store T.BlockTransformer in IsStill (reach reader.old).faults (reach reader.new).faults result }
+    ensures reads { let reach = reader_reach S.Store T.BlockTransformer in
+        OnlyReads (reach reader.old) (reach reader.new) }
+    ensures counts { let reach = reader_reach S.Store T.BlockTransformer in
+        IsStill (reach reader.old).faults (reach reader.new).faults result }
 {
     let offset = Some(file.handle.info.stats_offset);
     match file.stats(alloc, reader) {
@@ -80,8 +84,10 @@ fn describe_filters<S: Store, T: BlockTransformer>(
     file: &SstFile,
     stats: &SstStats,
 ) -> Result<Described, SlateDBError>
-    ensures reads { let reach = reader_reach S.Store T.BlockTransformer in OnlyReads (reach reader.old) (reach reader.new) }
-    ensures counts { let reach = reader_reach S.Store T.BlockTransformer in IsStill (reach reader.old).faults (reach reader.new).faults result }
+    ensures reads { let reach = reader_reach S.Store T.BlockTransformer in
+        OnlyReads (reach reader.old) (reach reader.new) }
+    ensures counts { let reach = reader_reach S.Store T.BlockTransformer in
+        IsStill (reach reader.old).faults (reach reader.new).faults result }
 {
     let root = reader.root_path.as_str();
     let transformer = &mut reader.transformer;
@@ -98,8 +104,10 @@ fn describe_size<S: Store, T: BlockTransformer>(
     stats: &SstStats,
     filters: Vec<NamedFilter>,
 ) -> Result<Described, SlateDBError>
-    ensures reads { let reach = reader_reach S.Store T.BlockTransformer in OnlyReads (reach reader.old) (reach reader.new) }
-    ensures counts { let reach = reader_reach S.Store T.BlockTransformer in IsStill (reach reader.old).faults (reach reader.new).faults result }
+    ensures reads { let reach = reader_reach S.Store T.BlockTransformer in
+        OnlyReads (reach reader.old) (reach reader.new) }
+    ensures counts { let reach = reader_reach S.Store T.BlockTransformer in
+        IsStill (reach reader.old).faults (reach reader.new).faults result }
 {
     match file.metadata(alloc, reader) {
         Ok(metadata) => description_of(file, metadata.size, stats, filters),
@@ -137,7 +145,11 @@ fn description_of(
 }
 
 fn refused(part: Part, offset: Option<u64>, error: SlateDBError) -> Result<Described, SlateDBError>
-    ensures { Tells (λ f. Described.Damaged f) (record { part = part; offset = offset; error = error }) result }
+    ensures { Tells (λ f. Described.Damaged f) (record {
+      part = part;
+      offset = offset;
+      error = error;
+    }) result }
 {
     match flaw_of(part, offset, error) {
         Ok(flaw) => Ok(Described::Damaged(flaw)),

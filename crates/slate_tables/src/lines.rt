@@ -130,7 +130,8 @@ pub(crate) fn row_line(alloc: Global, id: Ulid, row: &RowEntry) -> Result<Vec<u8
     )
 }
 
-/// The last line: how many tables were looked at, how many of them are damaged, and how many rows the others have.
+/// The last line: how many tables were looked at, how many of them are damaged, and how many rows
+/// the others have.
 pub(crate) fn total_line(
     alloc: Global,
     tables: u64,

@@ -16,20 +16,22 @@ pub struct Listing {
     pub others: Vec<PathText>,
 }
 
-/// Lists the tables below a root and the other objects, by one call of the store. Nothing is read. `StoreFault`, only if the store's
-/// count of faults rose, or `OutOfMemory`.
+/// Lists the tables below a root and the other objects, by one call of the store. Nothing is read.
+/// `StoreFault`, only if the store's count of faults rose, or `OutOfMemory`.
 pub fn list_tables<S: Store>(
     alloc: Global,
     store: &mut S,
     root: &str,
 ) -> Result<Listing, SlateDBError>
     ensures told { (os : Objects) → S.objects store.old ≡ Some os →
-        IfOk result (λ listing. IsListing root.now (map (λ o. o.0) os) listing.tables.items listing.others.items) }
+        IfOk result (λ listing. IsListing root.now (map (λ o. o.0) os) listing.tables.items
+        listing.others.items) }
     ensures cause { IfErr result (λ e. IsStoreFault (S.faults store.old) (S.faults store.new) e) }
     ensures objects { S.objects store.new ≡ S.objects store.old }
     ensures acts { S.acts store.new ≡ S.acts store.old }
     ensures later { S.faults store.old ≤ S.faults store.new }
-    ensures still { (result ≡ Err SlateDBError.StoreFault) ⊎ (S.faults store.new ≡ S.faults store.old) }
+    ensures still { (result ≡ Err SlateDBError.StoreFault)
+        ⊎ (S.faults store.new ≡ S.faults store.old) }
 {
     let paths = store.list(alloc)?;
     listing_of(alloc, root, paths)
@@ -37,7 +39,8 @@ pub fn list_tables<S: Store>(
 
 /// Tells paths apart.
 fn listing_of(alloc: Global, root: &str, paths: Vec<PathText>) -> Result<Listing, SlateDBError>
-    ensures told { IfOk result (λ listing. IsListing root.now paths.items listing.tables.items listing.others.items) }
+    ensures told { IfOk result
+        (λ listing. IsListing root.now paths.items listing.tables.items listing.others.items) }
     ensures cause { IfErr result (λ e. e ≡ SlateDBError.OutOfMemory) }
 {
     let mut tables = Vec::new(alloc);

@@ -3,7 +3,7 @@ ghost use Rattle.std.specs.Prelude.{◌≡◌, reverse, IfOk, IsOkUnless, false}
 ghost use Rattle.slate_types.specs.declared.error.SlateDBError.{SlateDBError};
 ghost use Rattle.slate_types.specs.Keys.{is_refused};
 ghost use Rattle.slate_tables.specs.Exported.{is_live};
-ghost use Rattle.slate_tables.specs.Merging.{AreEach, IsExportOf, IsTableSource};
+ghost use Rattle.slate_tables.specs.Merging.{IsExportOf, IsTableSource, MatchEach};
 
 use slate_merge::{FilterIterator, MergeIterator, MergeOperatorIterator, RowPredicate};
 use slate_read::{InternalSstIterator, SstIteratorOptions};
@@ -90,7 +90,7 @@ pub(crate) fn table_sources(
 ) -> Result<Vec<InternalSstIterator>, SlateDBError>
     requires range { is_refused range.now.start range.now.end ≡ false }
     ensures each { IfOk result (λ made.
-        AreEach (IsTableSource range.now order) (reverse handles.now) made.items) }
+        MatchEach (IsTableSource range.now order) (reverse handles.now) made.items) }
     ensures cause { IsOkUnless result SlateDBError.OutOfMemory }
 {
     let mut sources = Vec::new(alloc);

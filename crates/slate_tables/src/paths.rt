@@ -7,7 +7,8 @@ use slate_types::Ulid;
 /// The digits of an id.
 const DIGITS: usize = 32;
 
-/// Returns the id in the path of a table below the root: `None` exactly if the path is no table's. Takes no memory.
+/// Returns the id in the path of a table below the root: `None` exactly if the path is no table's.
+/// Takes no memory.
 pub fn id_in_path(root: &str, path: &str) -> Option<Ulid>
     ensures found { IfSome result (λ id. path.now ≡ path_of root.now id.0) }
     ensures only { (id : ℕ) → id < 2 ^ 128 → path.now ≡ path_of root.now id → IsSome result }
@@ -23,14 +24,16 @@ pub fn id_in_path(root: &str, path: &str) -> Option<Ulid>
 
 /// Returns what stands behind a front.
 fn behind<'a>(front: &[u8], bytes: &'a [u8]) -> Option<&'a [u8]>
-    ensures { MatchOption result ((rest : List ℕ) → bytes.now ≡ front.now ++ rest → ⊥) (λ rest. bytes.now ≡ front.now ++ rest.now) }
+    ensures { MatchOption result ((rest : List ℕ) → bytes.now ≡ front.now ++ rest →
+        ⊥) (λ rest. bytes.now ≡ front.now ++ rest.now) }
 {
     bytes.strip_prefix(front)
 }
 
 /// Returns what stands before an end.
 fn before<'a>(bytes: &'a [u8], end: &[u8]) -> Option<&'a [u8]>
-    ensures { MatchOption result ((front : List ℕ) → bytes.now ≡ front ++ end.now → ⊥) (λ front. bytes.now ≡ front.now ++ end.now) }
+    ensures { MatchOption result ((front : List ℕ) → bytes.now ≡ front ++ end.now →
+        ⊥) (λ front. bytes.now ≡ front.now ++ end.now) }
 {
     bytes.strip_suffix(end)
 }

@@ -7,7 +7,8 @@ ghost use Rattle.slate_block.specs.EitherVersion.{left_of};
 ghost use Rattle.slate_block.specs.ReadingLaws.{EachIsAByte};
 ghost use Rattle.slate_table.specs.FileReading.{rows_in};
 ghost use Rattle.slate_table.specs.IndexValue.{entries_of};
-ghost use Rattle.slate_tables.specs.Finds.{FindsBlock, FindsRows, RefusesBlockOf, RefusesRowsOf, asked, reader_reach};
+ghost use Rattle.slate_tables.specs.Finds.{FindsBlock, FindsRowsOf, RefusesBlockAt, RefusesRowsOf};
+ghost use Rattle.slate_tables.specs.Finds.{asked_of, reader_reach};
 
 use slate_block::{Block, DataBlockIterator};
 use slate_store::Store;
@@ -15,10 +16,11 @@ use slate_table::{SsTableHandle, SstIndex, SstReader, TableStore};
 use slate_types::{BlockTransformer, IterationOrder, RowEntry, SlateDBError};
 use std::alloc::Global;
 
-/// Returns the rows of a block, by one read of its section, which the index names. `StoreFault`, only if the store's count of faults
-/// rose; `CorruptTable` at 0 if the section isn't there in full or is shorter than a checksum, then `ChecksumMismatch`, then
-/// `BlockTransformError`, only if the transformer's count rose, then `CorruptTable` or `InvalidRowFlags` at the first field that is
-/// no block's; or `OutOfMemory`.
+/// Returns the rows of a block, by one read of its section, which the index names. `StoreFault`,
+/// only if the store's count of faults rose; `CorruptTable` at 0 if the section isn't there in full
+/// or is shorter than a checksum, then `ChecksumMismatch`, then `BlockTransformError`, only if the
+/// transformer's count rose, then `CorruptTable` or `InvalidRowFlags` at the first field that is no
+/// block's; or `OutOfMemory`.
 pub fn block_rows<S: Store, T: BlockTransformer>(
     alloc: Global,
     reader: &mut SstReader<S, T>,
@@ -29,14 +31,20 @@ pub fn block_rows<S: Store, T: BlockTransformer>(
     requires { block < length (entries_of index.now) }
     ensures found { let reach = reader_reach S.Store T.BlockTransformer in
         (begun : Reach) → OnlyReads begun (reach reader.old) →
-        IfOk result (λ rows. FindsRows (asked begun (string_bytes reader.old.root_path) (reach reader.new).acts) table.now (entries_of index.now) block rows.items) }
+        IfOk result (λ rows. FindsRowsOf
+        (asked_of begun (string_bytes reader.old.root_path) (reach reader.new).acts) table.now
+        (entries_of index.now) block rows.items) }
     ensures cause { let reach = reader_reach S.Store T.BlockTransformer in
         (begun : Reach) → OnlyReads begun (reach reader.old) →
         IfErr result (λ e. IsFault (reach reader.old) (reach reader.new) e
-        ⊎ (IsDamage e × RefusesRowsOf (asked begun (string_bytes reader.old.root_path) (reach reader.new).acts) table.now (entries_of index.now) block e)) }
+        ⊎ (IsDamage e × RefusesRowsOf
+        (asked_of begun (string_bytes reader.old.root_path) (reach reader.new).acts) table.now
+        (entries_of index.now) block e)) }
     ensures root { reader.new.root_path ≡ reader.old.root_path }
-    ensures reads { let reach = reader_reach S.Store T.BlockTransformer in OnlyReads (reach reader.old) (reach reader.new) }
-    ensures counts { let reach = reader_reach S.Store T.BlockTransformer in IsStill (reach reader.old).faults (reach reader.new).faults result }
+    ensures reads { let reach = reader_reach S.Store T.BlockTransformer in
+        OnlyReads (reach reader.old) (reach reader.new) }
+    ensures counts { let reach = reader_reach S.Store T.BlockTransformer in
+        IsStill (reach reader.old).faults (reach reader.new).faults result }
 {
     match one_block(alloc, reader, table, index, block) {
         Ok(found) => {
@@ -59,14 +67,20 @@ fn one_block<S: Store, T: BlockTransformer>(
     requires { block < length (entries_of index.now) }
     ensures found { let reach = reader_reach S.Store T.BlockTransformer in
         (begun : Reach) → OnlyReads begun (reach reader.old) →
-        IfOk result (λ found. FindsBlock (asked begun (string_bytes reader.old.root_path) (reach reader.new).acts) table.now (entries_of index.now) block found) }
+        IfOk result (λ found. FindsBlock
+        (asked_of begun (string_bytes reader.old.root_path) (reach reader.new).acts) table.now
+        (entries_of index.now) block found) }
     ensures cause { let reach = reader_reach S.Store T.BlockTransformer in
         (begun : Reach) → OnlyReads begun (reach reader.old) →
         IfErr result (λ e. IsFault (reach reader.old) (reach reader.new) e
-        ⊎ (IsDamage e × RefusesBlockOf (asked begun (string_bytes reader.old.root_path) (reach reader.new).acts) table.now (entries_of index.now) block e)) }
+        ⊎ (IsDamage e × RefusesBlockAt
+        (asked_of begun (string_bytes reader.old.root_path) (reach reader.new).acts) table.now
+        (entries_of index.now) block e)) }
     ensures root { reader.new.root_path ≡ reader.old.root_path }
-    ensures reads { let reach = reader_reach S.Store T.BlockTransformer in OnlyReads (reach reader.old) (reach reader.new) }
-    ensures counts { let reach = reader_reach S.Store T.BlockTransformer in IsStill (reach reader.old).faults (reach reader.new).faults result }
+    ensures reads { let reach = reader_reach S.Store T.BlockTransformer in
+        OnlyReads (reach reader.old) (reach reader.new) }
+    ensures counts { let reach = reader_reach S.Store T.BlockTransformer in
+        IsStill (reach reader.old).faults (reach reader.new).faults result }
 {
     let root = reader.root_path.as_str();
     let transformer = &mut reader.transformer;
@@ -93,7 +107,8 @@ fn one_block<S: Store, T: BlockTransformer>(
 fn rows_of_block(alloc: Global, block: &Block, version: u16) -> Result<Vec<RowEntry>, SlateDBError>
     ensures rows { IfOk result (λ rows. rows_in version block.now ≡ Ok rows.items) }
     ensures bytes { EachIsAByte block.now.body }
-    ensures cause { IfErr result (λ e. (e ≡ SlateDBError.OutOfMemory) ⊎ (rows_in version block.now ≡ Err e)) }
+    ensures cause { IfErr result (λ e. (e ≡ SlateDBError.OutOfMemory)
+        ⊎ (rows_in version block.now ≡ Err e)) }
     ensures damage { IfErr result (λ e. (e ≡ SlateDBError.OutOfMemory) ⊎ IsDamage e) }
 {
     are_bytes(block.body.as_slice());
@@ -112,7 +127,8 @@ fn all_rows(
     walk: &mut DataBlockIterator<&Block>,
 ) -> Result<Vec<RowEntry>, SlateDBError>
     ensures rows { IfOk result (λ rows. left (left_of walk.old) ≡ Ok rows.items) }
-    ensures cause { IfErr result (λ e. (e ≡ SlateDBError.OutOfMemory) ⊎ (left (left_of walk.old) ≡ Err e)) }
+    ensures cause { IfErr result (λ e. (e ≡ SlateDBError.OutOfMemory)
+        ⊎ (left (left_of walk.old) ≡ Err e)) }
     ensures damage { IfErr result (λ e. (e ≡ SlateDBError.OutOfMemory) ⊎ IsDamage e) }
 {
     let mut rows = Vec::new(alloc);

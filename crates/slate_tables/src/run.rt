@@ -4,7 +4,7 @@ ghost use Rattle.slate_types.specs.ExitStatus as exit;
 ghost use Rattle.slate_types.specs.Outside.{AddsReads};
 ghost use Rattle.slate_table.specs.IndexValue.{entries_of};
 ghost use Rattle.slate_tables.specs.Finds.{reader_reach};
-ghost use Rattle.slate_tables.specs.Runs.{Goes, Writes};
+ghost use Rattle.slate_tables.specs.Runs.{GoesOver, WritesLines};
 
 use crate::check::{Checked, Flaw, check_table};
 use crate::describe::{Described, describe_table};
@@ -28,8 +28,8 @@ enum Mode {
     Rows(Option<u64>, Option<u64>),
 }
 
-/// What was found so far: how many tables, how many of them are damaged, how many rows the others have, and the status of the first
-/// damage.
+/// What was found so far: how many tables, how many of them are damaged, how many rows the others
+/// have, and the status of the first damage.
 #[derive(Clone, Copy)]
 struct Found {
     tables: u64,
@@ -38,10 +38,12 @@ struct Found {
     status: u8,
 }
 
-/// Runs over the tables of a store, as the words say: a mode, for `rows` the numbers that it takes, and the words of the run that
-/// left the tables, of which those of filters aren't looked at. Answers the status to end with: 0 if nothing is damaged, 2 if the words
-/// aren't known, 6 for `WriteFault`, 7 for `StoreFault`, 20 for want of memory, and otherwise that of the first damage, 16 for an error
-/// that no run ends with. The reader brings no transformer. It puts nothing in the store, and passes over no failure of store or sink.
+/// Runs over the tables of a store, as the words say: a mode, for `rows` the numbers that it takes,
+/// and the words of the run that left the tables, of which those of filters aren't looked at.
+/// Answers the status to end with: 0 if nothing is damaged, 2 if the words aren't known, 6 for
+/// `WriteFault`, 7 for `StoreFault`, 20 for want of memory, and otherwise that of the first damage,
+/// 16 for an error that no run ends with. The reader brings no transformer. It puts nothing in the
+/// store, and passes over no failure of store or sink.
 pub fn run_tables<S: Store, W: Sink>(
     alloc: Global,
     words: Vec<String>,
@@ -157,7 +159,8 @@ fn run_mode<S: Store, T: BlockTransformer, W: Sink>(
     reader: &mut SstReader<S, T>,
 ) -> Result<Found, SlateDBError>
     ensures { let reach = reader_reach S.Store T.BlockTransformer in
-        Goes (reach reader.old) (reach reader.new) (W.faults sink.old) (W.faults sink.new) result }
+        GoesOver (reach reader.old) (reach reader.new) (W.faults sink.old)
+        (W.faults sink.new) result }
 {
     match list_tables(alloc, &mut reader.store, reader.root_path.as_str()) {
         Ok(listing) => {
@@ -177,7 +180,8 @@ fn run_over<S: Store, T: BlockTransformer, W: Sink>(
     listing: &Listing,
 ) -> Result<Found, SlateDBError>
     ensures { let reach = reader_reach S.Store T.BlockTransformer in
-        Goes (reach reader.old) (reach reader.new) (W.faults sink.old) (W.faults sink.new) result }
+        GoesOver (reach reader.old) (reach reader.new) (W.faults sink.old)
+        (W.faults sink.new) result }
 {
     match run_each(alloc, mode, sink, reader, listing.tables.as_slice()) {
         Ok(found) => write_end(alloc, mode, sink, listing.others.as_slice(), found),
@@ -194,7 +198,8 @@ fn run_each<S: Store, T: BlockTransformer, W: Sink>(
     tables: &[Ulid],
 ) -> Result<Found, SlateDBError>
     ensures { let reach = reader_reach S.Store T.BlockTransformer in
-        Goes (reach reader.old) (reach reader.new) (W.faults sink.old) (W.faults sink.new) result }
+        GoesOver (reach reader.old) (reach reader.new) (W.faults sink.old)
+        (W.faults sink.new) result }
 {
     let mut found = Found {
         tables: 0,
@@ -219,7 +224,7 @@ fn write_end<W: Sink>(
     others: &[PathText],
     found: Found,
 ) -> Result<Found, SlateDBError>
-    ensures { Writes (W.faults sink.old) (W.faults sink.new) result }
+    ensures { WritesLines (W.faults sink.old) (W.faults sink.new) result }
 {
     match write_others(alloc, mode, sink, others) {
         Ok(()) => {
@@ -255,7 +260,8 @@ fn run_table<S: Store, T: BlockTransformer, W: Sink>(
     found: Found,
 ) -> Result<Found, SlateDBError>
     ensures { let reach = reader_reach S.Store T.BlockTransformer in
-        Goes (reach reader.old) (reach reader.new) (W.faults sink.old) (W.faults sink.new) result }
+        GoesOver (reach reader.old) (reach reader.new) (W.faults sink.old)
+        (W.faults sink.new) result }
 {
     if !is_asked(mode, id) {
         return Ok(found);
@@ -276,7 +282,8 @@ fn list_table<S: Store, T: BlockTransformer, W: Sink>(
     found: Found,
 ) -> Result<Found, SlateDBError>
     ensures { let reach = reader_reach S.Store T.BlockTransformer in
-        Goes (reach reader.old) (reach reader.new) (W.faults sink.old) (W.faults sink.new) result }
+        GoesOver (reach reader.old) (reach reader.new) (W.faults sink.old)
+        (W.faults sink.new) result }
 {
     match describe_table(alloc, reader, id) {
         Ok(described) => write_described(alloc, sink, id, described, found),
@@ -291,7 +298,7 @@ fn write_described<W: Sink>(
     described: Described,
     found: Found,
 ) -> Result<Found, SlateDBError>
-    ensures { Writes (W.faults sink.old) (W.faults sink.new) result }
+    ensures { WritesLines (W.faults sink.old) (W.faults sink.new) result }
 {
     match described {
         Described::Table(table) => {
@@ -316,7 +323,8 @@ fn show_check<S: Store, T: BlockTransformer, W: Sink>(
     found: Found,
 ) -> Result<Found, SlateDBError>
     ensures { let reach = reader_reach S.Store T.BlockTransformer in
-        Goes (reach reader.old) (reach reader.new) (W.faults sink.old) (W.faults sink.new) result }
+        GoesOver (reach reader.old) (reach reader.new) (W.faults sink.old)
+        (W.faults sink.new) result }
 {
     match check_table(alloc, reader, id) {
         Ok(checked) => write_checked(alloc, sink, id, checked, found),
@@ -331,7 +339,7 @@ fn write_checked<W: Sink>(
     checked: Checked,
     found: Found,
 ) -> Result<Found, SlateDBError>
-    ensures { Writes (W.faults sink.old) (W.faults sink.new) result }
+    ensures { WritesLines (W.faults sink.old) (W.faults sink.new) result }
 {
     match checked {
         Checked::Whole(summary) => {
@@ -353,7 +361,8 @@ fn show_rows<S: Store, T: BlockTransformer, W: Sink>(
     found: Found,
 ) -> Result<Found, SlateDBError>
     ensures { let reach = reader_reach S.Store T.BlockTransformer in
-        Goes (reach reader.old) (reach reader.new) (W.faults sink.old) (W.faults sink.new) result }
+        GoesOver (reach reader.old) (reach reader.new) (W.faults sink.old)
+        (W.faults sink.new) result }
 {
     match check_table(alloc, reader, id) {
         Ok(checked) => rows_of_checked(alloc, sink, reader, id, checked, found),
@@ -370,7 +379,8 @@ fn rows_of_checked<S: Store, T: BlockTransformer, W: Sink>(
     found: Found,
 ) -> Result<Found, SlateDBError>
     ensures { let reach = reader_reach S.Store T.BlockTransformer in
-        Goes (reach reader.old) (reach reader.new) (W.faults sink.old) (W.faults sink.new) result }
+        GoesOver (reach reader.old) (reach reader.new) (W.faults sink.old)
+        (W.faults sink.new) result }
 {
     match checked {
         Checked::Whole(summary) => {
@@ -391,7 +401,8 @@ fn write_table<S: Store, T: BlockTransformer, W: Sink>(
     found: Found,
 ) -> Result<Found, SlateDBError>
     ensures { let reach = reader_reach S.Store T.BlockTransformer in
-        Goes (reach reader.old) (reach reader.new) (W.faults sink.old) (W.faults sink.new) result }
+        GoesOver (reach reader.old) (reach reader.new) (W.faults sink.old)
+        (W.faults sink.new) result }
 {
     match reader.open(alloc, id) {
         Ok(file) => {
@@ -411,7 +422,8 @@ fn write_file<S: Store, T: BlockTransformer, W: Sink>(
     found: Found,
 ) -> Result<Found, SlateDBError>
     ensures { let reach = reader_reach S.Store T.BlockTransformer in
-        Goes (reach reader.old) (reach reader.new) (W.faults sink.old) (W.faults sink.new) result }
+        GoesOver (reach reader.old) (reach reader.new) (W.faults sink.old)
+        (W.faults sink.new) result }
 {
     match file.index(alloc, reader) {
         Ok(index) => {
@@ -432,7 +444,8 @@ fn write_blocks<S: Store, T: BlockTransformer, W: Sink>(
     found: Found,
 ) -> Result<Found, SlateDBError>
     ensures { let reach = reader_reach S.Store T.BlockTransformer in
-        Goes (reach reader.old) (reach reader.new) (W.faults sink.old) (W.faults sink.new) result }
+        GoesOver (reach reader.old) (reach reader.new) (W.faults sink.old)
+        (W.faults sink.new) result }
 {
     for block in 0..index.len() {
         match write_block(alloc, sink, reader, file, index, block) {
@@ -453,7 +466,8 @@ fn write_block<S: Store, T: BlockTransformer, W: Sink>(
 ) -> Result<(), SlateDBError>
     requires { block < length (entries_of index.now) }
     ensures { let reach = reader_reach S.Store T.BlockTransformer in
-        Goes (reach reader.old) (reach reader.new) (W.faults sink.old) (W.faults sink.new) result }
+        GoesOver (reach reader.old) (reach reader.new) (W.faults sink.old)
+        (W.faults sink.new) result }
 {
     match block_rows(alloc, reader, &file.handle, index, block) {
         Ok(rows) => {
@@ -472,7 +486,7 @@ fn write_rows<W: Sink>(
     id: Ulid,
     rows: &[RowEntry],
 ) -> Result<(), SlateDBError>
-    ensures { Writes (W.faults sink.old) (W.faults sink.new) result }
+    ensures { WritesLines (W.faults sink.old) (W.faults sink.new) result }
 {
     for row in rows {
         match write_line(sink, row_line(alloc, id, row)) {
@@ -491,7 +505,7 @@ fn write_flaw<W: Sink>(
     flaw: Flaw,
     found: Found,
 ) -> Result<Found, SlateDBError>
-    ensures { Writes (W.faults sink.old) (W.faults sink.new) result }
+    ensures { WritesLines (W.faults sink.old) (W.faults sink.new) result }
 {
     let status = flaw.error.status().unwrap_or(16);
     let line = flaw_line(alloc, id, flaw);
@@ -505,7 +519,7 @@ fn write_others<W: Sink>(
     sink: &mut W,
     others: &[PathText],
 ) -> Result<(), SlateDBError>
-    ensures { Writes (W.faults sink.old) (W.faults sink.new) result }
+    ensures { WritesLines (W.faults sink.old) (W.faults sink.new) result }
 {
     if matches!(mode, Mode::Rows(_, _)) {
         return Ok(());
@@ -525,7 +539,7 @@ fn write_last<W: Sink>(
     line: Result<Vec<u8>, AllocError>,
     found: Found,
 ) -> Result<Found, SlateDBError>
-    ensures { Writes (W.faults sink.old) (W.faults sink.new) result }
+    ensures { WritesLines (W.faults sink.old) (W.faults sink.new) result }
 {
     match write_line(sink, line) {
         Ok(()) => Ok(found),
@@ -534,7 +548,7 @@ fn write_last<W: Sink>(
 }
 
 fn write_line<W: Sink>(sink: &mut W, line: Result<Vec<u8>, AllocError>) -> Result<(), SlateDBError>
-    ensures { Writes (W.faults sink.old) (W.faults sink.new) result }
+    ensures { WritesLines (W.faults sink.old) (W.faults sink.new) result }
 {
     match line {
         Ok(line) => {

@@ -1,12 +1,14 @@
 //! What the rows of a table add up to.
-ghost use Rattle.std.specs.Prelude.{◌≡◌, ◌<◌, ◌^◌, ◌++◌, ◌∷◌, [], List, IfOk, IfErr, MatchOption, map, min, max};
+ghost use Rattle.std.specs.Prelude.{◌≡◌, ◌<◌, ◌^◌, ◌++◌, ◌∷◌, [], List, IfOk, IfErr, MatchOption};
+ghost use Rattle.std.specs.Prelude.{map, min, max};
 ghost use Rattle.slate_types.specs.declared.types.RowEntry.{RowEntry};
 ghost use Rattle.slate_table.specs.Decoded.{FitCounts};
 ghost use Rattle.slate_table.specs.FileLaws.{row_counts, table_stats};
 ghost use Rattle.slate_table.specs.StatsReading.{counts_of, stats_of};
 ghost use Rattle.slate_table.specs.Table.{AreInOrder};
 ghost use Rattle.slate_tables.specs.Good.{AreGood, FitsStats};
-ghost use Rattle.slate_tables.specs.Tallies.{FitsSums, IsSpan, IsSpanOf, IsTally, plus, stands_behind, sums_of, whole_sums};
+ghost use Rattle.slate_tables.specs.Tallies.{FitsSums, IsSpan, IsSpanOf, IsTally, plus};
+ghost use Rattle.slate_tables.specs.Tallies.{stands_behind, sums_of, whole_sums};
 
 use bytes::Bytes;
 use slate_block::BlockStats;
@@ -59,11 +61,12 @@ impl Tally {
         }
     }
 
-    /// Adds the rows of one more block: `None` exactly if they don't stand behind the others in a table's order, or a sum doesn't
-    /// fit. The one error is `OutOfMemory`.
+    /// Adds the rows of one more block: `None` exactly if they don't stand behind the others in a
+    /// table's order, or a sum doesn't fit. The one error is `OutOfMemory`.
     pub fn with_block(self, rows: &[RowEntry]) -> Result<Option<Tally>, SlateDBError>
         ensures tally { (blocks : List (List RowEntry)) → IsTally blocks self →
-            IfOk result (λ next. MatchOption next (AreGood (blocks ++ (rows.now ∷ [])) → ⊥) (IsTally (blocks ++ (rows.now ∷ [])))) }
+            IfOk result (λ next. MatchOption next (AreGood (blocks ++ (rows.now ∷ [])) →
+            ⊥) (IsTally (blocks ++ (rows.now ∷ [])))) }
         ensures cause { IfErr result (λ e. e ≡ SlateDBError.OutOfMemory) }
     {
         let Tally { stats, span } = self;
@@ -89,9 +92,12 @@ fn with_stats(
     span: Option<Span>,
     rows: &[RowEntry],
 ) -> Result<Option<Tally>, SlateDBError>
-    ensures stats { (blocks : List (List RowEntry)) → FitsStats (table_stats blocks) → stats_of stats ≡ table_stats blocks →
-        IfOk result (λ next. MatchOption next (FitsStats (table_stats (blocks ++ (rows.now ∷ []))) → ⊥)
-        (λ t. (t.span ≡ span) × (stats_of t.stats ≡ table_stats (blocks ++ (rows.now ∷ []))) × FitsStats (table_stats (blocks ++ (rows.now ∷ []))))) }
+    ensures stats { (blocks : List (List RowEntry)) → FitsStats (table_stats blocks) →
+        stats_of stats ≡ table_stats blocks →
+        IfOk result (λ next. MatchOption next
+        (FitsStats (table_stats (blocks ++ (rows.now ∷ []))) → ⊥)
+        (λ t. (t.span ≡ span) × (stats_of t.stats ≡ table_stats (blocks ++ (rows.now ∷ [])))
+        × FitsStats (table_stats (blocks ++ (rows.now ∷ []))))) }
     ensures cause { IfErr result (λ e. e ≡ SlateDBError.OutOfMemory) }
 {
     match added_stats(stats, rows) {
@@ -111,9 +117,12 @@ fn with_stats(
 
 /// The statistics with those of one more block, and `None` exactly if a number doesn't fit.
 fn added_stats(stats: SstStats, rows: &[RowEntry]) -> Result<Option<SstStats>, SlateDBError>
-    ensures stats { (blocks : List (List RowEntry)) → FitsStats (table_stats blocks) → stats_of stats ≡ table_stats blocks →
-        IfOk result (λ next. MatchOption next (FitsStats (table_stats (blocks ++ (rows.now ∷ []))) → ⊥)
-        (λ s. (stats_of s ≡ table_stats (blocks ++ (rows.now ∷ []))) × FitsStats (table_stats (blocks ++ (rows.now ∷ []))))) }
+    ensures stats { (blocks : List (List RowEntry)) → FitsStats (table_stats blocks) →
+        stats_of stats ≡ table_stats blocks →
+        IfOk result (λ next. MatchOption next
+        (FitsStats (table_stats (blocks ++ (rows.now ∷ []))) → ⊥)
+        (λ s. (stats_of s ≡ table_stats (blocks ++ (rows.now ∷ [])))
+        × FitsStats (table_stats (blocks ++ (rows.now ∷ []))))) }
     ensures cause { IfErr result (λ e. e ≡ SlateDBError.OutOfMemory) }
 {
     match new_sums(whole_sums(&stats), rows) {
@@ -127,8 +136,10 @@ fn added_stats(stats: SstStats, rows: &[RowEntry]) -> Result<Option<SstStats>, S
 
 /// The sums of all rows, and the counts of the new block's, where they fit.
 fn new_sums(before: Sums, rows: &[RowEntry]) -> Option<(Sums, BlockStats)>
-    ensures { MatchOption result (FitsSums (plus before (sums_of rows.now)) → FitCounts 16 (row_counts rows.now) → ⊥)
-        (λ p. (p.0 ≡ plus before (sums_of rows.now)) × FitsSums p.0 × (counts_of p.1 ≡ row_counts rows.now) × FitCounts 16 (row_counts rows.now)) }
+    ensures { MatchOption result (FitsSums (plus before (sums_of rows.now)) →
+        FitCounts 16 (row_counts rows.now) → ⊥)
+        (λ p. (p.0 ≡ plus before (sums_of rows.now)) × FitsSums p.0
+        × (counts_of p.1 ≡ row_counts rows.now) × FitCounts 16 (row_counts rows.now)) }
 {
     let sums = sums_of(rows)?;
     let whole = added(before, sums)?;
@@ -143,7 +154,9 @@ fn stats_with(
     block: BlockStats,
 ) -> Result<Option<SstStats>, SlateDBError>
     ensures stats { IfOk result (λ next. MatchOption next ⊥
-        (λ s. (whole_sums s ≡ whole) × (map counts_of s.block_stats.items ≡ map counts_of stats.block_stats.items ++ (counts_of block ∷ [])))) }
+        (λ s. (whole_sums s ≡ whole)
+        × (map counts_of s.block_stats.items ≡ map counts_of
+        stats.block_stats.items ++ (counts_of block ∷ [])))) }
     ensures cause { IfErr result (λ e. e ≡ SlateDBError.OutOfMemory) }
 {
     let SstStats { block_stats, .. } = stats;
@@ -164,11 +177,12 @@ fn stats_with(
     }
 }
 
-/// The span of rows and of those behind them: `None` exactly if one doesn't stand behind the one before. The one error is
-/// `OutOfMemory`.
+/// The span of rows and of those behind them: `None` exactly if one doesn't stand behind the one
+/// before. The one error is `OutOfMemory`.
 fn longer_span(span: Option<Span>, rows: &[RowEntry]) -> Result<Option<Option<Span>>, SlateDBError>
     ensures span { (before : List RowEntry) → AreInOrder before → IsSpan before span →
-        IfOk result (λ next. MatchOption next (AreInOrder (before ++ rows.now) → ⊥) (λ s. AreInOrder (before ++ rows.now) × IsSpan (before ++ rows.now) s)) }
+        IfOk result (λ next. MatchOption next (AreInOrder (before ++ rows.now) →
+        ⊥) (λ s. AreInOrder (before ++ rows.now) × IsSpan (before ++ rows.now) s)) }
     ensures cause { IfErr result (λ e. e ≡ SlateDBError.OutOfMemory) }
 {
     let mut span = span;
@@ -184,7 +198,8 @@ fn longer_span(span: Option<Span>, rows: &[RowEntry]) -> Result<Option<Option<Sp
 /// The span with one more row, if that stands behind the last one.
 fn next_span(span: Option<Span>, row: &RowEntry) -> Result<Option<Span>, SlateDBError>
     ensures span { (before : List RowEntry) → AreInOrder before → IsSpan before span →
-        IfOk result (λ next. MatchOption next (AreInOrder (before ++ (row.now ∷ [])) → ⊥) (λ s. AreInOrder (before ++ (row.now ∷ [])) × IsSpanOf (before ++ (row.now ∷ [])) s)) }
+        IfOk result (λ next. MatchOption next (AreInOrder (before ++ (row.now ∷ [])) →
+        ⊥) (λ s. AreInOrder (before ++ (row.now ∷ [])) × IsSpanOf (before ++ (row.now ∷ [])) s)) }
     ensures cause { IfErr result (λ e. e ≡ SlateDBError.OutOfMemory) }
 {
     match span {
@@ -201,7 +216,13 @@ fn next_span(span: Option<Span>, row: &RowEntry) -> Result<Option<Span>, SlateDB
 
 /// The span of one row.
 fn first_span(row: &RowEntry) -> Result<Option<Span>, SlateDBError>
-    ensures span { IfOk result (λ next. MatchOption next ⊥ (λ s. s ≡ record { first = row.now.key; last = row.now.key; last_seq = row.now.seq; least = row.now.seq; greatest = row.now.seq })) }
+    ensures span { IfOk result (λ next. MatchOption next ⊥ (λ s. s ≡ record {
+      first = row.now.key;
+      last = row.now.key;
+      last_seq = row.now.seq;
+      least = row.now.seq;
+      greatest = row.now.seq;
+    })) }
     ensures cause { IfErr result (λ e. e ≡ SlateDBError.OutOfMemory) }
 {
     let first = row.key.clone()?;
@@ -231,7 +252,13 @@ fn stands_behind(span: &Span, row: &RowEntry) -> bool
 
 /// The span in which a row is the last one.
 fn lengthened(span: Span, row: &RowEntry) -> Result<Option<Span>, SlateDBError>
-    ensures span { IfOk result (λ next. MatchOption next ⊥ (λ s. s ≡ record { first = span.first; last = row.now.key; last_seq = row.now.seq; least = min span.least row.now.seq; greatest = max span.greatest row.now.seq })) }
+    ensures span { IfOk result (λ next. MatchOption next ⊥ (λ s. s ≡ record {
+      first = span.first;
+      last = row.now.key;
+      last_seq = row.now.seq;
+      least = min span.least row.now.seq;
+      greatest = max span.greatest row.now.seq;
+    })) }
     ensures cause { IfErr result (λ e. e ≡ SlateDBError.OutOfMemory) }
 {
     let Span {
@@ -259,7 +286,8 @@ fn lengthened(span: Span, row: &RowEntry) -> Result<Option<Span>, SlateDBError>
 
 /// What rows add up to, and `None` exactly if the bytes of keys or of values don't fit.
 fn sums_of(rows: &[RowEntry]) -> Option<Sums>
-    ensures { MatchOption result (FitsSums (sums_of rows.now) → ⊥) (λ s. (s ≡ sums_of rows.now) × FitsSums s) }
+    ensures { MatchOption result (FitsSums (sums_of rows.now) → ⊥) (λ s. (s ≡ sums_of rows.now)
+        × FitsSums s) }
 {
     let mut sums = Sums {
         puts: 0,
@@ -318,8 +346,10 @@ fn whole_sums(stats: &SstStats) -> Sums
 
 /// The counts of a block, and `None` exactly if one doesn't fit.
 fn block_stats(sums: Sums) -> Option<BlockStats>
-    ensures { MatchOption result (sums.puts < 2 ^ 16 → sums.deletes < 2 ^ 16 → sums.merges < 2 ^ 16 → ⊥)
-        (λ b. (b.num_puts ≡ sums.puts) × (b.num_deletes ≡ sums.deletes) × (b.num_merges ≡ sums.merges)) }
+    ensures { MatchOption result (sums.puts < 2 ^ 16 → sums.deletes < 2 ^ 16 →
+        sums.merges < 2 ^ 16 → ⊥)
+        (λ b. (b.num_puts ≡ sums.puts) × (b.num_deletes ≡ sums.deletes)
+        × (b.num_merges ≡ sums.merges)) }
 {
     Some(BlockStats {
         num_puts: u16::try_from(sums.puts).ok()?,

@@ -10,6 +10,8 @@ use slate_language::Xor;
 use slate_store::{FileStore, WriterSink};
 use slate_table::SstReader;
 use slate_tables::run_tables;
+use std::fs;
+use std::io::ErrorKind;
 use std::process::ExitCode;
 
 const HELP: &str = "Reads the tables that a run of slate left in a folder.
@@ -77,8 +79,23 @@ fn run_by(rt: &HostRuntime, asks: Option<FirstWord>, first: &str, words: Vec<Str
     match asks {
         Some(FirstWord::Help) if words.is_empty() => print(rt, HELP),
         Some(FirstWord::Version) if words.is_empty() => print(rt, VERSION),
-        Some(FirstWord::Folder) => run_over(rt, first, words),
+        Some(FirstWord::Folder) => {
+            match test_folder(rt, first) {
+                Ok(()) => run_over(rt, first, words),
+                Err(status) => status,
+            }
+        }
         _ => 2,
+    }
+}
+
+/// Refuses what isn't there or is no folder, by the status to end with. A store over it would have
+/// no tables.
+fn test_folder(rt: &HostRuntime, folder: &str) -> Result<(), u8> {
+    match fs::metadata(rt, folder) {
+        Ok(found) if found.is_dir() => Ok(()),
+        Err(error) if error.kind() == ErrorKind::OutOfMemory => Err(20),
+        _ => Err(7),
     }
 }
 

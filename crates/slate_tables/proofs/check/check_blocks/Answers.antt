@@ -12,7 +12,7 @@ use Rattle.slate_tables.specs.declared.check.Part.TheVariants as parts
 use Rattle.slate_tables.specs.declared.check.Tallied.{Tallied}
 use Rattle.slate_tables.specs.declared.check.Tallied.TheVariants as tallies
 use Rattle.slate_tables.specs.Checks.{HasBlocks, IsChecked, IsTallied}
-use Rattle.slate_tables.specs.Finds.{FindsRows, asked, reader_reach}
+use Rattle.slate_tables.specs.Finds.{FindsRowsOf, asked_of, reader_reach}
 use Rattle.slate_tables.specs.Tallies.{IsTally}
 use Rattle.slate_tables.proofs.PartLaws.{parts_later}
 use Rattle.slate_tables.proofs.check.check_blocks.Goals as goal
@@ -28,7 +28,7 @@ returns-in-Ok g c =
     let h = c.args.file.now.handle in
     let entries = entries_of c.args.index.now in
     record {
-      said = λ begun root is r parts. c.outcome.ensures (asked begun root b.acts) entries
+      said = λ begun root is r parts. c.outcome.ensures (asked_of begun root b.acts) entries
           (parts_later begun root a.acts b.acts h (stats_of c.args.stats.now) entries c.tally_blocks.ensures.reads.acts parts) (c.in-Ok.ensures.said begun root is r);
       root = c.tally_blocks.ensures.root;
       cause = tt;

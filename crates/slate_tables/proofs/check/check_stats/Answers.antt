@@ -13,9 +13,9 @@ use Rattle.slate_tables.specs.declared.check.Checked.TheVariants as checks
 use Rattle.slate_tables.specs.declared.check.Flaw.{Flaw}
 use Rattle.slate_tables.specs.declared.check.Part.TheVariants as parts
 use Rattle.slate_tables.specs.Checks.{IsChecked}
-use Rattle.slate_tables.specs.Finds.{asked, reader_reach}
+use Rattle.slate_tables.specs.Finds.{asked_of, reader_reach}
 use Rattle.slate_tables.proofs.CheckLaws.{Leaves, leaves_then, outer_store, outer_transformer, told_cause, told_said, told_still}
-use Rattle.slate_tables.proofs.FindLaws.{may_open_adds, once_adds, opened_adds, reader_reads, reader_still, reads_add, still_ok, store_still, same_faults}
+use Rattle.slate_tables.proofs.FindLaws.{may_open_adds, once_adds, opened_adds, reader_reads, reader_still, reads_add, same_faults, still_ok, store_still}
 use Rattle.slate_tables.proofs.PartLaws.{entries_later, entries_now, filters_now, filters_refused, index_refused, opens_later, opens_now, stats_later, stats_now, stats_refused, table_refused}
 use Rattle.slate_tables.proofs.RealLaws.{filters_real, index_real, open_real, stats_real}
 use Rattle.std.specs.Prelude.{Ok, Option}
@@ -86,7 +86,7 @@ returns-in-Err g c =
     let told = c.refused.ensures in
     let adds = once_adds _ _ _ _ _ _ _ c.in-Err.ensures.once in
     record {
-      said = λ begun root is r opened. told_said (λ f. checks.Damaged f) a.faults b.faults flaw (IsChecked (asked begun root b.acts) h.id.0) c.refused.result told
+      said = λ begun root is r opened. told_said (λ f. checks.Damaged f) a.faults b.faults flaw (IsChecked (asked_of begun root b.acts) h.id.0) c.refused.result told
           (elim c.in-Err.ensures.cause [
             | inl fault ↦ inl (outer_store a.faults b.faults e fault)
             | inr (inl fails) ↦ inl (outer_transformer a.faults b.faults e fails.2.0 fails.2.1)

@@ -13,9 +13,9 @@ use Rattle.slate_tables.specs.declared.check.Checked.TheVariants as checks
 use Rattle.slate_tables.specs.declared.check.Flaw.{Flaw}
 use Rattle.slate_tables.specs.declared.check.Part.TheVariants as parts
 use Rattle.slate_tables.specs.Checks.{IsChecked}
-use Rattle.slate_tables.specs.Finds.{asked, reader_reach}
+use Rattle.slate_tables.specs.Finds.{asked_of, reader_reach}
 use Rattle.slate_tables.proofs.CheckLaws.{Leaves, leaves_then, outer_store, outer_transformer, told_cause, told_said, told_still}
-use Rattle.slate_tables.proofs.FindLaws.{may_open_adds, once_adds, opened_adds, reader_reads, reader_still, reads_add, still_ok, store_still, same_faults}
+use Rattle.slate_tables.proofs.FindLaws.{may_open_adds, once_adds, opened_adds, reader_reads, reader_still, reads_add, same_faults, still_ok, store_still}
 use Rattle.slate_tables.proofs.PartLaws.{entries_later, entries_now, filters_now, filters_refused, index_refused, opens_later, opens_now, stats_later, stats_now, stats_refused, table_refused}
 use Rattle.slate_tables.proofs.RealLaws.{filters_real, index_real, open_real, stats_real}
 use Rattle.slate_tables.proofs.check.check_table.Goals as goal
@@ -37,7 +37,7 @@ returns-in-Ok g c =
     let leaves = leaves_then (reader_reach s t old) (reader_reach s t mid) (reader_reach s t new) file c.check_stats-checked.result reads still (record { cause = inner.cause; reads = inner.reads; counts = inner.counts }) in
     record {
       said = λ begun root is r.
-          (let P : Ulid → Type 0 = λ i. IfOk c.check_stats-checked.result (IsChecked (asked begun root (s.acts new.store)) i.0) in
+          (let P : Ulid → Type 0 = λ i. IfOk c.check_stats-checked.result (IsChecked (asked_of begun root (s.acts new.store)) i.0) in
           subst P c.in-Ok.ensures.id (inner.said begun root (is ∙ sym (ap string_bytes c.open.ensures.root)) (reads_then begun (reader_reach s t old) (reader_reach s t mid) r reads)
           (opens_now begun (reader_reach s t old) root (string_bytes old.root_path) (s.acts mid.store) file.handle c.args.id is c.in-Ok.ensures.id r found)));
       root = inner.root ∙ c.open.ensures.root;
@@ -59,7 +59,7 @@ returns-in-Err g c =
     let told = c.refused.ensures in
     let faults = ap (faults_of t.faults) c.open.ensures.transformer in
     record {
-      said = λ begun root is r. told_said (λ f. checks.Damaged f) a.faults b.faults flaw (IsChecked (asked begun root b.acts) c.args.id.0) c.refused.result told
+      said = λ begun root is r. told_said (λ f. checks.Damaged f) a.faults b.faults flaw (IsChecked (asked_of begun root b.acts) c.args.id.0) c.refused.result told
           (elim c.in-Err.ensures.cause [
             | inl fault ↦ inl (outer_store a.faults b.faults e fault)
             | inr refused ↦ inr (inl (refl, refl, table_refused begun a root (string_bytes old.root_path) b.acts c.args.id.0 e is r refused))

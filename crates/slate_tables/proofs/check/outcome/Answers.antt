@@ -12,7 +12,7 @@ use Rattle.slate_tables.specs.declared.check.Part.{Part}
 use Rattle.slate_tables.specs.declared.check.Tallied.{Tallied}
 use Rattle.slate_tables.specs.declared.check.Tallied.TheVariants as tallies
 use Rattle.slate_tables.specs.Checks.{IsFlawedIn, IsTallied}
-use Rattle.slate_tables.specs.Finds.{FindsRows, asked, reader_reach}
+use Rattle.slate_tables.specs.Finds.{FindsRowsOf, asked_of, reader_reach}
 use Rattle.slate_tables.specs.Tallies.{IsTally}
 use Rattle.slate_tables.proofs.CheckLaws.{blocks_said}
 use Rattle.slate_tables.proofs.check.outcome.Goals as goal

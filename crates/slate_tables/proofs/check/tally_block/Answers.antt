@@ -12,7 +12,7 @@ use Rattle.slate_tables.specs.declared.check.Part.TheVariants as parts
 use Rattle.slate_tables.specs.declared.check.Tallied.{Tallied}
 use Rattle.slate_tables.specs.declared.check.Tallied.TheVariants as tallies
 use Rattle.slate_tables.specs.Checks.{HasBlocks, IsChecked, IsTallied}
-use Rattle.slate_tables.specs.Finds.{FindsRows, RefusesRowsOf, asked, reader_reach}
+use Rattle.slate_tables.specs.Finds.{FindsRowsOf, RefusesRowsOf, asked_of, reader_reach}
 use Rattle.slate_tables.specs.Tallies.{IsTally}
 use Rattle.slate_tables.proofs.CheckLaws.{block_cause, block_said, counted_outer, told_cause, told_counts, told_said}
 use Rattle.slate_tables.proofs.PartLaws.{blocks_later}
@@ -32,8 +32,8 @@ returns-in-Ok g c =
     let rows = c.in-Ok.rows in
     record {
       said = λ begun root blocks is r has count tally.
-          (let P : List ℕ → Type 0 = λ x. FindsRows (asked begun x b.acts) h entries c.args.block rows.items in
-          block_said (asked begun root b.acts) h entries blocks rows.items c.args.block _ c.with_block-added.result c.outcome_of.result
+          (let P : List ℕ → Type 0 = λ x. FindsRowsOf (asked_of begun x b.acts) h entries c.args.block rows.items in
+          block_said (asked_of begun root b.acts) h entries blocks rows.items c.args.block _ c.with_block-added.result c.outcome_of.result
           (blocks_later begun root a.acts b.acts h entries blocks c.block_rows.ensures.reads.acts has) count (subst P (sym is) (c.in-Ok.ensures.found begun r)) (ap (λ (n : ℕ). Some n) c.offset_of.ensures)
           (rw c.as_slice.ensures.value at (c.with_block-added.ensures.tally blocks tally)) c.outcome_of.ensures.good);
       root = c.block_rows.ensures.root;
@@ -57,8 +57,8 @@ returns-in-Err g c =
     let told = c.flawed.ensures in
     record {
       said = λ begun root blocks is r has count tally.
-          (let P : List ℕ → Type 0 = λ x. RefusesRowsOf (asked begun x b.acts) h entries c.args.block e in
-          told_said (λ f. tallies.Flawed f) a.faults b.faults flaw (IsTallied (asked begun root b.acts) h entries (c.args.block + 1)) c.flawed.result told
+          (let P : List ℕ → Type 0 = λ x. RefusesRowsOf (asked_of begun x b.acts) h entries c.args.block e in
+          told_said (λ f. tallies.Flawed f) a.faults b.faults flaw (IsTallied (asked_of begun root b.acts) h entries (c.args.block + 1)) c.flawed.result told
           (elim (c.in-Err.ensures.cause begun r) [
             | inl fault ↦ inl (counted_outer a.faults b.faults e refl refl fault)
             | inr refused ↦ inr (c.args.block, omega arith, refl, ap (λ (n : ℕ). Some n) c.offset_of.ensures, inl (subst P (sym is) refused.1))

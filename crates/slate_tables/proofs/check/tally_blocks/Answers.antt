@@ -12,7 +12,7 @@ use Rattle.slate_tables.specs.declared.check.Part.TheVariants as parts
 use Rattle.slate_tables.specs.declared.check.Tallied.{Tallied}
 use Rattle.slate_tables.specs.declared.check.Tallied.TheVariants as tallies
 use Rattle.slate_tables.specs.Checks.{HasBlocks, IsChecked, IsTallied}
-use Rattle.slate_tables.specs.Finds.{FindsRows, asked, reader_reach}
+use Rattle.slate_tables.specs.Finds.{FindsRowsOf, asked_of, reader_reach}
 use Rattle.slate_tables.specs.Tallies.{IsTally}
 use Rattle.std.proofs.lemmas.Result.{IfOk-from_err, err_from_is_err_and}
 use Rattle.slate_types.proofs.Reaching.{fault_earlier}
@@ -39,8 +39,8 @@ loop-block-preserved g c =
     let inv = c.loop-block.invariant in
     let h = c.args.file.now.handle in
     let entries = entries_of c.args.index.now in
-    let P : Tallied → Type 0 = λ x. (begun : Reach) (root : List ℕ) (blocks : List (List RowEntry)) → root ≡ string_bytes mid.root_path → OnlyReads begun b → HasBlocks (asked begun root b.acts) h entries blocks → length blocks ≡ c.loop-block.block → IsTally blocks c.loop-block.tally →
-    IsTallied (asked begun root d.acts) h entries (c.loop-block.block + 1) x in
+    let P : Tallied → Type 0 = λ x. (begun : Reach) (root : List ℕ) (blocks : List (List RowEntry)) → root ≡ string_bytes mid.root_path → OnlyReads begun b → HasBlocks (asked_of begun root b.acts) h entries blocks → length blocks ≡ c.loop-block.block → IsTally blocks c.loop-block.tally →
+    IsTallied (asked_of begun root d.acts) h entries (c.loop-block.block + 1) x in
     let said = subst P c.in-Good.is c.in_ok-next.ensures.said in
     record {
       reads = reads_then a b d inv.reads c.tally_block.ensures.reads;
@@ -73,7 +73,7 @@ returns-in-Flawed-clause-said g c = λ begun root is r.
     let h = c.args.file.now.handle in
     let entries = entries_of c.args.index.now in
     let f = inv.tallied begun root is r in
-    let P : Tallied → Type 0 = λ x. IsTallied (asked begun root d.acts) h entries (c.loop-block.block + 1) x in
+    let P : Tallied → Type 0 = λ x. IsTallied (asked_of begun root d.acts) h entries (c.loop-block.block + 1) x in
     let found = subst P c.in-Flawed.is (c.in_ok-next.ensures.said begun root f.0 (is ∙ sym (ap string_bytes inv.root)) (reads_then begun a b r inv.reads) f.2 f.1 f.3) in
     (found.0, omega (arith, found.1, c.len-block-end.ensures), found.2, found.3, found.4))
 

@@ -16,7 +16,7 @@ use Rattle.slate_tables.specs.declared.check.Part.TheVariants as parts
 use Rattle.slate_tables.specs.declared.describe.Described.TheVariants as descriptions
 use Rattle.slate_tables.specs.Finds.{reader_reach}
 use Rattle.slate_tables.proofs.CheckLaws.{told_still}
-use Rattle.slate_tables.proofs.FindLaws.{may_open_adds, measured_adds, once_adds, opened_adds, reader_reads, reader_still, reads_add, still_ok, store_still, same_faults}
+use Rattle.slate_tables.proofs.FindLaws.{may_open_adds, measured_adds, once_adds, opened_adds, reader_reads, reader_still, reads_add, same_faults, still_ok, store_still}
 use Rattle.slate_tables.proofs.PartLaws.{filters_add}
 use Rattle.slate_tables.proofs.describe.describe_table.Goals as goal
 

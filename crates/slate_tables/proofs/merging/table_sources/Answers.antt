@@ -1,5 +1,5 @@
 use Rattle.std.proofs.Common.{◌≡◌, ℕ, ◌+◌, ◌-◌, ◌<◌, drop, length, reverse, arith, subst}
-use Rattle.slate_tables.specs.Merging.{AreEach, IsTableSource}
+use Rattle.slate_tables.specs.Merging.{IsTableSource, MatchEach}
 use Rattle.slate_tables.proofs.Sources.{from_place, sources_end, sources_more, sources_none}
 use Rattle.slate_tables.proofs.merging.table_sources.Goals as goal
 
@@ -20,7 +20,7 @@ loop-at-preserved c =
           (from_place c.args.handles.now i c.index-handles-at.result below c.index-handles-at.is)
           c.in_ok-push.ensures.items
           c.in_ok-source.ensures.source
-          (subst (λ (j : ℕ). AreEach (IsTableSource c.args.range.now c.args.order) (reverse (drop j c.args.handles.now)) c.loop-at.sources.items) next c.loop-at.invariant.each);
+          (subst (λ (j : ℕ). MatchEach (IsTableSource c.args.range.now c.args.order) (reverse (drop j c.args.handles.now)) c.loop-at.sources.items) next c.loop-at.invariant.each);
     }
 
 pub returns : goal.returns

@@ -9,7 +9,7 @@ use Rattle.slate_types.proofs.Exits.{if_err_both}
 use Rattle.slate_types.proofs.StillLaws.{still_same, still_then, unasked_still}
 use Rattle.slate_table.specs.IndexValue.{entries_of}
 use Rattle.slate_table.specs.Reading.{of_block}
-use Rattle.slate_tables.specs.Finds.{RefusesRowsOf, asked, reader_reach}
+use Rattle.slate_tables.specs.Finds.{RefusesRowsOf, asked_of, reader_reach}
 use Rattle.slate_tables.proofs.BlockLaws.{rows_found, rows_refused}
 use Rattle.slate_tables.proofs.rows.block_rows.Goals as goal
 
@@ -46,7 +46,7 @@ returns-in-Err g c =
     record {
       found = λ begun r. tt;
       cause = λ begun r. (elim (c.in-Err.ensures.cause begun r)
-          as (λ _. IsFault (reader_reach s t old) (reader_reach s t new) e ⊎ (IsDamage e × RefusesRowsOf (asked begun (string_bytes old.root_path) (s.acts new.store)) h entries block e)) [
+          as (λ _. IsFault (reader_reach s t old) (reader_reach s t new) e ⊎ (IsDamage e × RefusesRowsOf (asked_of begun (string_bytes old.root_path) (s.acts new.store)) h entries block e)) [
             | inl fault ↦ inl fault
             | inr refused ↦ (let f = refused.1 in inr (refused.0, (f.0, f.1, f.2, (f.3.0, f.3.1, inl f.3.2), f.4)))
           ]);

@@ -5,9 +5,9 @@ use Rattle.slate_types.specs.Refusing.{IsDamage}
 use Rattle.slate_block.specs.declared.block.Block.{Block}
 use Rattle.slate_table.specs.IndexValue.{entries_of}
 use Rattle.slate_table.specs.Reading.{IsBlockRead, ReadsBlocks, RefusesBlock, of_block}
-use Rattle.slate_tables.specs.Finds.{RefusesBlockOf, asked, reader_reach}
+use Rattle.slate_tables.specs.Finds.{RefusesBlockAt, asked_of, reader_reach}
 use Rattle.slate_tables.proofs.BlockLaws.{block_fails, block_found, only_one}
-use Rattle.slate_tables.proofs.FindLaws.{finds_now, once_adds, reader_reads, reader_still, reads_add, still_err, still_ok, store_err, store_still, same_faults}
+use Rattle.slate_tables.proofs.FindLaws.{finds_now, once_adds, reader_reads, reader_still, reads_add, same_faults, still_err, still_ok, store_err, store_still}
 use Rattle.slate_tables.proofs.rows.one_block.Goals as goal
 
 pub returns-in-Ok : goal.returns-in-Ok
@@ -45,7 +45,7 @@ returns-in-Err g c =
     record {
       found = λ begun r. tt;
       cause = λ begun r. (elim (block_fails (reader_reach s t old).meaning.decode (s.objects old.store) (s.acts old.store) (s.acts new.store) (string_bytes old.root_path) h entries block (reader_reach s t old).faults (reader_reach s t new).faults e (rw c.as_str-root.ensures.value at c.in-Err.ensures.cause))
-          as (λ _. IsFault (reader_reach s t old) (reader_reach s t new) e ⊎ (IsDamage e × RefusesBlockOf (asked begun (string_bytes old.root_path) (s.acts new.store)) h entries block e)) [
+          as (λ _. IsFault (reader_reach s t old) (reader_reach s t new) e ⊎ (IsDamage e × RefusesBlockAt (asked_of begun (string_bytes old.root_path) (s.acts new.store)) h entries block e)) [
             | inl fault ↦ inl fault
             | inr refused ↦ inr (refused.0, finds_now (λ objects decode a b. ReadsBlocks objects a b (string_bytes old.root_path) h entries block (block + 1) (λ answer. RefusesBlock decode (of_block h entries block answer) e)) begun (reader_reach s t old) (string_bytes old.root_path) (s.acts new.store) r refused.1)
           ]);

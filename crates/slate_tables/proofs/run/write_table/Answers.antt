@@ -4,7 +4,7 @@ use Rattle.slate_types.specs.Outside.{Act, AddsReads}
 use Rattle.slate_types.proofs.Reaching.{adds_none}
 use Rattle.slate_store.specs.Env.{changed_by}
 use Rattle.slate_tables.specs.Finds.{reader_reach}
-use Rattle.slate_tables.proofs.FindLaws.{may_open_adds, once_adds, opened_adds, reader_reads, reader_still, reads_add, still_err, still_ok, store_err, store_still, same_faults}
+use Rattle.slate_tables.proofs.FindLaws.{may_open_adds, once_adds, opened_adds, reader_reads, reader_still, reads_add, same_faults, still_err, still_ok, store_err, store_still}
 use Rattle.slate_tables.proofs.RunLaws.{goes_call, goes_err, goes_none, goes_ok, goes_reading, goes_then, goes_writing, sink_same, sink_told, store_told}
 use Rattle.slate_tables.proofs.run.write_table.Goals as goal
 
