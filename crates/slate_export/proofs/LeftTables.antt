@@ -16,10 +16,10 @@ use Rattle.slate_table.proofs.CutLaws.{built_has}
 use Rattle.slate_txn.specs.Reads.{state_at}
 use Rattle.slate_txn.specs.State.{Rules, State}
 use Rattle.slate_tables.specs.declared.export.Written.{Written}
-use Rattle.slate_tables.specs.Listed.{IsTableAt}
-use Rattle.slate_tables.specs.Merging.{AreEach}
+use Rattle.slate_tables.specs.Listed.{StandsAtItsPath}
+use Rattle.slate_tables.specs.Merging.{MatchEach}
 use Rattle.slate_tables.specs.Moved.{as_moved}
-use Rattle.slate_tables.specs.Opened.{AreHeld, WasOpened}
+use Rattle.slate_tables.specs.Opened.{AreHeldTables, WasOpened}
 use Rattle.slate_tables.specs.States.{WritesScript, WritesState}
 use Rattle.slate_tables.proofs.ListedTables.{listed_tables_are_here}
 use Rattle.slate_tables.proofs.Worlds.{tables_are_held}
@@ -32,7 +32,7 @@ pub ok_weaker : {A E : Type 0} (r : Result A E) (P Q : A → Type 0) → ((x : A
 ok_weaker (Ok x) P Q f h = f x h
 ok_weaker (Err e) P Q f h = tt
 
-at_its_path : (m : Meaning) (layout : Layout) (o : List ℕ × List ℕ) → IsTableObject m layout o → IsTableAt m.encode o
+at_its_path : (m : Meaning) (layout : Layout) (o : List ℕ × List ℕ) → IsTableObject m layout o → StandsAtItsPath m.encode o
 at_its_path m layout o t = record {
   id = table_id t.number t.place;
   version = layout.version;
@@ -45,19 +45,19 @@ pub record Left (m : Meaning) (r : Rules) (objects : Option Objects) (s : State)
   pub os : Objects
   pub told : objects ≡ Some os
   pub tables : List (List RowEntry)
-  pub held : AreHeld m os handles tables
+  pub held : AreHeldTables m os handles tables
   pub folds : (k : List ℕ) → stored (combine_of m k) (all_rows tables) k ≡ state_at r s.commits s.flushed k
 
 pub left : (m : Meaning) (r : Rules) (layout : Layout) (objects : Option Objects) (s : State) (ids : List Ulid) (handles : List SsTableHandle) → LeftTables m r layout objects s ids handles → Left m r objects s handles
 left m r layout objects s ids handles l =
     let os = l.stored.os in
-    let each = AllByRecursion_weaken (IsTableObject m layout) (IsTableAt m.encode) (at_its_path m layout) os l.stored.each in
+    let each = AllByRecursion_weaken (IsTableObject m layout) (StandsAtItsPath m.encode) (at_its_path m layout) os l.stored.each in
     let here = listed_tables_are_here m os ids l.stored.rows l.lawful each l.bytes l.listed l.stored.held in
     record {
       os = os;
       told = l.stored.told;
       tables = here.0;
-      held = (l.lawful, tables_are_held m.encode os ids handles here.0 here.1 (subst (λ (o : Option Objects). AreEach (WasOpened o) ids handles) l.stored.told l.opened));
+      held = (l.lawful, tables_are_held m.encode os ids handles here.0 here.1 (subst (λ (o : Option Objects). MatchEach (WasOpened o) ids handles) l.stored.told l.opened));
       folds = λ k. ap (λ (rows : List RowEntry). stored (combine_of m k) rows k) here.2 ∙ l.stored.folds k;
     }
 

@@ -10,8 +10,8 @@ use slate_tables::{Tables, Written, write_script, write_state};
 use slate_types::{BlockTransformer, MergeOperator, Outside, SlateDBError};
 use std::alloc::Global;
 
-/// Writes the state that the tables fold to, as `write_state` does. If these are the tables that a run
-/// left, which answered `Ok`, it is the model's state at the run's last flush.
+/// Writes the state that the tables fold to, as `write_state` does. If these are the tables that a
+/// run left, which answered `Ok`, it is the model's state at the run's last flush.
 pub fn write_flushed_state<S: Store, M: MergeOperator, T: BlockTransformer, W: Sink>(
     alloc: Global,
     tables: &Tables,
@@ -20,16 +20,17 @@ pub fn write_flushed_state<S: Store, M: MergeOperator, T: BlockTransformer, W: S
 ) -> Result<Written, SlateDBError>
     ensures flushed { let reach = ⟦<EnvOf<S, M, T> as Outside>⟧.reach in
         (r : Rules) (layout : Layout) (s : State) (ids : List Ulid) (before : List ℕ) →
-        LeftTables (reach env.old).meaning r layout (reach env.old).objects s ids tables.now.handles.items →
+        LeftTables (reach env.old).meaning r layout (reach env.old).objects s ids
+        tables.now.handles.items →
         W.content sink.old ≡ Some before →
         IfOk result (λ _. WritesFlushed r s before (W.content sink.new)) }
 {
     write_state(alloc, tables, env, sink)
 }
 
-/// Writes a script of the state that the tables fold to, as `write_script` does. If these are the tables
-/// that a run left, which answered `Ok`, it moves the model's state at the run's last flush into a new
-/// store, but for sequences.
+/// Writes a script of the state that the tables fold to, as `write_script` does. If these are the
+/// tables that a run left, which answered `Ok`, it moves the model's state at the run's last flush
+/// into a new store, but for sequences.
 pub fn write_flushed_script<S: Store, M: MergeOperator, T: BlockTransformer, W: Sink>(
     alloc: Global,
     tables: &Tables,
@@ -38,7 +39,8 @@ pub fn write_flushed_script<S: Store, M: MergeOperator, T: BlockTransformer, W: 
 ) -> Result<Written, SlateDBError>
     ensures flushed { let reach = ⟦<EnvOf<S, M, T> as Outside>⟧.reach in
         (r : Rules) (layout : Layout) (s : State) (ids : List Ulid) (before : List ℕ) →
-        LeftTables (reach env.old).meaning r layout (reach env.old).objects s ids tables.now.handles.items →
+        LeftTables (reach env.old).meaning r layout (reach env.old).objects s ids
+        tables.now.handles.items →
         W.content sink.old ≡ Some before →
         IfOk result (λ _. MovesFlushed (reach env.old).meaning r s before (W.content sink.new)) }
 {

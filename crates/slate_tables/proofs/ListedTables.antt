@@ -18,9 +18,9 @@ use Rattle.slate_table.specs.Stored.{HoldRows}
 use Rattle.slate_table.specs.Table.{IsTable}
 use Rattle.slate_table.proofs.StoredLaws.{same_held}
 use Rattle.slate_read.specs.TableWalk.{root}
-use Rattle.slate_tables.specs.Listed.{IsListed, IsTableAt, ListedTablesAreHere}
-use Rattle.slate_tables.specs.Merging.{AreEach}
-use Rattle.slate_tables.specs.Opened.{AreTables, IsTableHere}
+use Rattle.slate_tables.specs.Listed.{IsListed, ListedTablesAreHere, StandsAtItsPath}
+use Rattle.slate_tables.specs.Merging.{MatchEach}
+use Rattle.slate_tables.specs.Opened.{AreTablesOf, IsTableHere}
 use Rattle.slate_tables.proofs.PathsApart.{one_id}
 
 -- each object stands at its path
@@ -42,7 +42,7 @@ all_here (o ∷ os) h = (ap (λ (b : Bool). cond b (Some o.1) (object_at os o.0)
 
 record Listed (encode : Encode) (all os : Objects) (ids : List Ulid) : Type 0 where
   tables : List (List RowEntry)
-  are : AreTables encode all ids tables
+  are : AreTablesOf encode all ids tables
   held : HoldRows encode os (all_rows tables)
 
 first_same : {X : Type 0} (x y : X) (xs ys : List X) → x ∷ xs ≡ y ∷ ys → x ≡ y
@@ -51,7 +51,7 @@ first_same x y xs ys h = cc
 rest_same : {X : Type 0} (x y : X) (xs ys : List X) → x ∷ xs ≡ y ∷ ys → xs ≡ ys
 rest_same x y xs ys h = cc
 
-listed : (encode : Encode) (all os : Objects) (ids : List Ulid) → AllByRecursion (IsTableAt encode) os → AllByRecursion (λ o. EachIsAByte o.1) os → AllByRecursion (λ o. object_at all o.0 ≡ Some o.1) os →
+listed : (encode : Encode) (all os : Objects) (ids : List Ulid) → AllByRecursion (StandsAtItsPath encode) os → AllByRecursion (λ o. EachIsAByte o.1) os → AllByRecursion (λ o. object_at all o.0 ≡ Some o.1) os →
     map (λ (id : Ulid). path_of root id.0) ids ≡ map (λ o. o.0) os → AllByRecursion (λ (id : Ulid). id.0 < 2 ^ 128) ids → Listed encode all os ids
 listed encode all [] [] each bytes here paths fit = record { tables = []; are = tt; held = refl }
 listed encode all (o ∷ os) (id ∷ ids) each bytes here paths fit =

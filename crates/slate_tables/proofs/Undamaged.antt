@@ -13,8 +13,8 @@ use Rattle.slate_types.proofs.Reaching.{fault_earlier}
 use Rattle.slate_table.specs.declared.info.SsTableHandle.{SsTableHandle}
 use Rattle.slate_read.proofs.Walks.{outer_undamaged}
 use Rattle.slate_tables.specs.Merging.{Export}
-use Rattle.slate_tables.specs.Opened.{IsWorldOf}
-use Rattle.slate_tables.specs.Reading.{IsRefusedRead, Refuses, RefusesNew}
+use Rattle.slate_tables.specs.Opened.{IsWorldHolding}
+use Rattle.slate_tables.specs.Reading.{ExportRefusal, IsRefusedRead, RefusesNew}
 
 pub undamaged : {A : Type 0} (sound : A → World → Type 0) (refuses : A → Meaning → List Act → Option (List ℕ) → SlateDBError → Type 0) →
     ((x : A) (w : World) (reads : List Act) (at : Option (List ℕ)) (e : SlateDBError) → sound x w → AllByRecursion (AnswersWorld w) reads → refuses x w.meaning reads at e → ¬ IsDamage e) →
@@ -32,14 +32,14 @@ ok_weaker (Err e) P Q f h = tt
 -- ---- two calls, one after the other
 
 -- over a store that tells its objects, each call meets their world
-pub meets : (os : Objects) (w : World) (a b : Reach) → a.objects ≡ Some os → IsWorldOf os a.meaning w → Sees w a b
+pub meets : (os : Objects) (w : World) (a b : Reach) → a.objects ≡ Some os → IsWorldHolding os a.meaning w → Sees w a b
 meets os w a b told is = record { meaning = is.meaning; met = inl (record { os = os; tells = told; holds = is.holds }) }
 
-pub meets_later : (os : Objects) (w : World) (a b c : Reach) → OnlyReads a b → a.objects ≡ Some os → IsWorldOf os a.meaning w → Sees w b c
+pub meets_later : (os : Objects) (w : World) (a b c : Reach) → OnlyReads a b → a.objects ≡ Some os → IsWorldHolding os a.meaning w → Sees w b c
 meets_later os w a b c first told is = record { meaning = is.meaning ∙ sym first.meaning; met = inl (record { os = os; tells = first.objects ∙ told; holds = is.holds }) }
 
 -- what the second refuses, a new export refuses by the reads of both
-pub refused_then : (refuses : Refuses) (handles : List SsTableHandle) (range : BytesRange) (order : IterationOrder) (it : Export) (a b c : Reach) (e : SlateDBError) → OnlyReads a b →
+pub refused_then : (refuses : ExportRefusal) (handles : List SsTableHandle) (range : BytesRange) (order : IterationOrder) (it : Export) (a b c : Reach) (e : SlateDBError) → OnlyReads a b →
     Made a b (λ reads. (more : List Act) (at : Option (List ℕ)) (d : SlateDBError) → refuses it a.meaning more at d → RefusesNew refuses handles range order a.meaning (reads ++ more) at d) →
     Made b c (λ reads. IsFault b c e ⊎ refuses it b.meaning reads None e) → IsRefusedRead refuses handles range order a c e
 refused_then refuses handles range order it a b c e first later second = (later.0 ++ second.0, call_both a b c later.0 second.0 later.1 second.1, by second.2)

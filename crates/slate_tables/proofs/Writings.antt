@@ -13,8 +13,8 @@ use Rattle.slate_types.proofs.Lists.{AllByRecursion_push}
 use Rattle.slate_types.proofs.Walked.{Walked}
 use Rattle.slate_tables.specs.declared.export.Form.{Form}
 use Rattle.slate_tables.specs.declared.export.Written.{Written}
-use Rattle.slate_tables.specs.LoadText.{capped, ends_before, greatest_seq, moved}
-use Rattle.slate_tables.specs.Writing.{Passes, WritesRows, form_text, tallied, tally}
+use Rattle.slate_tables.specs.LoadText.{capped, count_moved, ends_before_made, greatest_of}
+use Rattle.slate_tables.specs.Writing.{Passes, WritesRows, counted_row, form_text, tally}
 
 -- ---- counts
 
@@ -22,7 +22,7 @@ count_last : (p : RowEntry → Bool) (rows : List RowEntry) (r : RowEntry) → c
 count_last p [] r = refl
 count_last p (x ∷ rows) r = let later = count_last p rows r in omega (arith, later)
 
-greatest_last : (rows : List RowEntry) (r : RowEntry) → greatest_seq (rows ++ (r ∷ [])) ≡ max (greatest_seq rows) r.seq
+greatest_last : (rows : List RowEntry) (r : RowEntry) → greatest_of (rows ++ (r ∷ [])) ≡ max (greatest_of rows) r.seq
 greatest_last [] r = omega arith
 greatest_last (x ∷ rows) r = ap (max x.seq) (greatest_last rows r) ∙ omega arith
 
@@ -32,16 +32,16 @@ capped_more n = omega arith
 capped_max : (n m : ℕ) → m ≤ 2 ^ 64 - 1 → capped (max n m) ≡ max (capped n) m
 capped_max n m h = omega (arith, h)
 
-pub tally_last : (rows : List RowEntry) (r : RowEntry) → r.seq ≤ 2 ^ 64 - 1 → tallied (tally rows) r ≡ tally (rows ++ (r ∷ []))
+pub tally_last : (rows : List RowEntry) (r : RowEntry) → r.seq ≤ 2 ^ 64 - 1 → counted_row (tally rows) r ≡ tally (rows ++ (r ∷ []))
 tally_last rows r small = λ i. record {
   rows = (sym (capped_more (length rows)) ∙ ap capped (sym (length-append rows (r ∷ [])))) i;
-  moved = by (ends_before r) refl i;
-  greatest_seq = (sym (capped_max (greatest_seq rows) r.seq small) ∙ ap capped (sym (greatest_last rows r))) i;
+  moved = by (ends_before_made r) refl i;
+  greatest_seq = (sym (capped_max (greatest_of rows) r.seq small) ∙ ap capped (sym (greatest_last rows r))) i;
 }
   where
-    by : (b : Bool) → ends_before r ≡ b → cond b (capped (capped (moved rows) + 1)) (capped (moved rows)) ≡ capped (moved (rows ++ (r ∷ [])))
-    by true e = sym (capped_more (moved rows)) ∙ ap capped (sym (count_last ends_before rows r ∙ ap (λ t. moved rows + cond t 1 0) e))
-    by false e = ap capped (sym (count_last ends_before rows r ∙ ap (λ t. moved rows + cond t 1 0) e ∙ omega arith))
+    by : (b : Bool) → ends_before_made r ≡ b → cond b (capped (capped (count_moved rows) + 1)) (capped (count_moved rows)) ≡ capped (count_moved (rows ++ (r ∷ [])))
+    by true e = sym (capped_more (count_moved rows)) ∙ ap capped (sym (count_last ends_before_made rows r ∙ ap (λ t. count_moved rows + cond t 1 0) e))
+    by false e = ap capped (sym (count_last ends_before_made rows r ∙ ap (λ t. count_moved rows + cond t 1 0) e ∙ omega arith))
 
 -- ---- an operand has an operator
 
@@ -61,12 +61,12 @@ module _ {A : Type 0} (rest : A → World → List RowEntry) (sound : A → Worl
     pub wrote : (front : List ℕ) → before ≡ Some front → after ≡ Some (front ++ flat_map (form_text form) taken)
 
   pub one_more : (a b c : Reach) (x y z : A) (t : Written) (before after next : Option (List ℕ)) (row : RowEntry) (text : List ℕ) (so_far : SoFar a b x y t before after) → Walked rest sound refuses takes a c x z (so_far.taken ++ (row ∷ [])) →
-      row.seq ≤ 2 ^ 64 - 1 → Passes form has row → text ≡ form_text form row → ((front : List ℕ) → after ≡ Some front → next ≡ Some (front ++ text)) → SoFar a c x z (tallied t row) before next
+      row.seq ≤ 2 ^ 64 - 1 → Passes form has row → text ≡ form_text form row → ((front : List ℕ) → after ≡ Some front → next ≡ Some (front ++ text)) → SoFar a c x z (counted_row t row) before next
   one_more a b c x y z t before after next row text s went small passes is wrote = record {
     taken = s.taken ++ (row ∷ []);
     walked = went;
     passed = AllByRecursion_push (Passes form has) s.taken row s.passed passes;
-    counts = ap (λ (u : Written). tallied u row) s.counts ∙ tally_last s.taken row small;
+    counts = ap (λ (u : Written). counted_row u row) s.counts ∙ tally_last s.taken row small;
     wrote = λ front is_front.
         wrote (front ++ flat_map (form_text form) s.taken) (s.wrote front is_front)
         ∙ ap Some (append_assoc front (flat_map (form_text form) s.taken) text

@@ -84,13 +84,13 @@ HasOtherStats w h = (stats : Stats) × (blocks : List (List RowEntry)) × IsRead
 abbrev pub HasOtherKeys : Asked → SsTableHandle → Type 0
 HasOtherKeys w h = (stats : Stats) × (blocks : List (List RowEntry)) × IsRead w h stats blocks
     × (h.info.first_entry ≡ some_first (rows_of blocks) →
-        h.info.last_entry ≡ some_last (rows_of blocks) → ⊥)
+    h.info.last_entry ≡ some_last (rows_of blocks) → ⊥)
 
 -- a block whose rows don't follow those before it, or whose counts don't fit
 abbrev pub HasBadRows : Asked → SsTableHandle → List (ℕ × List ℕ) → ℕ → Type 0
 HasBadRows w h entries n =
     (blocks : List (List RowEntry)) × (rows : List RowEntry) × (length blocks ≡ n)
-        × HasBlocks w h entries (blocks ++ (rows ∷ [])) × (AreGood (blocks ++ (rows ∷ [])) → ⊥)
+    × HasBlocks w h entries (blocks ++ (rows ∷ [])) × (AreGood (blocks ++ (rows ∷ [])) → ⊥)
 
 -- at: the offset that is said
 abbrev pub IsFlawedIn : Asked → SsTableHandle → Part → Option ℕ → SlateDBError → Type 0
@@ -102,14 +102,14 @@ IsFlawedIn w h parts.Filters at e =
     (at ≡ Some h.info.filter_offset) × (0 < h.info.filter_len) × RefusesFiltersOf w h e
 IsFlawedIn w h (parts.Block n) at e =
     (entries : List (ℕ × List ℕ)) × FindsEntries w h entries × (n < length entries)
-        × (at ≡ Some (block_start h.info.filter_offset entries n))
+    × (at ≡ Some (block_start h.info.filter_offset entries n))
     × (RefusesRowsOf w h entries n e ⊎ HasBadRows w h entries n)
 
 abbrev pub IsFlawed : Asked → ℕ → Flaw → Type 0
 IsFlawed w id flaw =
     ((flaw.part ≡ parts.Info) × (flaw.offset ≡ None) × RefusesTable w id flaw.error)
     ⊎ ((h : SsTableHandle) × (h.id.0 ≡ id) × OpensTo w h
-        × IsFlawedIn w h flaw.part flaw.offset flaw.error)
+    × IsFlawedIn w h flaw.part flaw.offset flaw.error)
 
 abbrev pub IsChecked : Asked → ℕ → Checked → Type 0
 IsChecked w id (checks.Whole s) = IsWhole w id s

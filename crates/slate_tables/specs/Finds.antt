@@ -116,19 +116,19 @@ RefusesFiltersOf w h e =
 abbrev pub FindsBlock : Asked → SsTableHandle → List (ℕ × List ℕ) → ℕ → Block → Type 0
 FindsBlock w h entries block found =
     Finds w (λ objects decode a b. ReadsBlocks objects a b w.root h entries block (block + 1)
-        (λ answer. IsBlockRead decode (of_block h entries block answer) found))
+    (λ answer. IsBlockRead decode (of_block h entries block answer) found))
 
 abbrev pub RefusesBlockAt : Asked → SsTableHandle → List (ℕ × List ℕ) → ℕ → SlateDBError → Type 0
 RefusesBlockAt w h entries block e =
     Finds w (λ objects decode a b. ReadsBlocks objects a b w.root h entries block (block + 1)
-        (λ answer. RefusesBlock decode (of_block h entries block answer) e))
+    (λ answer. RefusesBlock decode (of_block h entries block answer) e))
 
 abbrev pub FindsRowsOf : Asked → SsTableHandle → List (ℕ × List ℕ) → ℕ → List RowEntry → Type 0
 FindsRowsOf w h entries block rows =
     Finds w (λ objects decode a b. ReadsBlocks objects a b w.root h entries block (block + 1)
-        (λ answer. AreRowsRead decode h.format_version (of_block h entries block answer) rows))
+    (λ answer. AreRowsRead decode h.format_version (of_block h entries block answer) rows))
 
 abbrev pub RefusesRowsOf : Asked → SsTableHandle → List (ℕ × List ℕ) → ℕ → SlateDBError → Type 0
 RefusesRowsOf w h entries block e =
     Finds w (λ objects decode a b. ReadsBlocks objects a b w.root h entries block (block + 1)
-        (λ answer. RefusesRows decode h.format_version (of_block h entries block answer) e))
+    (λ answer. RefusesRows decode h.format_version (of_block h entries block answer) e))

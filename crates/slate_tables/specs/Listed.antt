@@ -1,7 +1,9 @@
 -- Tables that are listed.
---     IsTableAt encode o      an object is a table of some rows, at the path of its id below the root
+--     StandsAtItsPath encode o      an object is a table of some rows, at the path of its id below
+--                            the root
 --     IsListed os ids      the objects rise by their paths, and these ids are those of all paths
---     ListedTablesAreHere      so they are the ids of tables that the objects hold, whose rows together
+--     ListedTablesAreHere      so they are the ids of tables that the objects hold, whose rows
+--                            together
 --                              are those that the objects hold
 use Rattle.std.specs.Prelude.{◌≡◌, ℕ, ◌^◌, ◌<◌, List, map}
 use Rattle.std.specs.List.{AllByRecursion}
@@ -17,9 +19,9 @@ use Rattle.slate_table.specs.Paths.{path_of}
 use Rattle.slate_table.specs.Stored.{HoldRows}
 use Rattle.slate_table.specs.Table.{IsTable}
 use Rattle.slate_read.specs.TableWalk.{root}
-use Rattle.slate_tables.specs.Opened.{AreTables}
+use Rattle.slate_tables.specs.Opened.{AreTablesOf}
 
-pub record IsTableAt (encode : Encode) (o : List ℕ × List ℕ) : Type 0 where
+pub record StandsAtItsPath (encode : Encode) (o : List ℕ × List ℕ) : Type 0 where
   pub id : ℕ
   pub version : ℕ
   pub rows : List RowEntry
@@ -34,6 +36,6 @@ pub record IsListed (os : Objects) (ids : List Ulid) : Type 0 where
 -- rows: what the objects hold. Each number of an object is a byte
 abbrev pub ListedTablesAreHere : Type 0
 ListedTablesAreHere = (m : Meaning) (os : Objects) (ids : List Ulid) (rows : List RowEntry) →
-    IsLawfulTransform m.encode m.decode → AllByRecursion (IsTableAt m.encode) os →
+    IsLawfulTransform m.encode m.decode → AllByRecursion (StandsAtItsPath m.encode) os →
     AllByRecursion (λ o. EachIsAByte o.1) os → IsListed os ids → HoldRows m.encode os rows →
-    (tables : List (List RowEntry)) × AreTables m.encode os ids tables × (all_rows tables ≡ rows)
+    (tables : List (List RowEntry)) × AreTablesOf m.encode os ids tables × (all_rows tables ≡ rows)

@@ -1,8 +1,11 @@
 -- What is written of a state.
---     WritesState m rows before after t      each row of the state that the rows fold to, as a `get`
+--     WritesState m rows before after t      each row of the state that the rows fold to, as a
+--                            `get`
 --                                            answers it, keys rising
---     WritesScript m rows before after t      a script of that state, which moves it into a new store
---     IsUnwrittenState form refuses handles before after e      why a state wasn't written: the sink
+--     WritesScript m rows before after t      a script of that state, which moves it into a new
+--                            store
+--     IsUnwrittenState form refuses handles before after e      why a state wasn't written: the
+--                            sink
 --                              failed, a row can't be written, a fault, or what was read is refused
 use Rattle.std.specs.Prelude.{◌≡◌, ◌+◌, ◌-◌, ◌^◌, ◌<◌, ◌⊎◌, ℕ, List, ◌++◌, flat_map, length}
 use Rattle.std.specs.Prelude.{Option, Some, is_some}
@@ -21,7 +24,7 @@ use Rattle.slate_tables.specs.Exported.{IsState}
 use Rattle.slate_tables.specs.Loading.{KeysPass}
 use Rattle.slate_tables.specs.LoadText.{script_of}
 use Rattle.slate_tables.specs.Moved.{Moves}
-use Rattle.slate_tables.specs.Reading.{IsRefusedRead, Refuses}
+use Rattle.slate_tables.specs.Reading.{ExportRefusal, IsRefusedRead}
 use Rattle.slate_tables.specs.Writing.{IsLoadable, IsUnwritten, state_line, tally}
 
 pub record WritesState (m : Meaning) (rows : List RowEntry) (before : List ℕ)
@@ -41,7 +44,7 @@ pub record WritesScript (m : Meaning) (rows : List RowEntry) (before : List ℕ)
   pub moves : (r : Rules) → r.combine ≡ m.combine → KeysPass r.segment out →
       r.start_seq + length out < 2 ^ 64 - 1 → Moves r rows out
 
-abbrev pub IsUnwrittenState : Form → Refuses → List SsTableHandle → ℕ → ℕ → Reach → Reach →
+abbrev pub IsUnwrittenState : Form → ExportRefusal → List SsTableHandle → ℕ → ℕ → Reach → Reach →
     SlateDBError → Type 0
 IsUnwrittenState form refuses handles faults later before after e =
     IsUnwritten form faults later e ⊎ IsRefusedRead refuses handles whole Ascending before after e

@@ -2,14 +2,18 @@
 --     state_line r      a row as a `get` answers it, with its line end
 --     row_script r      the lines of a script that make the row again
 --     form_text form r      the text of a row in a form
---     IsLoadable has r      a row that a line of a script makes again; has: whether there is an operator
+--     IsLoadable has r      a row that a line of a script makes again; has: whether there is an
+--                           operator
 --     Passes form has r      in a script each row is such a one
---     tally rows      how many rows these are, how many end before they were made, and their greatest
+--     tally rows      how many rows these are, how many end before they were made, and their
+--                     greatest
 --                     sequence
---     tallied t r      the same with one row more
---     WritesRows form has rows before after t      the sink took the text of each row, in their order
+--     counted_row t r      the same with one row more
+--     WritesRows form has rows before after t      the sink took the text of each row, in their
+--                            order
 --     WritesFront text rows before after      it took a front of these texts
---     IsRefusedRow has r e      why a row can't be loaded: its key, its value, or a missing operator
+--     IsRefusedRow has r e      why a row can't be loaded: its key, its value, or a missing
+--                            operator
 --     IsRefusedText form has r e, IsUnwritten form before after e      why a row wasn't written
 use Rattle.std.specs.Prelude.{◌≡◌, ℕ, ◌+◌, ◌^◌, ◌<◌, ◌≤◌, ◌⊎◌, max, Bool, true, false}
 use Rattle.std.specs.Prelude.{if◌then◌else◌}
@@ -28,7 +32,8 @@ use Rattle.slate_tables.specs.declared.export.Form.{Form}
 use Rattle.slate_tables.specs.declared.export.Form.TheVariants as forms
 use Rattle.slate_tables.specs.declared.export.Written.{Written}
 use Rattle.slate_tables.specs.Loading.{created}
-use Rattle.slate_tables.specs.LoadText.{capped, ends_before, greatest_seq, moved, now_line, write_line}
+use Rattle.slate_tables.specs.LoadText.{capped, count_moved, ends_before_made, greatest_of}
+use Rattle.slate_tables.specs.LoadText.{now_line, write_line}
 use mir.Syntax.{w64}
 
 -- ---- the text of a row
@@ -64,14 +69,14 @@ Passes forms.Script has r = IsLoadable has r
 abbrev pub tally : List RowEntry → Written
 tally rows = record {
   rows = capped (length rows);
-  moved = capped (moved rows);
-  greatest_seq = capped (greatest_seq rows);
+  moved = capped (count_moved rows);
+  greatest_seq = capped (greatest_of rows);
 }
 
-abbrev pub tallied : Written → RowEntry → Written
-tallied t r = record {
+abbrev pub counted_row : Written → RowEntry → Written
+counted_row t r = record {
   rows = capped (t.rows + 1);
-  moved = if ends_before r then capped (t.moved + 1) else t.moved;
+  moved = if ends_before_made r then capped (t.moved + 1) else t.moved;
   greatest_seq = max t.greatest_seq r.seq;
 }
 

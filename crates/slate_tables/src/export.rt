@@ -1,5 +1,6 @@
 //! The rows of an export, as they are written.
-ghost use Rattle.std.specs.Prelude.{◌≡◌, ◌≤◌, ◌⊎◌, ◌++◌, ◌∷◌, ℕ, List, None, Some, not, ◌&&◌, is_some, IfSome, FitsSigned, OnOk, IfOk, IfErr, IsOkUnless};
+ghost use Rattle.std.specs.Prelude.{◌≡◌, ◌≤◌, ◌⊎◌, ◌++◌, ◌∷◌, ℕ, List, None, Some, not, ◌&&◌};
+ghost use Rattle.std.specs.Prelude.{is_some, IfSome, FitsSigned, OnOk, IfOk, IfErr, IsOkUnless};
 ghost use mir.Syntax.{w64};
 ghost use Rattle.std.specs.List.{join_with_byte};
 ghost use Rattle.slate_types.specs.declared.error.SlateDBError.{SlateDBError};
@@ -10,8 +11,10 @@ ghost use Rattle.slate_types.specs.Rows.{is_operand, key_value, operand};
 ghost use Rattle.slate_types.specs.World.{Checks, Made, Sees, World};
 ghost use Rattle.slate_language.specs.Text.{shown_bytes};
 ghost use Rattle.slate_tables.specs.Loading.{moment, time_to_live};
-ghost use Rattle.slate_tables.specs.LoadText.{ends_before, op_words, ttl_words};
-ghost use Rattle.slate_tables.specs.Writing.{IsLoadable, IsRefusedRow, IsRefusedText, IsUnwritten, Passes, WritesRows, form_text, row_script, tallied};
+ghost use Rattle.slate_tables.specs.LoadText.{ends_before_made, op_words, ttl_words};
+ghost use Rattle.slate_tables.specs.Writing.{IsLoadable, IsRefusedRow, IsRefusedText, IsUnwritten};
+ghost use Rattle.slate_tables.specs.Writing.{Passes, WritesRows, counted_row, form_text};
+ghost use Rattle.slate_tables.specs.Writing.{row_script};
 
 use bytes::Bytes;
 use itoa::Buffer;
@@ -52,7 +55,7 @@ impl Written {
     }
 
     fn with(self, row: &RowEntry) -> Written
-        ensures { result ≡ tallied self row.now }
+        ensures { result ≡ counted_row self row.now }
     {
         let moved = if ends_before_it_was_made(row) {
             self.moved.saturating_add(1)
@@ -68,7 +71,7 @@ impl Written {
 }
 
 fn ends_before_it_was_made(row: &RowEntry) -> bool
-    ensures { result ≡ ends_before row.now }
+    ensures { result ≡ ends_before_made row.now }
 {
     match row.expire_ts {
         Some(end) => end < row.create_ts.unwrap_or(0),
@@ -209,7 +212,8 @@ fn push_ttl(text: &mut Vec<u8>, now: i64, expire_ts: Option<i64>) -> Result<(), 
 /// Adds the operation that makes a row again at a moment.
 fn push_op(alloc: Global, text: &mut Vec<u8>, row: &RowEntry, now: i64) -> Result<(), SlateDBError>
     ensures text { OnOk result (text.new.items ≡ text.old.items
-        ++ join_with_byte 32 (op_words row.now.key (time_to_live now row.now.expire_ts) row.now.value)) }
+        ++ join_with_byte 32
+        (op_words row.now.key (time_to_live now row.now.expire_ts) row.now.value)) }
     ensures cause { IsOkUnless result SlateDBError.OutOfMemory }
 {
     match &row.value {

@@ -1,5 +1,6 @@
 //! A reader of the tables of a store.
-ghost use Rattle.std.specs.Prelude.{◌≡◌, ◌≤◌, ◌⊎◌, ◌++◌, ℕ, List, Option, None, Some, Err, false, string_bytes, OnOk, IfOk, IfErr};
+ghost use Rattle.std.specs.Prelude.{◌≡◌, ◌≤◌, ◌⊎◌, ◌++◌, ℕ, List, Option, None, Some, Err, false};
+ghost use Rattle.std.specs.Prelude.{string_bytes, OnOk, IfOk, IfErr};
 ghost use Rattle.slate_types.specs.declared.error.SlateDBError.{SlateDBError};
 ghost use Rattle.slate_types.specs.declared.types.RowEntry.{RowEntry};
 ghost use Rattle.slate_types.specs.Fold.{operator_at};
@@ -11,7 +12,8 @@ ghost use Rattle.slate_merge.specs.Merge.{all_rows};
 ghost use Rattle.slate_read.specs.TableWalk.{root};
 ghost use Rattle.slate_table.specs.Reading.{IsStoreFault};
 ghost use Rattle.slate_tables.specs.Exported.{IsExport};
-ghost use Rattle.slate_tables.specs.Merging.{AreEach, AreReadable, export_rows, export_sound};
+ghost use Rattle.slate_tables.specs.Merging.{AreReadableTables, MatchEach, export_rows};
+ghost use Rattle.slate_tables.specs.Merging.{export_sound};
 ghost use Rattle.slate_tables.specs.Opened.{MayRefuse, WasOpened};
 ghost use Rattle.slate_tables.specs.Reading.{IsRefusedRead, RefusesNew};
 
@@ -32,8 +34,8 @@ pub struct Tables {
 }
 
 impl Tables {
-    /// Opens the tables of these ids, the oldest first, by three calls of the store each. They stand
-    /// below the root `db`. `StoreFault`, only if the store's count of faults rose; what
+    /// Opens the tables of these ids, the oldest first, by three calls of the store each. They
+    /// stand below the root `db`. `StoreFault`, only if the store's count of faults rose; what
     /// `SstReader::open` refuses one of them for; or `OutOfMemory`.
     pub fn open<S: Store, T: BlockTransformer>(
         alloc: Global,
@@ -42,7 +44,7 @@ impl Tables {
     ) -> Result<Tables, SlateDBError>
         requires root { string_bytes reader.now.root_path ≡ root }
         ensures opened { IfOk result (λ tables.
-            AreEach (WasOpened (S.objects reader.old.store)) ids.now tables.handles.items) }
+            MatchEach (WasOpened (S.objects reader.old.store)) ids.now tables.handles.items) }
         ensures cause { IfErr result (λ e.
             IsStoreFault (S.faults reader.old.store) (S.faults reader.new.store) e
             ⊎ MayRefuse (S.objects reader.old.store) ids.now e) }
@@ -61,8 +63,9 @@ impl Tables {
         Ok(Tables { handles })
     }
 
-    /// Returns the rows in a range, in an order: of each key the row that the rows of all tables fold
-    /// to. The index of each table is read, and the first block that can hold keys of the range.
+    /// Returns the rows in a range, in an order: of each key the row that the rows of all tables
+    /// fold to. The index of each table is read, and the first block that can hold keys of the
+    /// range.
     ///
     /// In a world in which the tables are read, these are just the rows that they fold to, and no
     /// damage is answered. Else damage is answered only for what this call read.
@@ -75,24 +78,30 @@ impl Tables {
     ) -> Result<Export, SlateDBError>
         requires range { is_refused range.now.start range.now.end ≡ false }
         ensures rows { let reach = ⟦<EnvOf<S, M, T> as Outside>⟧.reach in
-            (w : World) (tables : List (List RowEntry)) → AreReadable w self.now.handles.items tables →
+            (w : World) (tables : List (List RowEntry)) →
+            AreReadableTables w self.now.handles.items tables →
             Sees w (reach env.old) (reach env.new) → IfOk result (λ rows. export_sound rows w
-            × IsExport (operator_at w.meaning.combine) order range.now (all_rows tables) (export_rows rows w)) }
+            × IsExport (operator_at w.meaning.combine) order range.now (all_rows tables)
+            (export_rows rows w)) }
         ensures checked { let reach = ⟦<EnvOf<S, M, T> as Outside>⟧.reach in
-            (w : World) (tables : List (List RowEntry)) → AreReadable w self.now.handles.items tables →
+            (w : World) (tables : List (List RowEntry)) →
+            AreReadableTables w self.now.handles.items tables →
             OnOk result (Checks w (reach env.old) (reach env.new)) }
         ensures undamaged { let reach = ⟦<EnvOf<S, M, T> as Outside>⟧.reach in
-            (w : World) (tables : List (List RowEntry)) → AreReadable w self.now.handles.items tables →
+            (w : World) (tables : List (List RowEntry)) →
+            AreReadableTables w self.now.handles.items tables →
             Sees w (reach env.old) (reach env.new) → IfErr result (λ e. ¬ IsDamage e) }
         ensures later { let reach = ⟦<EnvOf<S, M, T> as Outside>⟧.reach in
             let refuses = ⟦<Export as RowEntryIterator<EnvOf<S, M, T>>>⟧.refuses in
             IfOk result (λ rows. Made (reach env.old) (reach env.new) (λ reads.
             (more : List Act) (at : Option (List ℕ)) (e : SlateDBError) →
             refuses rows (reach env.old).meaning more at e →
-            RefusesNew refuses self.now.handles.items range.now order (reach env.old).meaning (reads ++ more) at e)) }
+            RefusesNew refuses self.now.handles.items range.now order (reach env.old).meaning
+            (reads ++ more) at e)) }
         ensures cause { let reach = ⟦<EnvOf<S, M, T> as Outside>⟧.reach in
             let refuses = ⟦<Export as RowEntryIterator<EnvOf<S, M, T>>>⟧.refuses in
-            IfErr result (IsRefusedRead refuses self.now.handles.items range.now order (reach env.old) (reach env.new)) }
+            IfErr result (IsRefusedRead refuses self.now.handles.items range.now order
+            (reach env.old) (reach env.new)) }
         ensures reads { let reach = ⟦<EnvOf<S, M, T> as Outside>⟧.reach in
             OnlyReads (reach env.old) (reach env.new) }
         ensures counts { let reach = ⟦<EnvOf<S, M, T> as Outside>⟧.reach in
@@ -117,7 +126,8 @@ fn begin<E: Outside, I: RowEntryIterator<E>>(
     ensures undamaged { (w : World) → Sees w (E.reach env.old) (E.reach env.new) → I.sound rows w →
         IfErr result (λ e. ¬ IsDamage e) }
     ensures later { IfOk result (λ it. Made (E.reach env.old) (E.reach env.new) (λ reads.
-        NoMore (I.refuses rows (E.reach env.old).meaning) reads (I.refuses it (E.reach env.old).meaning))) }
+        NoMore (I.refuses rows (E.reach env.old).meaning) reads
+        (I.refuses it (E.reach env.old).meaning))) }
     ensures cause { IfErr result (λ e. Made (E.reach env.old) (E.reach env.new) (λ reads.
         IsFault (E.reach env.old) (E.reach env.new) e
         ⊎ I.refuses rows (E.reach env.old).meaning reads None e)) }

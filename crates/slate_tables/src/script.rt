@@ -6,7 +6,7 @@ ghost use Rattle.slate_types.specs.Outside.{IsStill, Objects, OnlyReads};
 ghost use Rattle.slate_types.specs.Refusing.{IsDamage};
 ghost use Rattle.slate_merge.specs.Merge.{all_rows};
 ghost use Rattle.slate_tables.specs.LoadText.{last_words};
-ghost use Rattle.slate_tables.specs.Opened.{AreHeld};
+ghost use Rattle.slate_tables.specs.Opened.{AreHeldTables};
 ghost use Rattle.slate_tables.specs.States.{IsUnwrittenState, WritesScript};
 
 use crate::export::{Form, Written, write_rows};
@@ -23,9 +23,9 @@ use std::alloc::{AllocError, Global};
 /// Writes a script that loads the state to which the tables fold into a new store: for each row the
 /// lines `now` and `write`, keys rising, between two comments. The last one counts the rows.
 ///
-/// Run over a new store with the same operator, each line has its reply, and the state after it is that
-/// of the tables, but for sequences. A row that ends before it was made is made at its end, and counted
-/// as moved. The run's words must let the keys pass: without segments they do.
+/// Run over a new store with the same operator, each line has its reply, and the state after it is
+/// that of the tables, but for sequences. A row that ends before it was made is made at its end,
+/// and counted as moved. The run's words must let the keys pass: without segments they do.
 pub fn write_script<S: Store, M: MergeOperator, T: BlockTransformer, W: Sink>(
     alloc: Global,
     tables: &Tables,
@@ -35,12 +35,13 @@ pub fn write_script<S: Store, M: MergeOperator, T: BlockTransformer, W: Sink>(
     ensures honest { let reach = ⟦<EnvOf<S, M, T> as Outside>⟧.reach in
         (os : Objects) (lists : List (List RowEntry)) (before : List ℕ) →
         (reach env.old).objects ≡ Some os →
-        AreHeld (reach env.old).meaning os tables.now.handles.items lists →
+        AreHeldTables (reach env.old).meaning os tables.now.handles.items lists →
         W.content sink.old ≡ Some before →
-        IfOk result (WritesScript (reach env.old).meaning (all_rows lists) before (W.content sink.new)) }
+        IfOk result (WritesScript (reach env.old).meaning (all_rows lists) before
+        (W.content sink.new)) }
     ensures undamaged { let reach = ⟦<EnvOf<S, M, T> as Outside>⟧.reach in
         (os : Objects) (lists : List (List RowEntry)) → (reach env.old).objects ≡ Some os →
-        AreHeld (reach env.old).meaning os tables.now.handles.items lists →
+        AreHeldTables (reach env.old).meaning os tables.now.handles.items lists →
         IfErr result (λ e. ¬ IsDamage e) }
     ensures cause { let reach = ⟦<EnvOf<S, M, T> as Outside>⟧.reach in
         let refuses = ⟦<Export as RowEntryIterator<EnvOf<S, M, T>>>⟧.refuses in

@@ -5,7 +5,7 @@ ghost use Rattle.slate_types.specs.declared.types.RowEntry.{RowEntry};
 ghost use Rattle.slate_types.specs.Outside.{IsStill, Objects, OnlyReads};
 ghost use Rattle.slate_types.specs.Refusing.{IsDamage};
 ghost use Rattle.slate_merge.specs.Merge.{all_rows};
-ghost use Rattle.slate_tables.specs.Opened.{AreHeld};
+ghost use Rattle.slate_tables.specs.Opened.{AreHeldTables};
 ghost use Rattle.slate_tables.specs.States.{IsUnwrittenState, WritesState};
 
 use crate::export::{Form, Written, write_rows};
@@ -20,9 +20,9 @@ use std::alloc::Global;
 
 /// Writes the state that the tables fold to: each key's row as the line of a `get`, keys rising.
 ///
-/// If the store's objects are told and hold the tables, these are just the rows of that state, and no
-/// damage is answered. Whatever the store answers, damage is answered only for what this call read. It
-/// puts nothing. After an error a front of the lines was written.
+/// If the store's objects are told and hold the tables, these are just the rows of that state, and
+/// no damage is answered. Whatever the store answers, damage is answered only for what this call
+/// read. It puts nothing. After an error a front of the lines was written.
 pub fn write_state<S: Store, M: MergeOperator, T: BlockTransformer, W: Sink>(
     alloc: Global,
     tables: &Tables,
@@ -32,12 +32,13 @@ pub fn write_state<S: Store, M: MergeOperator, T: BlockTransformer, W: Sink>(
     ensures honest { let reach = ⟦<EnvOf<S, M, T> as Outside>⟧.reach in
         (os : Objects) (lists : List (List RowEntry)) (before : List ℕ) →
         (reach env.old).objects ≡ Some os →
-        AreHeld (reach env.old).meaning os tables.now.handles.items lists →
+        AreHeldTables (reach env.old).meaning os tables.now.handles.items lists →
         W.content sink.old ≡ Some before →
-        IfOk result (WritesState (reach env.old).meaning (all_rows lists) before (W.content sink.new)) }
+        IfOk result (WritesState (reach env.old).meaning (all_rows lists) before
+        (W.content sink.new)) }
     ensures undamaged { let reach = ⟦<EnvOf<S, M, T> as Outside>⟧.reach in
         (os : Objects) (lists : List (List RowEntry)) → (reach env.old).objects ≡ Some os →
-        AreHeld (reach env.old).meaning os tables.now.handles.items lists →
+        AreHeldTables (reach env.old).meaning os tables.now.handles.items lists →
         IfErr result (λ e. ¬ IsDamage e) }
     ensures cause { let reach = ⟦<EnvOf<S, M, T> as Outside>⟧.reach in
         let refuses = ⟦<Export as RowEntryIterator<EnvOf<S, M, T>>>⟧.refuses in
