@@ -1,20 +1,24 @@
 -- Rows that are written one by one.
 use Rattle.std.proofs.Common.{◌≡◌, ◌⊎◌, inl, inr, ℕ, ◌+◌, ◌-◌, ◌^◌, ◌≤◌, min, max, Bool, true, false, not, ◌&&◌, cond, List, [], ◌∷◌, ◌++◌, flat_map, length, Option, Some, None, refl, sym, ap, subst, ◌∙◌, arith, append-nil, append_assoc}
-use Rattle.std.specs.Prelude.{count_by}
+use Rattle.std.specs.Prelude.{count_by, IfErr, OnOk, Result, Ok, Err}
 use Rattle.std.specs.List.{AllByRecursion}
 use Rattle.std.proofs.lemmas.List.{length-append}
 use Rattle.std.proofs.lemmas.List.Concat.{flat_map-append}
 use Rattle.std.proofs.lemmas.Bool.Decides.{nat_tests}
 use Rattle.slate_types.specs.declared.error.SlateDBError.{SlateDBError}
+use Rattle.slate_types.specs.declared.error.SlateDBError.TheVariants as errors
 use Rattle.slate_types.specs.declared.types.RowEntry.{RowEntry}
+use Rattle.slate_types.specs.Faults.{Rose}
 use Rattle.slate_types.specs.Outside.{Act, Meaning, Reach}
+use Rattle.slate_types.specs.Refusing.{IsDamage}
 use Rattle.slate_types.specs.World.{World}
 use Rattle.slate_types.proofs.Lists.{AllByRecursion_push}
 use Rattle.slate_types.proofs.Walked.{Walked}
 use Rattle.slate_tables.specs.declared.export.Form.{Form}
+use Rattle.slate_tables.specs.declared.export.Form.TheVariants as forms
 use Rattle.slate_tables.specs.declared.export.Written.{Written}
 use Rattle.slate_tables.specs.LoadText.{capped, count_moved, ends_before_made, greatest_of}
-use Rattle.slate_tables.specs.Writing.{Passes, WritesRows, counted_row, form_text, tally}
+use Rattle.slate_tables.specs.Writing.{IsRefusedRow, IsRefusedText, IsUnwritten, Passes, WritesRows, counted_row, form_text, tally}
 
 -- ---- counts
 
@@ -49,6 +53,32 @@ pub has_it : (o h : Bool) → (o && not h) ≡ false → o ≡ true → h ≡ tr
 has_it true true none is = refl
 has_it true false none is = cc
 has_it false h none is = cc
+
+-- ---- one row
+
+pub on_ok : {A E : Type 0} (r : Result A E) (P : Type 0) → P → OnOk r P
+on_ok (Ok x) P p = p
+on_ok (Err e) P p = tt
+
+pub wrote_cause : {A : Type 0} (form : Form) (i j : ℕ) (r : Result A SlateDBError) → IfErr r (λ e. (e ≡ errors.WriteFault) × Rose i j) → IfErr r (IsUnwritten form i j)
+wrote_cause form i j (Ok x) h = tt
+wrote_cause form i j (Err e) h = inl h
+
+row_undamaged : (has : Bool) (r : RowEntry) (e : SlateDBError) → IsRefusedRow has r e → ¬ IsDamage e
+row_undamaged has r errors.EmptyKey h = λ d. d
+row_undamaged has r (errors.KeyTooLong n) h = λ d. d
+row_undamaged has r (errors.ValueTooLong n) h = λ d. d
+row_undamaged has r errors.MergeOperatorMissing h = λ d. d
+row_undamaged has r _ h = absurd h
+
+text_undamaged : (form : Form) (has : Bool) (r : RowEntry) (e : SlateDBError) → IsRefusedText form has r e → ¬ IsDamage e
+text_undamaged forms.State has r e h = λ d. subst IsDamage h d
+text_undamaged forms.Script has r e (inl h) = λ d. subst IsDamage h d
+text_undamaged forms.Script has r e (inr h) = row_undamaged has r e h
+
+pub unwritten_undamaged : (form : Form) (i j : ℕ) (e : SlateDBError) → IsUnwritten form i j e → ¬ IsDamage e
+unwritten_undamaged form i j e (inl h) = λ d. subst IsDamage h.0 d
+unwritten_undamaged form i j e (inr h) = text_undamaged form h.0 h.1 e h.2
 
 -- ---- some rows were written
 

@@ -1,6 +1,6 @@
 //! The rows of an export, as they are written.
-ghost use Rattle.std.specs.Prelude.{◌≡◌, ◌≤◌, ◌⊎◌, ◌++◌, ◌∷◌, ℕ, List, None, Some, not, ◌&&◌};
-ghost use Rattle.std.specs.Prelude.{is_some, IfSome, FitsSigned, OnOk, IfOk, IfErr, IsOkUnless};
+ghost use Rattle.std.specs.Prelude.{◌≡◌, ◌≤◌, ◌⊎◌, ◌-◌, ◌^◌, ◌++◌, ◌∷◌, ℕ, List, None, Some};
+ghost use Rattle.std.specs.Prelude.{not, ◌&&◌, is_some, IfSome, FitsSigned, OnOk, IfOk, IfErr, IsOkUnless};
 ghost use mir.Syntax.{w64};
 ghost use Rattle.std.specs.List.{join_with_byte};
 ghost use Rattle.slate_types.specs.declared.error.SlateDBError.{SlateDBError};
@@ -9,12 +9,14 @@ ghost use Rattle.slate_types.specs.Outside.{IsFault, IsStill, OnlyReads};
 ghost use Rattle.slate_types.specs.Refusing.{IsDamage};
 ghost use Rattle.slate_types.specs.Rows.{is_operand, key_value, operand};
 ghost use Rattle.slate_types.specs.World.{Checks, Made, Sees, World};
+ghost use Rattle.slate_txn.specs.Reply.{Found};
+ghost use Rattle.slate_language.specs.Replies.{reply_line};
 ghost use Rattle.slate_language.specs.Text.{shown_bytes};
 ghost use Rattle.slate_tables.specs.Loading.{moment, time_to_live};
 ghost use Rattle.slate_tables.specs.LoadText.{ends_before_made, op_words, ttl_words};
 ghost use Rattle.slate_tables.specs.Writing.{IsLoadable, IsRefusedRow, IsRefusedText, IsUnwritten};
 ghost use Rattle.slate_tables.specs.Writing.{Passes, WritesRows, counted_row, form_text};
-ghost use Rattle.slate_tables.specs.Writing.{row_script};
+ghost use Rattle.slate_tables.specs.Writing.{row_script, state_line};
 
 use bytes::Bytes;
 use itoa::Buffer;
@@ -251,6 +253,44 @@ fn script_lines(alloc: Global, row: &RowEntry) -> Result<Vec<u8>, SlateDBError>
     Ok(text)
 }
 
+/// Returns a row as a `get` answers it, with its line end. The one error is `OutOfMemory`.
+fn state_text(alloc: Global, row: &RowEntry) -> Result<Vec<u8>, SlateDBError>
+    ensures text { IfOk result (λ text. text.items ≡ state_line row.now) }
+    ensures cause { IsOkUnless result SlateDBError.OutOfMemory }
+{
+    match shown(row) {
+        Ok(found) => found_text(alloc, found),
+        Err(error) => Err(SlateDBError::from(error)),
+    }
+}
+
+fn found_text(alloc: Global, found: KeyValue) -> Result<Vec<u8>, SlateDBError>
+    ensures text { IfOk result (λ text. text.items ≡ reply_line (Found (Some found))) }
+    ensures cause { IsOkUnless result SlateDBError.OutOfMemory }
+{
+    let answer = Answer::Found(Some(found));
+    let text = reply_text(alloc, &answer);
+    drop(answer);
+    match text {
+        Ok(text) => Ok(text),
+        Err(error) => Err(SlateDBError::from(error)),
+    }
+}
+
+/// Returns the lines of a script that make a row again. Refuses a row that none makes again, or by
+/// `OutOfMemory`.
+fn loaded_text(alloc: Global, row: &RowEntry, has_operator: bool) -> Result<Vec<u8>, SlateDBError>
+    ensures text { IfOk result (λ text. text.items ≡ row_script row.now) }
+    ensures loads { OnOk result (IsLoadable has_operator row.now) }
+    ensures cause { IfErr result (λ e. (e ≡ SlateDBError.OutOfMemory)
+        ⊎ IsRefusedRow has_operator row.now e) }
+{
+    match check_row(row, has_operator) {
+        Ok(()) => script_lines(alloc, row),
+        Err(error) => Err(error),
+    }
+}
+
 /// Returns the text of a row in a form. Refuses a row that no line of a script makes again, or by
 /// `OutOfMemory`.
 fn row_text(
@@ -264,18 +304,46 @@ fn row_text(
     ensures cause { IfErr result (IsRefusedText form has_operator row.now) }
 {
     match form {
-        Form::State => {
-            let answer = Answer::Found(Some(shown(row)?));
-            reply_text(alloc, &answer).map_err(SlateDBError::from)
-        }
-        Form::Script => {
-            check_row(row, has_operator)?;
-            script_lines(alloc, row)
-        }
+        Form::State => state_text(alloc, row),
+        Form::Script => loaded_text(alloc, row, has_operator),
     }
 }
 
 // ---- all rows
+
+/// Writes the text of a row in a form.
+fn write_row<W: Sink>(
+    alloc: Global,
+    form: Form,
+    row: &RowEntry,
+    has_operator: bool,
+    sink: &mut W,
+) -> Result<(), SlateDBError>
+    ensures text { (before : List ℕ) → W.content sink.old ≡ Some before →
+        OnOk result (W.content sink.new ≡ Some (before ++ form_text form row.now)) }
+    ensures passes { OnOk result (Passes form has_operator row.now) }
+    ensures fits { row.now.seq ≤ 2 ^ 64 - 1 }
+    ensures cause { IfErr result (IsUnwritten form (W.faults sink.old) (W.faults sink.new)) }
+    ensures later { W.faults sink.old ≤ W.faults sink.new }
+    ensures still { OnOk result (W.faults sink.new ≡ W.faults sink.old) }
+{
+    is_sequence(row.seq);
+    match row_text(alloc, form, row, has_operator) {
+        Ok(text) => {
+            let done = write_all(sink, text.as_slice());
+            drop(text);
+            done
+        }
+        Err(error) => Err(error),
+    }
+}
+
+/// The number has 64 bits.
+fn is_sequence(seq: u64)
+    ensures { seq ≤ 2 ^ 64 - 1 }
+{
+    let _ = seq;
+}
 
 /// Writes the rows that are left, each as its text, and returns what was written.
 pub(crate) fn write_rows<E: Operates, I: RowEntryIterator<E>, W: Sink>(
@@ -305,9 +373,10 @@ pub(crate) fn write_rows<E: Operates, I: RowEntryIterator<E>, W: Sink>(
     let has_operator = env.has_operator();
     let mut written = Written::none();
     while let Some(row) = rows.next(alloc, env)? {
-        written = written.with(&row);
-        let text = row_text(alloc, form, &row, has_operator)?;
-        write_all(sink, text.as_slice())?;
+        match write_row(alloc, form, &row, has_operator, sink) {
+            Ok(()) => written = written.with(&row),
+            Err(error) => return Err(error),
+        }
     }
     Ok(written)
 }
