@@ -27,3 +27,4 @@ pub mod Undamaged
 pub mod Writings
 pub mod Movings
 pub mod ListedTables
+pub mod Openings

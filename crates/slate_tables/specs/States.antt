@@ -1,12 +1,12 @@
 -- What is written of a state.
---     WritesState m rows before after t      each row of the state that the rows fold to, as a
---                            `get`
---                                            answers it, keys rising
+--     WritesExport form m rows before after t      in a form each row of the state that the rows
+--                            fold to, keys rising
+--     WritesState m rows before after t      the same, as a `get` answers it
 --     WritesScript m rows before after t      a script of that state, which moves it into a new
 --                            store
 --     IsUnwrittenState form refuses handles before after e      why a state wasn't written: the
---                            sink
---                              failed, a row can't be written, a fault, or what was read is refused
+--                            sink failed, a row can't be written, a fault, or what was read is
+--                            refused
 use Rattle.std.specs.Prelude.{◌≡◌, ◌+◌, ◌-◌, ◌^◌, ◌<◌, ◌⊎◌, ℕ, List, ◌++◌, flat_map, length}
 use Rattle.std.specs.Prelude.{Option, Some, is_some}
 use Rattle.std.specs.List.{AllByRecursion}
@@ -20,12 +20,19 @@ use Rattle.slate_table.specs.declared.info.SsTableHandle.{SsTableHandle}
 use Rattle.slate_txn.specs.State.{Rules}
 use Rattle.slate_tables.specs.declared.export.Form.{Form}
 use Rattle.slate_tables.specs.declared.export.Written.{Written}
-use Rattle.slate_tables.specs.Exported.{IsState}
+use Rattle.slate_tables.specs.Exported.{IsExport, IsState}
 use Rattle.slate_tables.specs.Loading.{KeysPass}
 use Rattle.slate_tables.specs.LoadText.{script_of}
 use Rattle.slate_tables.specs.Moved.{Moves}
 use Rattle.slate_tables.specs.Reading.{ExportRefusal, IsRefusedRead}
-use Rattle.slate_tables.specs.Writing.{IsLoadable, IsUnwritten, state_line, tally}
+use Rattle.slate_tables.specs.Writing.{IsUnwritten, WritesRows, state_line, tally}
+
+-- out: the rows that are written
+abbrev pub WritesExport : Form → Meaning → List RowEntry → List ℕ → Option (List ℕ) → Written →
+    Type 0
+WritesExport form m rows before after t =
+    (out : List RowEntry) × IsExport (operator_at m.combine) Ascending whole rows out
+    × WritesRows form (is_some m.combine) out before after t
 
 pub record WritesState (m : Meaning) (rows : List RowEntry) (before : List ℕ)
     (after : Option (List ℕ)) (t : Written) : Type 0 where

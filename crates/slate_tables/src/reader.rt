@@ -1,5 +1,5 @@
 //! A reader of the tables of a store.
-ghost use Rattle.std.specs.Prelude.{◌≡◌, ◌≤◌, ◌⊎◌, ◌++◌, ℕ, List, Option, None, Some, Err, false};
+ghost use Rattle.std.specs.Prelude.{◌≡◌, ◌≤◌, ◌⊎◌, ◌++◌, ◌∷◌, [], ℕ, List, Option, None, Some, Err, false};
 ghost use Rattle.std.specs.Prelude.{string_bytes, OnOk, IfOk, IfErr};
 ghost use Rattle.slate_types.specs.declared.error.SlateDBError.{SlateDBError};
 ghost use Rattle.slate_types.specs.declared.types.RowEntry.{RowEntry};
@@ -57,8 +57,10 @@ impl Tables {
     {
         let mut handles = Vec::new(alloc);
         for id in ids {
-            let file = reader.open(alloc, *id)?;
-            handles.push(file.handle)?;
+            match open_handle(alloc, reader, *id) {
+                Ok(handle) => handles.push(handle)?,
+                Err(error) => return Err(error),
+            }
         }
         Ok(Tables { handles })
     }
@@ -110,6 +112,30 @@ impl Tables {
         let sources = table_sources(alloc, self.handles.as_slice(), range, order)?;
         let rows = merged(alloc, sources, order);
         begin(alloc, rows, env)
+    }
+}
+
+/// Opens one table.
+fn open_handle<S: Store, T: BlockTransformer>(
+    alloc: Global,
+    reader: &mut SstReader<S, T>,
+    id: Ulid,
+) -> Result<SsTableHandle, SlateDBError>
+    requires { string_bytes reader.now.root_path ≡ root }
+    ensures opened { IfOk result (WasOpened (S.objects reader.old.store) id) }
+    ensures cause { IfErr result (λ e.
+        IsStoreFault (S.faults reader.old.store) (S.faults reader.new.store) e
+        ⊎ MayRefuse (S.objects reader.old.store) (id ∷ []) e) }
+    ensures objects { S.objects reader.new.store ≡ S.objects reader.old.store }
+    ensures root { reader.new.root_path ≡ reader.old.root_path }
+    ensures transformer { reader.new.transformer ≡ reader.old.transformer }
+    ensures later { S.faults reader.old.store ≤ S.faults reader.new.store }
+    ensures still { (result ≡ Err SlateDBError.StoreFault)
+        ⊎ (S.faults reader.new.store ≡ S.faults reader.old.store) }
+{
+    match reader.open(alloc, id) {
+        Ok(file) => Ok(file.handle),
+        Err(error) => Err(error),
     }
 }
 

@@ -1,7 +1,8 @@
 //! The state that tables fold to, as a script that loads it into a new store.
-ghost use Rattle.std.specs.Prelude.{◌≡◌, ◌≤◌, ◌++◌, ◌∷◌, [], ℕ, List, Some, OnOk, IfOk, IfErr};
+ghost use Rattle.std.specs.Prelude.{◌≡◌, ◌≤◌, ◌⊎◌, ◌++◌, ◌∷◌, [], ℕ, List, Some, OnOk, IfOk, IfErr};
 ghost use Rattle.slate_types.specs.declared.error.SlateDBError.{SlateDBError};
 ghost use Rattle.slate_types.specs.declared.types.RowEntry.{RowEntry};
+ghost use Rattle.slate_types.specs.Faults.{Rose};
 ghost use Rattle.slate_types.specs.Outside.{IsStill, Objects, OnlyReads};
 ghost use Rattle.slate_types.specs.Refusing.{IsDamage};
 ghost use Rattle.slate_merge.specs.Merge.{all_rows};
@@ -9,15 +10,13 @@ ghost use Rattle.slate_tables.specs.LoadText.{last_words};
 ghost use Rattle.slate_tables.specs.Opened.{AreHeldTables};
 ghost use Rattle.slate_tables.specs.States.{IsUnwrittenState, WritesScript};
 
-use crate::export::{Form, Written, write_rows};
+use crate::export::{Form, Written};
 use crate::merging::Export;
 use crate::reader::Tables;
+use crate::state::write_tables;
 use itoa::Buffer;
 use slate_store::{Env, EnvOf, Sink, Store, write_all};
-use slate_types::{
-    BlockTransformer, BytesRange, IterationOrder, MergeOperator, Outside, RowEntryIterator,
-    SlateDBError,
-};
+use slate_types::{BlockTransformer, MergeOperator, Outside, RowEntryIterator, SlateDBError};
 use std::alloc::{AllocError, Global};
 
 /// Writes a script that loads the state to which the tables fold into a new store: for each row the
@@ -54,13 +53,42 @@ pub fn write_script<S: Store, M: MergeOperator, T: BlockTransformer, W: Sink>(
     ensures later { W.faults sink.old ≤ W.faults sink.new }
     ensures still { OnOk result (W.faults sink.new ≡ W.faults sink.old) }
 {
-    let range = BytesRange::unbounded();
-    let mut rows = tables.scan(alloc, &range, IterationOrder::Ascending, env)?;
-    write_all(sink, b"# for a new store\n")?;
-    let written = write_rows(alloc, Form::Script, &mut rows, env, sink)?;
-    let last = last_line(alloc, written)?;
-    write_all(sink, last.as_slice())?;
-    Ok(written)
+    match write_all(sink, b"# for a new store\n") {
+        Ok(()) => match write_tables(alloc, Form::Script, tables, env, sink) {
+            Ok(written) => write_last(alloc, written, sink),
+            Err(error) => Err(error),
+        },
+        Err(error) => Err(error),
+    }
+}
+
+/// Writes the last comment, and returns what it says. The errors are `OutOfMemory` and
+/// `WriteFault`.
+fn write_last<W: Sink>(
+    alloc: Global,
+    written: Written,
+    sink: &mut W,
+) -> Result<Written, SlateDBError>
+    ensures text { (before : List ℕ) → W.content sink.old ≡ Some before →
+        OnOk result (W.content sink.new ≡ Some (before
+        ++ (last_words written.rows written.moved written.greatest_seq ++ (10 ∷ [])))) }
+    ensures same { IfOk result (λ told. told ≡ written) }
+    ensures cause { IfErr result (λ e. (e ≡ SlateDBError.OutOfMemory)
+        ⊎ ((e ≡ SlateDBError.WriteFault) × Rose (W.faults sink.old) (W.faults sink.new))) }
+    ensures later { W.faults sink.old ≤ W.faults sink.new }
+    ensures still { OnOk result (W.faults sink.new ≡ W.faults sink.old) }
+{
+    match last_line(alloc, written) {
+        Ok(line) => {
+            let done = write_all(sink, line.as_slice());
+            drop(line);
+            match done {
+                Ok(()) => Ok(written),
+                Err(error) => Err(error),
+            }
+        }
+        Err(error) => Err(SlateDBError::from(error)),
+    }
 }
 
 /// Returns the last comment, with its line end. The one error is `OutOfMemory`.
