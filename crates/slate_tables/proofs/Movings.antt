@@ -1,23 +1,28 @@
 -- A script that was written moves the state.
-use Rattle.std.proofs.Common.{◌≡◌, ℕ, ◌+◌, ◌-◌, ◌^◌, ◌<◌, Bool, true, false, List, [], ◌∷◌, ◌++◌, flat_map, length, Option, Some, None, is_some, ℤ, refl, sym, ap, subst, ◌∙◌, append_assoc}
-use Rattle.std.specs.Prelude.{IfSome, FitsSigned, nat_abs, ◌-ℤ◌}
+use Rattle.std.proofs.Common.{◌≡◌, ◌⊎◌, inl, inr, ℕ, ◌+◌, ◌-◌, ◌^◌, ◌<◌, Bool, true, false, List, [], ◌∷◌, ◌++◌, flat_map, length, Option, Some, None, is_some, ℤ, refl, sym, ap, subst, ◌∙◌, append_assoc}
+use Rattle.std.specs.Prelude.{IfOk, IfSome, OnOk, Result, Ok, Err, FitsSigned, nat_abs, ◌-ℤ◌}
 use Rattle.std.specs.List.{AllByRecursion}
 use Rattle.slate_types.specs.declared.bytes_range.BytesRange.{BytesRange}
+use Rattle.slate_types.specs.declared.error.SlateDBError.{SlateDBError}
+use Rattle.slate_types.specs.declared.error.SlateDBError.TheVariants as errors
 use Rattle.slate_types.specs.declared.iter.IterationOrder.TheVariants.{Ascending}
 use Rattle.slate_types.specs.declared.types.RowEntry.{RowEntry}
+use Rattle.slate_types.specs.declared.types.ValueDeletable.TheVariants.{Tombstone}
+use Rattle.slate_types.specs.Faults.{Rose}
 use Rattle.slate_types.specs.Fold.{Combine, operator_at}
 use Rattle.slate_types.specs.Keys.{whole}
 use Rattle.slate_types.specs.Outside.{Meaning}
+use Rattle.slate_types.specs.Refusing.{IsDamage}
 use Rattle.slate_types.specs.Rows.{is_tombstone}
 use Rattle.slate_txn.specs.State.{Rules}
 use Rattle.slate_tables.specs.declared.export.Form.TheVariants as forms
 use Rattle.slate_tables.specs.declared.export.Written.{Written}
 use Rattle.slate_tables.specs.Exported.{IsExport, IsState}
 use Rattle.slate_tables.specs.Loading.{IsReached, KeysPass, created, earlier, moment}
-use Rattle.slate_tables.specs.LoadText.{first_line, last_line, load_script, now_line, script_of, write_line}
+use Rattle.slate_tables.specs.LoadText.{first_line, last_line, last_words, load_script, now_line, script_of, write_line}
 use Rattle.slate_tables.specs.Moved.{CanMove, Moves}
-use Rattle.slate_tables.specs.States.{WritesScript, WritesState}
-use Rattle.slate_tables.specs.Writing.{IsLoadable, Passes, WritesRows, form_text, row_script, state_line, tally}
+use Rattle.slate_tables.specs.States.{WritesExport, WritesScript, WritesState}
+use Rattle.slate_tables.specs.Writing.{IsLoadable, IsUnwritten, Passes, WritesRows, form_text, row_script, state_line, tally}
 use Rattle.slate_tables.proofs.Moments.{earlier_fits, is_in_time, later_fits}
 use Rattle.slate_tables.proofs.Moved.{script_loads_state}
 use mir.Syntax.{w64}
@@ -78,3 +83,24 @@ script_written m rows out before middle after t is w last = record {
   counts = w.counts;
   moves = script_moves m rows out (as_state (operator_at m.combine) rows out is) w.passed;
 }
+
+-- ---- the last line
+
+pub script_last : (m : Meaning) (rows : List RowEntry) (before : List ℕ) (middle after : Option (List ℕ)) (t : Written) (r : Result Written SlateDBError) → WritesExport forms.Script m rows (before ++ (first_line ++ (10 ∷ []))) middle t →
+    IfOk r (λ told. told ≡ t) → ((front : List ℕ) → middle ≡ Some front → OnOk r (after ≡ Some (front ++ (last_words t.rows t.moved t.greatest_seq ++ (10 ∷ []))))) → IfOk r (WritesScript m rows before after)
+script_last m rows before middle after t (Err e) h same wrote = tt
+script_last m rows before middle after t (Ok told) h same wrote =
+    subst (WritesScript m rows before after) (sym same)
+    (script_written m rows h.0 before middle after t h.1 h.2 (λ front is. wrote front is ∙ ap (λ (u : Written). Some (front ++ (last_words u.rows u.moved u.greatest_seq ++ (10 ∷ [])))) h.2.counts))
+
+pub last_unwritten : (i j k : ℕ) (e : SlateDBError) → j ≡ i → (e ≡ errors.OutOfMemory) ⊎ ((e ≡ errors.WriteFault) × Rose j k) → IsUnwritten forms.Script i k e
+last_unwritten i j k e same (inl is) = inr (false, record { key = []; value = Tombstone; seq = 0; create_ts = None; expire_ts = None }, inl is)
+last_unwritten i j k e same (inr f) = inl (f.0, subst (λ (n : ℕ). Rose n k) same f.1)
+
+pub last_undamaged : (i j : ℕ) (e : SlateDBError) → (e ≡ errors.OutOfMemory) ⊎ ((e ≡ errors.WriteFault) × Rose i j) → ¬ IsDamage e
+last_undamaged i j e (inl is) = λ d. subst IsDamage is d
+last_undamaged i j e (inr f) = λ d. subst IsDamage f.0 d
+
+pub on_ok_then : {A E : Type 0} (r : Result A E) (P Q : Type 0) → (P → Q) → OnOk r P → OnOk r Q
+on_ok_then (Ok x) P Q f p = f p
+on_ok_then (Err e) P Q f p = tt
