@@ -1,5 +1,5 @@
 -- Tables that are opened one by one.
-use Rattle.std.proofs.Common.{◌≡◌, ◌⊎◌, inl, inr, ℕ, zero, suc, ◌+◌, ◌<◌, List, [], ◌∷◌, ◌++◌, take, get_or, length, Option, refl, sym, ap, subst, ◌∙◌, arith}
+use Rattle.std.proofs.Common.{◌≡◌, ◌⊎◌, inl, inr, ℕ, zero, suc, ◌+◌, ◌<◌, ◌≤◌, List, [], ◌∷◌, ◌++◌, take, get_or, length, Option, refl, sym, ap, subst, ◌∙◌, arith}
 use Rattle.std.specs.Prelude.{Contains, Result, Ok, Err}
 use Rattle.std.proofs.lemmas.List.Elements.{Contains-get_or}
 use Rattle.slate_types.specs.declared.error.SlateDBError.{SlateDBError}
@@ -71,3 +71,16 @@ refused_among objects now ids n id i j k e within is same still (inr r) =
   where
     only : (x : Ulid) → Contains (id ∷ []) x → x ≡ id
     only x h = one_place id x h.0 h.1 h.2
+
+take_all : {A : Type 0} (xs : List A) (i : ℕ) → length xs ≤ i → take i xs ≡ xs
+take_all [] zero end = refl
+take_all [] (suc i) end = refl
+take_all (x ∷ xs) zero end = absurd (omega (arith, end))
+take_all (x ∷ xs) (suc i) end = ap (λ l. x ∷ l) (take_all xs i (omega (arith, end)))
+
+pub each_all : {A B : Type 0} (R : A → B → Type 0) (xs : List A) (i : ℕ) (ys : List B) → length xs ≤ i → MatchEach R (take i xs) ys → MatchEach R xs ys
+each_all {A = A} R xs i ys end h = subst (λ (us : List A). MatchEach R us ys) (take_all xs i end) h
+
+pub still_later : {A B : Type 0} (e : SlateDBError) (i j k : ℕ) → j ≡ i → (◌≡◌ {A = Result A SlateDBError} (Err e) (Err StoreFault)) ⊎ (k ≡ j) → (◌≡◌ {A = Result B SlateDBError} (Err e) (Err StoreFault)) ⊎ (k ≡ i)
+still_later e i j k same (inl is) = let err : e ≡ StoreFault = cc in inl (ap (λ (x : SlateDBError). Err x) err)
+still_later e i j k same (inr too) = inr (too ∙ same)
