@@ -17,7 +17,7 @@ returns-in-Ok g c =
       root = call.root;
       transformer = call.transformer;
       later = call.later;
-      still = still_ok c.in-Ok.file c.in-Ok.file.handle call.still;
+      still = still_ok c.in-Ok.file c.in-Ok.file.handle c.in-Ok.ensures.still;
     }
 
 pub returns-in-Err : goal.returns-in-Err
@@ -32,5 +32,5 @@ returns-in-Err g c =
       root = call.root;
       transformer = call.transformer;
       later = call.later;
-      still = still_err c.in-Err.error call.still;
+      still = still_err c.in-Err.error c.in-Err.ensures.still;
     }
