@@ -69,6 +69,11 @@ unwritten_then refuses handles range form it a b c i j (Err e) all first later (
 pub unopened : (refuses : ExportRefusal) (handles : List SsTableHandle) (range : BytesRange) (form : Form) (a b : Reach) (i j : ℕ) (e : SlateDBError) → range ≡ whole → IsRefusedRead refuses handles range Ascending a b e → IsUnwrittenState form refuses handles i j a b e
 unopened refuses handles range form a b i j e all h = inr (subst (λ (x : BytesRange). IsRefusedRead refuses handles x Ascending a b e) all h)
 
+-- faults that were counted before the first call that failed
+pub unwritten_earlier : (refuses : ExportRefusal) (handles : List SsTableHandle) (form : Form) (a b : Reach) (i j k : ℕ) (e : SlateDBError) → j ≡ i → IsUnwrittenState form refuses handles j k a b e → IsUnwrittenState form refuses handles i k a b e
+unwritten_earlier refuses handles form a b i j k e same (inl u) = inl (subst (λ (n : ℕ). IsUnwritten form n k e) same u)
+unwritten_earlier refuses handles form a b i j k e same (inr r) = inr r
+
 -- ---- what is written
 
 pub written_here : (form : Form) (m : Meaning) (w : World) (b : Reach) (range : BytesRange) (rows out : List RowEntry) (before : List ℕ) (after : Option (List ℕ)) (t : Written) → w.meaning ≡ m → b.meaning ≡ m → range ≡ whole →

@@ -24,7 +24,11 @@ use Rattle.slate_tables.specs.Writing.{IsRefusedRow, IsRefusedText, IsUnwritten,
 
 count_last : (p : RowEntry → Bool) (rows : List RowEntry) (r : RowEntry) → count_by p (rows ++ (r ∷ [])) ≡ count_by p rows + cond (p r) 1 0
 count_last p [] r = refl
-count_last p (x ∷ rows) r = let later = count_last p rows r in omega (arith, later)
+count_last p (x ∷ rows) r = by (p x)
+  where
+    by : (b : Bool) → cond b (1 + count_by p (rows ++ (r ∷ []))) (count_by p (rows ++ (r ∷ []))) ≡ cond b (1 + count_by p rows) (count_by p rows) + cond (p r) 1 0
+    by true = let later = count_last p rows r in omega (arith, later)
+    by false = count_last p rows r
 
 greatest_last : (rows : List RowEntry) (r : RowEntry) → greatest_of (rows ++ (r ∷ [])) ≡ max (greatest_of rows) r.seq
 greatest_last [] r = omega arith

@@ -374,8 +374,14 @@ pub(crate) fn write_rows<E: Operates, I: RowEntryIterator<E>, W: Sink>(
     let mut written = Written::none();
     while let Some(row) = rows.next(alloc, env)? {
         match write_row(alloc, form, &row, has_operator, sink) {
-            Ok(()) => written = written.with(&row),
-            Err(error) => return Err(error),
+            Ok(()) => {
+                written = written.with(&row);
+                drop(row);
+            }
+            Err(error) => {
+                drop(row);
+                return Err(error);
+            }
         }
     }
     Ok(written)

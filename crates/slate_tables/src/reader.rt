@@ -57,7 +57,7 @@ impl Tables {
     {
         let mut handles = Vec::new(alloc);
         for id in ids {
-            match open_handle(alloc, reader, *id) {
+            match open_handle(alloc, reader, id) {
                 Ok(handle) => handles.push(handle)?,
                 Err(error) => return Err(error),
             }
@@ -119,13 +119,13 @@ impl Tables {
 fn open_handle<S: Store, T: BlockTransformer>(
     alloc: Global,
     reader: &mut SstReader<S, T>,
-    id: Ulid,
+    id: &Ulid,
 ) -> Result<SsTableHandle, SlateDBError>
     requires { string_bytes reader.now.root_path ≡ root }
-    ensures opened { IfOk result (WasOpened (S.objects reader.old.store) id) }
+    ensures opened { IfOk result (WasOpened (S.objects reader.old.store) id.now) }
     ensures cause { IfErr result (λ e.
         IsStoreFault (S.faults reader.old.store) (S.faults reader.new.store) e
-        ⊎ MayRefuse (S.objects reader.old.store) (id ∷ []) e) }
+        ⊎ MayRefuse (S.objects reader.old.store) (id.now ∷ []) e) }
     ensures objects { S.objects reader.new.store ≡ S.objects reader.old.store }
     ensures root { reader.new.root_path ≡ reader.old.root_path }
     ensures transformer { reader.new.transformer ≡ reader.old.transformer }
@@ -133,7 +133,7 @@ fn open_handle<S: Store, T: BlockTransformer>(
     ensures still { (result ≡ Err SlateDBError.StoreFault)
         ⊎ (S.faults reader.new.store ≡ S.faults reader.old.store) }
 {
-    match reader.open(alloc, id) {
+    match reader.open(alloc, *id) {
         Ok(file) => Ok(file.handle),
         Err(error) => Err(error),
     }

@@ -1,4 +1,4 @@
-use Rattle.std.proofs.Common.{◌≡◌, ◌++◌, List, Some, inl, inr, refl, subst, arith}
+use Rattle.std.proofs.Common.{◌≡◌, ◌++◌, ℕ, List, Some, inl, inr, refl, subst, arith}
 use Rattle.std.specs.Prelude.{OnOk}
 use Rattle.slate_tables.specs.Writing.{Passes}
 use Rattle.slate_tables.proofs.Writings.{on_ok, wrote_cause}

@@ -17,7 +17,7 @@ loop-row-init g c = record {
     counts = c.none-written.ensures;
     wrote = λ front is. is ∙ ap Some (sym (append-nil front));
   };
-  has = c.has_operator.ensures;
+  has = c.has_operator-has_operator.ensures;
   counts = refl;
   still = refl;
 }
@@ -30,8 +30,8 @@ loop-row-preserved g c =
     let i = c.loop-row.invariant in
     let n = rw c.in-Some.is at c.in_ok-row.ensures in
     let went = walked_on it.rest it.sound it.refuses it.takes (reach c.args.env.now) (reach c.loop-row.env) (reach c.next.new.env) c.args.rows.now c.loop-row.rows c.next.new.self i.so_far.taken c.in-Some.row i.so_far.walked (record { rows = n.rows; still = n.still; checked = n.checked; taken = n.taken }) n.reads in
-    rw c.with.ensures (record {
-      so_far = one_more it.rest it.sound it.refuses it.takes c.args.form c.has_operator.result (reach c.args.env.now) (reach c.loop-row.env) (reach c.next.new.env) c.args.rows.now c.loop-row.rows c.next.new.self c.loop-row.written
+    rw c.with-written.ensures (record {
+      so_far = one_more it.rest it.sound it.refuses it.takes c.args.form c.has_operator-has_operator.result (reach c.args.env.now) (reach c.loop-row.env) (reach c.next.new.env) c.args.rows.now c.loop-row.rows c.next.new.self c.loop-row.written
           (content c.args.sink.now) (content c.loop-row.sink) (content c.write_row.new.sink) c.in-Some.row (form_text c.args.form c.in-Some.row) i.so_far went c.write_row.ensures.fits c.in-Ok.ensures.passes refl (λ front at. c.in-Ok.ensures.text front at);
       has = i.has;
       counts = n.counts ∙ i.counts;
@@ -88,7 +88,7 @@ returns g c =
     let ended = walked_ended it.rest it.sound it.refuses it.takes _ _ _ _ _ _ _ i.so_far.walked (record { rows = n.rows; still = n.still; checked = n.checked; taken = n.taken }) n.reads in
     record {
       written = λ w before sees h at. subst (λ (b : Bool). WritesRows c.args.form b (it.rest c.args.rows.now w) before (content c.loop-row.sink) c.loop-row.written) i.has
-          (all_written it.rest it.sound it.refuses it.takes c.args.form c.has_operator.result (reach c.args.env.now) (reach c.loop-row.env) c.args.rows.now c.loop-row.rows c.loop-row.written before (content c.args.sink.now) (content c.loop-row.sink) (it.rest c.args.rows.now w) i.so_far at (ended.rows w sees h));
+          (all_written it.rest it.sound it.refuses it.takes c.args.form c.has_operator-has_operator.result (reach c.args.env.now) (reach c.loop-row.env) c.args.rows.now c.loop-row.rows c.loop-row.written before (content c.args.sink.now) (content c.loop-row.sink) (it.rest c.args.rows.now w) i.so_far at (ended.rows w sees h));
       checked = ended.checked;
       undamaged = λ w sees h. tt;
       cause = tt;

@@ -11,7 +11,7 @@ returns-in-Ok g c =
     let old = c.args.reader.now in
     let call = c.open.ensures in
     record {
-      opened = opened_there (s.objects old.store) (s.acts old.store) (s.acts c.open.new.self.store) _ c.args.id c.in-Ok.file.handle c.requires c.in-Ok.ensures.id c.in-Ok.ensures.found;
+      opened = opened_there (s.objects old.store) (s.acts old.store) (s.acts c.open.new.self.store) _ c.args.id.now c.in-Ok.file.handle c.requires c.in-Ok.ensures.id c.in-Ok.ensures.found;
       cause = tt;
       objects = call.objects;
       root = call.root;
@@ -27,7 +27,7 @@ returns-in-Err g c =
     let call = c.open.ensures in
     record {
       opened = tt;
-      cause = refused_there (s.objects old.store) (s.acts old.store) (s.acts c.open.new.self.store) (s.faults old.store) (s.faults c.open.new.self.store) _ c.args.id c.in-Err.error c.requires c.in-Err.ensures.cause;
+      cause = refused_there (s.objects old.store) (s.acts old.store) (s.acts c.open.new.self.store) (s.faults old.store) (s.faults c.open.new.self.store) _ c.args.id.now c.in-Err.error c.requires c.in-Err.ensures.cause;
       objects = call.objects;
       root = call.root;
       transformer = call.transformer;

@@ -1,4 +1,4 @@
-use Rattle.std.proofs.Common.{◌≡◌, ◌++◌, ◌∷◌, ◌∙◌, [], ℕ, inl, inr, subst, arith}
+use Rattle.std.proofs.Common.{◌≡◌, ◌++◌, ◌∷◌, ◌∙◌, [], ℕ, inl, inr, refl, subst, arith}
 use Rattle.slate_types.specs.Refusing.{IsDamage}
 use Rattle.slate_types.proofs.Reaching.{reads_none}
 use Rattle.slate_types.proofs.StillLaws.{still_then, unasked_still}
@@ -6,9 +6,8 @@ use Rattle.slate_store.specs.Reach.{reach_of}
 use Rattle.slate_merge.specs.Merge.{all_rows}
 use Rattle.slate_tables.specs.declared.export.Form.TheVariants as forms
 use Rattle.slate_tables.specs.LoadText.{first_line}
-use Rattle.slate_tables.specs.States.{IsUnwrittenState}
 use Rattle.slate_tables.proofs.Movings.{last_undamaged, last_unwritten, on_ok_then, script_last}
-use Rattle.slate_tables.proofs.Undamaged.{err_weaker}
+use Rattle.slate_tables.proofs.Undamaged.{err_weaker, unwritten_earlier}
 use Rattle.slate_tables.proofs.script.write_script.Goals as goal
 
 pub returns-in-Ok-write_tables : goal.returns-in-Ok-write_tables
@@ -47,7 +46,7 @@ returns-in-Err-write_tables g c =
     record {
       honest = λ os lists before told held at. tt;
       undamaged = λ os lists told held. inner.undamaged os lists told held;
-      cause = subst (λ (n : ℕ). IsUnwrittenState forms.Script _ c.args.tables.now.handles.items n (k c.write_tables.new.sink) a b c.in-Err-write_tables.error) c.in-Ok.ensures.still inner.cause;
+      cause = unwritten_earlier _ c.args.tables.now.handles.items forms.Script a b (k c.args.sink.now) (k c.write_all.new.sink) (k c.write_tables.new.sink) c.in-Err-write_tables.error c.in-Ok.ensures.still inner.cause;
       reads = c.write_tables.ensures.reads;
       counts = inner.counts;
       later = omega (arith, c.write_all.ensures.later, c.write_tables.ensures.later);
@@ -62,7 +61,7 @@ returns-in-Err g c =
       undamaged = λ os lists told held. λ d. subst IsDamage c.in-Err.ensures.cause.0 d;
       cause = inl (inl c.in-Err.ensures.cause);
       reads = reads_none a;
-      counts = unasked_still a.faults _;
+      counts = refl;
       later = c.write_all.ensures.later;
       still = tt;
     }

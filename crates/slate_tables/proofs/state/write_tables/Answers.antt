@@ -37,8 +37,8 @@ returns-in-Ok g c =
       still = wrote.still;
     }
 
-pub returns-in-Err : goal.returns-in-Err
-returns-in-Err g c =
+pub returns : goal.returns
+returns g c =
     let reach = reach_of g.S.Store g.M.MergeOperator g.T.BlockTransformer in
     let a = reach c.args.env.now in
     let b = reach c.scan.new.env in

@@ -20,7 +20,7 @@ loop-id-preserved g c =
     let objects = s.objects c.args.reader.now.store in
     record {
       opened = each_more (WasOpened objects) c.args.ids.now c.loop-id.id-index c.id-item.result c.loop-id.handles.items c.push.new.self.items c.in-Ok.handle c.loop-id-test.true c.id-item.is i.opened
-          (was_opened objects (s.objects c.loop-id.reader.store) c.id-item.result c.in-Ok.handle i.objects c.in-Ok.ensures.opened) c.in_ok-push.ensures.items;
+          (was_opened objects (s.objects c.loop-id.reader.store) c.id-item.result c.in-Ok.handle i.objects c.in-Ok.ensures.opened) c.in_ok-push-in-Ok.ensures.items;
       objects = call.objects ∙ i.objects;
       root = call.root ∙ i.root;
       transformer = call.transformer ∙ i.transformer;
@@ -44,8 +44,8 @@ returns-in-Err g c =
       still = still_later c.in-Err.error (k c.args.reader.now.store) (k c.loop-id.reader.store) (k c.open_handle.new.reader.store) i.faults c.in-Err.ensures.still;
     }
 
-pub returns-in_err-push : goal.returns-in_err-push
-returns-in_err-push g c =
+pub returns-in_err-push-in-Ok : goal.returns-in_err-push-in-Ok
+returns-in_err-push-in-Ok g c =
     let i = c.loop-id.invariant in
     let call = c.open_handle.ensures in
     let p = err_from_is_err_and c.from_residual.result c.from_residual.ensures.1 in
