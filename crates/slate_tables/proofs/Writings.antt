@@ -4,6 +4,7 @@ use Rattle.std.specs.Prelude.{count_by, IfErr, OnOk, Result, Ok, Err}
 use Rattle.std.specs.List.{AllByRecursion}
 use Rattle.std.proofs.lemmas.List.{length-append}
 use Rattle.std.proofs.lemmas.List.Concat.{flat_map-append}
+use Rattle.std.proofs.lemmas.List.Sums.{sum_by-append, sum_by-cons}
 use Rattle.std.proofs.lemmas.Bool.Decides.{nat_tests}
 use Rattle.slate_types.specs.declared.error.SlateDBError.{SlateDBError}
 use Rattle.slate_types.specs.declared.error.SlateDBError.TheVariants as errors
@@ -23,12 +24,11 @@ use Rattle.slate_tables.specs.Writing.{IsRefusedRow, IsRefusedText, IsUnwritten,
 -- ---- counts
 
 count_last : (p : RowEntry → Bool) (rows : List RowEntry) (r : RowEntry) → count_by p (rows ++ (r ∷ [])) ≡ count_by p rows + cond (p r) 1 0
-count_last p [] r = refl
-count_last p (x ∷ rows) r = by (p x)
-  where
-    by : (b : Bool) → cond b (1 + count_by p (rows ++ (r ∷ []))) (count_by p (rows ++ (r ∷ []))) ≡ cond b (1 + count_by p rows) (count_by p rows) + cond (p r) 1 0
-    by true = let later = count_last p rows r in omega (arith, later)
-    by false = count_last p rows r
+count_last p rows r =
+    let whole = sum_by-append (λ (x : RowEntry). cond (p x) 1 0) rows (r ∷ []) in
+    let one = sum_by-cons (λ (x : RowEntry). cond (p x) 1 0) r [] in
+    let none : count_by p [] ≡ 0 = refl in
+    omega (arith, whole, one, none)
 
 greatest_last : (rows : List RowEntry) (r : RowEntry) → greatest_of (rows ++ (r ∷ [])) ≡ max (greatest_of rows) r.seq
 greatest_last [] r = omega arith
