@@ -56,11 +56,13 @@ impl Tables {
             ⊎ (S.faults reader.new.store ≡ S.faults reader.old.store) }
     {
         let mut handles = Vec::new(alloc);
-        for id in ids {
-            match open_handle(alloc, reader, id) {
+        let mut at = 0;
+        while at < ids.len() {
+            match open_handle(alloc, reader, &ids[at]) {
                 Ok(handle) => handles.push(handle)?,
                 Err(error) => return Err(error),
             }
+            at += 1;
         }
         Ok(Tables { handles })
     }

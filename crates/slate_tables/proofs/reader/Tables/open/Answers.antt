@@ -6,21 +6,21 @@ use Rattle.slate_tables.proofs.FindLaws.{store_still}
 use Rattle.slate_tables.proofs.Openings.{each_all, each_more, refused_among, still_later, was_opened}
 use Rattle.slate_tables.proofs.reader.Tables.open.Goals as goal
 
-pub loop-id-init : goal.loop-id-init
-loop-id-init g c = rw c.new-handles.ensures.items (record { opened = tt; objects = refl; root = refl; transformer = refl; faults = refl })
+pub loop-at-init : goal.loop-at-init
+loop-at-init g c = rw c.new-handles.ensures.items (record { opened = tt; objects = refl; root = refl; transformer = refl; faults = refl })
 
 pub open_handle-requires : goal.open_handle-requires
-open_handle-requires g c = ap string_bytes c.loop-id.invariant.root ∙ c.requires.root
+open_handle-requires g c = ap string_bytes c.loop-at.invariant.root ∙ c.requires.root
 
-pub loop-id-preserved : goal.loop-id-preserved
-loop-id-preserved g c =
+pub loop-at-preserved : goal.loop-at-preserved
+loop-at-preserved g c =
     let s = g.S.Store in
-    let i = c.loop-id.invariant in
+    let i = c.loop-at.invariant in
     let call = c.open_handle.ensures in
     let objects = s.objects c.args.reader.now.store in
     record {
-      opened = each_more (WasOpened objects) c.args.ids.now c.loop-id.id-index c.id-item.result c.loop-id.handles.items c.push.new.self.items c.in-Ok.handle c.loop-id-test.true c.id-item.is i.opened
-          (was_opened objects (s.objects c.loop-id.reader.store) c.id-item.result c.in-Ok.handle i.objects c.in-Ok.ensures.opened) c.in_ok-push-in-Ok.ensures.items;
+      opened = each_more (WasOpened objects) c.args.ids.now c.loop-at.at c.index-ids-at.result c.loop-at.handles.items c.push.new.self.items c.in-Ok.handle c.loop-at-test.true c.index-ids-at.is i.opened
+          (was_opened objects (s.objects c.loop-at.reader.store) c.index-ids-at.result c.in-Ok.handle i.objects c.in-Ok.ensures.opened) c.in_ok-push-in-Ok.ensures.items;
       objects = call.objects ∙ i.objects;
       root = call.root ∙ i.root;
       transformer = call.transformer ∙ i.transformer;
@@ -30,23 +30,23 @@ loop-id-preserved g c =
 pub returns-in-Err : goal.returns-in-Err
 returns-in-Err g c =
     let s = g.S.Store in
-    let i = c.loop-id.invariant in
+    let i = c.loop-at.invariant in
     let call = c.open_handle.ensures in
     let k = s.faults in
     record {
       opened = tt;
-      cause = refused_among (s.objects c.args.reader.now.store) (s.objects c.loop-id.reader.store) c.args.ids.now c.loop-id.id-index c.id-item.result (k c.args.reader.now.store) (k c.loop-id.reader.store) (k c.open_handle.new.reader.store) c.in-Err.error
-          c.loop-id-test.true c.id-item.is i.objects i.faults c.in-Err.ensures.cause;
+      cause = refused_among (s.objects c.args.reader.now.store) (s.objects c.loop-at.reader.store) c.args.ids.now c.loop-at.at c.index-ids-at.result (k c.args.reader.now.store) (k c.loop-at.reader.store) (k c.open_handle.new.reader.store) c.in-Err.error
+          c.loop-at-test.true c.index-ids-at.is i.objects i.faults c.in-Err.ensures.cause;
       objects = call.objects ∙ i.objects;
       root = call.root ∙ i.root;
       transformer = call.transformer ∙ i.transformer;
       later = omega (arith, i.faults, call.later);
-      still = still_later c.in-Err.error (k c.args.reader.now.store) (k c.loop-id.reader.store) (k c.open_handle.new.reader.store) i.faults c.in-Err.ensures.still;
+      still = still_later c.in-Err.error (k c.args.reader.now.store) (k c.loop-at.reader.store) (k c.open_handle.new.reader.store) i.faults c.in-Err.ensures.still;
     }
 
 pub returns-in_err-push-in-Ok : goal.returns-in_err-push-in-Ok
 returns-in_err-push-in-Ok g c =
-    let i = c.loop-id.invariant in
+    let i = c.loop-at.invariant in
     let call = c.open_handle.ensures in
     let p = err_from_is_err_and c.from_residual.result c.from_residual.ensures.1 in
     let same = store_still c.in-Ok.handle c.in-Ok.ensures.still ∙ i.faults in
@@ -62,9 +62,9 @@ returns-in_err-push-in-Ok g c =
 
 pub returns : goal.returns
 returns g c =
-    let i = c.loop-id.invariant in
+    let i = c.loop-at.invariant in
     record {
-      opened = each_all (WasOpened (g.S.Store.objects c.args.reader.now.store)) c.args.ids.now c.loop-id.id-index c.loop-id.handles.items (omega (arith, c.loop-id-test.false)) i.opened;
+      opened = each_all (WasOpened (g.S.Store.objects c.args.reader.now.store)) c.args.ids.now c.loop-at.at c.loop-at.handles.items (omega (arith, c.loop-at-test.false)) i.opened;
       cause = tt;
       objects = i.objects;
       root = i.root;
