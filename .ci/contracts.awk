@@ -71,8 +71,16 @@ function add(owner, name, kind, head, text) {
 # The name of the function whose header the line begins.
 function name_in(line) { match(line, /fn [a-z_0-9]+/); return substr(line, RSTART + 3, RLENGTH - 3) }
 
+# The word that a clause without a name says, as the record `Begins`, and "_" if it isn't one word with a capital.
+function word_of(clause) {
+    sub(/^.*[ ({]in /, "", clause)
+    sub(/^[{ ]+/, "", clause)
+    if (clause ~ /^(If|On)(Ok|Err|Some) |^Is(True|Some|OkUnless) / || !match(clause, /^[A-Z][A-Za-z0-9]*/)) return "_"
+    return substr(clause, RSTART, RLENGTH)
+}
+
 # Takes the header that begins with this line, up to the body, and writes it down under its owner.
-function take_call(line, owner, name,    indent, text, part, clause, in_clauses, needs, gives) {
+function take_call(line, owner, name,    indent, text, part, clause, in_clauses, needs, gives, unnamed) {
     match(line, /^ */)
     indent = RLENGTH
     said[name] = 1
@@ -82,15 +90,24 @@ function take_call(line, owner, name,    indent, text, part, clause, in_clauses,
         if (part == "{" || part == "{}") break
         if (part ~ /^    (requires|ensures) /) {
             in_clauses = 1
+            if (unnamed != "") gives = gives " " word_of(unnamed)
+            unnamed = ""
             clause = part
             sub(/^    (requires|ensures) /, "", clause)
-            if (clause ~ /^\{/) clause = "_"
+            if (clause ~ /^\{/ && part ~ /^    ensures/) unnamed = clause
             else {
-                sub(/ .*/, "", clause)
-                said[name " " clause] = 1
+                if (clause ~ /^\{/) clause = "_"
+                else {
+                    sub(/ .*/, "", clause)
+                    said[name " " clause] = 1
+                }
+                if (part ~ /^    requires/) needs = needs " " clause
+                else gives = gives " " clause
             }
-            if (part ~ /^    requires/) needs = needs " " clause
-            else gives = gives " " clause
+        } else if (unnamed != "") {
+            clause = part
+            sub(/^ */, " ", clause)
+            unnamed = unnamed clause
         }
         if (!in_clauses && part ~ /: (Store|Source|Sink|MergeOperator|BlockTransformer)([^A-Za-z]|$)|[( ]env: &mut /) reaches[last + 1] = 1
         if (in_clauses) note_words(last + 1, part)
@@ -101,6 +118,7 @@ function take_call(line, owner, name,    indent, text, part, clause, in_clauses,
         if (part !~ /^( *| *\/\/ .*)$/) text = text "    " part "\n"
         if (part ~ /;$/ && (!in_clauses || part ~ /\};$/)) break
     } while ((getline line) > 0)
+    if (unnamed != "") gives = gives " " word_of(unnamed)
     add(owner, name, "fn", told("**`" name "`.**", doc), text)
     given[last] = gives (needs == "" ? "" : " requires" needs)
 }

@@ -15,7 +15,7 @@ use Rattle.slate_txn.specs.Refusals.{unless_empty}
 use Rattle.slate_txn.specs.State.{Tx, last_of}
 use Rattle.slate_txn.proofs.NamedLaws.{IsNamed, open_is}
 use Rattle.slate_db.specs.BatchTests.{test_refusal}
-use Rattle.slate_db.specs.Calls.Commit.{AsksNobody, Commits, verdict, verdict_of}
+use Rattle.slate_db.specs.Calls.Commit.{AsksNobody, CommitsOpen, commit_verdict, commit_verdict_of}
 use Rattle.slate_db.specs.Calls.Common.{Decides, Given, IsTransaction, KeepsRows}
 use Rattle.slate_db.specs.Committed.{IsCommitted, IsEnded}
 use Rattle.slate_db.specs.Model.{CoreModel}
@@ -58,19 +58,19 @@ memory : (before after : Reach) (e : SlateDBError) → e ≡ OutOfMemory → IsF
 memory before after e h = subst (IsFault before after) (sym h) tt
 
 -- met
-pub met_of : (fault : SlateDBError → Type 0) (result : Result (Option ℕ) SlateDBError) (free : Option ℕ) (last : ℕ) (ops : Ops) (tested : Option SlateDBError) (n : ℕ) → Decides (verdict_of free last ops tested) fault result → free ≡ Some n → Answers (TransactionConflict n) result
+pub met_of : (fault : SlateDBError → Type 0) (result : Result (Option ℕ) SlateDBError) (free : Option ℕ) (last : ℕ) (ops : Ops) (tested : Option SlateDBError) (n : ℕ) → Decides (commit_verdict_of free last ops tested) fault result → free ≡ Some n → Answers (TransactionConflict n) result
 met_of fault result None last ops tested n decides is = cc
 met_of fault result (Some m) last ops tested n decides is = subst (λ (k : ℕ). Answers (TransactionConflict k) result) (let same : m ≡ n = cc in same) decides
 
 -- exhausted
-pub exhausted_of : (fault : SlateDBError → Type 0) (result : Result (Option ℕ) SlateDBError) (free : Option ℕ) (last : ℕ) (ops : Ops) (tested : Option SlateDBError) → Decides (verdict_of free last ops tested) fault result → free ≡ None → ops ≢ [] → last ≡ 2 ^ 64 - 2 → Answers SequenceExhausted result
+pub exhausted_of : (fault : SlateDBError → Type 0) (result : Result (Option ℕ) SlateDBError) (free : Option ℕ) (last : ℕ) (ops : Ops) (tested : Option SlateDBError) → Decides (commit_verdict_of free last ops tested) fault result → free ≡ None → ops ≢ [] → last ≡ 2 ^ 64 - 2 → Answers SequenceExhausted result
 exhausted_of fault result (Some m) last ops tested decides none some is = cc
 exhausted_of fault result None last [] tested decides none some is = absurd (some refl)
 exhausted_of fault result None last (o ∷ os) tested decides none some is =
     subst (λ (b : Bool). Decides (first_refusal (when b SequenceExhausted ∷ tested ∷ [])) fault result) (let full : (last == 2 ^ 64 - 2) ≡ true = grind (arith, nat_tests) in full) decides
 
 -- first
-pub first_of : (fault : SlateDBError → Type 0) (result : Result (Option ℕ) SlateDBError) (free : Option ℕ) (last : ℕ) (ops : Ops) (tested : Option SlateDBError) (e : SlateDBError) → Decides (verdict_of free last ops tested) fault result → free ≡ None → ops ≢ [] → last < 2 ^ 64 - 2 → tested ≡ Some e → Answers e result
+pub first_of : (fault : SlateDBError → Type 0) (result : Result (Option ℕ) SlateDBError) (free : Option ℕ) (last : ℕ) (ops : Ops) (tested : Option SlateDBError) (e : SlateDBError) → Decides (commit_verdict_of free last ops tested) fault result → free ≡ None → ops ≢ [] → last < 2 ^ 64 - 2 → tested ≡ Some e → Answers e result
 first_of fault result (Some m) last ops tested e decides none some place is = cc
 first_of fault result None last [] tested e decides none some place is = absurd (some refl)
 first_of fault result None last (o ∷ os) tested e decides none some place is =
@@ -78,14 +78,14 @@ first_of fault result None last (o ∷ os) tested e decides none some place is =
     (subst (λ (b : Bool). Decides (first_refusal (when b SequenceExhausted ∷ tested ∷ [])) fault result) (let left : (last == 2 ^ 64 - 2) ≡ false = grind (arith, nat_tests) in left) decides)
 
 -- cause, in the one form that callers want: a fault, or the verdict
-pub cause_of : (before after : Reach) (result : Result (Option ℕ) SlateDBError) (verdict : Option SlateDBError) → Decides verdict (IsFault before after) result → IfErr result (λ e. IsFault before after e ⊎ (verdict ≡ Some e))
-cause_of before after (Ok n) verdict decides = tt
+pub cause_of : (before after : Reach) (result : Result (Option ℕ) SlateDBError) (commit_verdict : Option SlateDBError) → Decides commit_verdict (IsFault before after) result → IfErr result (λ e. IsFault before after e ⊎ (commit_verdict ≡ Some e))
+cause_of before after (Ok n) commit_verdict decides = tt
 cause_of before after (Err e) None decides = inl decides
 cause_of before after (Err e) (Some f) (inl h) = inr (ap Some (sym (same_error e f h)))
 cause_of before after (Err e) (Some f) (inr h) = inl (memory before after e (same_error e OutOfMemory h))
 
 -- what is committed none refuses
-pub free_of : (fault : SlateDBError → Type 0) (n : Option ℕ) (verdict : Option SlateDBError) → (let r : Result (Option ℕ) SlateDBError = Ok n in Decides verdict fault r) → verdict ≡ None
+pub free_of : (fault : SlateDBError → Type 0) (n : Option ℕ) (commit_verdict : Option SlateDBError) → (let r : Result (Option ℕ) SlateDBError = Ok n in Decides commit_verdict fault r) → commit_verdict ≡ None
 free_of fault n None decides = refl
 free_of fault n (Some e) (inl h) = cc
 free_of fault n (Some e) (inr h) = cc
@@ -104,7 +104,7 @@ refused_some None true (o ∷ os) tested e is = inl refl
 refused_some None false (o ∷ os) (Some f) e is = inl refl
 refused_some None false (o ∷ os) None e is = cc
 
-pub unasked_as : (free : Option ℕ) (last : ℕ) (ops : Ops) (tested : Option SlateDBError) → IsUnasked free last ops tested → AsksNobody (verdict_of free last ops tested) ops
+pub unasked_as : (free : Option ℕ) (last : ℕ) (ops : Ops) (tested : Option SlateDBError) → IsUnasked free last ops tested → AsksNobody (commit_verdict_of free last ops tested) ops
 unasked_as (Some m) last ops tested h = inl refl
 unasked_as None last ops tested (conflicts n is) = cc
 unasked_as None last [] tested h = inr refl
@@ -119,7 +119,7 @@ pub of_transaction : {P : Type 0} (c : CoreModel) (id : List ℕ) → HasTransac
 of_transaction c id has f = let there : IsNamed (find_named id c.state.txns) = open_is (find_named id c.state.txns) has in f there.value there.is
 
 -- exhausted
-pub exhausted_by : {d : Given} {id : List ℕ} {t : Tx} {before after : Reach} {old new : CoreModel} {result : Result (Option ℕ) SlateDBError} → Commits d id t before after old new result → conflict old.state.commits t ≡ None → t.ops ≢ [] → last_of old.settings.start_seq old.state.commits ≡ 2 ^ 64 - 2 → Answers SequenceExhausted result
+pub exhausted_by : {d : Given} {id : List ℕ} {t : Tx} {before after : Reach} {old new : CoreModel} {result : Result (Option ℕ) SlateDBError} → CommitsOpen d id t before after old new result → conflict old.state.commits t ≡ None → t.ops ≢ [] → last_of old.settings.start_seq old.state.commits ≡ 2 ^ 64 - 2 → Answers SequenceExhausted result
 exhausted_by {d = d} {t = t} {before = before} {after = after} {old = old} {result = result} made none some full =
     exhausted_of (IsFault before after) result (conflict old.state.commits t) (last_of old.settings.start_seq old.state.commits) t.ops (test_refusal d.meaning.combine d.segments old.segments old.settings.default_millis d.now t.ops) made.answer none some full
 
@@ -135,12 +135,12 @@ verdict_causes None false (o ∷ os) None e is = cc
 end_is : (last : ℕ) → (last == 2 ^ 64 - 2) ≡ true → last ≡ 2 ^ 64 - 2
 end_is last h = grind (arith, nat_tests)
 
-pub causes_of : {d : Given} {id : List ℕ} {t : Tx} {before after : Reach} {old new : CoreModel} {result : Result (Option ℕ) SlateDBError} → Commits d id t before after old new result →
+pub causes_of : {d : Given} {id : List ℕ} {t : Tx} {before after : Reach} {old new : CoreModel} {result : Result (Option ℕ) SlateDBError} → CommitsOpen d id t before after old new result →
     IfErr result (λ e. IsFault before after e ⊎ IsConflict (conflict old.state.commits t) e ⊎ ((e ≡ SequenceExhausted) × (last_of old.settings.start_seq old.state.commits ≡ 2 ^ 64 - 2))
     ⊎ (test_refusal d.meaning.combine d.segments old.segments old.settings.default_millis d.now t.ops ≡ Some e))
-causes_of {d = d} {t = t} {before = before} {after = after} {old = old} {result = result} made = by result (cause_of before after result (verdict d old t) made.answer)
+causes_of {d = d} {t = t} {before = before} {after = after} {old = old} {result = result} made = by result (cause_of before after result (commit_verdict d old t) made.answer)
   where
-    each : (e : SlateDBError) → IsFault before after e ⊎ (verdict d old t ≡ Some e) → IsFault before after e ⊎ IsConflict (conflict old.state.commits t) e ⊎ ((e ≡ SequenceExhausted) × (last_of old.settings.start_seq old.state.commits ≡ 2 ^ 64 - 2)) ⊎ (test_refusal d.meaning.combine d.segments old.segments old.settings.default_millis d.now t.ops ≡ Some e)
+    each : (e : SlateDBError) → IsFault before after e ⊎ (commit_verdict d old t ≡ Some e) → IsFault before after e ⊎ IsConflict (conflict old.state.commits t) e ⊎ ((e ≡ SequenceExhausted) × (last_of old.settings.start_seq old.state.commits ≡ 2 ^ 64 - 2)) ⊎ (test_refusal d.meaning.combine d.segments old.segments old.settings.default_millis d.now t.ops ≡ Some e)
     each e (inl fault) = inl fault
     each e (inr is) = over e (verdict_causes (conflict old.state.commits t) (last_of old.settings.start_seq old.state.commits == 2 ^ 64 - 2) t.ops (test_refusal d.meaning.combine d.segments old.segments old.settings.default_millis d.now t.ops) e is)
       where
@@ -149,6 +149,6 @@ causes_of {d = d} {t = t} {before = before} {after = after} {old = old} {result 
         over x (inr (inl h)) = inr (inr (inl (h.0, end_is (last_of old.settings.start_seq old.state.commits) h.1)))
         over x (inr (inr h)) = inr (inr (inr h))
 
-    by : (r : Result (Option ℕ) SlateDBError) → IfErr r (λ e. IsFault before after e ⊎ (verdict d old t ≡ Some e)) → IfErr r (λ e. IsFault before after e ⊎ IsConflict (conflict old.state.commits t) e ⊎ ((e ≡ SequenceExhausted) × (last_of old.settings.start_seq old.state.commits ≡ 2 ^ 64 - 2)) ⊎ (test_refusal d.meaning.combine d.segments old.segments old.settings.default_millis d.now t.ops ≡ Some e))
+    by : (r : Result (Option ℕ) SlateDBError) → IfErr r (λ e. IsFault before after e ⊎ (commit_verdict d old t ≡ Some e)) → IfErr r (λ e. IsFault before after e ⊎ IsConflict (conflict old.state.commits t) e ⊎ ((e ≡ SequenceExhausted) × (last_of old.settings.start_seq old.state.commits ≡ 2 ^ 64 - 2)) ⊎ (test_refusal d.meaning.combine d.segments old.segments old.settings.default_millis d.now t.ops ≡ Some e))
     by (Ok n) h = tt
     by (Err e) h = each e h

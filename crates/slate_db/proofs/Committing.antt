@@ -15,7 +15,7 @@ use Rattle.slate_txn.specs.Refusals.{unless_empty}
 use Rattle.slate_txn.specs.State.{Tx}
 use Rattle.slate_db.specs.declared.engine.Core.TheInside.{Inside}
 use Rattle.slate_db.specs.BatchTests.{test_refusal}
-use Rattle.slate_db.specs.Calls.Commit.{AsksNobody, Commits, verdict, verdict_of}
+use Rattle.slate_db.specs.Calls.Commit.{AsksNobody, CommitsOpen, commit_verdict, commit_verdict_of}
 use Rattle.slate_db.specs.Calls.Common.{AsksOperator, Decides, Given, IsTransaction}
 use Rattle.slate_db.specs.Committed.{IsCommitted, IsFull, IsNextOf, after_commit}
 use Rattle.slate_db.specs.Log.{with_end}
@@ -35,11 +35,11 @@ abbrev pub tests_inside : Given → Inside → Tx → Option SlateDBError
 tests_inside d s t = test_refusal d.meaning.combine d.segments s.segments s.default_millis d.now t.ops
 
 abbrev pub verdict_inside : Given → Inside → Tx → Option SlateDBError
-verdict_inside d s t = verdict_of (conflict s.log.commits t) s.log.last t.ops (tests_inside d s t)
+verdict_inside d s t = commit_verdict_of (conflict s.log.commits t) s.log.last t.ops (tests_inside d s t)
 
 -- of another operator, which makes the same, and in other words
 abbrev pub verdict_by : {C : Type 0} → Option C → Segments → Inside → Tx → ℕ → ℤ → Option SlateDBError
-verdict_by o g s t last z = verdict_of (conflict s.log.commits t) last t.ops (test_refusal o g s.segments s.default_millis z t.ops)
+verdict_by o g s t last z = commit_verdict_of (conflict s.log.commits t) last t.ops (test_refusal o g s.segments s.default_millis z t.ops)
 
 -- ---- the verdict
 
@@ -70,7 +70,7 @@ has_cause d fault s t e w short decides = by (caused fault e (conflict s.log.com
 -- in the words of the parts
 pub verdict_as : {C : Type 0} (d : Given) (s : Inside) (t : Tx) (o : Option C) (last : ℕ) (z : ℤ) → test_refusal o d.segments s.segments s.default_millis z t.ops ≡ tests_inside d s t → last ≡ s.log.last →
     verdict_by o d.segments s t last z ≡ verdict_inside d s t
-verdict_as d s t o last z tests lasts = λ i. verdict_of (conflict s.log.commits t) (lasts i) t.ops (tests i)
+verdict_as d s t o last z tests lasts = λ i. commit_verdict_of (conflict s.log.commits t) (lasts i) t.ops (tests i)
 
 -- ---- the two ways
 
@@ -81,7 +81,7 @@ passed d s t n next none = none_tested (conflict s.log.commits t) s.log.last t.o
 -- of the core as it is inside, and of its own transaction
 pub commits_ok : (d : Given) (s : Inside) (id : List ℕ) (n : Option ℕ) (t : Tx) (spare : ℕ) (g : Manager) (before after : Reach) → IsWholeInside s → find_named id s.transactions ≡ Some t →
     (let r : Result (Option ℕ) SlateDBError = Ok n in Decides (verdict_inside d s t) (IsFault before after) r) → IsNextOf s.log.last t.ops n → (let r : Result (Option ℕ) SlateDBError = Ok n in AsksOperator before after r) →
-    Commits d id t before after (view_of s) (view_of (core_after (combine_of d.meaning) d.segments s id n d.now t spare g)) (Ok n)
+    CommitsOpen d id t before after (view_of s) (view_of (core_after (combine_of d.meaning) d.segments s id n d.now t spare g)) (Ok n)
 commits_ok d s id n t spare g before after w found decides next asks =
     let none : verdict_inside d s t ≡ None = decided_none (verdict_inside d s t) (IsFault before after) n decides in
     let free : conflict s.log.commits t ≡ None = none_free (conflict s.log.commits t) s.log.last t.ops (tests_inside d s t) none in
@@ -90,7 +90,7 @@ commits_ok d s id n t spare g before after w found decides next asks =
     let new : CoreModel = view_of (core_after (combine_of d.meaning) d.segments s id n d.now t spare g) in
     let event : IsCommitted c new id n d.now t = event_made (combine_of d.meaning) d.segments c s.log.last id n d.now t spare next in
     record {
-      answer = subst (λ (k : ℕ). let r : Result (Option ℕ) SlateDBError = Ok n in Decides (verdict_of (conflict s.log.commits t) k t.ops (tests_inside d s t)) (IsFault before after) r) w.log.last decides;
+      answer = subst (λ (k : ℕ). let r : Result (Option ℕ) SlateDBError = Ok n in Decides (commit_verdict_of (conflict s.log.commits t) k t.ops (tests_inside d s t)) (IsFault before after) r) w.log.last decides;
       step = λ z. step_made d.meaning d.segments c (unseen_of s) id n d.now t (RowsAfter (combine_of d.meaning) c n d.now t) spare w z found free tested next;
       refused = λ operable z. tt;
       event = event;
@@ -111,12 +111,12 @@ commits_ok d s id n t spare g before after w found decides next asks =
 
 pub commits_err : (d : Given) (s : Inside) (id : List ℕ) (t : Tx) (spare : ℕ) (g : Manager) (e : SlateDBError) (before after : Reach) → IsWholeInside s → find_named id s.transactions ≡ Some t →
     (let r : Result (Option ℕ) SlateDBError = Err e in Decides (verdict_inside d s t) (IsFault before after) r) → (let r : Result (Option ℕ) SlateDBError = Err e in AsksOperator before after r) →
-    Commits d id t before after (view_of s) (view_of (record s { log = with_end s.log id spare; transactions = without id s.transactions; manager = g })) (Err e)
+    CommitsOpen d id t before after (view_of s) (view_of (record s { log = with_end s.log id spare; transactions = without id s.transactions; manager = g })) (Err e)
 commits_err d s id t spare g e before after w found decides asks =
     let c : CoreModel = view_of s in
     let new : CoreModel = view_of (record s { log = with_end s.log id spare; transactions = without id s.transactions; manager = g }) in
     record {
-      answer = subst (λ (k : ℕ). let r : Result (Option ℕ) SlateDBError = Err e in Decides (verdict_of (conflict s.log.commits t) k t.ops (tests_inside d s t)) (IsFault before after) r) w.log.last decides;
+      answer = subst (λ (k : ℕ). let r : Result (Option ℕ) SlateDBError = Err e in Decides (commit_verdict_of (conflict s.log.commits t) k t.ops (tests_inside d s t)) (IsFault before after) r) w.log.last decides;
       step = λ z. tt;
       refused = λ operable z. refused_is d.meaning d.segments (IsFault before after) c (unseen_of s) id d.now t spare e w operable z found (has_cause d (IsFault before after) s t e w (short_fault before after e) decides);
       event = tt;
@@ -129,16 +129,16 @@ commits_err d s id t spare g e before after w found decides asks =
     }
 
 -- of equal cores, and of the one transaction with the id
-pub commits_moved : (d : Given) (id : List ℕ) (a b x y : CoreModel) (t u : Tx) (before after : Reach) (result : Result (Option ℕ) SlateDBError) → a ≡ b → x ≡ y → find_named id a.state.txns ≡ Some t → IsTransaction b id u → Commits d id t before after a x result → Commits d id u before after b y result
+pub commits_moved : (d : Given) (id : List ℕ) (a b x y : CoreModel) (t u : Tx) (before after : Reach) (result : Result (Option ℕ) SlateDBError) → a ≡ b → x ≡ y → find_named id a.state.txns ≡ Some t → IsTransaction b id u → CommitsOpen d id t before after a x result → CommitsOpen d id u before after b y result
 commits_moved d id a b x y t u before after result olds news here there made =
-    subst (λ (v : Tx). Commits d id v before after b y result) (same_txn a b id t u olds here there)
-    (subst (λ (v : CoreModel). Commits d id t before after v y result) olds
-    (subst (λ (v : CoreModel). Commits d id t before after a v result) news made))
+    subst (λ (v : Tx). CommitsOpen d id v before after b y result) (same_txn a b id t u olds here there)
+    (subst (λ (v : CoreModel). CommitsOpen d id t before after v y result) olds
+    (subst (λ (v : CoreModel). CommitsOpen d id t before after a v result) news made))
 
 -- ---- whether the operator was asked
 
-pub unasked_moved : (d : Given) (s : Inside) (c : CoreModel) (id : List ℕ) (t u : Tx) → IsWholeInside s → view_of s ≡ c → find_named id s.transactions ≡ Some t → IsTransaction c id u → AsksNobody (verdict d c u) u.ops → AsksNobody (verdict_inside d s t) t.ops
+pub unasked_moved : (d : Given) (s : Inside) (c : CoreModel) (id : List ℕ) (t u : Tx) → IsWholeInside s → view_of s ≡ c → find_named id s.transactions ≡ Some t → IsTransaction c id u → AsksNobody (commit_verdict d c u) u.ops → AsksNobody (verdict_inside d s t) t.ops
 unasked_moved d s c id t u w same here there h =
-    subst (λ (k : ℕ). AsksNobody (verdict_of (conflict s.log.commits t) k t.ops (tests_inside d s t)) t.ops) (sym w.log.last)
-    (subst (λ (v : Tx). AsksNobody (verdict d (view_of s) v) v.ops) (sym (same_txn (view_of s) c id t u same here there))
-    (subst (λ (v : CoreModel). AsksNobody (verdict d v u) u.ops) (sym same) h))
+    subst (λ (k : ℕ). AsksNobody (commit_verdict_of (conflict s.log.commits t) k t.ops (tests_inside d s t)) t.ops) (sym w.log.last)
+    (subst (λ (v : Tx). AsksNobody (commit_verdict d (view_of s) v) v.ops) (sym (same_txn (view_of s) c id t u same here there))
+    (subst (λ (v : CoreModel). AsksNobody (commit_verdict d v u) u.ops) (sym same) h))

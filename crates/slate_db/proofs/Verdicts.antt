@@ -9,7 +9,7 @@ use Rattle.slate_mem.specs.BatchModel.{holds_merge}
 use Rattle.slate_mem.specs.Refusals.{first_refusal, when}
 use Rattle.slate_txn.specs.HandedOver.{IsConflict}
 use Rattle.slate_txn.specs.Refusals.{unless_empty}
-use Rattle.slate_db.specs.Calls.Commit.{AsksNobody, verdict_of}
+use Rattle.slate_db.specs.Calls.Commit.{AsksNobody, commit_verdict_of}
 use Rattle.slate_db.specs.Calls.Common.{Decides}
 use Rattle.slate_db.specs.Committed.{IsNextOf}
 
@@ -31,26 +31,26 @@ first_alone : (r : Option SlateDBError) → first_refusal (r ∷ []) ≡ r
 first_alone None = refl
 first_alone (Some e) = refl
 
-pub verdict_empty : (free : Option ℕ) (last : ℕ) (ops : Ops) (tested : Option SlateDBError) → free ≡ None → ops ≡ [] → verdict_of free last ops tested ≡ None
+pub verdict_empty : (free : Option ℕ) (last : ℕ) (ops : Ops) (tested : Option SlateDBError) → free ≡ None → ops ≡ [] → commit_verdict_of free last ops tested ≡ None
 verdict_empty (Some n) last ops tested none empty = cc
 verdict_empty None last [] tested none empty = refl
 verdict_empty None last (o ∷ os) tested none empty = cc
 
-pub verdict_spent : (free : Option ℕ) (last : ℕ) (ops : Ops) (tested : Option SlateDBError) → free ≡ None → (ops ≡ [] → ⊥) → last ≡ 2 ^ 64 - 2 → verdict_of free last ops tested ≡ Some SequenceExhausted
+pub verdict_spent : (free : Option ℕ) (last : ℕ) (ops : Ops) (tested : Option SlateDBError) → free ≡ None → (ops ≡ [] → ⊥) → last ≡ 2 ^ 64 - 2 → commit_verdict_of free last ops tested ≡ Some SequenceExhausted
 verdict_spent (Some n) last ops tested none some full = cc
 verdict_spent None last [] tested none some full = absurd (some refl)
 verdict_spent None last (o ∷ os) tested none some full = ap (λ b. first_refusal (when b SequenceExhausted ∷ tested ∷ [])) (at_end last full)
 
-pub verdict_tested : (free : Option ℕ) (last : ℕ) (ops : Ops) (tested : Option SlateDBError) → free ≡ None → (ops ≡ [] → ⊥) → last < 2 ^ 64 - 2 → verdict_of free last ops tested ≡ tested
+pub verdict_tested : (free : Option ℕ) (last : ℕ) (ops : Ops) (tested : Option SlateDBError) → free ≡ None → (ops ≡ [] → ⊥) → last < 2 ^ 64 - 2 → commit_verdict_of free last ops tested ≡ tested
 verdict_tested (Some n) last ops tested none some place = cc
 verdict_tested None last [] tested none some place = absurd (some refl)
 verdict_tested None last (o ∷ os) tested none some place = ap (λ b. first_refusal (when b SequenceExhausted ∷ tested ∷ [])) (below last place) ∙ first_alone tested
 
-pub none_free : (free : Option ℕ) (last : ℕ) (ops : Ops) (tested : Option SlateDBError) → verdict_of free last ops tested ≡ None → free ≡ None
+pub none_free : (free : Option ℕ) (last : ℕ) (ops : Ops) (tested : Option SlateDBError) → commit_verdict_of free last ops tested ≡ None → free ≡ None
 none_free (Some n) last ops tested is = cc
 none_free None last ops tested is = refl
 
-pub none_tested : (free : Option ℕ) (last : ℕ) (ops : Ops) (tested : Option SlateDBError) (n : Option ℕ) → IsNextOf last ops n → (ops ≡ [] → tested ≡ None) → verdict_of free last ops tested ≡ None → tested ≡ None
+pub none_tested : (free : Option ℕ) (last : ℕ) (ops : Ops) (tested : Option SlateDBError) (n : Option ℕ) → IsNextOf last ops n → (ops ≡ [] → tested ≡ None) → commit_verdict_of free last ops tested ≡ None → tested ≡ None
 none_tested free last ops tested None next idle is = idle next
 none_tested free last ops tested (Some k) next idle is = sym (verdict_tested free last ops tested (none_free free last ops tested is) next.2 next.1) ∙ is
 
@@ -71,8 +71,8 @@ decides_short (Some e) fault result short is = inr is
 
 -- a transaction that is refused before its operations are looked at
 pub decides_tested : {A : Type 0} (free : Option ℕ) (last : ℕ) (ops : Ops) (tested : Option SlateDBError) (fault : SlateDBError → Type 0) (x e : SlateDBError) (result : Result A SlateDBError) → fault OutOfMemory → result ≡ Err x → x ≡ e → (e ≡ OutOfMemory) ⊎ IsConflict free e →
-    Decides (verdict_of free last ops tested) fault result
-decides_tested free last ops tested fault x e result short is same (inl memory) = decides_short (verdict_of free last ops tested) fault result short (is ∙ ap Err (same ∙ memory))
+    Decides (commit_verdict_of free last ops tested) fault result
+decides_tested free last ops tested fault x e result short is same (inl memory) = decides_short (commit_verdict_of free last ops tested) fault result short (is ∙ ap Err (same ∙ memory))
 decides_tested None last ops tested fault x e result short is same (inr met) = absurd met
 decides_tested (Some n) last ops tested fault x e result short is same (inr met) = inl (is ∙ ap Err (same ∙ met))
 
@@ -111,7 +111,7 @@ decided_none (Some e) fault x (inr h) = cc
 -- ---- whom it asks
 
 -- once nothing but the tests is left, where the parts ask nobody by theirs or without a merge
-pub asks_tested : {P : Type 0} (free : Option ℕ) (last : ℕ) (ops : Ops) (tested : Option SlateDBError) → free ≡ None → (ops ≡ [] → ⊥) → last < 2 ^ 64 - 2 → ((e : SlateDBError) → tested ≡ Some e → P) → (holds_merge ops ≡ false → P) → AsksNobody (verdict_of free last ops tested) ops → P
+pub asks_tested : {P : Type 0} (free : Option ℕ) (last : ℕ) (ops : Ops) (tested : Option SlateDBError) → free ≡ None → (ops ≡ [] → ⊥) → last < 2 ^ 64 - 2 → ((e : SlateDBError) → tested ≡ Some e → P) → (holds_merge ops ≡ false → P) → AsksNobody (commit_verdict_of free last ops tested) ops → P
 asks_tested {P = P} free last ops tested none some place refused plain (inr h) = plain h
 asks_tested {P = P} free last ops tested none some place refused plain (inl h) = by tested refused (subst IsSome (verdict_tested free last ops tested none some place) h)
   where

@@ -11,7 +11,7 @@ use Rattle.slate_txn.specs.Reply.{Refused}
 use Rattle.slate_txn.specs.Step.{step}
 use Rattle.slate_db.specs.declared.engine.Core.TheInside.{Inside}
 use Rattle.slate_db.specs.Calls.Common.{AsksOperator, Decides, Given, rules_under}
-use Rattle.slate_db.specs.Calls.Write.{NeedsNoOperator, Writes, WritesAs, newest, refusal_of, write_verdict}
+use Rattle.slate_db.specs.Calls.Write.{NeedsNoOperator, WritesBatch, WritesAs, newest, refusal_of, write_verdict}
 use Rattle.slate_db.specs.Load.{weight}
 use Rattle.slate_db.specs.Log.{LIMIT}
 use Rattle.slate_db.specs.Model.{CoreModel, IsSame, at}
@@ -44,7 +44,7 @@ refused_as d b before after old e some z (inr (inr (inr h))) = inr (inl h.0)
 pub writes_err : (d : Given) (b : BatchModel) (before after : Reach) (alone same_env : Type 0) (old new : CoreModel) (e : SlateDBError) → newest old ≤ 2 ^ 64 - 2 → IsSame old new → (b.ops ≡ [] → ⊥) →
     (let r : Result (Option ℕ) SlateDBError = Err e in Decides (write_verdict d old b) (IsFault before after) r) → (newest old ≡ 2 ^ 64 - 2 → e ≡ SequenceExhausted) →
     alone → (let r : Result (Option ℕ) SlateDBError = Err e in AsksOperator before after r) → (NeedsNoOperator (write_verdict d old b) b → same_env) →
-    (let r : Result (Option ℕ) SlateDBError = Err e in Writes d b before after alone same_env old new r)
+    (let r : Result (Option ℕ) SlateDBError = Err e in WritesBatch d b before after alone same_env old new r)
 writes_err d b before after alone same_env old new e fits same some decides ends outside asks unasked = record {
   answer = decides;
   idle = λ none. absurd (some none);
@@ -103,15 +103,15 @@ verdict_none d b s old w view below tested place = verdict_free (newest old) b.o
 -- refused behind the first test, by an end of a call
 pub write_refused : (d : Given) (b : BatchModel) (before after : Reach) (alone same_env : Type 0) (s : Inside) (old new : CoreModel) (e : SlateDBError) (result : Result (Option ℕ) SlateDBError) → IsWholeInside s → view_of s ≡ old → IsSame old new → (b.ops ≡ [] → ⊥) → s.log.last < 2 ^ 64 - 2 →
     (let r : Result (Option ℕ) SlateDBError = Err e in Decides (write_verdict d old b) (IsFault before after) r) → alone → (let r : Result (Option ℕ) SlateDBError = Err e in AsksOperator before after r) → (NeedsNoOperator (write_verdict d old b) b → same_env) → result ≡ Err e →
-    Writes d b before after alone same_env old new result
+    WritesBatch d b before after alone same_env old new result
 write_refused d b before after alone same_env s old new e result w view same some below decides outside asks unasked is =
-    subst (Writes d b before after alone same_env old new) (sym is)
+    subst (WritesBatch d b before after alone same_env old new) (sym is)
     (writes_err d b before after alone same_env old new e (newest_fits s old w view) same some decides
     (λ full. none_left (view_of s) old (unseen_of s) (2 ^ 64 - 2) view w below full) outside asks unasked)
 
 -- refused for the last sequence
 pub write_spent : (d : Given) (b : BatchModel) (before : Reach) (alone same_env : Type 0) (s : Inside) (old : CoreModel) → IsWholeInside s → view_of s ≡ old → (b.ops ≡ [] → ⊥) → s.log.last ≡ 2 ^ 64 - 2 → alone → same_env →
-    (let r : Result (Option ℕ) SlateDBError = Err SequenceExhausted in Writes d b before before alone same_env old old r)
+    (let r : Result (Option ℕ) SlateDBError = Err SequenceExhausted in WritesBatch d b before before alone same_env old old r)
 write_spent d b before alone same_env s old w view some last outside same =
     writes_err d b before before alone same_env old old SequenceExhausted (newest_fits s old w view) refl some
     (decides_err (Option ℕ) (write_verdict d old b) (IsFault before before) SequenceExhausted (verdict_spent d b s old w view some last))
@@ -119,7 +119,7 @@ write_spent d b before alone same_env s old w view some last outside same =
 
 -- nothing to write
 pub write_idle : (d : Given) (b : BatchModel) (before : Reach) (alone same_env : Type 0) (old : CoreModel) → b.ops ≡ [] → alone → same_env →
-    (let r : Result (Option ℕ) SlateDBError = Ok None in Writes d b before before alone same_env old old r)
+    (let r : Result (Option ℕ) SlateDBError = Ok None in WritesBatch d b before before alone same_env old old r)
 write_idle d b before alone same_env old none outside same = record {
   answer = decides_ok (write_verdict d old b) (IsFault before before) None (verdict_idle (newest old) b.ops (refusal_of d old b) (nat_lt LIMIT (weight old + 1)) none);
   idle = λ empty. refl;

@@ -17,7 +17,7 @@ ghost use Rattle.slate_txn.specs.HandedOver.{Grown};
 ghost use Rattle.slate_txn.specs.State.{Commit, Tx};
 ghost use Rattle.slate_txn.specs.Tested.{IsUntracked};
 ghost use Rattle.slate_db.specs.BatchTests.{batch_refusal, test_refusal};
-ghost use Rattle.slate_db.specs.Calls.Commit.{AsksNobody, verdict_of};
+ghost use Rattle.slate_db.specs.Calls.Commit.{AsksNobody, commit_verdict_of};
 ghost use Rattle.slate_db.specs.Calls.Common.{Decides};
 ghost use Rattle.slate_db.specs.Committed.{IsNextOf, put_at, recorded_at};
 ghost use Rattle.slate_db.specs.Managed.{IsManaged};
@@ -71,7 +71,7 @@ pub(crate) fn make<M: MergeOperator, X: PrefixExtractor>(
     ensures ops { IfOk result (λ made. made.ops ≡ kept_ops owned.ops) }
     ensures fine { IfOk result (λ made. AreFine made.ops) }
     ensures answer { (cs : List Commit) → StandsFor manager.old cs →
-        Decides (verdict_of (conflict cs owned) last owned.ops (test_refusal (option_map M.combine
+        Decides (commit_verdict_of (conflict cs owned) last owned.ops (test_refusal (option_map M.combine
         operator.old) (segments_by X.lengths extractor.now) segments.old default_millis now
         owned.ops))
         (λ e. (e ≡ SlateDBError.OutOfMemory) ⊎ IsCallback (faults_of M.faults operator.old)
@@ -90,7 +90,7 @@ pub(crate) fn make<M: MergeOperator, X: PrefixExtractor>(
     ensures later { faults_of M.faults operator.old ≤ faults_of M.faults operator.new }
     ensures still { IsOperatorStill (faults_of M.faults operator.old) (faults_of M.faults operator.new) result }
     ensures asks { (cs : List Commit) → StandsFor manager.old cs →
-        AsksNobody (verdict_of (conflict cs owned) last owned.ops (test_refusal (option_map
+        AsksNobody (commit_verdict_of (conflict cs owned) last owned.ops (test_refusal (option_map
         M.combine operator.old) (segments_by X.lengths extractor.now) segments.old default_millis
         now owned.ops)) owned.ops → operator.new ≡ operator.old }
 {

@@ -25,13 +25,13 @@ ghost use Rattle.slate_db.specs.Sound.{IsKept};
 ghost use Rattle.slate_db.specs.Segmented.{IsSegmented};
 ghost use Rattle.slate_db.specs.StoredState.{StoresState};
 ghost use Rattle.slate_db.specs.Log.{LIMIT};
-ghost use Rattle.slate_db.specs.Calls.Commit.{AsksNobody, Commits, verdict};
+ghost use Rattle.slate_db.specs.Calls.Commit.{AsksNobody, CommitsOpen, commit_verdict};
 ghost use Rattle.slate_db.specs.Calls.Common.{IsTransaction, given_by};
 ghost use Rattle.slate_db.specs.Calls.Operate.{Marks, Merges, Operates};
 ghost use Rattle.slate_db.specs.Opened.{HasTransaction};
 ghost use Rattle.slate_db.specs.Calls.Flush.{FlushesAll, Installs};
 ghost use Rattle.slate_db.specs.Calls.Open.{Begins, Freezes, IsJournal, Releases, RollsBack, TakesSnapshot};
-ghost use Rattle.slate_db.specs.Calls.Write.{Writes};
+ghost use Rattle.slate_db.specs.Calls.Write.{WritesBatch};
 
 mod flights;
 mod prepared;
@@ -218,7 +218,7 @@ impl Core {
         Ok(self.log.last())
     }
 
-    /// Commits a batch by itself, at the next sequence, which it gives. An empty batch commits nothing, and is never
+    /// CommitsOpen a batch by itself, at the next sequence, which it gives. An empty batch commits nothing, and is never
     /// refused. Refuses by `SequenceExhausted` where no sequence is left; by `MergeOperatorMissing` where the batch ever took a
     /// merge and there is no operator; upwards by key by `EmptySegmentPrefix` where the extractor gives the key no prefix, or an
     /// empty one, and by `IncompatibleMergeTtls` where operations of the key that it keeps differ in expiry; by
@@ -235,7 +235,7 @@ impl Core {
         ensures { let reach = ⟦<EnvOf<S, M, T> as Outside>⟧.reach in
             let d = given_by (reach env.old) (segments_by X.lengths laws.now.segments) now in
             let alone = env.new ≡ record env.old { operator = env.new.operator } in
-            Writes d batch (reach env.old) (reach env.new) alone (env.new ≡ env.old) self.old
+            WritesBatch d batch (reach env.old) (reach env.new) alone (env.new ≡ env.old) self.old
             self.new result }
     {
         if batch.is_empty() {
@@ -416,7 +416,7 @@ impl Core {
         self.transactions.unmark_write(self.alloc, id, keys)
     }
 
-    /// Commits an open transaction at a moment, and gives its sequence, or None where it has no operations. It ends either way.
+    /// CommitsOpen an open transaction at a moment, and gives its sequence, or None where it has no operations. It ends either way.
     /// Refuses by `TransactionConflict`, with the greatest sequence that conflicts, before all other tests; by
     /// `SequenceExhausted` where no sequence is left; by `MergeOperatorMissing` where it took a merge and there is no operator any
     /// more; upwards by key by `EmptySegmentPrefix` where the extractor gives the key no prefix, or an empty one, and by
@@ -435,11 +435,11 @@ impl Core {
         ensures commits { let reach = ⟦<EnvOf<S, M, T> as Outside>⟧.reach in
             let d = given_by (reach env.old) (segments_by X.lengths laws.now.segments) now in
             (t : Tx) → IsTransaction self.old id.now t →
-            Commits d id.now t (reach env.old) (reach env.new) self.old self.new result }
+            CommitsOpen d id.now t (reach env.old) (reach env.new) self.old self.new result }
         ensures outside { env.new ≡ record env.old { operator = env.new.operator } }
         ensures unasked { let reach = ⟦<EnvOf<S, M, T> as Outside>⟧.reach in
             let d = given_by (reach env.old) (segments_by X.lengths laws.now.segments) now in
-            (t : Tx) → IsTransaction self.old id.now t → AsksNobody (verdict d self.old t) t.ops →
+            (t : Tx) → IsTransaction self.old id.now t → AsksNobody (commit_verdict d self.old t) t.ops →
             env.new ≡ env.old }
     {
         let Some(owned) = self.transactions.take(id) else {

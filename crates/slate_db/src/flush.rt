@@ -16,14 +16,11 @@ ghost use Rattle.slate_table.specs.Parts.{Encode};
 ghost use Rattle.slate_table.specs.Reading.{IsStoreFault};
 ghost use Rattle.slate_db.specs.Answered.{AddsActs, AddsPuts};
 ghost use Rattle.slate_db.specs.Flushed.{layout_of, CanFlush, IsTableAt, IsTooLarge, Layout, MayTakeTables, StandInRuns};
-ghost use Rattle.slate_db.specs.StoredParts.{CanBuild, IsLastRun, IsOneTable, IsTablePut};
+ghost use Rattle.slate_db.specs.StoredParts.{ArePartsPut, CanBuild, IsLastRun, IsOneTable, IsTablePut};
 ghost use Rattle.slate_db.specs.Installs.{handles_of};
 ghost use Rattle.slate_db.specs.Meaning.{segments_by};
 ghost use Rattle.slate_db.specs.Model.{Rows};
 ghost use Rattle.slate_db.specs.Calls.Store.{StoresParts, StoresRows, StoresTable};
-ghost use Rattle.slate_db.specs.StoredParts.{ArePartsPut};
-ghost use Rattle.slate_db.specs.Flushed.{StandInRuns};
-ghost use Rattle.slate_db.specs.Answered.{AddsPuts};
 
 use crate::cut::{TableRows, cut_tables};
 use crate::gather::rows_of_flush;

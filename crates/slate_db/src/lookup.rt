@@ -23,8 +23,8 @@ ghost use Rattle.slate_db.specs.Installs.{handles_of};
 ghost use Rattle.slate_mem.specs.Lookup.{IsRowUpTo, newest_first};
 ghost use Rattle.slate_db.specs.Lookup.{IsUnknown};
 ghost use Rattle.slate_db.specs.Model.{Rows};
-ghost use Rattle.slate_db.specs.Shown.{Asking, IsRowOf, IsUnreadable, LetsThrough, RefusesRow};
-ghost use Rattle.slate_db.specs.Calls.Find.{FindsBehindFilters, FindsInTable, FindsRows, LetsThrough};
+ghost use Rattle.slate_db.specs.Shown.{Asking, IsRowOf, IsUnreadable, RefusesRow};
+ghost use Rattle.slate_db.specs.Calls.Find.{FindsBehindFilters, FindsInTable, FindsRows, FiltersLetThrough};
 
 use crate::flush::ROOT;
 use crate::open_scan::copy_contexts;
@@ -158,7 +158,7 @@ fn lets_through<S: Store, M: MergeOperator, T: BlockTransformer>(
 ) -> Result<bool, SlateDBError>
     ensures { let reach = ⟦<EnvOf<S, M, T> as Outside>⟧.reach in
         let by : Asking = record { policies = map (λ p. meaning p) policies.now; query = query.now } in
-        LetsThrough by table.now (reach env.old) (reach env.new) result }
+        FiltersLetThrough by table.now (reach env.old) (reach env.new) result }
 {
     TableStore::might_match(
         alloc,

@@ -1,5 +1,5 @@
 //! The rows of an iterator as a reader gets them.
-ghost use Rattle.std.specs.Prelude.{◌≡◌, None, Some, IfSome, drop, if◌then◌else◌};
+ghost use Rattle.std.specs.Prelude.{◌≡◌, ⊤, None, Some, IfSome, drop, if◌then◌else◌};
 ghost use Rattle.slate_types.specs.declared.error.SlateDBError.{SlateDBError};
 ghost use Rattle.slate_types.specs.declared.types.RowEntry.{RowEntry};
 ghost use Rattle.slate_types.specs.Iteration.{drop_before};

@@ -14,9 +14,9 @@ use Rattle.slate_txn.specs.Conflict.{conflict}
 use Rattle.slate_txn.specs.Refusals.{unless_empty}
 use Rattle.slate_txn.specs.State.{Tx, last_of}
 use Rattle.slate_db.specs.BatchTests.{test_refusal}
-use Rattle.slate_db.specs.Calls.Commit.{Commits, verdict}
+use Rattle.slate_db.specs.Calls.Commit.{CommitsOpen, commit_verdict}
 use Rattle.slate_db.specs.Calls.Common.{Given}
-use Rattle.slate_db.specs.Calls.Write.{Writes, newest, refusal_of, write_verdict}
+use Rattle.slate_db.specs.Calls.Write.{WritesBatch, newest, refusal_of, write_verdict}
 use Rattle.slate_db.specs.Flushed.{NoPlace}
 use Rattle.slate_db.specs.Log.{LIMIT}
 use Rattle.slate_db.specs.Model.{CoreModel}
@@ -85,7 +85,7 @@ abbrev IsPassedOn : SlateDBError → Result Answer SlateDBError → Type 0
 IsPassedOn error result = IfErr result (λ e. (e ≡ error) × (IsRefusal error → ⊥))
 
 pub write_cause : {d : Given} {b : BatchModel} {before after : Reach} {alone same_env : Type 0} {old new : CoreModel} (session : SessionModel) (error : SlateDBError) (result : Result Answer SlateDBError) → session.core ≡ old → IsPassedOn error result →
-    (let r : Result (Option ℕ) SlateDBError = Err error in Writes d b before after alone same_env old new r) → IfErr result (λ e. IsFault before after e ⊎ IsLimit session e)
+    (let r : Result (Option ℕ) SlateDBError = Err error in WritesBatch d b before after alone same_env old new r) → IfErr result (λ e. IsFault before after e ⊎ IsLimit session e)
 write_cause {d = d} {b = b} {before = before} {after = after} {old = old} session error result core other made = by result other (cause_of before after (let r : Result (Option ℕ) SlateDBError = Err error in r) (write_verdict d old b) made.answer)
   where
     refuses : ((error ≡ errors.SequenceExhausted) × (newest old ≡ 2 ^ 64 - 2)) ⊎ ((error ≡ errors.LimitReached LIMIT) × NoPlace 1 old) ⊎ (refusal_of d old b ≡ Some error) → ((error ≡ errors.LimitReached LIMIT) × NoPlace 1 old) ⊎ IsRefusal error
@@ -102,7 +102,7 @@ write_cause {d = d} {b = b} {before = before} {after = after} {old = old} sessio
     by (Err x) other (inl fault) = inl (subst (IsFault before after) (sym other.0) fault)
     by (Err x) other (inr is) = ends x other (refuses (verdict_is d b old error is))
 
--- what the verdict of a commit refuses it for is answered
+-- what the commit_verdict of a commit refuses it for is answered
 verdict_refuses : (conflict : Option ℕ) (full : Bool) (ops : Ops) (tested : Option SlateDBError) (error : SlateDBError) → (tested ≡ Some error → IsRefusal error) →
     first_refusal (option_map errors.TransactionConflict conflict ∷ unless_empty ops (when full errors.SequenceExhausted ∷ tested ∷ [])) ≡ Some error → IsRefusal error
 verdict_refuses (Some n) full ops tested error by is = subst IsRefusal (some_error (errors.TransactionConflict n) error is) tt
@@ -112,10 +112,10 @@ verdict_refuses None false (o ∷ os) (Some e) error by is = by is
 verdict_refuses None false (o ∷ os) None error by is = cc
 
 pub commit_cause : {d : Given} {id : List ℕ} {t : Tx} {before after : Reach} {old new : CoreModel} (session : SessionModel) (error : SlateDBError) (result : Result Answer SlateDBError) → IsPassedOn error result →
-    (let r : Result (Option ℕ) SlateDBError = Err error in Commits d id t before after old new r) → IfErr result (λ e. IsFault before after e ⊎ IsLimit session e)
-commit_cause {d = d} {t = t} {before = before} {after = after} {old = old} session error result other made = by result other (cause_of before after (let r : Result (Option ℕ) SlateDBError = Err error in r) (verdict d old t) made.answer)
+    (let r : Result (Option ℕ) SlateDBError = Err error in CommitsOpen d id t before after old new r) → IfErr result (λ e. IsFault before after e ⊎ IsLimit session e)
+commit_cause {d = d} {t = t} {before = before} {after = after} {old = old} session error result other made = by result other (cause_of before after (let r : Result (Option ℕ) SlateDBError = Err error in r) (commit_verdict d old t) made.answer)
   where
-    by : (r : Result Answer SlateDBError) → IsPassedOn error r → IsFault before after error ⊎ (verdict d old t ≡ Some error) → IfErr r (λ e. IsFault before after e ⊎ IsLimit session e)
+    by : (r : Result Answer SlateDBError) → IsPassedOn error r → IsFault before after error ⊎ (commit_verdict d old t ≡ Some error) → IfErr r (λ e. IsFault before after e ⊎ IsLimit session e)
     by (Ok a) other cause = tt
     by (Err x) other (inl fault) = inl (subst (IsFault before after) (sym other.0) fault)
     by (Err x) other (inr is) = absurd (other.1 (verdict_refuses (conflict old.state.commits t) (last_of old.settings.start_seq old.state.commits == 2 ^ 64 - 2) t.ops (test_refusal d.meaning.combine d.segments old.segments old.settings.default_millis d.now t.ops) error

@@ -8,6 +8,7 @@ use crate::{
     Options, ReadOptions, SlateDBError, Store, WriteBatch,
 };
 use std::alloc::Global;
+use std::os::unix::fs::FileExt;
 use std::rt::Files;
 
 /// Puts a value under a key, stores it, and gives what a transaction reads at that key: of a store that answers by its
@@ -54,7 +55,10 @@ pub fn put_and_get<S: Store>(
 pub fn put_and_get_in_folder<R: Files + AllocGlobal + Clone + Drop>(
     rt: R,
     folder: &str,
-) -> Result<Option<KeyValue>, SlateDBError> {
+) -> Result<Option<KeyValue>, SlateDBError>
+where
+    R::File: FileExt,
+{
     let alloc = rt.alloc();
     let mut store = FileStore::new(alloc, rt, folder)?;
     put_and_get(alloc, &mut store, b"fruit", b"apple")

@@ -1,13 +1,13 @@
 -- A commit of an open transaction. d: what it is given; id, t: the transaction; before, after: what
 -- it reaches; old, new: the core.
---     verdict_of conflicting last ops tested      the first of a commit's tests that refuses it: a
---                conflict; then, where it has operations, no sequence left, and what its batch is
---                refused for
---     verdict d c t      so it is of a transaction
---     AsksNobody verdict ops      one refuses, or there is no merge: then no operator is asked
---     step_of d c id      the model's step of its line
---     CommitsAs d id old new reply      the model answers it so
---     Commits d id t before after old new result      what a commit ensures
+--     commit_verdict_of conflicting last ops tested      the first of a commit's tests that refuses
+--                it: a conflict; then, where it has operations, no sequence left, and what its
+--                batch is refused for
+--     commit_verdict d c t      so it is of a transaction
+--     AsksNobody refusal ops      one refuses, or there is no merge: then no operator is asked
+--     commit_step d c id      the model's step of its line
+--     CommitsLine d id old new reply      the model answers it so
+--     CommitsOpen d id t before after old new result      what a commit ensures
 --     IsPreparedFor m g c now t prepared      the transaction's batch was prepared so, for these
 --                parts
 --     CommitsPrepared id now prepared old new result      what the commit of such a transaction
@@ -39,33 +39,33 @@ use Rattle.slate_db.specs.Segmented.{IsSegmented}
 use Rattle.slate_db.specs.Sound.{IsKept, IsOperable}
 use Rattle.slate_db.specs.Vouched.{IsVouchedFor}
 
-abbrev pub verdict_of : Option ℕ → ℕ → Ops → Option SlateDBError → Option SlateDBError
-verdict_of conflicting last ops tested = first_refusal (
+abbrev pub commit_verdict_of : Option ℕ → ℕ → Ops → Option SlateDBError → Option SlateDBError
+commit_verdict_of conflicting last ops tested = first_refusal (
     option_map TransactionConflict conflicting ∷
     unless_empty ops (when (last == 2 ^ 64 - 2) SequenceExhausted ∷ tested ∷ []))
 
-abbrev pub verdict : Given → CoreModel → Tx → Option SlateDBError
-verdict d c t = verdict_of (conflict c.state.commits t)
+abbrev pub commit_verdict : Given → CoreModel → Tx → Option SlateDBError
+commit_verdict d c t = commit_verdict_of (conflict c.state.commits t)
     (last_of c.settings.start_seq c.state.commits) t.ops (test_refusal d.meaning.combine d.segments
     c.segments c.settings.default_millis d.now t.ops)
 
 abbrev pub AsksNobody : Option SlateDBError → Ops → Type 0
 AsksNobody refusal ops = IsSome refusal ⊎ (holds_merge ops ≡ false)
 
-abbrev pub step_of : Given → CoreModel → List ℕ → State × Reply
-step_of d c id = step (rules_under d c) (at d.now c.state) (lines.Commit id)
+abbrev pub commit_step : Given → CoreModel → List ℕ → State × Reply
+commit_step d c id = step (rules_under d c) (at d.now c.state) (lines.Commit id)
 
-abbrev pub CommitsAs : Given → List ℕ → CoreModel → CoreModel → Reply → Type 0
-CommitsAs d id old new reply = step_of d old id ≡ (at d.now new.state, reply)
+abbrev pub CommitsLine : Given → List ℕ → CoreModel → CoreModel → Reply → Type 0
+CommitsLine d id old new reply = commit_step d old id ≡ (at d.now new.state, reply)
 
 -- answer: refused just by the verdict, but for faults and want of memory; step, refused: as the
 -- model answers
-pub record Commits (d : Given) (id : List ℕ) (t : Tx) (before after : Reach) (old new : CoreModel)
+pub record CommitsOpen (d : Given) (id : List ℕ) (t : Tx) (before after : Reach) (old new : CoreModel)
     (result : Result (Option ℕ) SlateDBError) : Type 0 where
-  pub answer : Decides (verdict d old t) (IsFault before after) result
-  pub step : IsSegmented d.segments old → IfOk result (λ n. CommitsAs d id old new (Committed n))
+  pub answer : Decides (commit_verdict d old t) (IsFault before after) result
+  pub step : IsSegmented d.segments old → IfOk result (λ n. CommitsLine d id old new (Committed n))
   pub refused : IsOperable d.meaning old → IsSegmented d.segments old →
-      IfErr result (λ e. IsFault before after e ⊎ CommitsAs d id old new (Refused e))
+      IfErr result (λ e. IsFault before after e ⊎ CommitsLine d id old new (Refused e))
   pub event : IfOk result (λ n. IsCommitted old new id n d.now t)
   pub ended : OnErr result (IsEnded old new id)
   pub keeps : Keeps d old new result

@@ -5,7 +5,7 @@
 --     given_by reach g now      it, of a call that is given this
 --     rules_under d c      the rules of the model's step over a core
 --     IsTransaction c id t      the open transaction with this id
---     StepsAs old new line reply      the model answers the line so, whatever the parts mean
+--     IsModelStep old new line reply      the model answers the line so, whatever the parts mean
 --     KeepsRows m g old new      what is kept of the rows and of the segments, for one meaning of
 --                the parts
 --     Keeps d old new result      so it is for the parts of the call, and at a refusal for any
@@ -48,8 +48,8 @@ rules_under d c = rules_in c.settings d.meaning d.segments
 abbrev pub IsTransaction : CoreModel → List ℕ → Tx → Type 0
 IsTransaction c id t = find_named id c.state.txns ≡ Some t
 
-abbrev pub StepsAs : CoreModel → CoreModel → Line → Reply → Type 0
-StepsAs old new line reply = (m : Meaning) (g : Segments) →
+abbrev pub IsModelStep : CoreModel → CoreModel → Line → Reply → Type 0
+IsModelStep old new line reply = (m : Meaning) (g : Segments) →
     model.step (rules_in old.settings m g) old.state line ≡ (new.state, reply)
 
 pub record KeepsRows (m : Meaning) (g : Segments) (old new : CoreModel) : Type 0 where

@@ -1,6 +1,6 @@
 -- Finds of the rows of a key in stored tables. by: what filters are asked; k, n: the key and the
 -- sequence up to which; before, after: what a call reaches.
---     LetsThrough by h before after result      whether the filters of a table let the query
+--     FiltersLetThrough by h before after result      whether the filters of a table let the query
 --                through
 --     FindsInTable h k n before after result      the rows in a table that encloses the key
 --     FindsBehindFilters by h k n before after result      the rows in a table, none where its
@@ -28,7 +28,7 @@ use Rattle.slate_db.specs.Shown as shown
 use Rattle.slate_db.specs.Shown.{Asking, BringsRows, HasRow, HasRowRead, IsUnreadable, RefusesFiltersRead, Shows, ShowsDamage, ShowsRead}
 
 -- denied, whole: of objects that hold the table with its filters, and that answered each read
-pub record LetsThrough (by : Asking) (h : SsTableHandle) (before after : Reach)
+pub record FiltersLetThrough (by : Asking) (h : SsTableHandle) (before after : Reach)
     (result : Result Bool SlateDBError) : Type 0 where
   pub denied : (key : List ℕ) (rows : Rows) (os : Objects) → by.query.target ≡ Point key →
       IsStoredAs before.meaning os h rows → AreFilteredAs by.policies before.meaning os (h ∷ []) →

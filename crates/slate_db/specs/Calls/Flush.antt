@@ -18,7 +18,7 @@ use Rattle.slate_txn.specs.Places.{IsQuiet}
 use Rattle.slate_txn.specs.Reply.{Flushed}
 use Rattle.slate_txn.specs.State.{last_of}
 use Rattle.slate_db.specs.Answered.{AddsActs, AddsTables}
-use Rattle.slate_db.specs.Calls.Common.{StepsAs}
+use Rattle.slate_db.specs.Calls.Common.{IsModelStep}
 use Rattle.slate_db.specs.Flushed.{Flushes, IsFlushError, Layout, MayPut, NoPlaceToFlush, TooLarge, WantsOperator}
 use Rattle.slate_db.specs.Frozen.{IsFrozen}
 use Rattle.slate_db.specs.HeldOn.{FiltersOn, HoldsOn, TellsOn}
@@ -53,7 +53,7 @@ HasOperand c = is_merge_among (newest_first (memory c)) ≡ true
 -- operands without an operator; held, told, filtered: of the tables that the journal names
 pub record FlushesAll (layout : Layout) (before after : Reach) (same_env : Type 0)
     (old new : CoreModel) (result : Result ℕ SlateDBError) : Type 0 where
-  pub step : IfOk result (λ n. StepsAs old new lines.Flush (Flushed n))
+  pub step : IfOk result (λ n. IsModelStep old new lines.Flush (Flushed n))
   pub installed : IfOk result (λ n. (between : CoreModel) ×
       IsFrozen old between × Flushes layout before after between new n)
   pub acts : OnOk result

@@ -1,6 +1,6 @@
 -- Calls that open a transaction or a snapshot, and that end one; the freeze; and the journal. old,
 -- new: the core.
---     IsRefusal n c e      want of memory, or of a place in the journal for so many events
+--     IsShortOfPlace n c e      want of memory, or of a place in the journal for so many events
 --     with_event old new event      the old core, with the state of the new one, and its event
 --     Begins level old new result      a transaction is opened: its id, and the sequence that it
 --                reads at
@@ -24,7 +24,7 @@ use Rattle.slate_txn.specs.Reads.{up_to}
 use Rattle.slate_txn.specs.Replay.{IsLegal}
 use Rattle.slate_txn.specs.Reply.{Begun, Done, Frozen, SnapshotAt}
 use Rattle.slate_txn.specs.State.{is_open, last_of}
-use Rattle.slate_db.specs.Calls.Common.{StepsAs}
+use Rattle.slate_db.specs.Calls.Common.{IsModelStep}
 use Rattle.slate_db.specs.Flushed.{NoPlace}
 use Rattle.slate_db.specs.Frozen.{IsFrozen}
 use Rattle.slate_db.specs.Installs.{Replays, installed}
@@ -38,8 +38,8 @@ use Rattle.slate_db.specs.StoredState.{StoresState}
 use Rattle.slate_db.specs.Vouched.{IsVouchedFor}
 
 -- for want of memory, or of a place for so many events more in the journal
-abbrev pub IsRefusal : ℕ → CoreModel → SlateDBError → Type 0
-IsRefusal n c e = (e ≡ OutOfMemory) ⊎ ((e ≡ LimitReached LIMIT) × NoPlace n c)
+abbrev pub IsShortOfPlace : ℕ → CoreModel → SlateDBError → Type 0
+IsShortOfPlace n c e = (e ≡ OutOfMemory) ⊎ ((e ≡ LimitReached LIMIT) × NoPlace n c)
 
 abbrev pub with_event : CoreModel → CoreModel → Event → CoreModel
 with_event old new event = record old {
@@ -51,7 +51,7 @@ with_event old new event = record old {
 -- vouched: of the new transaction; others: of those that were open
 pub record Begins (level : IsolationLevel) (old new : CoreModel)
     (result : Result (List ℕ × ℕ) SlateDBError) : Type 0 where
-  pub step : IfOk result (λ a. StepsAs old new (lines.Begin a.0 level) (Begun a.0 a.1))
+  pub step : IfOk result (λ a. IsModelStep old new (lines.Begin a.0 level) (Begun a.0 a.1))
   pub event : IfOk result (λ a. new ≡ with_event old new (events.Begin a.0 level a.1))
   pub vouched : IfOk result (λ a. (m : Meaning) → IsVouchedFor m new a.0)
   pub others : OnOk result ((m : Meaning) (other : List ℕ) →
@@ -60,14 +60,14 @@ pub record Begins (level : IsolationLevel) (old new : CoreModel)
   pub kept : OnOk result ((m : Meaning) → IsKept m old → IsKept m new)
   pub same : OnErr result (new ≡ old)
   pub limit : NoPlace 2 old → result ≡ Err (LimitReached LIMIT)
-  pub cause : IfErr result (IsRefusal 2 old)
+  pub cause : IfErr result (IsShortOfPlace 2 old)
   pub «open» : IfOk result (λ a. HasTransaction new a.0)
   pub fresh : IfOk result (λ a. is_open old.state a.0 ≡ false)
   pub stay : StayOpen old new
 
 pub record TakesSnapshot (old new : CoreModel)
     (result : Result (List ℕ × ℕ) SlateDBError) : Type 0 where
-  pub step : IfOk result (λ a. StepsAs old new (lines.Snapshot a.0) (SnapshotAt a.0 a.1))
+  pub step : IfOk result (λ a. IsModelStep old new (lines.Snapshot a.0) (SnapshotAt a.0 a.1))
   pub event : IfOk result (λ a. new ≡ with_event old new (events.Snapshot a.0 a.1))
   pub vouched : OnOk result ((m : Meaning) (other : List ℕ) →
       IsVouchedFor m old other → IsVouchedFor m new other)
@@ -75,7 +75,7 @@ pub record TakesSnapshot (old new : CoreModel)
   pub kept : OnOk result ((m : Meaning) → IsKept m old → IsKept m new)
   pub same : OnErr result (new ≡ old)
   pub limit : NoPlace 2 old → result ≡ Err (LimitReached LIMIT)
-  pub cause : IfErr result (IsRefusal 2 old)
+  pub cause : IfErr result (IsShortOfPlace 2 old)
   pub «open» : IfOk result (λ a. HasSnapshot new a.0)
   pub fresh : IfOk result (λ a. is_open old.state a.0 ≡ false)
   pub stay : StayOpen old new
@@ -83,7 +83,7 @@ pub record TakesSnapshot (old new : CoreModel)
 -- ---- an end
 
 pub record Releases (id : List ℕ) (old new : CoreModel) : Type 0 where
-  pub step : StepsAs old new (lines.Rollback id) Done
+  pub step : IsModelStep old new (lines.Rollback id) Done
   pub event : new ≡ with_event old new (events.Release id)
   pub vouched : (m : Meaning) (other : List ℕ) → IsVouchedFor m old other → IsVouchedFor m new other
   pub segmented : (g : Segments) → IsSegmented g old → IsSegmented g new
@@ -91,7 +91,7 @@ pub record Releases (id : List ℕ) (old new : CoreModel) : Type 0 where
   pub stay : StayOpenBut id old new
 
 pub record RollsBack (id : List ℕ) (old new : CoreModel) : Type 0 where
-  pub step : StepsAs old new (lines.Rollback id) Done
+  pub step : IsModelStep old new (lines.Rollback id) Done
   pub event : new ≡ with_event old new (events.End id)
   pub others : (m : Meaning) (other : List ℕ) → other ≢ id →
       IsVouchedFor m old other → IsVouchedFor m new other
@@ -103,7 +103,7 @@ pub record RollsBack (id : List ℕ) (old new : CoreModel) : Type 0 where
 
 -- idle: without active rows it isn't refused
 pub record Freezes (old new : CoreModel) (result : Result ℕ SlateDBError) : Type 0 where
-  pub step : IfOk result (λ n. StepsAs old new lines.Freeze (Frozen n))
+  pub step : IfOk result (λ n. IsModelStep old new lines.Freeze (Frozen n))
   pub event : OnOk result (IsFrozen old new)
   pub quiet : OnOk result (IsQuiet new.events)
   pub idle : old.active ≡ [] → IsOk result
@@ -112,7 +112,7 @@ pub record Freezes (old new : CoreModel) (result : Result ℕ SlateDBError) : Ty
   pub kept : OnOk result ((m : Meaning) → IsKept m old → IsKept m new)
   pub same : OnErr result (new ≡ old)
   pub limit : old.active ≢ [] → NoPlace 1 old → result ≡ Err (LimitReached LIMIT)
-  pub cause : IfErr result (IsRefusal 1 old)
+  pub cause : IfErr result (IsShortOfPlace 1 old)
   pub stay : StayOpen old new
 
 -- es: the events

@@ -13,7 +13,7 @@ use Rattle.slate_txn.specs.declared.line.Line.{Line}
 use Rattle.slate_txn.specs.Reply.{Done, Refused}
 use Rattle.slate_txn.specs.State.{Tx}
 use Rattle.slate_txn.specs.Step as model
-use Rattle.slate_db.specs.Calls.Common.{StepsAs}
+use Rattle.slate_db.specs.Calls.Common.{IsModelStep}
 use Rattle.slate_db.specs.Meaning.{Meaning, rules_in}
 use Rattle.slate_db.specs.Model.{CoreModel}
 use Rattle.slate_db.specs.Opened.{StayOpen}
@@ -25,8 +25,8 @@ use Rattle.slate_db.specs.Vouched.{IsVouchedFor}
 pub record Operates {A : Type 0} (id : List ℕ) (line : Line) (f : Tx → Tx)
     (refusal : Option SlateDBError) (old new : CoreModel)
     (result : Result A SlateDBError) : Type 0 where
-  pub step : OnOk result (StepsAs old new line Done)
-  pub refused : IfErr result (λ e. (e ≡ OutOfMemory) ⊎ StepsAs old old line (Refused e))
+  pub step : OnOk result (IsModelStep old new line Done)
+  pub refused : IfErr result (λ e. (e ≡ OutOfMemory) ⊎ IsModelStep old old line (Refused e))
   pub taken : OnOk result (new ≡ operated old id f)
   pub test : (e : SlateDBError) → refusal ≡ Some e → result ≡ Err e
   pub cause : IfErr result (λ e. (e ≡ OutOfMemory) ⊎ (refusal ≡ Some e))
@@ -56,7 +56,7 @@ pub record Merges {A : Type 0} (m : Meaning) (id : List ℕ) (line : Line) (f : 
 
 pub record Marks {A : Type 0} (id : List ℕ) (line : Line) (f : Tx → Tx) (old new : CoreModel)
     (result : Result A SlateDBError) : Type 0 where
-  pub step : OnOk result (StepsAs old new line Done)
+  pub step : OnOk result (IsModelStep old new line Done)
   pub taken : OnOk result (new ≡ operated old id f)
   pub cause : IsOkUnless result OutOfMemory
   pub vouched : (m : Meaning) (other : List ℕ) → IsVouchedFor m old other → IsVouchedFor m new other

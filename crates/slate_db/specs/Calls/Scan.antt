@@ -30,7 +30,7 @@ use Rattle.slate_txn.specs.Reply.{RowsAre}
 use Rattle.slate_txn.specs.Step.{Reader, reader}
 use Rattle.slate_db.specs.declared.scan.ScanState.TheVariants.{Walking}
 use Rattle.slate_db.specs.declared.scan.TxnIterator.{TxnIterator}
-use Rattle.slate_db.specs.Calls.Common.{StepsAs}
+use Rattle.slate_db.specs.Calls.Common.{IsModelStep}
 use Rattle.slate_db.specs.Checked.{OrSlips}
 use Rattle.slate_db.specs.Meaning.{Meaning, rules_of}
 use Rattle.slate_db.specs.Model.{CoreModel, Rows}
@@ -50,7 +50,7 @@ scan_rows m c from order range =
 pub record OpensScan (policies : List Policy) (query : Option FilterQuery) (id : List ℕ)
     (order : IterationOrder) (range : BytesRange) (before after : Reach) (same_env : Type 0)
     (old new : CoreModel) (result : Result TxnIterator SlateDBError) : Type 0 where
-  pub step : OnOk result (StepsAs old new
+  pub step : OnOk result (IsModelStep old new
       (lines.Scan id order range.start range.end (scans.Rows 0 ∷ [])) (RowsAre []))
   pub names : (from : Reader) → reader old.state id ≡ Some from →
       IfOk result (IsScanOf id from.scans order range)

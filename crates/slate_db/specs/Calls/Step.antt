@@ -2,13 +2,15 @@
 -- key of a seek; more: the rows that are left; means: what is answered; brings: what it may be
 -- where there is no operator; before, after: what a call reaches; old, new: what steps.
 --     StepsScan at more means brings before after same_env old new result      of a scan
---     NextOf, SeekOf      of one that takes the next row, and of one to a key
+--     NextOf before after .., SeekOf key before after ..      of one that takes the next row, and
+--                of one to a key
 --     LeavesList more old new from to result      what a transaction's scan leaves by the
 --                transcript; old, new: the core; from, to: the scan
 --     StepsIn at more means brings needs before after old new result      of a state that was not
 --                refused; needs: what its rows must be in a world
---     StepsValues rest sound order refuses offered within at more means brings needs before after
---                old new result of rows that are folded; rest .. within: what their source is
+--     StepsValues rest sound order_of refuses offered_by is_within at more means brings needs
+--                before after old new result      of rows that are folded; rest .. is_within: what
+--                their source is
 use Rattle.std.specs.Prelude.{◌≡◌, ◌⊎◌, ℕ, List, drop, None, Some, Option, IfErr, IfOk, IfSome, OnOk, Result}
 use Rattle.slate_types.specs.declared.bytes_range.BytesRange.{BytesRange}
 use Rattle.slate_types.specs.declared.error.SlateDBError.{SlateDBError}

@@ -9,9 +9,9 @@
 --     write_verdict d c b      so it is of a batch
 --     NeedsNoOperator verdict b      one refuses, or the batch keeps no operation, or it never took
 --                a merge
---     step_of d ops c      the model's step of the line of these operations
+--     write_step d ops c      the model's step of the line of these operations
 --     WritesAs d b old new reply      the model answers the line of the batch so
---     Writes d b before after operator_alone same_env old new result      what a write ensures
+--     WritesBatch d b before after operator_alone same_env old new result      what a write ensures
 --     IsPreparedAs m g c now b prepared      the batch was prepared so, for these parts
 --     WritesPrepared prepared now old new result      what the write of such a batch ensures
 use Rattle.std.specs.Prelude.{◌≡◌, ◌≢◌, ◌⊎◌, ℕ, ◌+◌, ◌-◌, ◌^◌, ◌≤◌, ◌==◌, ℤ, nat_lt, Bool, false, List, [], ◌∷◌, length, Option, Result, Err, IfErr, IfOk, IsOk, IsSome, OnErr, OnOk}
@@ -60,17 +60,17 @@ write_verdict d c b =
 abbrev pub NeedsNoOperator : Option SlateDBError → BatchModel → Type 0
 NeedsNoOperator verdict b = IsSome verdict ⊎ (b.ops ≡ []) ⊎ (b.held_merge ≡ false)
 
-abbrev pub step_of : Given → Ops → CoreModel → State × Reply
-step_of d ops c = model.step (rules_under d c) (at d.now c.state) (lines.Write ops)
+abbrev pub write_step : Given → Ops → CoreModel → State × Reply
+write_step d ops c = model.step (rules_under d c) (at d.now c.state) (lines.Write ops)
 
 abbrev pub WritesAs : Given → BatchModel → CoreModel → CoreModel → Reply → Type 0
 WritesAs d b old new reply = (ops : Ops) → IsBatchOf ops b → AreFine ops →
-    step_of d ops old ≡ (at d.now new.state, reply)
+    write_step d ops old ≡ (at d.now new.state, reply)
 
 -- operator_alone, same_env: of the environment the operator alone changed, or nothing. answer: it
 -- is refused just by the verdict, but for faults and want of memory; idle, exhausted: an empty
 -- batch never, and at the last sequence for that alone; step, refused: as the model answers
-pub record Writes (d : Given) (b : BatchModel) (before after : Reach)
+pub record WritesBatch (d : Given) (b : BatchModel) (before after : Reach)
     (operator_alone same_env : Type 0) (old new : CoreModel)
     (result : Result (Option ℕ) SlateDBError) : Type 0 where
   pub answer : Decides (write_verdict d old b) (IsFault before after) result

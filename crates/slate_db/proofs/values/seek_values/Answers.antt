@@ -19,7 +19,7 @@ returns g c =
     let before = g.E.Outside.reach c.args.env.now in
     let after = g.E.Outside.reach c.seek.new.env in
     record {
-      rows = λ w range values sees sound has. if_pair r (on_ok_weaker r
+      rows = λ w range values sees sound has. if_pair _ r (on_ok_weaker r
           (λ is. has_sought range (i.order x.iterator) c.args.key.now (rest_folding i.rest x w) (rest_folding i.rest y w) values (folding_rises i.rest i.sound i.order x w sound) is has)
           (s.rows w sees sound));
       still = λ w sees sound. on_ok_any r (s.still w sees sound);
@@ -28,7 +28,7 @@ returns g c =
       checked = s.checked;
       sources = s.sources;
       later = on_ok_weaker r (λ made. (made.0, made.1, made.2.1)) s.sought;
-      bases = λ none. bases_none r before after s.sources;
+      bases = λ none. bases_none _ r before after s.sources;
       offered = on_ok_weaker r (λ made. (made.0, made.1, sought_less i.begins i.takes i.seeks x y before.meaning made.0 c.args.key.now made.2.0)) s.sought;
       undamaged = λ w sees going sound needs. IfErr-weaker r _ _
           (λ e k. seek_undamaged i.rest i.sound i.order i.refuses (offers i.begins i.takes i.seeks) g.met.I.RowEntryIterator.whole x w before after c.args.key.now e sees going sound (k.0, k.1, k.2.0))

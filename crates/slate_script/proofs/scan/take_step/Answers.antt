@@ -16,13 +16,13 @@ returns-in-Rows-clause-took g c =
 pub returns-in-Seek-clause-took : goal.returns-in-Seek-clause-took
 returns-in-Seek-clause-took g c =
     let o = c.seek.ensures in
-    sought c.seek.result _ _ c.args.core.now c.seek.new.self c.args.scan.now c.seek.new.it c.args.step.now _ _ c.args.rows.now.items c.in-Seek.is c.as_slice.ensures (on_ok_of c.seek.result o.notes.noted) o.step.names (λ w rows l s. on_second c.seek.result (o.step.rows w rows l s)) o.step.checked o.step.later o.notes.kept
+    sought c.seek.result _ _ c.args.core.now c.seek.new.self c.args.scan.now c.seek.new.it c.args.step.now _ _ c.args.rows.now.items c.in-Seek.is c.as_slice.ensures (on_ok_of _ c.seek.result o.notes.noted) o.step.names (λ w rows l s. on_second _ c.seek.result (o.step.rows w rows l s)) o.step.checked o.step.later o.notes.kept
 
 pub returns-in-Seek-clause-refused : goal.returns-in-Seek-clause-refused
 returns-in-Seek-clause-refused g c = seek_failed c.seek.result _ _ c.args.scan.now (Some c.as_slice.result.now) c.seek.ensures.step.undamaged c.seek.ensures.step.cause
 
 pub returns-in-Seek-clause-noted : goal.returns-in-Seek-clause-noted
-returns-in-Seek-clause-noted g c = noted_call c.seek.result c.args.core.now c.seek.new.self (id_of c.args.scan.now) _ (on_ok_of c.seek.result c.seek.ensures.notes.noted) c.seek.ensures.notes.same
+returns-in-Seek-clause-noted g c = noted_call c.seek.result c.args.core.now c.seek.new.self (id_of c.args.scan.now) _ (on_ok_of _ c.seek.result c.seek.ensures.notes.noted) c.seek.ensures.notes.same
 
 pub returns-in-Seek-clause-reads : goal.returns-in-Seek-clause-reads
 returns-in-Seek-clause-reads g c = c.seek.ensures.step.reads

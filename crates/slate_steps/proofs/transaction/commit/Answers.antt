@@ -2,7 +2,7 @@ use Rattle.std.proofs.Common.{◌∙◌, None, ℤ, inr, of_z, subst, to_z, w64}
 use Rattle.std.proofs.lemmas.Int.{to_z-of_z}
 use Rattle.slate_db.specs.Committed.{IsCommitted}
 use Rattle.slate_store.specs.Reach.{reach_of}
-use Rattle.slate_db.proofs.CommitFacts.{causes_of, exhausted_by}
+use Rattle.slate_db.proofs.CommitFacts.{causes_of, exhausted_by, of_transaction}
 use Rattle.slate_steps.specs.Steps.{newest, taking}
 use Rattle.slate_steps.proofs.Ending.{commit_cause, has_committed, no_conflict, refused_commit, same_newest, within_segmented}
 use Rattle.slate_steps.proofs.Reading.{both_err, if_ok_map, on_err_map}
@@ -41,3 +41,6 @@ returns-clause-exhausted g c = λ d level ts h some full.
 
 pub returns-clause-still : goal.returns-clause-still
 returns-clause-still g c = λ d level ts h plain. c.commit-seq.ensures.unasked _ (within_found d c.args.core.now c.args.id.now level ts h) (inr plain)
+
+pub returns-clause-reads : goal.returns-clause-reads
+returns-clause-reads g c = of_transaction c.args.core.now c.args.id.now c.requires (λ t named. (c.commit-seq.ensures.commits t named).asks.reads)

@@ -27,7 +27,7 @@ returns-in_err-seq g c = record {
   undone = on_err _ c.from_residual-in_err-seq.result
       (undone_ended c.args.core.now c.begin.new.self c.open_up-read.new.core c.commit.new.self c.in_ok-id.id SerializableSnapshot c.in_ok-id._begin c.in_ok-id.ensures.fresh c.in_ok-id.ensures.step
       c.open_up-read.ensures.alone
-      (of_transaction _ _ ((c.open_up-read.ensures.stay c.in_ok-id.id).transaction c.in_ok-id.ensures.open) (λ t is. (c.in_err-seq.ensures.commits t is).ended)));
+      (of_transaction c.open_up-read.new.core c.in_ok-id.id ((c.open_up-read.ensures.stay c.in_ok-id.id).transaction c.in_ok-id.ensures.open) (λ t is. (c.in_err-seq.ensures.commits t is).ended)));
 }
 
 pub returns-in-Err-clause-undone : goal.returns-in-Err-clause-undone

@@ -14,7 +14,7 @@ use Rattle.slate_txn.specs.Reply.{Begun}
 use Rattle.slate_txn.specs.State.{begun, is_open}
 use Rattle.slate_txn.specs.Step.{step}
 use Rattle.slate_db.specs.declared.engine.Core.TheInside.{Inside}
-use Rattle.slate_db.specs.Calls.Open.{Begins, IsRefusal}
+use Rattle.slate_db.specs.Calls.Open.{Begins, IsShortOfPlace}
 use Rattle.slate_db.specs.Flushed.{NoPlace}
 use Rattle.slate_db.specs.Log.{LIMIT, IsLog}
 use Rattle.slate_db.specs.Meaning.{rules_in}
@@ -111,7 +111,7 @@ returns c =
 
 -- ---- refusals: nothing is opened
 
-refused : (level : IsolationLevel) (old new : CoreModel) (e : SlateDBError) → new ≡ old → (NoPlace 2 old → e ≡ errors.LimitReached LIMIT) → IsRefusal 2 old e → (let r : Result (List ℕ × ℕ) SlateDBError = Err e in Begins level old new r)
+refused : (level : IsolationLevel) (old new : CoreModel) (e : SlateDBError) → new ≡ old → (NoPlace 2 old → e ≡ errors.LimitReached LIMIT) → IsShortOfPlace 2 old e → (let r : Result (List ℕ × ℕ) SlateDBError = Err e in Begins level old new r)
 refused level old new e same limit cause = record {
   step = tt;
   event = tt;

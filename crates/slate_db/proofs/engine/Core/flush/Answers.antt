@@ -1,4 +1,4 @@
-use Rattle.std.proofs.Common.{◌≡◌, ℕ, List, OnOk, refl, true, false, ◌<◌, ◌⊎◌, length, map, Err, inl, inr, sym, ap, subst, ◌∙◌, arith, [], append-nil}
+use Rattle.std.proofs.Common.{◌≡◌, ℕ, List, OnOk, refl, true, false, ◌<◌, ◌⊎◌, length, map, Result, Ok, Err, inl, inr, sym, ap, subst, ◌∙◌, arith, [], append-nil}
 use Rattle.std.proofs.lemmas.Result.{err_from_is_err_and, IfOk-from_err}
 use Rattle.slate_types.specs.declared.error.SlateDBError.{SlateDBError}
 use Rattle.slate_types.specs.declared.error.SlateDBError.TheVariants as errors

@@ -63,7 +63,7 @@ returns-in-Ok g c =
     let a = reach_of g.S.Store g.M.MergeOperator g.T.BlockTransformer c.args.env.now in
     let b = reach_of g.S.Store g.M.MergeOperator g.T.BlockTransformer c.seek_in.new.env in
     record {
-      rows = λ w rows h sees. (tt, seek_leaves (Ok tt) it (record it { state = c.seek_in.new.state }) w a b (drop_before it.order c.args.key.now rows) refl refl sees.meaning (n.rows w it.range it.order rows sees h.sound (values_of it w rows h)).1 (n.operable w it.order sees h.sound h.operable) (n.sources it.range) h.meant);
+      rows = λ w rows h sees. (tt, seek_leaves (Ok tt) it (record it { state = c.seek_in.new.state }) w a b (drop_before it.order c.args.key.now rows) refl refl sees.meaning (let p = n.rows w it.range it.order rows sees h.sound (values_of it w rows h) in (p.1, p.2)) (n.operable w it.order sees h.sound h.operable) (n.sources it.range) h.meant);
       undamaged = λ w rows h sees. tt;
       checked = λ w rows h. n.checked w it.order h.sound;
       later = n.later it.range;
