@@ -1,7 +1,9 @@
 -- Tables that are opened one by one.
 use Rattle.std.proofs.Common.{◌≡◌, ◌⊎◌, inl, inr, ℕ, zero, suc, ◌+◌, ◌<◌, ◌≤◌, List, [], ◌∷◌, ◌++◌, take, get_or, length, Option, refl, sym, ap, subst, ◌∙◌, arith}
-use Rattle.std.specs.Prelude.{Contains, Result, Ok, Err}
+use Rattle.std.specs.Prelude.{Contains, Result, Some, Ok, Err, slice_get}
 use Rattle.std.proofs.lemmas.List.Elements.{Contains-get_or}
+use Rattle.std.proofs.lemmas.Option.{get_or_from_slice_get, slice_get_within}
+use Rattle.slate_types.proofs.Lists.{Contains_at}
 use Rattle.slate_types.specs.declared.error.SlateDBError.{SlateDBError}
 use Rattle.slate_types.specs.declared.error.SlateDBError.TheVariants.{StoreFault}
 use Rattle.slate_types.specs.declared.types.Ulid.{Ulid}
@@ -49,10 +51,10 @@ take_more (y ∷ xs) (suc i) x within is =
     let place : suc (i + 1) ≡ suc i + 1 = omega arith in
     sym (ap (λ n. take n (y ∷ xs)) place) ∙ ap (λ l. y ∷ l) (take_more xs i x (omega (arith, within)) is)
 
-pub each_more : {A B : Type 0} (R : A → B → Type 0) (xs : List A) (i : ℕ) (x : A) (ys zs : List B) (y : B) → i < length xs → x ≡ get_or xs i x → MatchEach R (take i xs) ys → R x y → zs ≡ ys ++ (y ∷ []) → MatchEach R (take (i + 1) xs) zs
-each_more {A = A} {B = B} R xs i x ys zs y within is h r pushed =
+pub each_more : {A B : Type 0} (R : A → B → Type 0) (xs : List A) (i : ℕ) (x : A) (ys zs : List B) (y : B) → slice_get xs i ≡ Some x → MatchEach R (take i xs) ys → R x y → zs ≡ ys ++ (y ∷ []) → MatchEach R (take (i + 1) xs) zs
+each_more {A = A} {B = B} R xs i x ys zs y is h r pushed =
     subst (λ (vs : List B). MatchEach R (take (i + 1) xs) vs) (sym pushed)
-    (subst (λ (us : List A). MatchEach R us (ys ++ (y ∷ []))) (sym (take_more xs i x within is))
+    (subst (λ (us : List A). MatchEach R us (ys ++ (y ∷ []))) (sym (take_more xs i x (slice_get_within xs i x is) (sym (get_or_from_slice_get xs i x x is))))
     (each_both R (take i xs) ys (x ∷ []) (y ∷ []) h (r, tt)))
 
 pub was_opened : (objects now : Option Objects) (id : Ulid) (h : SsTableHandle) → now ≡ objects → WasOpened now id h → WasOpened objects id h
@@ -62,12 +64,12 @@ one_place : (id x : Ulid) (i : ℕ) → i < 1 → get_or (id ∷ []) i x ≡ x �
 one_place id x zero within is = sym is
 one_place id x (suc i) within is = absurd (omega (arith, within))
 
-pub refused_among : (objects now : Option Objects) (ids : List Ulid) (n : ℕ) (id : Ulid) (i j k : ℕ) (e : SlateDBError) → n < length ids → id ≡ get_or ids n id → now ≡ objects → j ≡ i →
+pub refused_among : (objects now : Option Objects) (ids : List Ulid) (n : ℕ) (id : Ulid) (i j k : ℕ) (e : SlateDBError) → slice_get ids n ≡ Some id → now ≡ objects → j ≡ i →
     IsStoreFault j k e ⊎ MayRefuse now (id ∷ []) e → IsStoreFault i k e ⊎ MayRefuse objects ids e
-refused_among objects now ids n id i j k e within is same still (inl f) = inl (subst (λ (m : ℕ). IsStoreFault m k e) still f)
-refused_among objects now ids n id i j k e within is same still (inr r) =
+refused_among objects now ids n id i j k e is same still (inl f) = inl (subst (λ (m : ℕ). IsStoreFault m k e) still f)
+refused_among objects now ids n id i j k e is same still (inr r) =
     let one : r.0 ≡ id = only r.0 r.3 in
-    inr (id, r.1, r.2, subst (λ (x : Ulid). Contains ids x) (sym is) (Contains-get_or ids n id within), subst (λ (x : Ulid). RefusesOpen objects r.1 r.2 (path_of root x.0) x.0 e) one (subst (λ (o : Option Objects). RefusesOpen o r.1 r.2 (path_of root r.0.0) r.0.0 e) same r.4))
+    inr (id, r.1, r.2, Contains_at ids n id is, subst (λ (x : Ulid). RefusesOpen objects r.1 r.2 (path_of root x.0) x.0 e) one (subst (λ (o : Option Objects). RefusesOpen o r.1 r.2 (path_of root r.0.0) r.0.0 e) same r.4))
   where
     only : (x : Ulid) → Contains (id ∷ []) x → x ≡ id
     only x h = one_place id x h.0 h.1 h.2

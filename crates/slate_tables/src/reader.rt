@@ -1,6 +1,6 @@
 //! A reader of the tables of a store.
-ghost use Rattle.std.specs.Prelude.{◌≡◌, ◌≤◌, ◌⊎◌, ◌++◌, ◌∷◌, [], ℕ, List, Option, None, Some, Err, false};
-ghost use Rattle.std.specs.Prelude.{string_bytes, OnOk, IfOk, IfErr};
+ghost use Rattle.std.specs.Prelude.{◌≡◌, ◌<◌, ◌≤◌, ◌⊎◌, ◌++◌, ◌∷◌, [], ℕ, List, Option, None, Some, Err};
+ghost use Rattle.std.specs.Prelude.{false, length, slice_get, string_bytes, OnOk, IfOk, IfErr};
 ghost use Rattle.slate_types.specs.declared.error.SlateDBError.{SlateDBError};
 ghost use Rattle.slate_types.specs.declared.types.RowEntry.{RowEntry};
 ghost use Rattle.slate_types.specs.Fold.{operator_at};
@@ -58,7 +58,8 @@ impl Tables {
         let mut handles = Vec::new(alloc);
         let mut at = 0;
         while at < ids.len() {
-            match open_handle(alloc, reader, &ids[at]) {
+            let id = id_at(ids, at);
+            match open_handle(alloc, reader, &id) {
                 Ok(handle) => handles.push(handle)?,
                 Err(error) => return Err(error),
             }
@@ -115,6 +116,14 @@ impl Tables {
         let rows = merged(alloc, sources, order);
         begin(alloc, rows, env)
     }
+}
+
+/// Returns the id at a place.
+fn id_at(ids: &[Ulid], at: usize) -> Ulid
+    requires { at < length ids.now }
+    ensures { slice_get ids.now at ≡ Some result }
+{
+    ids[at]
 }
 
 /// Opens one table.

@@ -9,6 +9,9 @@ use Rattle.slate_tables.proofs.reader.Tables.open.Goals as goal
 pub loop-at-init : goal.loop-at-init
 loop-at-init g c = rw c.new-handles.ensures.items (record { opened = tt; objects = refl; root = refl; transformer = refl; faults = refl })
 
+pub id_at-id-requires : goal.id_at-id-requires
+id_at-id-requires g c = c.loop-at-test.true
+
 pub open_handle-requires : goal.open_handle-requires
 open_handle-requires g c = ap string_bytes c.loop-at.invariant.root ∙ c.requires.root
 
@@ -19,8 +22,8 @@ loop-at-preserved g c =
     let call = c.open_handle.ensures in
     let objects = s.objects c.args.reader.now.store in
     record {
-      opened = each_more (WasOpened objects) c.args.ids.now c.loop-at.at c.index-ids-at.result c.loop-at.handles.items c.push.new.self.items c.in-Ok.handle c.loop-at-test.true c.index-ids-at.is i.opened
-          (was_opened objects (s.objects c.loop-at.reader.store) c.index-ids-at.result c.in-Ok.handle i.objects c.in-Ok.ensures.opened) c.in_ok-push-in-Ok.ensures.items;
+      opened = each_more (WasOpened objects) c.args.ids.now c.loop-at.at c.id_at-id.result c.loop-at.handles.items c.push.new.self.items c.in-Ok.handle c.id_at-id.ensures i.opened
+          (was_opened objects (s.objects c.loop-at.reader.store) c.id_at-id.result c.in-Ok.handle i.objects c.in-Ok.ensures.opened) c.in_ok-push-in-Ok.ensures.items;
       objects = call.objects ∙ i.objects;
       root = call.root ∙ i.root;
       transformer = call.transformer ∙ i.transformer;
@@ -35,8 +38,8 @@ returns-in-Err g c =
     let k = s.faults in
     record {
       opened = tt;
-      cause = refused_among (s.objects c.args.reader.now.store) (s.objects c.loop-at.reader.store) c.args.ids.now c.loop-at.at c.index-ids-at.result (k c.args.reader.now.store) (k c.loop-at.reader.store) (k c.open_handle.new.reader.store) c.in-Err.error
-          c.loop-at-test.true c.index-ids-at.is i.objects i.faults c.in-Err.ensures.cause;
+      cause = refused_among (s.objects c.args.reader.now.store) (s.objects c.loop-at.reader.store) c.args.ids.now c.loop-at.at c.id_at-id.result (k c.args.reader.now.store) (k c.loop-at.reader.store) (k c.open_handle.new.reader.store) c.in-Err.error
+          c.id_at-id.ensures i.objects i.faults c.in-Err.ensures.cause;
       objects = call.objects ∙ i.objects;
       root = call.root ∙ i.root;
       transformer = call.transformer ∙ i.transformer;
