@@ -22,3 +22,9 @@ pub mod PartLaws
 pub mod CheckLaws
 mod RunLaws
 mod FlawLaws
+pub mod NewExports
+pub mod Undamaged
+pub mod Writings
+pub mod Movings
+pub mod ListedTables
+pub mod Openings

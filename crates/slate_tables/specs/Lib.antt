@@ -12,3 +12,7 @@ pub mod Tallies
 pub mod Checks
 pub mod Runs
 pub mod Alarms
+pub mod Reading
+pub mod Writing
+pub mod States
+pub mod Listed
