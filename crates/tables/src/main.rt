@@ -5,6 +5,9 @@ ghost use Rattle.std.specs.Prelude.{◌≡◌, [], ◌∷◌, None};
 ghost use Rattle.std.specs.String.{string_bytes};
 ghost use Rattle.slate_command.specs.FirstWord.{first_word};
 
+mod export;
+
+use export::{export, read_request};
 use slate_command::{FirstWord, print, words};
 use slate_language::Xor;
 use slate_store::{FileStore, WriterSink};
@@ -19,14 +22,21 @@ const HELP: &str = "Reads the tables that a run of slate left in a folder.
 Usage: slate_tables FOLDER list [WORDS]
        slate_tables FOLDER check [WORDS]
        slate_tables FOLDER rows [FLUSH [PLACE]] [WORDS]
+       slate_tables FOLDER state [WORDS]
+       slate_tables FOLDER script [WORDS]
 
-The words are those of the run, as they were; xor= alone is used.
+The words are those of the run, as they were; xor= alone is used, and by
+state and script op= too.
 
   list    what each table says of itself; no block is read
   check   reads each section and each block of each table
   rows    the rows as they are stored: of all tables, of a flush's, or of one
+  state   of each key the row that all tables fold to, as a get answers it
+  script  a script that makes this state in a new store
 
-A line for each table, with the number of its flush and its place in the flush:
+state and script check all tables first, and write nothing where one is
+damaged. The others write a line for each table, with the number of its flush
+and its place in the flush:
 
   table FLUSH PLACE VERSION BYTES PUTS DELETES MERGES FIRST LAST FILTERS
   whole FLUSH PLACE VERSION ROWS LEAST GREATEST FIRST LAST
@@ -99,7 +109,24 @@ fn test_folder(rt: &HostRuntime, folder: &str) -> Result<(), u8> {
     }
 }
 
+/// Exports the tables where the words ask for it, and reads them otherwise.
 fn run_over(rt: &HostRuntime, folder: &str, words: Vec<String>) -> u8 {
+    let mut words = words;
+    words.retain(|word| !is_of_filters(word.as_bytes()));
+    match read_request(words.as_slice()) {
+        Some(request) => {
+            drop(words);
+            export(rt, folder, request)
+        }
+        None => read_tables(rt, folder, words),
+    }
+}
+
+fn is_of_filters(word: &[u8]) -> bool {
+    word.starts_with(b"filter=".as_slice())
+}
+
+fn read_tables(rt: &HostRuntime, folder: &str, words: Vec<String>) -> u8 {
     let Ok(store) = FileStore::new(rt.alloc(), rt, folder) else {
         return 20;
     };

@@ -1,0 +1,150 @@
+//! The modes `state` and `script`: the state to which the tables of a folder fold.
+use slate_language::{NamedOperator, Xor, parse_words};
+use slate_store::{Env, FileStore, Store, WriterSink};
+use slate_table::SstReader;
+use slate_tables::check::{Checked, check_table};
+use slate_tables::listing::{Listing, list_tables};
+use slate_tables::{Tables, write_script, write_state};
+use slate_types::{BlockTransformer, SlateDBError, Ulid};
+use std::alloc::Global;
+
+/// How the state is written.
+#[derive(Clone, Copy)]
+enum Form {
+    State,
+    Script,
+}
+
+/// What is asked for: a form, and of the run's words the ones that are used.
+#[derive(Clone, Copy)]
+pub struct Request {
+    form: Form,
+    mask: Option<u8>,
+    operator: Option<NamedOperator>,
+}
+
+/// What the words ask for. None if they ask for another mode, or aren't known.
+pub fn read_request(words: &[String]) -> Option<Request> {
+    let (first, rest) = words.split_first()?;
+    let form = match first.as_bytes() {
+        b"state" => Form::State,
+        b"script" => Form::Script,
+        _ => return None,
+    };
+    let settings = parse_words(rest, &[])?;
+    Some(Request {
+        form,
+        mask: settings.mask,
+        operator: settings.operator,
+    })
+}
+
+/// Writes the state of the tables in a folder, if all of them are whole, and answers the status to
+/// end with.
+pub fn export(rt: &HostRuntime, folder: &str, request: Request) -> u8 {
+    let Ok(store) = FileStore::new(rt.alloc(), rt, folder) else {
+        return 20;
+    };
+    let transformer = transformer_of(request.mask);
+    let Ok(mut reader) = SstReader::new(rt.alloc(), "db", store, transformer) else {
+        return 20;
+    };
+    match whole_tables(rt.alloc(), &mut reader) {
+        Ok(listing) => {
+            let status = export_tables(rt, folder, request, listing.tables.as_slice());
+            drop(listing);
+            status
+        }
+        Err(status) => status,
+    }
+}
+
+/// Lists the tables, and refuses the first one that is damaged.
+fn whole_tables<S: Store, T: BlockTransformer>(
+    alloc: Global,
+    reader: &mut SstReader<S, T>,
+) -> Result<Listing, u8> {
+    match list_tables(alloc, &mut reader.store, reader.root_path.as_str()) {
+        Ok(listing) => match check_each(alloc, reader, listing.tables.as_slice()) {
+            Ok(()) => Ok(listing),
+            Err(status) => {
+                drop(listing);
+                Err(status)
+            }
+        },
+        Err(error) => Err(status_of(error)),
+    }
+}
+
+fn check_each<S: Store, T: BlockTransformer>(
+    alloc: Global,
+    reader: &mut SstReader<S, T>,
+    tables: &[Ulid],
+) -> Result<(), u8> {
+    for id in tables {
+        match check_table(alloc, reader, *id) {
+            Ok(Checked::Whole(summary)) => drop(summary),
+            Ok(Checked::Damaged(flaw)) => {
+                let status = flaw.error.status().unwrap_or(16);
+                drop(flaw);
+                return Err(status);
+            }
+            Err(error) => return Err(status_of(error)),
+        }
+    }
+    Ok(())
+}
+
+fn export_tables(rt: &HostRuntime, folder: &str, request: Request, ids: &[Ulid]) -> u8 {
+    let Ok(store) = FileStore::new(rt.alloc(), rt, folder) else {
+        return 20;
+    };
+    let transformer = transformer_of(request.mask);
+    let Ok(mut reader) = SstReader::new(rt.alloc(), "db", store, transformer) else {
+        return 20;
+    };
+    match Tables::open(rt.alloc(), &mut reader, ids) {
+        Ok(tables) => {
+            let status = write_tables(rt, request, &tables, &mut reader.store);
+            drop(tables);
+            status
+        }
+        Err(error) => status_of(error),
+    }
+}
+
+fn write_tables<S: Store>(
+    rt: &HostRuntime,
+    request: Request,
+    tables: &Tables,
+    store: &mut S,
+) -> u8 {
+    let mut sink = WriterSink::new(rt.stdout());
+    let mut env = Env {
+        store,
+        operator: request.operator,
+        transformer: transformer_of(request.mask),
+    };
+    let written = match request.form {
+        Form::State => write_state(rt.alloc(), tables, &mut env, &mut sink),
+        Form::Script => write_script(rt.alloc(), tables, &mut env, &mut sink),
+    };
+    match written {
+        Ok(_) => 0,
+        Err(error) => status_of(error),
+    }
+}
+
+/// The transformer of a word `xor=`, if there is one.
+fn transformer_of(mask: Option<u8>) -> Option<Xor> {
+    match mask {
+        None => None,
+        Some(mask) => Some(Xor { mask }),
+    }
+}
+
+fn status_of(error: SlateDBError) -> u8 {
+    let status = error.status().unwrap_or(16);
+    drop(error);
+    status
+}
