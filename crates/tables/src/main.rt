@@ -7,7 +7,7 @@ ghost use Rattle.slate_command.specs.FirstWord.{first_word};
 
 mod export;
 
-use export::{export, read_request};
+use crate::export::{export, read_request};
 use slate_command::{FirstWord, print, words};
 use slate_language::Xor;
 use slate_store::{FileStore, WriterSink};
