@@ -122,6 +122,26 @@ is_whole() {
     (($(./slate_tables "$1" rows $2 | grep -cE '^(put|merge|delete) ') == ${last##* }))
 }
 
+# The known table exported: the row as a get answers it, and the lines that load it; nothing of a damaged table. Then the tables of an
+# example: the script that is exported of them, in a new store, makes the same state but for sequences and moments.
+check_exports() {
+    local folder=$1/exported file=$1/exported/$first script
+    mkdir -p "$folder/db/compacted"
+    table_of_one_row >"$file"
+    reads 0 "$folder" 'state format=v1 filter=none' "row 'a '1 1 0 -\n"
+    reads 0 "$folder" script "# for a new store\nnow 0\nwrite put 'a '1 t-\n# whole: rows 1 moved 0 seq=1\n"
+    put_byte 40 377 >"$file"
+    for script in state script; do
+        [[ -z $(./slate_tables "$folder" $script) ]] || fail "./slate_tables $script writes rows of a damaged table"
+    done
+    rm -rf "$folder"
+    printf '%b' "write put 'b '1 put 'a '2\nflush\nwrite delete 'b put 'c 0x00ff\nwrite put 'a '3\nflush\n" | ./slate "$folder" >/dev/null
+    script=$(./slate_tables "$folder" script && echo flush) || fail "./slate_tables script doesn't end with 0"
+    ./slate "$1/loaded" >/dev/null <<<"$script" || fail "an exported script doesn't run"
+    [[ $(./slate_tables "$folder" state | cut -d ' ' -f 1-3) == "$(printf '%s\n' "row 'a '3" "row 'c 0x00ff")" ]] || fail "./slate_tables state isn't the state of two flushes"
+    [[ $(./slate_tables "$folder" state | cut -d ' ' -f 1-3,6) == "$(./slate_tables "$1/loaded" state | cut -d ' ' -f 1-3,6)" ]] || fail "an exported script makes another state"
+}
+
 # Words that aren't known, and a folder that isn't there.
 check_table_words() {
     local words
@@ -149,6 +169,7 @@ check_table_folders() {
         check_known_table "$folder"
         check_stored_rows "$folder"
         check_example_folders "$folder"
+        check_exports "$folder"
         check_table_words "$folder"
         rm -rf "$folder"
         say "folders of tables: checked"
