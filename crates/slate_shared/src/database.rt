@@ -4,6 +4,8 @@ ghost use mathlib.Core.List.{IsPrefix};
 ghost use Rattle.slate_types.specs.declared.error.SlateDBError.{SlateDBError};
 ghost use Rattle.slate_db.specs.Segmented.{IsSegmented};
 ghost use Rattle.slate_db.specs.Sound.{IsKept};
+ghost use Rattle.slate_txn.specs.Settings.{settings_of};
+ghost use Rattle.slate_shared.specs.Locked.{NamesTables};
 ghost use Rattle.slate_shared.specs.Shared.{IsSized, OwnsAll, all_parts, newcomer};
 
 use crate::board::{Board, Place};
@@ -75,13 +77,16 @@ impl<P: Parts> Database<P> {
     }
 
     /// Takes the core out. Its journal begins with what the pass had seen; and of a pass that has all parts, its own commits,
-    /// writes and installs are all that the journal has.
+    /// writes and installs are all that the journal has. The core has the options of the database, its
+    /// flushes are numbered, and its tables have the filters of the database's policies.
     pub fn close<R: Wait>(self, rt: &R, pass: Pass<P>) -> Core
         requires { pass.table ≡ self }
         ensures seen { IsPrefix pass.seen result.events }
         ensures whole { pass.parts ≡ all_parts → OwnsAll pass.own result.events }
         ensures kept { IsKept P.meaning result }
         ensures segmented { IsSegmented P.segments result }
+        ensures settings { result.settings ≡ settings_of P.options }
+        ensures named { NamesTables P.meaning P.policies result.events }
     {
         let Pass { mut seat, parts: _ } = pass;
         let locked = take(rt, &self.board.shared, &mut seat);

@@ -19,6 +19,7 @@ ghost use Rattle.slate_db.specs.Sound.{IsKept};
 ghost use Rattle.slate_shared.specs.Errands.{Departs, IsInstalled, IsNextFlush, Refusal};
 ghost use Rattle.slate_txn.specs.Settings.{settings_of};
 ghost use Rattle.slate_shared.specs.KeyReads.{IsTaken};
+ghost use Rattle.slate_shared.specs.Locked.{NamesTables};
 ghost use Rattle.slate_shared.specs.LockedModel.{frozen_by, grow, holds_at, IsFull};
 
 mod commits;
@@ -82,6 +83,8 @@ impl<P: Parts> Locked<P> {
         ensures events { result.events ≡ self.events }
         ensures kept { IsKept P.meaning result }
         ensures segmented { IsSegmented P.segments result }
+        ensures settings { result.settings ≡ settings_of P.options }
+        ensures named { NamesTables P.meaning P.policies result.events }
     {
         let Locked { core, .. } = self;
         core
@@ -91,6 +94,7 @@ impl<P: Parts> Locked<P> {
     pub(crate) fn copy_journal(&self) -> Result<Journal, SlateDBError>
         ensures copy { IfOk result (λ copy. copy.events ≡ self.now.events) }
         ensures legal { IsLegal P.options.start_seq self.now.events }
+        ensures named { NamesTables P.meaning P.policies self.now.events }
         ensures cause { IsOkUnless result SlateDBError.OutOfMemory }
     {
         Ok(self.core.journal().try_clone()?)

@@ -9,7 +9,8 @@ ghost use Rattle.slate_txn.specs.Replay.{replay, IsLegal};
 ghost use Rattle.slate_txn.specs.State.{begun, last_of};
 ghost use Rattle.slate_db.specs.Log.{LIMIT};
 ghost use Rattle.slate_shared.specs.LockedModel.{IsFull};
-ghost use Rattle.slate_shared.specs.Shared.{IsOwner, longer};
+ghost use Rattle.slate_shared.specs.Locked.{NamesTables};
+ghost use Rattle.slate_shared.specs.Shared.{IsOwner, OwnsAll, all_parts, longer};
 
 use crate::board::Place;
 use crate::database::Database;
@@ -107,13 +108,16 @@ impl<P: Parts> Pass<P> {
         })
     }
 
-    /// A copy of the journal, all of which the pass has then seen. It shares keys, values and the bytes of tables, and is made while the
-    /// lock is held. The one error is `OutOfMemory`.
+    /// A copy of the journal, all of which the pass has then seen. It shares keys, values and the
+    /// bytes of tables, and is made while the lock is held. Of a pass that has all parts, its own
+    /// commits, writes and installs are all that the journal has. The one error is `OutOfMemory`.
     pub fn journal<R: Wait>(&mut self, rt: &R, db: &Database<P>) -> Result<Journal, SlateDBError>
         requires { self.old.table ≡ db.now }
         ensures same { (self.new.table ≡ self.old.table) × (self.new.parts ≡ self.old.parts) × (self.new.own ≡ self.old.own) }
         ensures seen { IsPrefix self.old.seen self.new.seen × IsLegal P.options.start_seq self.new.seen }
         ensures own { IsOwner self.new.own self.new.seen }
+        ensures whole { self.old.parts ≡ all_parts → OwnsAll self.new.own self.new.seen }
+        ensures named { NamesTables P.meaning P.policies self.new.seen }
         ensures copy { IfOk result (λ copy. copy.events ≡ self.new.seen) }
         ensures cause { IsOkUnless result SlateDBError.OutOfMemory }
     {
