@@ -5,7 +5,7 @@ ghost use Rattle.slate_types.specs.declared.error.SlateDBError.{SlateDBError};
 ghost use Rattle.slate_txn.specs.Replay.{IsLegal};
 ghost use Rattle.slate_db.specs.Segmented.{IsSegmented};
 ghost use Rattle.slate_db.specs.Sound.{IsKept};
-ghost use Rattle.slate_shared.specs.Shared.{IsOwner, all_parts};
+ghost use Rattle.slate_shared.specs.Shared.{IsOwner, OwnsAll, all_parts};
 ghost use Rattle.slate_threads.specs.Passes.{IsVouchedCopy, IsWholeCopy, PassIsAlone};
 ghost use Rattle.slate_threads.specs.Passes.{PassIsVouched};
 ghost use Rattle.slate_threads.specs.Workers.{IsWorker};
@@ -19,7 +19,8 @@ use std::sync::Wait;
 /// Copies the journal, all of which the pass has then seen. If what the pass's own commits were
 /// answered is vouched, each serializable one would read the same just before its commit, unless
 /// another since its begin wrote what it read and doesn't track it: whatever other threads did, and
-/// while they go on. The one error is `OutOfMemory`.
+/// while they go on. If the pass has all parts, that holds of all commits of the copy. The one error
+/// is `OutOfMemory`.
 pub fn journal<P: Parts, R: Wait>(
     rt: &R,
     db: &Database<P>,
@@ -35,6 +36,11 @@ pub fn journal<P: Parts, R: Wait>(
         PassIsVouched P.options P.meaning pass.new }
     ensures alone { PassIsVouched P.options P.meaning pass.old →
         PassIsAlone P.options P.meaning pass.new }
+    ensures whole { pass.old.parts ≡ all_parts → OwnsAll pass.new.own pass.new.seen }
+    ensures all { pass.old.parts ≡ all_parts → PassIsVouched P.options P.meaning pass.old →
+        IsVouchedCopy P.options P.meaning pass.new.seen }
+    ensures workers { pass.old.parts ≡ all_parts → IsWorker P.options P.meaning pass.old →
+        IsVouchedCopy P.options P.meaning pass.new.seen }
     ensures cause { IsOkUnless result SlateDBError.OutOfMemory }
 {
     pass.journal(rt, db)
