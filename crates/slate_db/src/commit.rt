@@ -1,30 +1,19 @@
 //! A commit of a transaction, up to its event.
-ghost use Rattle.std.specs.Prelude.{◌≡◌, ◌⊎◌, ◌+◌, ◌<◌, ◌≤◌, ◌++◌, [], ℕ, List, None, Some, Err, option_map, false, IfErr, IfOk, OnOk, OnErr};
-ghost use Rattle.std.specs.List.{AllByRecursion};
+ghost use Rattle.std.specs.Prelude.{◌≡◌, ◌+◌, ◌<◌, ◌≤◌, [], List, None, Some, Err, option_map, false, IfOk, OnErr};
 ghost use Rattle.slate_types.specs.declared.error.SlateDBError.{SlateDBError};
 ghost use Rattle.slate_types.specs.Faults.{faults_of};
-ghost use Rattle.slate_types.specs.Fold.{operator_at};
-ghost use Rattle.slate_types.specs.Keys.{keys_set};
 ghost use Rattle.slate_types.specs.Outside.{IsOperatorStill};
-ghost use Rattle.slate_mem.specs.CommitRows.{commit_rows};
-ghost use Rattle.slate_mem.specs.KeyTests.{prefixes};
-ghost use Rattle.slate_mem.specs.Lookup.{IsCallback};
-ghost use Rattle.slate_mem.specs.Table.{put_rows};
 ghost use Rattle.slate_txn.specs.Managers.{StandsFor};
-ghost use Rattle.slate_mem.specs.Batch.{kept_ops};
-ghost use Rattle.slate_txn.specs.Conflict.{conflict, tracked_writes};
+ghost use Rattle.slate_txn.specs.Conflict.{conflict};
 ghost use Rattle.slate_txn.specs.HandedOver.{Grown};
-ghost use Rattle.slate_txn.specs.State.{Commit, Tx};
+ghost use Rattle.slate_txn.specs.State.{Commit};
 ghost use Rattle.slate_txn.specs.Tested.{IsUntracked};
 ghost use Rattle.slate_db.specs.BatchTests.{batch_refusal, test_refusal};
-ghost use Rattle.slate_db.specs.Calls.Commit.{AsksNobody, commit_verdict_of};
-ghost use Rattle.slate_db.specs.Calls.Common.{Decides};
-ghost use Rattle.slate_db.specs.Committed.{IsNextOf, put_at, recorded_at};
-ghost use Rattle.slate_db.specs.Managed.{IsManaged};
-ghost use Rattle.slate_db.specs.Layers.{AreLayers, in_memory};
-ghost use Rattle.slate_db.specs.Log.{AreFine};
+ghost use Rattle.slate_db.specs.Calls.Commit.{commit_verdict_of};
+ghost use Rattle.slate_db.specs.Layers.{AreLayers};
 ghost use Rattle.slate_db.specs.Meaning.{segments_by};
-ghost use Rattle.slate_db.specs.Calls.Put.{HasEnded, ManagesMade, StandsEnded};
+ghost use Rattle.slate_db.specs.Calls.Put.{AnswersCommit, AreWithin, Makes, Manages, PutsOwn, TestsBatch};
+ghost use Rattle.slate_db.specs.Prepared.{prepared_for};
 
 use crate::layers::Layers;
 use crate::put::put_own;
@@ -63,36 +52,26 @@ pub(crate) fn make<M: MergeOperator, X: PrefixExtractor>(
 ) -> Result<Made, SlateDBError>
     requires fits { last ≤ 18446744073709551614 }
     requires whole { AreLayers layers.old }
-    requires within { AllByRecursion (λ rows. AllByRecursion (λ r. r.seq ≤ last) rows) (in_memory layers.old) }
+    requires within { AreWithin last layers.old }
     requires newest { manager.old.last ≡ last }
     requires held { IsUntracked manager.old id.now owned }
-    ensures tracked { IfOk result (λ made. made.tracked ≡ tracked_writes owned) }
-    ensures steps { IfOk result (λ made. made.transcript ≡ owned.transcript) }
-    ensures ops { IfOk result (λ made. made.ops ≡ kept_ops owned.ops) }
-    ensures fine { IfOk result (λ made. AreFine made.ops) }
+    ensures makes { IfOk result (Makes (option_map M.combine operator.old) (segments_by X.lengths
+        extractor.now) default_millis now owned last segments.old segments.new layers.old
+        layers.new) }
     ensures answer { (cs : List Commit) → StandsFor manager.old cs →
-        Decides (commit_verdict_of (conflict cs owned) last owned.ops (test_refusal (option_map M.combine
-        operator.old) (segments_by X.lengths extractor.now) segments.old default_millis now
-        owned.ops))
-        (λ e. (e ≡ SlateDBError.OutOfMemory) ⊎ IsCallback (faults_of M.faults operator.old)
-        (faults_of M.faults operator.new) e) result }
-    ensures next { IfOk result (λ made. IsNextOf last owned.ops made.seq) }
-    ensures recorded { IfOk result (λ made. segments.new ≡ recorded_at (segments_by X.lengths extractor.now) made.seq made.ops segments.old) }
-    ensures put { IfOk result (λ made. layers.new ≡ put_at (operator_at (option_map M.combine operator.old)) default_millis made.seq now owned.ops layers.old) }
+        AnswersCommit (commit_verdict_of (conflict cs owned) last owned.ops (test_refusal (option_map
+        M.combine operator.old) (segments_by X.lengths extractor.now) segments.old default_millis
+        now owned.ops)) owned.ops (faults_of M.faults operator.old)
+        (faults_of M.faults operator.new) (operator.new ≡ operator.old) result }
     ensures whole { AreLayers layers.new }
-    ensures committed { (ids : ℕ) (cs : List Commit) (ps : List (List ℕ × Tx)) →
-        IsManaged manager.old ids last cs ps →
-        IfOk result (ManagesMade manager.new id.now now last ids cs ps) }
+    ensures committed { Manages manager.old manager.new id.now now last result }
     ensures same_segments { OnErr result (segments.new ≡ segments.old) }
     ensures same_layers { OnErr result (layers.new ≡ layers.old) }
     ensures grown { OnErr result (Grown id.now manager.old manager.new) }
     ensures same { option_map M.combine operator.new ≡ option_map M.combine operator.old }
     ensures later { faults_of M.faults operator.old ≤ faults_of M.faults operator.new }
-    ensures still { IsOperatorStill (faults_of M.faults operator.old) (faults_of M.faults operator.new) result }
-    ensures asks { (cs : List Commit) → StandsFor manager.old cs →
-        AsksNobody (commit_verdict_of (conflict cs owned) last owned.ops (test_refusal (option_map
-        M.combine operator.old) (segments_by X.lengths extractor.now) segments.old default_millis
-        now owned.ops)) owned.ops → operator.new ≡ operator.old }
+    ensures still { IsOperatorStill (faults_of M.faults operator.old) (faults_of M.faults
+        operator.new) result }
 {
     let tested = owned.test(alloc, manager, id)?;
     if tested.batch.is_empty() {
@@ -173,25 +152,21 @@ pub(crate) fn put_commit<M: MergeOperator, X: PrefixExtractor>(
 ) -> Result<OpList, SlateDBError>
     requires fits { last < 18446744073709551614 }
     requires whole { AreLayers layers.old }
-    requires within { AllByRecursion (λ rows. AllByRecursion (λ r. r.seq ≤ last) rows) (in_memory layers.old) }
+    requires within { AreWithin last layers.old }
     requires newest { manager.old.last ≡ last }
-    ensures recorded { OnOk result (segments.new ≡ keys_set (segments.old ++ prefixes (segments_by X.lengths extractor.now) batch.now.ops)) }
-    ensures put { OnOk result (layers.new ≡ record layers.old { active = put_rows layers.old.active (commit_rows (operator_at (option_map M.combine operator.old)) default_millis (last + 1) now batch.now.ops) }) }
+    ensures puts { let w = prepared_for (option_map M.combine operator.old) (segments_by X.lengths
+        extractor.now) default_millis now batch.now in
+        PutsOwn w id.now (last + 1) segments.old segments.new layers.old layers.new manager.old
+        manager.new result }
     ensures whole { AreLayers layers.new }
-    ensures ops { IfOk result (λ ops. ops ≡ batch.now.ops) }
-    ensures fine { OnOk result (AreFine batch.now.ops) }
-    ensures tested { OnOk result (batch_refusal (option_map M.combine operator.old) (segments_by X.lengths extractor.now) segments.old default_millis now batch.now ≡ None) }
-    ensures first { (e : SlateDBError) → batch_refusal (option_map M.combine operator.old) (segments_by X.lengths extractor.now) segments.old default_millis now batch.now ≡ Some e → (result ≡ Err e) ⊎ (result ≡ Err SlateDBError.OutOfMemory) }
-    ensures committed { OnOk result (HasEnded id.now (last + 1) manager.old manager.new) }
-    ensures stands { OnOk result (StandsEnded id.now (last + 1) manager.old manager.new) }
-    ensures same_segments { OnErr result (segments.new ≡ segments.old) }
-    ensures same_layers { OnErr result (layers.new ≡ layers.old) }
-    ensures same { OnErr result (manager.new ≡ manager.old) }
+    ensures decides { TestsBatch (batch_refusal (option_map M.combine operator.old) (segments_by
+        X.lengths extractor.now) segments.old default_millis now batch.now)
+        (faults_of M.faults operator.old) (faults_of M.faults operator.new)
+        (operator.new ≡ operator.old) result }
     ensures same_operator { option_map M.combine operator.new ≡ option_map M.combine operator.old }
     ensures later { faults_of M.faults operator.old ≤ faults_of M.faults operator.new }
-    ensures still { IsOperatorStill (faults_of M.faults operator.old) (faults_of M.faults operator.new) result }
-    ensures cause { IfErr result (λ e. (e ≡ SlateDBError.OutOfMemory) ⊎ (batch_refusal (option_map M.combine operator.old) (segments_by X.lengths extractor.now) segments.old default_millis now batch.now ≡ Some e) ⊎ IsCallback (faults_of M.faults operator.old) (faults_of M.faults operator.new) e) }
-    ensures unasked { (e : SlateDBError) → batch_refusal (option_map M.combine operator.old) (segments_by X.lengths extractor.now) segments.old default_millis now batch.now ≡ Some e → operator.new ≡ operator.old }
+    ensures still { IsOperatorStill (faults_of M.faults operator.old) (faults_of M.faults
+        operator.new) result }
     ensures plain { batch.now.held_merge ≡ false → operator.new ≡ operator.old }
 {
     let seq = last + 1;

@@ -1,21 +1,17 @@
 //! A commit of a transaction whose batch was prepared, up to its event. It calls no operator.
-ghost use Rattle.std.specs.Prelude.{◌≡◌, ◌⊎◌, ◌+◌, ◌<◌, ◌≤◌, ℕ, ℤ, List, Option, None, Some, Err, IfErr, IfOk, OnOk, OnErr};
-ghost use Rattle.std.specs.List.{AllByRecursion};
+ghost use Rattle.std.specs.Prelude.{◌≡◌, ◌+◌, ◌<◌, ◌≤◌, ℕ, ℤ, List, Option, None, Some, Err, IfErr, IfOk, OnOk, OnErr};
 ghost use Rattle.slate_types.specs.declared.error.SlateDBError.{SlateDBError};
 ghost use Rattle.slate_types.specs.Fold.{operator_at};
-ghost use Rattle.slate_mem.specs.Batch.{kept_ops};
 ghost use Rattle.slate_txn.specs.Managers.{StandsFor};
-ghost use Rattle.slate_txn.specs.Conflict.{conflict, tracked_writes};
-ghost use Rattle.slate_txn.specs.HandedOver.{Grown, IsConflict};
-ghost use Rattle.slate_txn.specs.State.{Commit, Tx};
+ghost use Rattle.slate_txn.specs.Conflict.{conflict};
+ghost use Rattle.slate_txn.specs.HandedOver.{Grown};
+ghost use Rattle.slate_txn.specs.State.{Commit};
 ghost use Rattle.slate_txn.specs.Tested.{IsUntracked};
-ghost use Rattle.slate_db.specs.BatchTests.{IsTestRefusal, test_refusal};
-ghost use Rattle.slate_db.specs.Committed.{IsNextOf, IsFull, put_at, recorded_at};
-ghost use Rattle.slate_db.specs.Layers.{AreLayers, in_memory};
-ghost use Rattle.slate_db.specs.Log.{AreFine};
-ghost use Rattle.slate_db.specs.Managed.{IsManaged};
+ghost use Rattle.slate_db.specs.BatchTests.{test_refusal};
+ghost use Rattle.slate_db.specs.Committed.{put_at, recorded_at};
+ghost use Rattle.slate_db.specs.Layers.{AreLayers};
 ghost use Rattle.slate_db.specs.Prepared.{PreparedWith, IsPrepared, WasPrepared, own_batch, whole_refusal};
-ghost use Rattle.slate_db.specs.Calls.Put.{AsPrepared, AsPreparedOf, HasEnded, IsShortOr, ManagesMade, StandsEnded, with_prefixes, with_rows};
+ghost use Rattle.slate_db.specs.Calls.Put.{AreWithin, AsPrepared, AsPreparedOf, HasEnded, IsCommitRefusal, IsShortOr, MadeOf, Manages, StandsEnded, with_prefixes, with_rows};
 
 use crate::commit::Made;
 use crate::layers::Layers;
@@ -42,16 +38,14 @@ pub(crate) fn make_prepared(
 ) -> Result<Made, SlateDBError>
     requires fits { last ≤ 18446744073709551614 }
     requires whole { AreLayers layers.old }
-    requires within { AllByRecursion (λ rows. AllByRecursion (λ r. r.seq ≤ last) rows) (in_memory layers.old) }
+    requires within { AreWithin last layers.old }
     requires newest { manager.old.last ≡ last }
     requires held { IsUntracked manager.old id.now owned }
-    requires prepared { (d : Option ℕ) × (now : ℤ) × WasPrepared d now (own_batch owned.ops) prepared }
-    ensures tracked { IfOk result (λ made. made.tracked ≡ tracked_writes owned) }
-    ensures steps { IfOk result (λ made. made.transcript ≡ owned.transcript) }
-    ensures ops { IfOk result (λ made. made.ops ≡ kept_ops owned.ops) }
-    ensures fine { IfOk result (λ made. AreFine made.ops) }
-    ensures next { IfOk result (λ made. IsNextOf last owned.ops made.seq) }
-    ensures free { (cs : List Commit) → StandsFor manager.old cs → OnOk result (conflict cs owned ≡ None) }
+    requires prepared { (d : Option ℕ) × (now : ℤ) × WasPrepared d now (own_batch owned.ops)
+        prepared }
+    ensures made { IfOk result (MadeOf owned last) }
+    ensures free { (cs : List Commit) → StandsFor manager.old cs →
+        OnOk result (conflict cs owned ≡ None) }
     ensures tested { AsPreparedOf owned.ops prepared (λ o g d now. OnOk result (test_refusal o g
         segments.old d now owned.ops ≡ None)) }
     ensures recorded { AsPreparedOf owned.ops prepared (λ o g d now. IfOk result (λ made.
@@ -59,17 +53,13 @@ pub(crate) fn make_prepared(
     ensures put { AsPreparedOf owned.ops prepared (λ o g d now. IfOk result (λ made. layers.new ≡
         put_at (operator_at o) d made.seq now owned.ops layers.old)) }
     ensures whole { AreLayers layers.new }
-    ensures committed { (now : ℤ) (ids : ℕ) (cs : List Commit) (ps : List (List ℕ × Tx)) →
-        IsManaged manager.old ids last cs ps →
-        IfOk result (ManagesMade manager.new id.now now last ids cs ps) }
+    ensures committed { (now : ℤ) → Manages manager.old manager.new id.now now last result }
     ensures same_segments { OnErr result (segments.new ≡ segments.old) }
     ensures same_layers { OnErr result (layers.new ≡ layers.old) }
     ensures grown { OnErr result (Grown id.now manager.old manager.new) }
     ensures cause { AsPreparedOf owned.ops prepared (λ o g d now.
         (cs : List Commit) → StandsFor manager.old cs →
-        IfErr result (λ e. (e ≡ SlateDBError.OutOfMemory) ⊎ (IsConflict (conflict cs owned) e ⊎
-        IsFull last (conflict cs owned) owned.ops e) ⊎ IsTestRefusal o g segments.old d now last
-        (conflict cs owned) owned.ops e)) }
+        IfErr result (IsCommitRefusal o g segments.old d now last (conflict cs owned) owned.ops)) }
 {
     let tested = owned.test(alloc, manager, id)?;
     let Tested {
@@ -112,7 +102,7 @@ fn put_prepared(
 ) -> Result<OpList, SlateDBError>
     requires fits { last < 18446744073709551614 }
     requires whole { AreLayers layers.old }
-    requires within { AllByRecursion (λ rows. AllByRecursion (λ r. r.seq ≤ last) rows) (in_memory layers.old) }
+    requires within { AreWithin last layers.old }
     requires newest { manager.old.last ≡ last }
     requires prepared { (w : PreparedWith) × IsPrepared w prepared }
     ensures recorded { AsPrepared prepared (λ w. OnOk result (segments.new ≡ with_prefixes w

@@ -1,14 +1,13 @@
 //! A write of a batch that was prepared, up to its event. It calls no operator.
-ghost use Rattle.std.specs.Prelude.{◌≡◌, ◌+◌, ◌<◌, ◌≤◌, ◌++◌, ◌∷◌, [], List, IfErr, IfOk, OnOk, OnErr, None};
-ghost use Rattle.std.specs.List.{AllByRecursion};
+ghost use Rattle.std.specs.Prelude.{◌≡◌, ◌+◌, ◌<◌, ◌++◌, ◌∷◌, [], List, IfErr, IfOk, OnOk, OnErr, None};
 ghost use Rattle.slate_types.specs.declared.error.SlateDBError.{SlateDBError};
 ghost use Rattle.slate_mem.specs.Batch.{batch_keys};
 ghost use Rattle.slate_txn.specs.Managers.{StandsFor, IsCommitOf};
 ghost use Rattle.slate_txn.specs.State.{Commit};
-ghost use Rattle.slate_db.specs.Layers.{AreLayers, in_memory};
+ghost use Rattle.slate_db.specs.Layers.{AreLayers};
 ghost use Rattle.slate_db.specs.Log.{HasPlace, IsLog};
 ghost use Rattle.slate_db.specs.Prepared.{PreparedWith, IsPrepared, whole_refusal};
-ghost use Rattle.slate_db.specs.Calls.Put.{AsPrepared, IsAloneRefusal, with_prefixes, with_rows};
+ghost use Rattle.slate_db.specs.Calls.Put.{AreWithin, AsPrepared, IsAloneRefusal, with_prefixes, with_rows};
 
 use crate::layers::Layers;
 use crate::log::Log;
@@ -33,7 +32,7 @@ pub(crate) fn put_alone(
 ) -> Result<OpList, SlateDBError>
     requires fits { last < 18446744073709551614 }
     requires whole { AreLayers layers.old }
-    requires within { AllByRecursion (λ rows. AllByRecursion (λ r. r.seq ≤ last) rows) (in_memory layers.old) }
+    requires within { AreWithin last layers.old }
     requires newest { manager.old.last ≡ last }
     requires logged { IsLog log.old }
     requires prepared { (w : PreparedWith) × IsPrepared w prepared }
@@ -46,7 +45,10 @@ pub(crate) fn put_alone(
     ensures whole { AreLayers layers.new }
     ensures ops { IfOk result (λ ops. ops ≡ prepared.ops) }
     ensures tested { AsPrepared prepared (λ w. OnOk result (whole_refusal w segments.old ≡ None)) }
-    ensures committed { OnOk result (manager.new ≡ record manager.old { last = last + 1; kept = manager.new.kept }) }
+    ensures committed { OnOk result (manager.new ≡ record manager.old {
+      last = last + 1;
+      kept = manager.new.kept;
+    }) }
     ensures stands { AsPrepared prepared (λ w. OnOk result ((cs : List Commit) (c : Commit) →
         IsCommitOf (last + 1) (batch_keys w.batch.ops) c → StandsFor manager.old cs → StandsFor
         manager.new (cs ++ c ∷ []))) }

@@ -25,8 +25,22 @@ core_of y = record { settings = record { default_millis = None; start_seq = 0 };
 pub rows_of_batch-requires : goal.rows_of_batch-requires
 rows_of_batch-requires g c = tested_merges (option_map g.M.MergeOperator.combine c.args.operator.now) (segments_by g.X.PrefixExtractor.lengths c.args.extractor.now) c.args.segments.now c.args.default_millis _ c.args.batch.now.held_merge c.args.batch.now.ops c.in_ok-prefixes.ensures.tested
 
-pub returns-clause-recorded : goal.returns-clause-recorded
-returns-clause-recorded g c = c.in_ok-put_own.ensures.recorded ∙ ap (λ ps. keys_set (c.args.segments.now ++ ps)) c.in_ok-prefixes.ensures.prefixes ∙ set_of_rest c.args.segments.now (prefixes (segments_by g.X.PrefixExtractor.lengths c.args.extractor.now) c.args.batch.now.ops)
+pub returns-clause-puts : goal.returns-clause-puts
+returns-clause-puts g c =
+    let f : List ℕ → Combine = operator_at (option_map g.M.MergeOperator.combine c.args.operator.now) in
+    let rows : c.in_ok-rows.rows.items ≡ commit_rows f c.args.default_millis (c.args.last + 1) c.args.now c.args.batch.now.ops =
+    c.in_ok-rows.ensures.rows ∙ ap (λ (z : ℤ). commit_rows f c.args.default_millis (c.args.last + 1) z c.args.batch.now.ops) (to_z-of_z w64 c.args.now c.ranges.now) in
+    record {
+      recorded = c.in_ok-put_own.ensures.recorded ∙ ap (λ ps. keys_set (c.args.segments.now ++ ps)) c.in_ok-prefixes.ensures.prefixes ∙ set_of_rest c.args.segments.now (prefixes (segments_by g.X.PrefixExtractor.lengths c.args.extractor.now) c.args.batch.now.ops);
+      put = c.in_ok-put_own.ensures.put ∙ ap (λ (rs : Rows). record c.args.layers.now { active = put_rows c.args.layers.now.active rs }) rows;
+      ops = c.from_vec.ensures ∙ c.in_ok-ops.ensures.ops;
+      fine = c.ops.ensures.fine;
+      committed = c.in_ok-put_own.ensures.committed;
+      stands = c.in_ok-put_own.ensures.stands;
+      same_segments = tt;
+      same_layers = tt;
+      same = tt;
+    }
 
 pub put_own-requires : goal.put_own-requires
 unfolding core_of

@@ -30,14 +30,14 @@ returns-in_err-tested-clause-cause c = λ o g d now p cs stands.
     by (inl short) = inl short
     by (inr met) = inr (inl (inl met))
 
-pub returns-then-is_empty-clause-ops : goal.returns-then-is_empty-clause-ops
-returns-then-is_empty-clause-ops c = c.into_ops.ensures ∙ c.requires.prepared.2.is.ops
-
-pub returns-then-is_empty-clause-fine : goal.returns-then-is_empty-clause-fine
-returns-then-is_empty-clause-fine c = subst AreFine (sym (c.into_ops.ensures ∙ c.is_empty.ensures.0 c.if-is_empty.true)) tt
-
-pub returns-then-is_empty-clause-next : goal.returns-then-is_empty-clause-next
-returns-then-is_empty-clause-next c = nothing c
+pub returns-then-is_empty-clause-made : goal.returns-then-is_empty-clause-made
+returns-then-is_empty-clause-made c = record {
+  tracked = c.in_ok-tested.ensures.commits.keys;
+  steps = c.in_ok-tested.ensures.commits.steps;
+  ops = c.into_ops.ensures ∙ c.requires.prepared.2.is.ops;
+  fine = subst AreFine (sym (c.into_ops.ensures ∙ c.is_empty.ensures.0 c.if-is_empty.true)) tt;
+  next = nothing c;
+}
 
 pub returns-then-is_empty-clause-free : goal.returns-then-is_empty-clause-free
 returns-then-is_empty-clause-free c = λ cs stands. c.in_ok-tested.ensures.free cs stands c.requires.held
@@ -76,14 +76,14 @@ returns-in_err-ops-clause-cause c = λ o g d now p cs stands.
     by f (inl short) = inl short
     by f (inr test) = inr (inr (f test))
 
-pub returns-clause-ops : goal.returns-clause-ops
-returns-clause-ops c = c.in_ok-ops.ensures.ops ∙ c.requires.prepared.2.is.ops
-
-pub returns-clause-fine : goal.returns-clause-fine
-returns-clause-fine c = subst AreFine (sym (c.in_ok-ops.ensures.ops ∙ c.requires.prepared.2.is.ops)) c.requires.prepared.2.is.fine
-
-pub returns-clause-next : goal.returns-clause-next
-returns-clause-next c = (refl, omega (arith, c.if-last-ge18446744073709551614.false), λ none. let t : true ≡ false = sym (c.is_empty.ensures.1 (c.requires.prepared.2.is.ops ∙ ap kept_ops none)) ∙ c.if-is_empty.false in cc)
+pub returns-clause-made : goal.returns-clause-made
+returns-clause-made c = record {
+  tracked = c.in_ok-tested.ensures.commits.keys;
+  steps = c.in_ok-tested.ensures.commits.steps;
+  ops = c.in_ok-ops.ensures.ops ∙ c.requires.prepared.2.is.ops;
+  fine = subst AreFine (sym (c.in_ok-ops.ensures.ops ∙ c.requires.prepared.2.is.ops)) c.requires.prepared.2.is.fine;
+  next = (refl, omega (arith, c.if-last-ge18446744073709551614.false), λ none. let t : true ≡ false = sym (c.is_empty.ensures.1 (c.requires.prepared.2.is.ops ∙ ap kept_ops none)) ∙ c.if-is_empty.false in cc);
+}
 
 pub returns-clause-free : goal.returns-clause-free
 returns-clause-free c = λ cs stands. c.in_ok-tested.ensures.free cs stands c.requires.held

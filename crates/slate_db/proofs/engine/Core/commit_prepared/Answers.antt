@@ -59,8 +59,8 @@ pub push_commit-requires : goal.push_commit-requires
 push_commit-requires c =
     may_commit (view_of c.self.inside) (unseen_of c.self.inside) c.args.id.now c.in-Some.owned c.in-Ok.made.seq c.in-Ok.made.ops c.in-Ok.made.tracked c.in-Ok.made.transcript c.self.invariant (sym c.in-Some.ensures.taken)
     (c.in-Ok.ensures.free c.self.inside.log.commits c.self.invariant.tied.manager.stands)
-    (subst (λ (k : ℕ). IsNextOf k c.in-Some.owned.ops c.in-Ok.made.seq) c.last-last.ensures c.in-Ok.ensures.next)
-    c.in-Ok.ensures.ops c.in-Ok.ensures.tracked c.in-Ok.ensures.steps c.in-Ok.ensures.fine
+    (subst (λ (k : ℕ). IsNextOf k c.in-Some.owned.ops c.in-Ok.made.seq) c.last-last.ensures c.in-Ok.ensures.made.next)
+    c.in-Ok.ensures.made.ops c.in-Ok.ensures.made.tracked c.in-Ok.ensures.made.steps c.in-Ok.ensures.made.fine
 
 abbrev short : SlateDBError → Type 0
 short e = e ≡ OutOfMemory
@@ -79,14 +79,14 @@ tested : (c : goal.After-push_commit) (o : Option (List ℕ → Combine)) (k : S
 tested c o k p = c.in-Ok.ensures.tested o k c.self.inside.default_millis c.args.now p
 
 next : (c : goal.After-push_commit) → IsNextOf c.self.inside.log.last c.in-Some.owned.ops c.in-Ok.made.seq
-next c = subst (λ (k : ℕ). IsNextOf k c.in-Some.owned.ops c.in-Ok.made.seq) c.last-last.ensures c.in-Ok.ensures.next
+next c = subst (λ (k : ℕ). IsNextOf k c.in-Some.owned.ops c.in-Ok.made.seq) c.last-last.ensures c.in-Ok.ensures.made.next
 
 made : (c : goal.After-push_commit) (o : Option (List ℕ → Combine)) (k : Segments) → Ready c o k → Commits (operator_at o) k c.self.inside c.push_commit.new.self c.make_prepared-made.new.layers c.make_prepared-made.new.segments c.take.new.self c.args.id.now c.in-Ok.made.seq c.args.now c.in-Some.owned
 made c o k p = record {
   log = c.push_commit.ensures.value
-      ∙ (λ i. with_commit c.self.inside.log c.args.id.now c.in-Ok.made.seq (to_z-of_z w64 c.args.now c.ranges.now i) (c.in-Ok.ensures.ops i) (c.in-Ok.ensures.tracked i) (c.in-Ok.ensures.steps i) c.push_commit.new.self.spare);
+      ∙ (λ i. with_commit c.self.inside.log c.args.id.now c.in-Ok.made.seq (to_z-of_z w64 c.args.now c.ranges.now i) (c.in-Ok.ensures.made.ops i) (c.in-Ok.ensures.made.tracked i) (c.in-Ok.ensures.made.steps i) c.push_commit.new.self.spare);
   layers = c.in-Ok.ensures.put o k c.self.inside.default_millis c.args.now p;
-  recorded = c.in-Ok.ensures.recorded o k c.self.inside.default_millis c.args.now p ∙ ap (λ ops. recorded_at k c.in-Ok.made.seq ops c.self.inside.segments) c.in-Ok.ensures.ops;
+  recorded = c.in-Ok.ensures.recorded o k c.self.inside.default_millis c.args.now p ∙ ap (λ ops. recorded_at k c.in-Ok.made.seq ops c.self.inside.segments) c.in-Ok.ensures.made.ops;
   txns = c.in-Some.ensures.left;
   next = next c;
 }
@@ -105,7 +105,7 @@ invariant_of-self c =
     subst IsWholeInside (becomes c w.combine w.segments w.is)
     (whole_recorded (after_commit (view_of s) c.args.id.now c.in-Ok.made.seq c.args.now c.in-Some.owned (RowsAfter f (view_of s) c.in-Ok.made.seq c.args.now c.in-Some.owned) c.push_commit.new.self.spare) _ _
     (whole_made f (view_of s) (unseen_of s) c.args.id.now c.in-Ok.made.seq c.args.now c.in-Some.owned c.push_commit.new.self.spare c.make_prepared-made.new.manager (next c)
-    (managed_made c.make_prepared-made.new.manager s.log.ids _ s.log.last s.log.commits _ c.in-Ok.made.seq c.args.now c.args.now _ _ _ _ c.last-last.ensures refl c.in-Ok.ensures.ops c.in-Ok.ensures.tracked
+    (managed_made c.make_prepared-made.new.manager s.log.ids _ s.log.last s.log.commits _ c.in-Ok.made.seq c.args.now c.args.now _ _ _ _ c.last-last.ensures refl c.in-Ok.ensures.made.ops c.in-Ok.ensures.made.tracked
     (c.in-Ok.ensures.committed c.args.now s.log.ids s.log.commits s.transactions (subst (λ (k : ℕ). IsManaged s.manager s.log.ids k s.log.commits s.transactions) (sym c.last-last.ensures) c.self.invariant.tied.manager)))
     (subst IsLog (made c w.combine w.segments w.is).log c.push_commit.ensures.whole) (subst AreLayers (made c w.combine w.segments w.is).layers c.in-Ok.ensures.whole) c.self.invariant))
 
