@@ -24,7 +24,9 @@ adds_act before after act adds known is = (act ∷ [], adds known is)
 
 pub adds_puts : (ts : List (Ulid × List ℕ)) (before after : Option (List Act)) → AddsPuts ts before after → AddsActs before after
 adds_puts [] before after same = adds_same before after same
-adds_puts (t ∷ ts) before after (middle, put, rest) = adds_then before middle after (adds_act before middle (Act.put (path_of root t.0.0) t.1) put) (adds_puts ts middle after rest)
+adds_puts (t ∷ ts) before after (middle, rest, put) =
+    adds_then before middle after (adds_puts ts before middle rest)
+    (adds_act middle after (Act.put (path_of root t.0.0) t.1) put)
 
 pub adds_tables : (old new : List (Ulid × List ℕ)) (before after : Option (List Act)) → AddsTables old new before after → AddsActs before after
 adds_tables old new before after (ts, grown, puts) = adds_puts ts before after puts

@@ -26,7 +26,7 @@ use Rattle.slate_db.specs.Segmented.{HavePrefixes}
 use Rattle.slate_db.specs.Sound.{IsTied, above}
 use Rattle.slate_db.proofs.FlushedKeys.{flushed_keys}
 use Rattle.slate_db.proofs.TouchedSegments.{tables_stand}
-use Rattle.slate_types.proofs.Lists.{AllByRecursion_front, AllByRecursion_filter}
+use Rattle.slate_types.proofs.Lists.{AllByRecursion_filter}
 
 abbrev pub InOneSegment : Segments → Rows → Type 0
 InOneSegment g rows = (prefix : List ℕ) × AllByRecursion (StandsIn g prefix) rows
@@ -83,8 +83,7 @@ frozen_first k old mid (inr frozen) = ([], sym (append-nil (versions_in k (memor
 pub flushed_stand : (m : Meaning) (layout : Layout) (old mid : CoreModel) (number barrier : ℕ) (tables : List (Ulid × List ℕ)) → IsFrozen old mid → IsTied m old → HavePrefixes layout.segments old.state.commits →
     (made : AreTablesOfFlush m layout number barrier mid.frozen tables) → AllByRecursion (InOneSegment layout.segments) made.parts
 flushed_stand m layout old mid number barrier tables frozen tied have made =
-    AllByRecursion_front (InOneSegment layout.segments) made.parts []
-    (tables_stand layout.segments layout.table_bytes made.rows (made.parts ++ []) (flushed_keys m barrier mid.frozen made.rows HasPrefix made.folded has) made.cut)
+    tables_stand layout.segments layout.table_bytes made.rows made.parts (flushed_keys m barrier mid.frozen made.rows HasPrefix made.folded has) made.cut
   where
     HasPrefix : List ℕ → Type 0
     HasPrefix k = segment_refusal layout.segments k ≡ None

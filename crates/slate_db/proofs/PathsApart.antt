@@ -1,5 +1,5 @@
 -- Tables of different flushes, and of different places in one, lie at different paths.
-use Rattle.std.proofs.Common.{◌≡◌, ℕ, zero, suc, ◌+◌, ◌*◌, ◌/◌, ◌%◌, ◌^◌, ◌<◌, ◌≤◌, ◌⊎◌, inl, inr, List, [], ◌∷◌, ◌++◌, flat_map, length, refl, sym, ap, subst, ◌∙◌, arith, append-nil, append_assoc}
+use Rattle.std.proofs.Common.{◌≡◌, ℕ, zero, suc, ◌+◌, ◌*◌, ◌/◌, ◌%◌, ◌^◌, ◌<◌, ◌≤◌, ◌⊎◌, inl, inr, List, [], ◌∷◌, ◌++◌, flat_map, length, refl, sym, ap, subst, ◌∙◌, arith, append-nil}
 use native.Mathlib.Numerals.{unary_clauses}
 use Rattle.std.proofs.Math.Nat.{mul_comm}
 use Rattle.std.specs.Prelude.{codes, Some}
@@ -14,7 +14,7 @@ use Rattle.slate_store.proofs.StoreLaws.{others_stay, put_is_there}
 use Rattle.slate_table.specs.Paths.{hex_digit, hex, path_of, table_id}
 use Rattle.slate_db.specs.Flushed.{with_tables}
 use Rattle.slate_db.specs.Installs.{root, ArePlaced, Holds, NumberedFrom}
-use Rattle.slate_types.proofs.Lists.{AllByRecursion_append}
+use Rattle.slate_types.proofs.Lists.{AllByRecursion_append, AllByRecursion_behind, AllByRecursion_front}
 
 digit_same : (a b : ℕ) → a < 16 → b < 16 → hex_digit a ≡ hex_digit b → a ≡ b
 digit_same a b h k e = grind (arith, nat_tests)
@@ -76,6 +76,25 @@ still_earlier n p (t ∷ ts) h = (record { number = h.0.number; place = h.0.plac
     by i q (inl below) = inl below
     by i q (inr (same, below)) = inr (same, omega arith)
 
+-- those of earlier flushes are before each place
+pub later_place : (n p : ℕ) (ts : List (Ulid × List ℕ)) → AllByRecursion (IsEarlier n 0) ts →
+    AllByRecursion (IsEarlier n p) ts
+later_place n p [] h = tt
+later_place n p (t ∷ ts) h = (
+  record {
+    number = h.0.number;
+    place = h.0.place;
+    id = h.0.id;
+    fits = h.0.fits;
+    earlier = by h.0.number h.0.place h.0.earlier;
+  },
+  later_place n p ts h.1,
+)
+  where
+    by : (i q : ℕ) → (i < n) ⊎ ((i ≡ n) × (q < 0)) → (i < n) ⊎ ((i ≡ n) × (q < p))
+    by i q (inl below) = inl below
+    by i q (inr (same, below)) = absurd (omega (arith, below))
+
 earlier_run : (i p n : ℕ) (ts : List (Ulid × List ℕ)) → ArePlaced i p ts → i < n → AllByRecursion (IsEarlier n 0) ts
 earlier_run i p n [] h below = tt
 earlier_run i p n (t ∷ ts) h below = (record { number = i; place = p; id = h.0; fits = h.1; earlier = inl below }, earlier_run i (p + 1) n ts h.2 below)
@@ -90,20 +109,46 @@ holds_still : (os : Objects) (path bytes : List ℕ) (ts : List (Ulid × List �
 holds_still os path bytes [] apart h = tt
 holds_still os path bytes (t ∷ ts) apart h = (others_stay os path bytes (path_of root t.0.0) apart.0 ∙ h.0, holds_still os path bytes ts apart.1 h.1)
 
-holds_more : (os : Objects) (t : Ulid × List ℕ) (ts : List (Ulid × List ℕ)) → object_at os (path_of root t.0.0) ≡ Some t.1 → Holds os ts → Holds os (ts ++ (t ∷ []))
-holds_more os t [] is h = (is, tt)
-holds_more os t (u ∷ ts) is h = (h.0, holds_more os t ts is h.1)
-
 apart_from : (n p : ℕ) (t : Ulid × List ℕ) (ts : List (Ulid × List ℕ)) → t.0.0 ≡ table_id n p → n < 2 ^ 64 → p < 2 ^ 64 → AllByRecursion (IsEarlier n p) ts → AllByRecursion (λ u. path_of root t.0.0 ≡ path_of root u.0.0 → ⊥) ts
 apart_from n p t [] id fits place h = tt
 apart_from n p t (u ∷ ts) id fits place h = (λ same. earlier_apart n p u h.0 fits place (sym (ap (path_of root) id) ∙ same), apart_from n p t ts id fits place h.1)
 
--- tables of one flush are put, from a place on
-pub holds_puts : (os : Objects) (n p : ℕ) (ts us : List (Ulid × List ℕ)) → n < 2 ^ 64 → AllByRecursion (IsEarlier n p) ts → ArePlaced n p us → Holds os ts → Holds (with_tables os us) (ts ++ us)
+apart_later : (n p q : ℕ) (t : Ulid × List ℕ) (us : List (Ulid × List ℕ)) →
+    t.0.0 ≡ table_id n p → n < 2 ^ 64 → p < 2 ^ 64 → p < q → ArePlaced n q us →
+    AllByRecursion (λ u. path_of root t.0.0 ≡ path_of root u.0.0 → ⊥) us
+apart_later n p q t [] id fits place later h = tt
+apart_later n p q t (u ∷ us) id fits place later h = (
+  λ same. let is = ids_same n n p q fits fits place h.1
+  (sym (ap (path_of root) id) ∙ same ∙ ap (path_of root) h.0) in omega (arith, is.1, later),
+  apart_later n p (q + 1) t us id fits place (omega (arith, later)) h.2,
+)
+
+-- tables of one flush are put, from the last down to a place
+pub holds_puts : (os : Objects) (n p : ℕ) (ts us : List (Ulid × List ℕ)) → n < 2 ^ 64 →
+    AllByRecursion (IsEarlier n p) ts → ArePlaced n p us → Holds os ts →
+    Holds (with_tables os us) (ts ++ us)
 holds_puts os n p ts [] fits earlier placed h = subst (Holds os) (sym (append-nil ts)) h
 holds_puts os n p ts (u ∷ us) fits earlier placed h =
     let path : List ℕ = path_of root u.0.0 in
-    let one : Holds (with_object os path u.1) (ts ++ (u ∷ [])) = holds_more (with_object os path u.1) u ts (put_is_there os path u.1) (holds_still os path u.1 ts (apart_from n p u ts placed.0 fits placed.1 earlier) h) in
-    let before : AllByRecursion (IsEarlier n (p + 1)) (ts ++ (u ∷ [])) =
-    AllByRecursion_append (IsEarlier n (p + 1)) ts (u ∷ []) (still_earlier n p ts earlier) (record { number = n; place = p; id = placed.0; fits = placed.1; earlier = inr (refl, omega arith) }, tt) in
-    subst (Holds (with_tables (with_object os path u.1) us)) (append_assoc ts (u ∷ []) us) (holds_puts (with_object os path u.1) n (p + 1) (ts ++ (u ∷ [])) us fits before placed.2 one)
+    let rest : Holds (with_tables os us) (ts ++ us) =
+    holds_puts os n (p + 1) ts us fits (still_earlier n p ts earlier) placed.2 h in
+    let left : Objects = with_object (with_tables os us) path u.1 in
+    let first : Holds left ts = holds_still (with_tables os us) path u.1 ts
+    (apart_from n p u ts placed.0 fits placed.1 earlier) (AllByRecursion_front _ ts us rest) in
+    let last : Holds left us = holds_still (with_tables os us) path u.1 us
+    (apart_later n p (p + 1) u us placed.0 fits placed.1 (omega arith) placed.2)
+    (AllByRecursion_behind _ ts us rest) in
+    AllByRecursion_append _ ts (u ∷ us) first
+    (put_is_there (with_tables os us) path u.1, last)
+
+-- and they alone change
+pub others_keep : (os : Objects) (n p q : ℕ) (us : List (Ulid × List ℕ)) → n < 2 ^ 64 →
+    p < 2 ^ 64 → p < q → ArePlaced n q us →
+    object_at (with_tables os us) (path_of root (table_id n p))
+    ≡ object_at os (path_of root (table_id n p))
+others_keep os n p q [] fits place later placed = refl
+others_keep os n p q (u ∷ us) fits place later placed =
+    others_stay (with_tables os us) (path_of root u.0.0) u.1 (path_of root (table_id n p))
+    (λ same. let is = ids_same n n p q fits fits place placed.1
+    (sym same ∙ ap (path_of root) placed.0) in omega (arith, is.1, later))
+    ∙ others_keep os n p (q + 1) us fits place (omega (arith, later)) placed.2

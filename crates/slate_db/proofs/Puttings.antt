@@ -21,32 +21,44 @@ frozen_tables old new (inr is) = ap (λ (c : CoreModel). tables_of c.events) is.
 pub adds_installed : (old new : List Event) (n : ℕ) (tables : List (Ulid × List ℕ)) (before after : Option (List Act)) → new ≡ old ++ (events.Install n tables ∷ []) → AddsPuts tables before after → AddsTables (tables_of old) (tables_of new) before after
 adds_installed old new n tables before after is acts = (tables, ap tables_of is ∙ tables_more old (events.Install n tables), acts)
 
--- one table after another
+-- one table after another, each before those that were put
 
-pub adds_more : (ts : List (Ulid × List ℕ)) (t : Ulid × List ℕ) (before middle after : Option (List Act)) → AddsPuts ts before middle → AddsPuts (t ∷ []) middle after → AddsPuts (ts ++ (t ∷ [])) before after
-adds_more [] t before middle after none one = subst (λ (x : Option (List Act)). AddsPuts (t ∷ []) x after) none one
-adds_more (x ∷ ts) t before middle after (first, act, rest) one = (first, act, adds_more ts t first middle after rest one)
+pub adds_more : (ts us : List (Ulid × List ℕ)) (before middle after : Option (List Act)) →
+    AddsPuts ts before middle → AddsPuts us middle after → AddsPuts (us ++ ts) before after
+adds_more ts [] before middle after first none =
+    subst (λ (x : Option (List Act)). AddsPuts ts before x) (sym none) first
+adds_more ts (u ∷ us) before middle after first (last, rest, act) =
+    (last, adds_more ts us before middle last first rest, act)
 
-objects_more : (os : Objects) (ts us : List (Ulid × List ℕ)) → with_tables os (ts ++ us) ≡ with_tables (with_tables os ts) us
-objects_more os [] us = refl
-objects_more os (t ∷ ts) us = objects_more (with_object os (path_of root t.0.0) t.1) ts us
+objects_more : (os : Objects) (ts us : List (Ulid × List ℕ)) →
+    with_tables os (us ++ ts) ≡ with_tables (with_tables os ts) us
+objects_more os ts [] = refl
+objects_more os ts (u ∷ us) =
+    ap (λ (o : Objects). with_object o (path_of root u.0.0) u.1) (objects_more os ts us)
 
-pub takes_more : (ts us : List (Ulid × List ℕ)) (before middle after : Option Objects) → TakesTables ts before middle → TakesTables us middle after → TakesTables (ts ++ us) before after
+pub takes_more : (ts us : List (Ulid × List ℕ)) (before middle after : Option Objects) →
+    TakesTables ts before middle → TakesTables us middle after → TakesTables (us ++ ts) before after
 takes_more ts us None middle after first last = tt
 takes_more ts us (Some os) middle after first last =
-    let there : IfSome (Some (with_tables os ts)) (λ x. after ≡ Some (with_tables x us)) = subst (λ (m : Option Objects). IfSome m (λ x. after ≡ Some (with_tables x us))) first last in
+    let there : IfSome (Some (with_tables os ts)) (λ x. after ≡ Some (with_tables x us)) =
+    subst (λ (m : Option Objects). IfSome m (λ x. after ≡ Some (with_tables x us))) first last in
     there ∙ ap Some (sym (objects_more os ts us))
 
 -- what a call leaves that is refused behind some tables
-pub may_more : (Q R : List (Ulid × List ℕ) → Type 0) (ts : List (Ulid × List ℕ)) (before middle after : Option Objects) → TakesTables ts before middle → R ts → ((us : List (Ulid × List ℕ)) → Q us → R (ts ++ us)) → MayTakeTables Q middle after →
+pub may_more : (Q R : List (Ulid × List ℕ) → Type 0) (ts : List (Ulid × List ℕ))
+    (before middle after : Option Objects) → TakesTables ts before middle → R ts →
+    ((us : List (Ulid × List ℕ)) → Q us → R (us ++ ts)) → MayTakeTables Q middle after →
     MayTakeTables R before after
 may_more Q R ts None middle after taken none more may = tt
-may_more Q R ts (Some os) middle after taken none more may = by (subst (λ (m : Option Objects). MayTakeTables Q m after) taken may)
+may_more Q R ts (Some os) middle after taken none more may =
+    by (subst (λ (m : Option Objects). MayTakeTables Q m after) taken may)
   where
-    by : (after ≡ Some (with_tables os ts)) ⊎ ((us : List (Ulid × List ℕ)) × Q us × (after ≡ Some (with_tables (with_tables os ts) us))) →
-        (after ≡ Some os) ⊎ ((us : List (Ulid × List ℕ)) × R us × (after ≡ Some (with_tables os us)))
+    by : (after ≡ Some (with_tables os ts)) ⊎ ((us : List (Ulid × List ℕ)) × Q us ×
+        (after ≡ Some (with_tables (with_tables os ts) us))) →
+        (after ≡ Some os) ⊎ ((us : List (Ulid × List ℕ)) × R us ×
+        (after ≡ Some (with_tables os us)))
     by (inl same) = inr (ts, none, same)
-    by (inr (us, q, is)) = inr (ts ++ us, more us q, is ∙ ap Some (sym (objects_more os ts us)))
+    by (inr (us, q, is)) = inr (us ++ ts, more us q, is ∙ ap Some (sym (objects_more os ts us)))
 
 -- of other words
 pub may_as : (P Q : List (Ulid × List ℕ) → Type 0) (before after : Option Objects) → ((ts : List (Ulid × List ℕ)) → P ts → Q ts) → MayTakeTables P before after → MayTakeTables Q before after

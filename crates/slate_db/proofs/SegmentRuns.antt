@@ -43,7 +43,7 @@ use Rattle.slate_db.proofs.Logs.{tables_more}
 use Rattle.slate_db.proofs.OneSegment.{all_of_set, frozen_first, of_commits}
 use Rattle.slate_db.proofs.Puttings.{frozen_tables}
 use Rattle.slate_db.proofs.TouchedSegments.{IsUpTo, NoneFalls, falls_behind, has_prefix, rows_rise, set_of_same}
-use Rattle.slate_types.proofs.Lists.{AllByRecursion_front, AllByRecursion_map, AllByRecursion_behind, AllByRecursion_weaken, AllByRecursion_filter}
+use Rattle.slate_types.proofs.Lists.{AllByRecursion_map, AllByRecursion_behind, AllByRecursion_weaken, AllByRecursion_filter}
 
 -- ---- the rows of a segment
 
@@ -291,7 +291,7 @@ some_added m layout old mid new number n ts frozen tied z newest is made = recor
 }
   where
     all : flat_map (λ rows. rows) made.parts ≡ made.rows
-    all = ap (flat_map (λ (rows : Rows). rows)) (sym (append-nil made.parts)) ∙ made.cut.all
+    all = made.cut.all
 
     none : NoneFalls (prefixes_in layout.segments made.rows)
     none = rows_rise layout.segments made.rows made.order (none_nest layout.segments old.segments z.apart made.rows (rows_recorded m layout.segments old mid (least_start n mid.state) made.rows frozen tied z made.folded))
@@ -299,7 +299,7 @@ some_added m layout old mid new number n ts frozen tied z newest is made = recor
     runs : Grouped m layout.segments made.rows ts
     runs = subst (λ (rows : Rows). Grouped m layout.segments rows ts) all
         (grouped m layout.segments layout.table_bytes ts made.parts (tables_of_parts m m.encode layout number 0 made.parts ts refl made.built)
-        (AllByRecursion_front _ made.parts [] made.cut.some) (AllByRecursion_front _ made.parts [] made.cut.go_on) (subst (λ (rows : Rows). NoneFalls (prefixes_in layout.segments rows)) (sym all) none))
+        made.cut.some made.cut.go_on (subst (λ (rows : Rows). NoneFalls (prefixes_in layout.segments rows)) (sym all) none))
 
 pub adds_runs : {E : Type 0} (r : Result ℕ E) (m : Meaning) (layout : Layout) (old mid new : CoreModel) (before after : Option Objects) → IsFrozen old mid → IfOk r (λ n. n ≡ last_of mid.settings.start_seq mid.state.commits) →
     IfOk r (λ n. IsFlushed m layout mid new n before after) → IsTied m old → IsSegmented layout.segments old → OnOk r (AddsSegmentRuns m layout.segments old (tables_of old.events) (tables_of new.events))

@@ -4,7 +4,7 @@
 --     Answering os objects before after      the store holds the objects, or tells its acts, and answered each read of a call by them
 --     AnswersFrom os before after      the same of what a call reaches
 --     AddsActs before after      of what a store tells of its acts: those from before, and maybe more behind them
---     AddsPuts ts before after      of what a store tells of its acts: the puts of these tables were added, in order
+--     AddsPuts ts before after      of what a store tells of its acts: the puts of these tables were added, from the last to the first
 --     AddsTables old new before after      of two lists of tables the second has some more, and their puts were told
 use Rattle.std.specs.Prelude.{◌≡◌, ◌⊎◌, ℕ, List, [], ◌∷◌, ◌++◌, Option, Some}
 use Rattle.std.specs.List.{AllByRecursion}
@@ -37,7 +37,8 @@ AddsActs before after = (known : List Act) → before ≡ Some known → (more :
 
 abbrev pub AddsPuts : List (Ulid × List ℕ) → Option (List Act) → Option (List Act) → Type 0
 AddsPuts [] before after = after ≡ before
-AddsPuts (t ∷ ts) before after = (middle : Option (List Act)) × AddsAct before (Act.put (path_of root t.0.0) t.1) middle × AddsPuts ts middle after
+AddsPuts (t ∷ ts) before after = (middle : Option (List Act)) × AddsPuts ts before middle ×
+    AddsAct middle (Act.put (path_of root t.0.0) t.1) after
 
 abbrev pub AddsTables : List (Ulid × List ℕ) → List (Ulid × List ℕ) → Option (List Act) → Option (List Act) → Type 0
 AddsTables old new before after = (ts : List (Ulid × List ℕ)) × (new ≡ old ++ ts) × AddsPuts ts before after

@@ -4,9 +4,9 @@
 --     events_of_flush active frozen      how many events a flush adds
 --     Layout, layout_of options policies segments      how a flush cuts and spells rows, and which filters their tables get
 --     IsTableAt .. place rows t, AreTablesAt      a table is built of these rows, under the id of its flush and its place; tables are, one of each list
---     AreFirstTables .. left tables      the folded rows are cut into tables, of which these are the first, and the rows of the others are left
---     AreTablesOfFlush, AreSomeOfFlush      these are all of them; or some first ones
---     with_tables os ts, TakesTables ts before after      objects with these tables at their paths, in order; the store took them
+--     AreLastTables .. left tables      the folded rows are cut into tables, of which these are the last, and the rows of the others are left
+--     AreTablesOfFlush, AreSomeOfFlush      these are all of them; or some last ones
+--     with_tables os ts, TakesTables ts before after      objects with these tables at their paths, put from the last to the first; the store took them
 --     MayTakeTables P before after      the store is as it was, or took such tables
 --     StandInRuns prefixes runs      of the prefixes of tables, in their order: neighbouring tables stand in one run exactly where they have one prefix, which is the run's
 --     IsPut ..      the tables of a flush were put, and these are what an install names and what is kept of them
@@ -102,25 +102,28 @@ AreTablesAt encode layout number place (rows ∷ parts) (t ∷ ts) = IsTableAt e
 AreTablesAt encode layout number place [] (t ∷ ts) = ⊥
 AreTablesAt encode layout number place (rows ∷ parts) [] = ⊥
 
--- rows: those of all memtables
-pub record AreFirstTables (m : Meaning) (layout : Layout) (number barrier : ℕ) (layers left : List Rows) (tables : List (Ulid × List ℕ)) : Type 0 where
+-- rows: those of all memtables; left: of the tables before these
+pub record AreLastTables (m : Meaning) (layout : Layout) (number barrier : ℕ)
+    (layers left : List Rows) (tables : List (Ulid × List ℕ)) : Type 0 where
   pub rows : Rows
   pub some : 0 < length rows
   pub folded : IsFolded m barrier layers rows
   pub order : AreInOrder rows
   pub parts : List Rows
-  pub cut : AreCut layout.segments layout.table_bytes rows (parts ++ left)
-  pub built : AreTablesAt m.encode layout number 0 parts tables
+  pub cut : AreCut layout.segments layout.table_bytes rows (left ++ parts)
+  pub built : AreTablesAt m.encode layout number (length left) parts tables
 
 abbrev pub AreTablesOfFlush : Meaning → Layout → ℕ → ℕ → List Rows → List (Ulid × List ℕ) → Type 0
-AreTablesOfFlush m layout number barrier layers tables = AreFirstTables m layout number barrier layers [] tables
+AreTablesOfFlush m layout number barrier layers tables =
+    AreLastTables m layout number barrier layers [] tables
 
 abbrev pub AreSomeOfFlush : Meaning → Layout → ℕ → ℕ → List Rows → List (Ulid × List ℕ) → Type 0
-AreSomeOfFlush m layout number barrier layers tables = (left : List Rows) × AreFirstTables m layout number barrier layers left tables
+AreSomeOfFlush m layout number barrier layers tables =
+    (left : List Rows) × AreLastTables m layout number barrier layers left tables
 
 abbrev pub with_tables : Objects → List (Ulid × List ℕ) → Objects
 with_tables os [] = os
-with_tables os (t ∷ ts) = with_tables (with_object os (path_of root t.0.0) t.1) ts
+with_tables os (t ∷ ts) = with_object (with_tables os ts) (path_of root t.0.0) t.1
 
 abbrev pub TakesTables : List (Ulid × List ℕ) → Option Objects → Option Objects → Type 0
 TakesTables ts before after = IfSome before (λ os. after ≡ Some (with_tables os ts))

@@ -4,7 +4,7 @@
 --     IsTablePut ..      a table of the rows was put, and that is what is kept of it
 --     IsOneTable ..      such a table alone
 --     ArePartsPut ..      a table of each of the lists of rows was put, and these are kept of them
---     AreFirstParts ..      tables of some first ones of the lists
+--     AreLastParts ..      tables of some last ones of the lists
 --     IsLastRun prefix old new run      a run was the last one and was taken out, or is none of these and has no table
 --     IsPartTooLarge layout parts e      a table of one of the lists would have too many blocks
 use Rattle.std.specs.Prelude.{◌≡◌, ◌≢◌, ℕ, ◌<◌, ◌^◌, List, [], ◌∷◌, ◌++◌, length, Option}
@@ -44,11 +44,12 @@ pub record ArePartsPut (encode : Encode) (layout : Layout) (number : ℕ) (parts
   pub kept : AreHandles ts handles
   pub taken : TakesTables ts before after
 
-pub record AreFirstParts (encode : Encode) (layout : Layout) (number : ℕ) (parts : List Rows) (ts : List (Ulid × List ℕ)) : Type 0 where
-  pub done : List Rows
+pub record AreLastParts (encode : Encode) (layout : Layout) (number : ℕ) (parts : List Rows)
+    (ts : List (Ulid × List ℕ)) : Type 0 where
   pub left : List Rows
-  pub split : done ++ left ≡ parts
-  pub made : AreTablesAt encode layout number 0 done ts
+  pub done : List Rows
+  pub split : left ++ done ≡ parts
+  pub made : AreTablesAt encode layout number (length left) done ts
 
 pub record IsPartTooLarge (layout : Layout) (parts : List Rows) (e : SlateDBError) : Type 0 where
   pub before : List Rows

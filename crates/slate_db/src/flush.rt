@@ -1,5 +1,5 @@
 //! The tables of a flush, in a run for each segment.
-ghost use Rattle.std.specs.Prelude.{◌≡◌, ◌≤◌, ◌<◌, ◌⊎◌, ◌∷◌, ◌++◌, ℕ, List, [], map, OnOk, OnErr, IfOk, IfErr, IsOkUnless, None};
+ghost use Rattle.std.specs.Prelude.{◌≡◌, ◌≤◌, ◌<◌, ◌⊎◌, ◌∷◌, ◌++◌, ℕ, List, [], map, reverse, OnOk, OnErr, IfOk, IfErr, IsOkUnless, None};
 ghost use Rattle.std.specs.List.{AllByRecursion};
 ghost use Rattle.slate_types.specs.Config.{IsValid};
 ghost use Rattle.slate_types.specs.Faults.{faults_of};
@@ -43,10 +43,14 @@ use std::alloc::Global;
 /// The folder of the store's objects.
 pub const ROOT: &str = "db";
 
-/// Stores the rows of memtables, of which the newest stands last, as the tables of the flush with this number, and gives what an
-/// install names, and the runs in which they stand: neighbouring tables of one segment make a run. `StoreFault`, `BlockTransformError` and `Callback`, each only where its count of
-/// faults rose; `MergeOperatorMissing` where one of the rows is an operand and there is no operator; `LimitReached` where a
-/// table would have too many blocks; or `OutOfMemory`. Then the store is as it was, or has some first of the tables.
+/// Stores the rows of memtables, of which the newest stands last, as the tables of the flush with
+/// this number, and gives what an install names, and the runs in which they stand: neighbouring
+/// tables of one segment make a run. They are put from the last one to the first.
+///
+/// `StoreFault`, `BlockTransformError` and `Callback`, each only where its count of faults rose;
+/// `MergeOperatorMissing` where one of the rows is an operand and there is no operator;
+/// `LimitReached` where a table would have too many blocks; or `OutOfMemory`. Then the store is as
+/// it was, or has some last of the tables: the first one only where it has all.
 pub fn stored<S: Store, M: MergeOperator, T: BlockTransformer, X: PrefixExtractor>(
     alloc: Global,
     frozen: &[ImmutableMemtable],
@@ -70,7 +74,19 @@ pub fn stored<S: Store, M: MergeOperator, T: BlockTransformer, X: PrefixExtracto
     stored_runs(alloc, number, parts, laws, env)
 }
 
-/// Stores a table of each of these lists of rows, in a run for each row of neighbouring lists of one prefix.
+/// A table that is stored.
+#[derive(Drop)]
+struct StoredTable {
+    /// The prefix of its segment.
+    prefix: Bytes,
+    /// What an install names.
+    table: (Ulid, Bytes),
+    /// What is kept of it.
+    handle: SsTableHandle,
+}
+
+/// Stores a table of each of these lists of rows, from the last one to the first, in a run for each
+/// row of neighbouring lists of one prefix.
 fn stored_runs<S: Store, M: MergeOperator, T: BlockTransformer, X: PrefixExtractor>(
     alloc: Global,
     number: u64,
@@ -99,13 +115,77 @@ fn stored_runs<S: Store, M: MergeOperator, T: BlockTransformer, X: PrefixExtract
         StoresParts layout number lists (reach env.old) (reach env.new)
         (env.new.operator ≡ env.old.operator) result }
 {
-    let mut tables = Vec::with_capacity(alloc, parts.len())?;
-    let mut runs = Vec::new(alloc);
-    for part in parts {
-        let id = Ulid(number as u128 * 18446744073709551616 + tables.len() as u128);
+    let stored = stored_tables(alloc, number, parts, laws, env)?;
+    in_runs(alloc, stored)
+}
+
+/// Stores a table of each of these lists of rows, from the last one to the first: so tables of a
+/// flush of which the first stands are whole. What is stored stands in the order of the puts.
+fn stored_tables<S: Store, M: MergeOperator, T: BlockTransformer, X: PrefixExtractor>(
+    alloc: Global,
+    number: u64,
+    parts: Vec<TableRows>,
+    laws: &Laws<X>,
+    env: &mut Env<'_, S, M, T>,
+) -> Result<Vec<StoredTable>, SlateDBError>
+    requires valid { IsValid laws.now.options }
+    requires names { AreValidNames (map (λ p. (meaning p).name) laws.now.policies.items) }
+    requires each { AllByRecursion CanBuild (map (λ t. t.rows.items) parts.items) }
+    ensures stored { let reach = ⟦<EnvOf<S, M, T> as Outside>⟧.reach in
+        let policies = map (λ p. meaning p) laws.now.policies.items in
+        let layout = layout_of laws.now.options policies (segments_by X.lengths laws.now.segments)
+        in
+        let lists = map (λ t. t.rows.items) parts.items in
+        IfOk result (λ a. ArePartsPut (reach env.old).meaning.encode layout number lists
+        (map (λ t. t.table) (reverse a.items)) (map (λ t. t.handle) (reverse a.items))
+        (reach env.old).objects (reach env.new).objects) }
+    ensures acts { let reach = ⟦<EnvOf<S, M, T> as Outside>⟧.reach in
+        IfOk result (λ a. AddsPuts (map (λ t. t.table) (reverse a.items)) (reach env.old).acts
+        (reach env.new).acts) }
+    ensures prefixes { IfOk result (λ a. map (λ t. t.prefix) (reverse a.items)
+        ≡ map (λ t. t.prefix) parts.items) }
+    ensures leaves { let reach = ⟦<EnvOf<S, M, T> as Outside>⟧.reach in
+        let policies = map (λ p. meaning p) laws.now.policies.items in
+        let layout = layout_of laws.now.options policies (segments_by X.lengths laws.now.segments)
+        in
+        let lists = map (λ t. t.rows.items) parts.items in
+        StoresParts layout number lists (reach env.old) (reach env.new)
+        (env.new.operator ≡ env.old.operator) result }
+{
+    let mut parts = parts;
+    let mut stored = Vec::with_capacity(alloc, parts.len())?;
+    while let Some(part) = parts.pop() {
+        let id = Ulid(number as u128 * 18446744073709551616 + parts.len() as u128);
         let (table, handle) = stored_table(alloc, id, part.rows, laws, env)?;
-        tables.push_reserved(table);
-        add_table(alloc, &mut runs, part.prefix, handle)?;
+        let prefix = part.prefix;
+        stored.push_reserved(StoredTable {
+            prefix,
+            table,
+            handle,
+        });
+    }
+    Ok(stored)
+}
+
+/// What an install names of these tables, of which the first stands last, and their runs. The one
+/// error is `OutOfMemory`.
+fn in_runs(
+    alloc: Global,
+    stored: Vec<StoredTable>,
+) -> Result<(TableList, Vec<SortedRun>), SlateDBError>
+    ensures tables { IfOk result (λ a. a.0 ≡ map (λ t. t.table) (reverse stored.items)) }
+    ensures handles { IfOk result (λ a. handles_of a.1.items
+        ≡ map (λ t. t.handle) (reverse stored.items)) }
+    ensures stand { IfOk result (λ a. StandInRuns (map (λ t. t.prefix) (reverse stored.items))
+        a.1.items) }
+    ensures cause { IsOkUnless result SlateDBError.OutOfMemory }
+{
+    let mut stored = stored;
+    let mut tables = Vec::with_capacity(alloc, stored.len())?;
+    let mut runs = Vec::new(alloc);
+    while let Some(next) = stored.pop() {
+        tables.push_reserved(next.table);
+        add_table(alloc, &mut runs, next.prefix, next.handle)?;
     }
     Ok((TableList::from_vec(tables), runs))
 }

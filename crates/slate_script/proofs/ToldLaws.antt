@@ -1,5 +1,5 @@
 -- What acts that a store tells leave of its objects, line by line.
-use Rattle.std.proofs.Common.{◌≡◌, ℕ, ◌≤◌, inl, inr, List, [], ◌∷◌, ◌++◌, length, map, Option, Some, Result, Ok, Err, OnOk, refl, sym, ap, ◌∙◌, subst, arith, append_assoc}
+use Rattle.std.proofs.Common.{◌≡◌, ℕ, ◌≤◌, inl, inr, List, [], ◌∷◌, ◌++◌, length, Option, Some, Result, Ok, Err, OnOk, refl, sym, ap, ◌∙◌, subst, arith, append_assoc}
 use Rattle.std.specs.Prelude.{IfErr}
 use Rattle.std.specs.List.{AllByRecursion}
 use Rattle.std.proofs.lemmas.List.{append-nil, append_cancel_left}
@@ -8,6 +8,7 @@ use Rattle.slate_types.specs.declared.error.SlateDBError.{SlateDBError}
 use Rattle.slate_types.specs.declared.types.Ulid.{Ulid}
 use Rattle.slate_types.specs.Outside.{Objects, Counts, IsCounted, Reach}
 use Rattle.slate_types.specs.World.{Made}
+use Rattle.slate_types.proofs.Lists.{AllByRecursion_append}
 use Rattle.slate_store.specs.Store.{Act, with_object}
 use Rattle.slate_filter.specs.Policy.{Policy}
 use Rattle.slate_table.specs.Paths.{path_of}
@@ -75,34 +76,45 @@ follows_reads (Err x) policies m seg os e new before after adds stores settled =
 
 -- the puts of tables, as acts
 abbrev put_acts : List (Ulid × List ℕ) → List Act
-put_acts ts = map (λ (t : Ulid × List ℕ). Act.put (path_of root t.0.0) t.1) ts
+put_acts [] = []
+put_acts (t ∷ ts) = put_acts ts ++ (Act.put (path_of root t.0.0) t.1 ∷ [])
 
-puts_told : (ts : List (Ulid × List ℕ)) (before after : Option (List Act)) (known : List Act) → AddsPuts ts before after → before ≡ Some known → after ≡ Some (known ++ put_acts ts)
-puts_told [] before after known same is = same ∙ is ∙ ap (λ (l : List Act). Some l) (sym (append-nil known))
-puts_told (t ∷ ts) before after known (middle, act, rest) is =
-    puts_told ts middle after (known ++ (Act.put (path_of root t.0.0) t.1 ∷ [])) rest (act known is) ∙ ap (λ (l : List Act). Some l) (append_assoc known (Act.put (path_of root t.0.0) t.1 ∷ []) (put_acts ts))
+puts_told : (ts : List (Ulid × List ℕ)) (before after : Option (List Act)) (known : List Act) →
+    AddsPuts ts before after → before ≡ Some known → after ≡ Some (known ++ put_acts ts)
+puts_told [] before after known same is =
+    same ∙ is ∙ ap (λ (l : List Act). Some l) (sym (append-nil known))
+puts_told (t ∷ ts) before after known (middle, rest, act) is =
+    act (known ++ put_acts ts) (puts_told ts before middle known rest is)
+    ∙ ap (λ (l : List Act). Some l)
+    (append_assoc known (put_acts ts) (Act.put (path_of root t.0.0) t.1 ∷ []))
 
 pub puts_alone : (old new : List (Ulid × List ℕ)) (before after : Option (List Act)) → AddsTables old new before after → OnlyPuts before after
 puts_alone old new before after (ts, grown, acts) known is = (put_acts ts, puts_told ts before after known acts is, all ts)
   where
     all : (us : List (Ulid × List ℕ)) → AllByRecursion IsPutAct (put_acts us)
     all [] = tt
-    all (u ∷ us) = (tt, all us)
+    all (u ∷ us) = AllByRecursion_append IsPutAct (put_acts us) _ (all us) (tt, tt)
 
-puts_objects : (os : Objects) (ts : List (Ulid × List ℕ)) → after_acts os (put_acts ts) ≡ with_tables os ts
+puts_objects : (os : Objects) (ts : List (Ulid × List ℕ)) →
+    after_acts os (put_acts ts) ≡ with_tables os ts
 puts_objects os [] = refl
-puts_objects os (t ∷ ts) = puts_objects (with_object os (path_of root t.0.0) t.1) ts
+puts_objects os (t ∷ ts) =
+    after_both os (put_acts ts) (Act.put (path_of root t.0.0) t.1 ∷ [])
+    ∙ ap (λ (o : Objects). with_object o (path_of root t.0.0) t.1) (puts_objects os ts)
 
-puts_are : (ts before : List (Ulid × List ℕ)) → ArePut (put_acts before ++ put_acts ts) ts
-puts_are [] before = tt
-puts_are (t ∷ ts) before = (
-  Contains-append_right (put_acts before) (put_acts (t ∷ ts)) _ (0, omega arith, refl),
-  subst (λ (acts : List Act). ArePut acts ts) (ap (λ (acts : List Act). acts ++ put_acts ts) (more before t) ∙ append_assoc (put_acts before) (Act.put (path_of root t.0.0) t.1 ∷ []) (put_acts ts)) (puts_are ts (before ++ (t ∷ []))),
+puts_more : (acts more : List Act) (ts : List (Ulid × List ℕ)) → ArePut acts ts →
+    ArePut (acts ++ more) ts
+puts_more acts more [] h = tt
+puts_more acts more (t ∷ ts) h =
+    (Contains-append_left acts more _ h.0, puts_more acts more ts h.1)
+
+puts_are : (ts : List (Ulid × List ℕ)) → ArePut (put_acts ts) ts
+puts_are [] = tt
+puts_are (t ∷ ts) = (
+  Contains-append_right (put_acts ts) (Act.put (path_of root t.0.0) t.1 ∷ []) _
+  (0, omega arith, refl),
+  puts_more (put_acts ts) (Act.put (path_of root t.0.0) t.1 ∷ []) ts (puts_are ts),
 )
-  where
-    more : (us : List (Ulid × List ℕ)) (t : Ulid × List ℕ) → put_acts (us ++ (t ∷ [])) ≡ put_acts us ++ (Act.put (path_of root t.0.0) t.1 ∷ [])
-    more [] t = refl
-    more (u ∷ us) t = ap (λ (acts : List Act). Act.put (path_of root u.0.0) u.1 ∷ acts) (more us t)
 
 pub follows_flush : (m : Meaning) (seg : Segments) (layout : Layout) (os : Objects) (objects left : Option Objects) (e : SessionModel) (mid core : CoreModel) (n : ℕ) (before after : Option (List Act)) → IsFrozen e.core mid → IsFlushed m layout mid core n objects left →
     AddsTables (tables_of e.core.events) (tables_of core.events) before after → length e.core.events ≤ LIMIT → (IsKept m e.core → IsKept m core) → (IsSegmented seg e.core → IsSegmented seg core) → IsSettled layout.policies m seg (Some os) e.core → Follows layout.policies m seg os (record e { core = core }) before after
@@ -153,10 +165,6 @@ untrue_on policies m seg e first middle last f g known is =
 
 -- ---- tables that were put
 
-puts_more : (acts more : List Act) (ts : List (Ulid × List ℕ)) → ArePut acts ts → ArePut (acts ++ more) ts
-puts_more acts more [] h = tt
-puts_more acts more (t ∷ ts) h = (Contains-append_left acts more _ h.0, puts_more acts more ts h.1)
-
 puts_behind : (acts more : List Act) (ts : List (Ulid × List ℕ)) → ArePut more ts → ArePut (acts ++ more) ts
 puts_behind acts more [] h = tt
 puts_behind acts more (t ∷ ts) h = (Contains-append_right acts more _ h.0, puts_behind acts more ts h.1)
@@ -171,7 +179,7 @@ stores_none m seg (Ok v) e new before after adds stores = λ known is. let r = a
 stores_none m seg (Err x) e new before after adds stores = tt
 
 pub stores_added : (old new : List (Ulid × List ℕ)) (before after : Option (List Act)) → AddsTables old new before after → PutsTables old new before after
-stores_added old new before after (ts, grown, acts) known is = (put_acts ts, ts, puts_told ts before after known acts is, grown, puts_are ts [])
+stores_added old new before after (ts, grown, acts) known is = (put_acts ts, ts, puts_told ts before after known acts is, grown, puts_are ts)
 
 pub stores_itself : (ts : List (Ulid × List ℕ)) (acts : Option (List Act)) → PutsTables ts ts acts acts
 stores_itself ts acts known is = ([], [], is ∙ ap (λ (l : List Act). Some l) (sym (append-nil known)), sym (append-nil ts), tt)

@@ -25,7 +25,7 @@ use Rattle.slate_db.specs.Model.{CoreModel, IsSame, Rows}
 use Rattle.slate_db.specs.Readable.{AreFiltered}
 use Rattle.slate_db.proofs.Filtered.{tables_filtered}
 use Rattle.slate_db.proofs.Logs.{numbered_more, tables_more, tables_same}
-use Rattle.slate_db.proofs.PathsApart.{IsEarlier, earlier_all, holds_puts}
+use Rattle.slate_db.proofs.PathsApart.{IsEarlier, earlier_all, holds_puts, later_place}
 use Rattle.slate_db.proofs.Runs.{are_placed}
 use Rattle.slate_db.proofs.RunsOf.{runs_more, runs_same, tables_are}
 use Rattle.slate_shared.specs.Ended.{behind_write, end_event}
@@ -88,9 +88,15 @@ module _ (m : Meaning) (ps : List Policy) where
 
 -- ---- what a store holds
 
--- the tables of a flush with this number, or the first of them, are put
-holds_next : (number : ℕ) (journal known : List Event) (os : Objects) (ts : List (Ulid × List ℕ)) → IsNextFlush number journal → number < 2 ^ 64 → IsPrefix known journal → ArePlaced number 0 ts → Holds os (tables_of known) → Holds (with_tables os ts) (tables_of known ++ ts)
-holds_next number journal known os ts next fits pre placed h = holds_puts os number 0 (tables_of known) ts fits (AllByRecursion_front (IsEarlier number 0) (tables_of known) (tables_of pre.0) (subst (AllByRecursion (IsEarlier number 0)) (grown known pre.0 journal pre.1) all)) placed h
+-- the tables of a flush with this number, or the last of them, are put
+holds_next : (number p : ℕ) (journal known : List Event) (os : Objects)
+    (ts : List (Ulid × List ℕ)) → IsNextFlush number journal → number < 2 ^ 64 →
+    IsPrefix known journal → ArePlaced number p ts → Holds os (tables_of known) →
+    Holds (with_tables os ts) (tables_of known ++ ts)
+holds_next number p journal known os ts next fits pre placed h =
+    holds_puts os number p (tables_of known) ts fits (later_place number p (tables_of known)
+    (AllByRecursion_front (IsEarlier number 0) (tables_of known) (tables_of pre.0)
+    (subst (AllByRecursion (IsEarlier number 0)) (grown known pre.0 journal pre.1) all))) placed h
   where
     all : AllByRecursion (IsEarlier number 0) (tables_of journal)
     all = subst (AllByRecursion (IsEarlier number 0)) (sym (tables_are journal)) (earlier_all 1 number (runs_of journal) next.numbered (let n = next.number in omega (arith, n)))
@@ -106,10 +112,10 @@ module _ (number : ℕ) (journal : List Event) (ts : List (Ulid × List ℕ)) (b
   after_is os told = subst (λ (o : Option Objects). IfSome o (λ objects. after ≡ Some (with_tables objects ts))) told takes
 
   pub stores_on : StoresOn journal ts before after
-  stores_on os told = (with_tables os ts, after_is os told, λ known pre h. holds_next number journal known os ts next fits pre placed h)
+  stores_on os told = (with_tables os ts, after_is os told, λ known pre h. holds_next number 0 journal known os ts next fits pre placed h)
 
   pub keeps_on : KeepsOn journal before after
-  keeps_on os told = (with_tables os ts, after_is os told, λ known pre h. AllByRecursion_front _ (tables_of known) ts (holds_next number journal known os ts next fits pre placed h))
+  keeps_on os told = (with_tables os ts, after_is os told, λ known pre h. AllByRecursion_front _ (tables_of known) ts (holds_next number 0 journal known os ts next fits pre placed h))
 
 -- a refused one leaves some of them, which no event names
 pub keeps_some : (m : Meaning) (layout : Layout) (number barrier : ℕ) (layers : List Rows) (journal : List Event) (before after : Option Objects) → number < 2 ^ 64 → IsNextFlush number journal → MayTakeTables (AreSomeOfFlush m layout number barrier layers) before after → KeepsOn journal before after
@@ -117,4 +123,4 @@ keeps_some m layout number barrier layers journal before after fits next may os 
   where
     by : (after ≡ Some os) ⊎ ((ts : List (Ulid × List ℕ)) × AreSomeOfFlush m layout number barrier layers ts × (after ≡ Some (with_tables os ts))) → (left : Objects) × (after ≡ Some left) × ((known : List Event) → IsPrefix known journal → Holds os (tables_of known) → Holds left (tables_of known))
     by (inl is) = (os, is, λ known pre h. h)
-    by (inr (ts, (left, made), is)) = (with_tables os ts, is, λ known pre h. AllByRecursion_front _ (tables_of known) ts (holds_next number journal known os ts next fits pre (are_placed m.encode layout number 0 made.parts ts made.built) h))
+    by (inr (ts, (left, made), is)) = (with_tables os ts, is, λ known pre h. AllByRecursion_front _ (tables_of known) ts (holds_next number (length left) journal known os ts next fits pre (are_placed m.encode layout number (length left) made.parts ts made.built) h))

@@ -18,7 +18,7 @@ use Rattle.slate_table.specs.Table.{AreInOrder}
 use Rattle.slate_db.specs.Answered.{AddsActs, AddsPuts}
 use Rattle.slate_db.specs.Flushed.{AreSomeOfFlush, HasTooLarge, IsFolded, IsPut, IsTooLarge, Layout, MayTakeTables, WantsOperator}
 use Rattle.slate_db.specs.Model.{Rows}
-use Rattle.slate_db.specs.StoredParts.{AreFirstParts, IsOneTable, IsPartTooLarge, IsPlace, IsTablePut}
+use Rattle.slate_db.specs.StoredParts.{AreLastParts, IsOneTable, IsPartTooLarge, IsPlace, IsTablePut}
 
 pub record StoresRows (layout : Layout) (number barrier : ℕ) (layers : List Rows)
     (before after : Reach)
@@ -42,7 +42,7 @@ pub record StoresParts {A : Type 0} (layout : Layout) (number : ℕ) (parts : Li
     (before after : Reach) (same_operator : Type 0) (result : Result A SlateDBError) : Type 0 where
   pub adds : AddsActs before.acts after.acts
   pub refused : OnErr result (MayTakeTables
-      (AreFirstParts before.meaning.encode layout number parts) before.objects after.objects)
+      (AreLastParts before.meaning.encode layout number parts) before.objects after.objects)
   pub cause : IfErr result (λ e. IsFault before after e ⊎ IsPartTooLarge layout parts e)
   pub operator : same_operator
   pub puts : Puts before after

@@ -1,4 +1,4 @@
-use Rattle.std.proofs.Common.{◌≡◌, ℕ, ◌+◌, ◌<◌, map, length, refl, ap, sym, subst, ◌∙◌, append-nil, inl}
+use Rattle.std.proofs.Common.{◌≡◌, ℕ, ◌+◌, ◌<◌, map, length, refl, ap, sym, subst, ◌∙◌, inl}
 use Rattle.std.proofs.lemmas.Result.{err_from_is_err_and, IfOk-from_err}
 use Rattle.slate_types.proofs.Reaching.{puts_none}
 use Rattle.slate_mem.specs.Lookup.{is_merge_among, newest_first}
@@ -8,7 +8,6 @@ use Rattle.slate_txn.specs.Open.{least_start}
 use Rattle.slate_db.specs.declared.engine.Core.TheInside.{Inside}
 use Rattle.slate_db.specs.Flushed.{after_install, layout_of, AreSomeOfFlush, AreTablesOfFlush, CanFlush, MayFlush, MayTakeTables, IsFlushed, TooLarge, WantsOperator, stored}
 use Rattle.slate_db.specs.Meaning.{segments_by}
-use Rattle.slate_db.specs.Cut.{AreCut}
 use Rattle.slate_db.specs.Answered.{AddsTables}
 use Rattle.slate_db.specs.Installs.{ArePlaced, runs_of, tables_of}
 use Rattle.slate_db.specs.Layers.{AreLayers, LayersModel}
@@ -97,7 +96,7 @@ returns g c =
           (ap (λ (v : CoreModel). v.active) c.self.view_is ∙ c.requires.idle)
           (tables_of_parts m m.encode _ _ _ made.parts c.in_ok-put.put.0 refl made.built)
           made.order
-          (subst (AreCut (segments_by g.X.PrefixExtractor.lengths c.args.laws.now.segments) c.args.laws.now.options.table_bytes made.rows) (append-nil made.parts) made.cut)
+          made.cut
           made.folded
           (subst (λ (v : CoreModel). IsKept m v) (sym c.self.view_is) k)));
       kept_refused = tt;

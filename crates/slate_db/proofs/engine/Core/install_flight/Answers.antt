@@ -1,7 +1,6 @@
-use Rattle.std.proofs.Common.{◌≡◌, ℕ, ◌+◌, ◌≤◌, refl, ap, sym, subst, ◌∙◌, append-nil, inl, inr, Err}
+use Rattle.std.proofs.Common.{◌≡◌, ℕ, ◌+◌, ◌≤◌, refl, ap, sym, subst, ◌∙◌, inl, inr, Err}
 use Rattle.std.proofs.lemmas.Result.{err_from_is_err_and, IfOk-from_err}
 use Rattle.slate_db.specs.declared.engine.Core.TheInside.{Inside}
-use Rattle.slate_db.specs.Cut.{AreCut}
 use Rattle.slate_db.specs.Flying.{HasTaken, IsFlying, after_flight}
 use Rattle.slate_db.specs.Installs.{ArePlaced, installed}
 use Rattle.slate_db.specs.Layers.{AreLayers, LayersModel}
@@ -52,7 +51,7 @@ returns c =
           (subst (HasTaken m f) (sym c.self.view_is) has)
           (tables_of_parts m m.encode layout f.number 0 made.parts c.args.tables refl made.built)
           made.order
-          (subst (AreCut layout.segments layout.table_bytes made.rows) (append-nil made.parts) made.cut)
+          made.cut
           made.folded
           (subst (λ (v : CoreModel). IsKept m v) (sym c.self.view_is) k)));
       segmented = λ h z. subst (λ (s : Inside). IsSegmented h (view_of s)) becomes (segmented_landed h (view_of c.self.inside) f c.args.tables c.push_install_through.new.self.spare (subst (IsSegmented h) (sym c.self.view_is) z));
