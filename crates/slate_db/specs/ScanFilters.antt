@@ -8,10 +8,12 @@
 --     ShowsFilters decode policies query hs reads e      the filters of one of these tables were read, and they are refused, or the bytes of one that was asked
 --     IsAskingRead hs act      the act is a read of the filters of one of these tables
 --     AsksOf hs before after means      a call made reads of these alone, and they mean this
+--     AsksTable policies query before after range h result
+--                 a call tells whether a table is left: where it is not, no row of it is in the range
 --     AddsLeft policies query before after range h old new, TablesAreLeft policies query before after range hs left, RunsAreLeft policies query before after range runs left
 --                 a call let a table in and left it, or its keys don't reach the range, or the filters that were read deny it; and the same of several tables, and of runs
 --     FailsAsking policies query before after hs e      a call that asked was refused, by a fault or by what such filters show
-use Rattle.std.specs.Prelude.{◌≡◌, ◌≢◌, ◌⊎◌, ℕ, Bool, true, false, if◌then◌else◌, List, [], ◌∷◌, ◌++◌, Contains, Option, Some, None}
+use Rattle.std.specs.Prelude.{◌≡◌, ◌≢◌, ◌⊎◌, ℕ, Bool, true, false, if◌then◌else◌, List, [], ◌∷◌, ◌++◌, Contains, Option, Some, None, Result, IfOk, OnOk}
 use Rattle.std.specs.List.{AllByRecursion}
 use Rattle.slate_types.specs.declared.bytes_range.BytesRange.{BytesRange}
 use Rattle.slate_types.specs.declared.error.SlateDBError.{SlateDBError}
@@ -99,6 +101,16 @@ IsAskingRead hs act = (table : SsTableHandle) × Contains hs table × IsFiltersR
 
 abbrev pub AsksOf : List SsTableHandle → Reach → Reach → (List Act → Type 0) → Type 0
 AsksOf hs before after means = Made before after (λ reads. AllByRecursion (IsAskingRead hs) reads × means reads)
+
+pub record AsksTable (policies : List Policy) (query : Option FilterQuery) (before after : Reach)
+    (range : BytesRange) (h : SsTableHandle) (result : Result Bool SlateDBError) : Type 0 where
+  pub denied : (rows : Rows) (os : Objects) → IsStoredAs before.meaning os h rows →
+      AreFilteredAs policies before.meaning os (h ∷ []) → AnswersFrom os before after →
+      IfOk result (λ left. left ≡ false → ranged range rows ≡ [])
+  pub checked : (rows : Rows) (os : Objects) → IsStoredAs before.meaning os h rows →
+      OnOk result (ChecksFrom os before after)
+  pub let_in : IfOk result (λ left. AsksOf (h ∷ []) before after (λ reads.
+      left ≡ true → IsLetIn before.meaning.decode policies query h reads))
 
 pub record AddsLeft (policies : List Policy) (query : Option FilterQuery) (before after : Reach) (range : BytesRange) (h : SsTableHandle) (old new : List SsTableHandle) : Type 0 where
   pub kept : Bool

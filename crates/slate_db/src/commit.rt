@@ -12,7 +12,7 @@ ghost use Rattle.slate_db.specs.BatchTests.{batch_refusal, test_refusal};
 ghost use Rattle.slate_db.specs.Calls.Commit.{commit_verdict_of};
 ghost use Rattle.slate_db.specs.Layers.{AreLayers};
 ghost use Rattle.slate_db.specs.Meaning.{segments_by};
-ghost use Rattle.slate_db.specs.Calls.Put.{AnswersCommit, AreWithin, Makes, Manages, PutsOwn, TestsBatch};
+ghost use Rattle.slate_db.specs.Calls.Put.{AnswersCommit, AreNotNewer, Makes, Manages, PutsOwn, TestsBatch};
 ghost use Rattle.slate_db.specs.Prepared.{prepared_for};
 
 use crate::layers::Layers;
@@ -52,7 +52,7 @@ pub(crate) fn make<M: MergeOperator, X: PrefixExtractor>(
 ) -> Result<Made, SlateDBError>
     requires fits { last ≤ 18446744073709551614 }
     requires whole { AreLayers layers.old }
-    requires within { AreWithin last layers.old }
+    requires within { AreNotNewer last layers.old }
     requires newest { manager.old.last ≡ last }
     requires held { IsUntracked manager.old id.now owned }
     ensures makes { IfOk result (Makes (option_map M.combine operator.old) (segments_by X.lengths
@@ -152,7 +152,7 @@ pub(crate) fn put_commit<M: MergeOperator, X: PrefixExtractor>(
 ) -> Result<OpList, SlateDBError>
     requires fits { last < 18446744073709551614 }
     requires whole { AreLayers layers.old }
-    requires within { AreWithin last layers.old }
+    requires within { AreNotNewer last layers.old }
     requires newest { manager.old.last ≡ last }
     ensures puts { let w = prepared_for (option_map M.combine operator.old) (segments_by X.lengths
         extractor.now) default_millis now batch.now in

@@ -11,7 +11,7 @@ ghost use Rattle.slate_db.specs.BatchTests.{test_refusal};
 ghost use Rattle.slate_db.specs.Committed.{put_at, recorded_at};
 ghost use Rattle.slate_db.specs.Layers.{AreLayers};
 ghost use Rattle.slate_db.specs.Prepared.{PreparedWith, IsPrepared, WasPrepared, own_batch, whole_refusal};
-ghost use Rattle.slate_db.specs.Calls.Put.{AreWithin, AsPrepared, AsPreparedOf, HasEnded, IsCommitRefusal, IsShortOr, MadeOf, Manages, StandsEnded, with_prefixes, with_rows};
+ghost use Rattle.slate_db.specs.Calls.Put.{AreNotNewer, AsPrepared, AsPreparedOf, HasEnded, IsCommitRefusal, IsShortOr, MadeOf, Manages, StandsEnded, with_prefixes, with_rows};
 
 use crate::commit::Made;
 use crate::layers::Layers;
@@ -38,7 +38,7 @@ pub(crate) fn make_prepared(
 ) -> Result<Made, SlateDBError>
     requires fits { last ≤ 18446744073709551614 }
     requires whole { AreLayers layers.old }
-    requires within { AreWithin last layers.old }
+    requires within { AreNotNewer last layers.old }
     requires newest { manager.old.last ≡ last }
     requires held { IsUntracked manager.old id.now owned }
     requires prepared { (d : Option ℕ) × (now : ℤ) × WasPrepared d now (own_batch owned.ops)
@@ -102,7 +102,7 @@ fn put_prepared(
 ) -> Result<OpList, SlateDBError>
     requires fits { last < 18446744073709551614 }
     requires whole { AreLayers layers.old }
-    requires within { AreWithin last layers.old }
+    requires within { AreNotNewer last layers.old }
     requires newest { manager.old.last ≡ last }
     requires prepared { (w : PreparedWith) × IsPrepared w prepared }
     ensures recorded { AsPrepared prepared (λ w. OnOk result (segments.new ≡ with_prefixes w

@@ -38,7 +38,7 @@ use slate_store::{Env, EnvOf, Store};
 use slate_table::{SsTableHandle, SsTableInfo, SstIndex, TableStore};
 use slate_types::{
     BlockTransformer, FilterContext, FilterQuery, IterationOrder, MergeOperator, Outside, RowEntry,
-    RowEntryIterator, SlateDBError, partitions_covering_range,
+    RowEntryIterator, SlateDBError, compare_keys, partitions_covering_range,
 };
 use std::alloc::Global;
 use std::ops::{Bound, Range};
@@ -49,7 +49,8 @@ fn encloses(info: &SsTableInfo, key: &[u8]) -> bool
 {
     match (&info.first_entry, &info.last_entry) {
         (Some(first), Some(last)) => {
-            first.as_slice().cmp(key).is_le() && key.cmp(last.as_slice()).is_le()
+            compare_keys(first.as_slice(), key).is_le()
+                && compare_keys(key, last.as_slice()).is_le()
         }
         _ => false,
     }

@@ -1,19 +1,12 @@
 //! A batch that is prepared to become a commit: its tests, and its rows, made where no core is at hand.
-ghost use Rattle.std.specs.Prelude.{◌≡◌, ◌⊎◌, ◌≤◌, ◌↔◌, [], false, Some, None, option_map, IfOk, IfErr, IsTrue};
-ghost use Rattle.std.specs.List.{AllByRecursion};
+ghost use Rattle.std.specs.Prelude.{◌≡◌, ◌⊎◌, ◌≤◌, ◌↔◌, [], false, Some, option_map, IfOk, IfErr, IsTrue};
 ghost use Rattle.slate_types.specs.declared.error.SlateDBError.{SlateDBError};
 ghost use Rattle.slate_types.specs.Faults.{faults_of};
-ghost use Rattle.slate_types.specs.Fold.{operator_at};
-ghost use Rattle.slate_types.specs.Keys.{keys_set};
 ghost use Rattle.slate_types.specs.Outside.{IsOperatorStill};
-ghost use Rattle.slate_mem.specs.CommitRows.{commit_rows};
-ghost use Rattle.slate_mem.specs.KeyTests.{prefixes};
 ghost use Rattle.slate_mem.specs.Lookup.{IsCallback};
-ghost use Rattle.slate_db.specs.Layers.{FitsMemory};
-ghost use Rattle.slate_db.specs.Log.{AreFine};
 ghost use Rattle.slate_db.specs.Meaning.{segments_by};
 ghost use Rattle.slate_db.specs.Prepared.{PreparedWith, IsPrepared, IsPassed, lone_refusal, whole_refusal, numbered, prepared_for};
-ghost use Rattle.slate_db.specs.Calls.Put.{IfFolded, IsShortOr, IsShortOrCallback, lone_refusal_of};
+ghost use Rattle.slate_db.specs.Calls.Put.{IsFolded, IsShortOrCallback, lone_refusal_of};
 
 use crate::segments::SegmentPrefixes;
 use crate::tested::rows_of_batch;
@@ -87,16 +80,8 @@ fn fold_alone<M: MergeOperator, X: PrefixExtractor>(
     operator: &mut Option<M>,
     extractor: &Option<X>,
 ) -> Result<Result<Folded, SlateDBError>, SlateDBError>
-    ensures refused { IfOk result (λ r. IfErr r (IsShortOr (lone_refusal_of (option_map M.combine
-        operator.old) (segments_by X.lengths extractor.now) default_millis now batch.now))) }
-    ensures passed { IfFolded result (λ f. lone_refusal_of (option_map M.combine operator.old)
-        (segments_by X.lengths extractor.now) default_millis now batch.now ≡ None) }
-    ensures prefixes { IfFolded result (λ f. f.prefixes.keys ≡ keys_set (prefixes (segments_by
-        X.lengths extractor.now) batch.now.ops)) }
-    ensures rows { IfFolded result (λ f. f.rows.items ≡ commit_rows (operator_at (option_map
-        M.combine operator.old)) default_millis 0 now batch.now.ops) }
-    ensures fit { AreFine batch.now.ops → IfFolded result (λ f. AllByRecursion FitsMemory
-        f.rows.items) }
+    ensures folded { IfOk result (IsFolded (prepared_for (option_map M.combine operator.old)
+        (segments_by X.lengths extractor.now) default_millis now batch.now)) }
     ensures same { option_map M.combine operator.new ≡ option_map M.combine operator.old }
     ensures later { faults_of M.faults operator.old ≤ faults_of M.faults operator.new }
     ensures still { IsOperatorStill (faults_of M.faults operator.old) (faults_of M.faults operator.new) result }

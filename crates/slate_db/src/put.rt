@@ -7,9 +7,9 @@ ghost use Rattle.slate_types.specs.Keys.{key_cmp, keys_set};
 ghost use Rattle.slate_mem.specs.Batch.{batch_keys};
 ghost use Rattle.slate_mem.specs.Table.{put_rows};
 ghost use Rattle.slate_txn.specs.Ids.{id_of};
-ghost use Rattle.slate_txn.specs.Managers.{StandsFor, IsCommitOf, with_commit, writes_at};
-ghost use Rattle.slate_txn.specs.Named.{find_named, without};
-ghost use Rattle.slate_txn.specs.State.{Commit, begun};
+ghost use Rattle.slate_txn.specs.Named.{find_named};
+ghost use Rattle.slate_txn.specs.State.{begun};
+ghost use Rattle.slate_db.specs.Calls.Put.{HasTracked, HasEnded, StandsTracked, StandsEnded};
 ghost use Rattle.slate_db.specs.Layers.{AreLayers, AreRising, FitsMemory};
 ghost use Rattle.slate_db.specs.Log.{LIMIT, IsLog, held_by, with_begin};
 ghost use Rattle.slate_db.specs.Model.{versions_in};
@@ -89,8 +89,8 @@ pub(crate) fn put_batch(
     ensures recorded { OnOk result (segments.new ≡ keys_set (segments.old ++ prefixes.now.keys)) }
     ensures put { OnOk result (layers.new ≡ record layers.old { active = put_rows layers.old.active rows.items }) }
     ensures whole { AreLayers layers.new }
-    ensures committed { OnOk result (manager.new ≡ record manager.old { last = seq; kept = manager.new.kept }) }
-    ensures stands { OnOk result ((cs : List Commit) (c : Commit) → IsCommitOf seq keys.items c → StandsFor manager.old cs → StandsFor manager.new (cs ++ c ∷ [])) }
+    ensures committed { OnOk result (HasTracked seq manager.old manager.new) }
+    ensures stands { OnOk result (StandsTracked seq keys.items manager.old manager.new) }
     ensures same_segments { OnErr result (segments.new ≡ segments.old) }
     ensures same_layers { OnErr result (layers.new ≡ layers.old) }
     ensures same { OnErr result (manager.new ≡ manager.old) }
@@ -121,8 +121,8 @@ fn put_tracked(
     requires later { manager.old.last < seq }
     ensures put { OnOk result (layers.new ≡ record layers.old { active = put_rows layers.old.active rows.items }) }
     ensures whole { AreLayers layers.new }
-    ensures committed { OnOk result (manager.new ≡ record manager.old { last = seq; kept = manager.new.kept }) }
-    ensures stands { OnOk result ((cs : List Commit) (c : Commit) → IsCommitOf seq keys.items c → StandsFor manager.old cs → StandsFor manager.new (cs ++ c ∷ [])) }
+    ensures committed { OnOk result (HasTracked seq manager.old manager.new) }
+    ensures stands { OnOk result (StandsTracked seq keys.items manager.old manager.new) }
     ensures same_layers { OnErr result (layers.new ≡ layers.old) }
     ensures same { OnErr result (manager.new ≡ manager.old) }
     ensures cause { IsOkUnless result SlateDBError.OutOfMemory }
@@ -158,8 +158,8 @@ pub(crate) fn put_own(
     ensures recorded { OnOk result (segments.new ≡ keys_set (segments.old ++ prefixes.now.keys)) }
     ensures put { OnOk result (layers.new ≡ record layers.old { active = put_rows layers.old.active rows.items }) }
     ensures whole { AreLayers layers.new }
-    ensures committed { OnOk result (manager.new ≡ record manager.old { last = seq; active = without id.now manager.old.active; kept = manager.new.kept }) }
-    ensures stands { OnOk result ((cs : List Commit) (c : Commit) → IsCommitOf seq (writes_at (find_named id.now manager.old.active)) c → StandsFor manager.old cs → StandsFor manager.new (with_commit cs c (find_named id.now manager.old.active))) }
+    ensures committed { OnOk result (HasEnded id.now seq manager.old manager.new) }
+    ensures stands { OnOk result (StandsEnded id.now seq manager.old manager.new) }
     ensures same_segments { OnErr result (segments.new ≡ segments.old) }
     ensures same_layers { OnErr result (layers.new ≡ layers.old) }
     ensures same { OnErr result (manager.new ≡ manager.old) }
@@ -190,8 +190,8 @@ fn put_ended(
     requires later { manager.old.last < seq }
     ensures put { OnOk result (layers.new ≡ record layers.old { active = put_rows layers.old.active rows.items }) }
     ensures whole { AreLayers layers.new }
-    ensures committed { OnOk result (manager.new ≡ record manager.old { last = seq; active = without id.now manager.old.active; kept = manager.new.kept }) }
-    ensures stands { OnOk result ((cs : List Commit) (c : Commit) → IsCommitOf seq (writes_at (find_named id.now manager.old.active)) c → StandsFor manager.old cs → StandsFor manager.new (with_commit cs c (find_named id.now manager.old.active))) }
+    ensures committed { OnOk result (HasEnded id.now seq manager.old manager.new) }
+    ensures stands { OnOk result (StandsEnded id.now seq manager.old manager.new) }
     ensures same_layers { OnErr result (layers.new ≡ layers.old) }
     ensures same { OnErr result (manager.new ≡ manager.old) }
     ensures cause { IsOkUnless result SlateDBError.OutOfMemory }

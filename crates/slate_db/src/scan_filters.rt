@@ -3,14 +3,9 @@ ghost use Rattle.std.specs.Prelude.{◌≡◌, ◌++◌, ◌∷◌, [], ℕ, Lis
 ghost use Rattle.std.specs.List.{starts_with};
 ghost use Rattle.slate_types.specs.declared.error.SlateDBError.{SlateDBError};
 ghost use Rattle.slate_types.specs.Keys.{in_range};
-ghost use Rattle.slate_types.specs.Outside.{IsStill, Objects, OnlyReads};
-ghost use Rattle.slate_mem.specs.Table.{ranged};
-ghost use Rattle.slate_db.specs.Answered.{AnswersFrom};
-ghost use Rattle.slate_db.specs.Checked.{ChecksFrom};
+ghost use Rattle.slate_types.specs.Outside.{IsStill, OnlyReads};
 ghost use Rattle.slate_db.specs.Installs.{handles_of};
-ghost use Rattle.slate_db.specs.Lookup.{AreFilteredAs, IsStoredAs};
-ghost use Rattle.slate_db.specs.Model.{Rows};
-ghost use Rattle.slate_db.specs.ScanFilters.{AddsLeft, AddsRun, AsksOf, Covers, FailsAsking, IsLetIn, RunsAreLeft, TablesAreLeft, scan_query};
+ghost use Rattle.slate_db.specs.ScanFilters.{AddsLeft, AddsRun, AsksTable, Covers, FailsAsking, RunsAreLeft, TablesAreLeft, scan_query};
 
 use crate::flush::ROOT;
 use crate::open_scan::{copy_contexts, copy_handle};
@@ -53,13 +48,9 @@ fn is_left<S: Store, M: MergeOperator, T: BlockTransformer>(
     env: &mut Env<'_, S, M, T>,
 ) -> Result<bool, SlateDBError>
     requires { Covers query.now range.now }
-    ensures denied { let reach = ⟦<EnvOf<S, M, T> as Outside>⟧.reach in
-        (rows : Rows) (os : Objects) → IsStoredAs (reach env.old).meaning os table.now rows → AreFilteredAs (map (λ p. meaning p) policies.now) (reach env.old).meaning os (table.now ∷ []) → AnswersFrom os (reach env.old) (reach env.new) →
-        IfOk result (λ left. left ≡ false → ranged range.now rows ≡ []) }
-    ensures checked { let reach = ⟦<EnvOf<S, M, T> as Outside>⟧.reach in
-        (rows : Rows) (os : Objects) → IsStoredAs (reach env.old).meaning os table.now rows → OnOk result (ChecksFrom os (reach env.old) (reach env.new)) }
-    ensures let_in { let reach = ⟦<EnvOf<S, M, T> as Outside>⟧.reach in
-        IfOk result (λ left. AsksOf (table.now ∷ []) (reach env.old) (reach env.new) (λ reads. left ≡ true → IsLetIn (reach env.old).meaning.decode (map (λ p. meaning p) policies.now) query.now table.now reads)) }
+    ensures asks { let reach = ⟦<EnvOf<S, M, T> as Outside>⟧.reach in
+        AsksTable (map (λ p. meaning p) policies.now) query.now (reach env.old) (reach env.new)
+        range.now table.now result }
     ensures refused { let reach = ⟦<EnvOf<S, M, T> as Outside>⟧.reach in IfErr result (FailsAsking (map (λ p. meaning p) policies.now) query.now (reach env.old) (reach env.new) (table.now ∷ [])) }
     ensures reads { let reach = ⟦<EnvOf<S, M, T> as Outside>⟧.reach in OnlyReads (reach env.old) (reach env.new) }
     ensures still { let reach = ⟦<EnvOf<S, M, T> as Outside>⟧.reach in

@@ -1,13 +1,10 @@
 //! A write of a batch that was prepared, up to its event. It calls no operator.
-ghost use Rattle.std.specs.Prelude.{◌≡◌, ◌+◌, ◌<◌, ◌++◌, ◌∷◌, [], List, IfErr, IfOk, OnOk, OnErr, None};
+ghost use Rattle.std.specs.Prelude.{◌≡◌, ◌+◌, ◌<◌, IfErr, IfOk, OnOk, OnErr};
 ghost use Rattle.slate_types.specs.declared.error.SlateDBError.{SlateDBError};
-ghost use Rattle.slate_mem.specs.Batch.{batch_keys};
-ghost use Rattle.slate_txn.specs.Managers.{StandsFor, IsCommitOf};
-ghost use Rattle.slate_txn.specs.State.{Commit};
 ghost use Rattle.slate_db.specs.Layers.{AreLayers};
 ghost use Rattle.slate_db.specs.Log.{HasPlace, IsLog};
 ghost use Rattle.slate_db.specs.Prepared.{PreparedWith, IsPrepared, whole_refusal};
-ghost use Rattle.slate_db.specs.Calls.Put.{AreWithin, AsPrepared, IsAloneRefusal, with_prefixes, with_rows};
+ghost use Rattle.slate_db.specs.Calls.Put.{AreNotNewer, AsPrepared, HasTracked, IsAloneRefusal, PutsAlone};
 
 use crate::layers::Layers;
 use crate::log::Log;
@@ -32,26 +29,17 @@ pub(crate) fn put_alone(
 ) -> Result<OpList, SlateDBError>
     requires fits { last < 18446744073709551614 }
     requires whole { AreLayers layers.old }
-    requires within { AreWithin last layers.old }
+    requires within { AreNotNewer last layers.old }
     requires newest { manager.old.last ≡ last }
     requires logged { IsLog log.old }
     requires prepared { (w : PreparedWith) × IsPrepared w prepared }
     ensures room { (log.new ≡ record log.old { spare = log.new.spare }) × IsLog log.new }
     ensures place { OnOk result (HasPlace 1 log.new) }
-    ensures recorded { AsPrepared prepared (λ w. OnOk result (segments.new ≡ with_prefixes w
-        segments.old)) }
-    ensures put { AsPrepared prepared (λ w. OnOk result (layers.new ≡ with_rows w (last + 1)
-        layers.old)) }
+    ensures puts { AsPrepared prepared (λ w. OnOk result (PutsAlone w (last + 1) segments.old
+        segments.new layers.old layers.new manager.old manager.new)) }
     ensures whole { AreLayers layers.new }
     ensures ops { IfOk result (λ ops. ops ≡ prepared.ops) }
-    ensures tested { AsPrepared prepared (λ w. OnOk result (whole_refusal w segments.old ≡ None)) }
-    ensures committed { OnOk result (manager.new ≡ record manager.old {
-      last = last + 1;
-      kept = manager.new.kept;
-    }) }
-    ensures stands { AsPrepared prepared (λ w. OnOk result ((cs : List Commit) (c : Commit) →
-        IsCommitOf (last + 1) (batch_keys w.batch.ops) c → StandsFor manager.old cs → StandsFor
-        manager.new (cs ++ c ∷ []))) }
+    ensures committed { OnOk result (HasTracked (last + 1) manager.old manager.new) }
     ensures same_segments { OnErr result (segments.new ≡ segments.old) }
     ensures same_layers { OnErr result (layers.new ≡ layers.old) }
     ensures same { OnErr result (manager.new ≡ manager.old) }

@@ -4,17 +4,20 @@
 --     IsShortOrCallback before after e      want of memory, or a failure of the operator, whose
 --                count rose
 --     lone_refusal_of o g d now b      what a batch is refused for by itself
---     IfFolded result f      so it is of what is to be put of a batch that isn't refused by itself
+--     IsFolded w r      of a batch this is kept: what is to be put of it, what it is refused for by
+--                itself, or want of memory in its tests
 --     AsPrepared prepared f      so it is for all that it may have been prepared with
 --     AsPreparedOf ops prepared f      the same of a transaction's operations, of the operator, the
 --                segments, the time to live and the moment
---     AreWithin last y      no row of the layers is newer than this
+--     AreNotNewer last y      no row of the layers is newer than this
 --     TestsBatch refusal before after same_operator result      a batch is refused just by this,
 --                but for want of memory and a failure of the operator
 --     with_prefixes w recorded      the recorded prefixes with the batch's
 --     with_rows w seq y      the layers with its rows
 --     HasEnded id seq old new      the transaction is ended at the sequence
 --     StandsEnded id seq old new      so the manager stands for its commit too
+--     HasTracked seq old new      it has the sequence as its last, and may keep one commit more
+--     StandsTracked seq keys old new      so it stands for a commit of these keys too
 --     PutsOwn w id seq .. result      the rows, the prefixes and the end are put, or nothing is
 --                done
 --     ManagesMade m id now last ids cs ps made      a manager stands for what a commit made too,
@@ -27,15 +30,17 @@
 --                the verdict, but for want of memory and a failure of the operator, and asks nobody
 --                where it needn't
 --     IsCommitRefusal o g recorded d now last conflicting ops e      a commit is refused for this
+--     PutsAlone w seq before after old new m n      the prefixes, the rows and the keys of a batch
+--                that commits by itself are put, and nothing refuses it
 --     IsAloneRefusal refusal l e      a batch that commits by itself is refused for this, and else
 --                for want of place in the journal
 use Rattle.std.specs.List.{AllByRecursion}
-use Rattle.std.specs.Prelude.{◌≡◌, ◌⊎◌, ◌+◌, ◌<◌, ◌≤◌, ◌++◌, ℕ, ℤ, List, Option, None, Some, unwrap_or, Err, IfErr, IfOk, OnErr, OnOk, Result}
+use Rattle.std.specs.Prelude.{◌≡◌, ◌⊎◌, ◌+◌, ◌<◌, ◌≤◌, ◌++◌, ◌∷◌, [], ℕ, ℤ, List, Option, None, Some, unwrap_or, Err, IfErr, IfOk, OnErr, OnOk, Result}
 use Rattle.slate_types.specs.declared.error.SlateDBError.{SlateDBError}
 use Rattle.slate_types.specs.declared.error.SlateDBError.TheVariants.{LimitReached, OutOfMemory}
 use Rattle.slate_types.specs.Fold.{Combine, operator_at}
 use Rattle.slate_types.specs.Keys.{keys_set}
-use Rattle.slate_mem.specs.Batch.{Ops, kept_ops}
+use Rattle.slate_mem.specs.Batch.{Ops, batch_keys, kept_ops}
 use Rattle.slate_mem.specs.BatchModel.{BatchModel}
 use Rattle.slate_mem.specs.CommitRows.{commit_rows}
 use Rattle.slate_mem.specs.KeyTests.{Segments, prefixes}
@@ -54,10 +59,10 @@ use Rattle.slate_db.specs.Calls.Commit.{AsksNobody}
 use Rattle.slate_db.specs.Calls.Common.{Decides}
 use Rattle.slate_db.specs.BatchTests.{IsTestRefusal}
 use Rattle.slate_db.specs.Committed.{IsFull, IsNextOf, put_at, recorded_at}
-use Rattle.slate_db.specs.Layers.{LayersModel, in_memory}
+use Rattle.slate_db.specs.Layers.{FitsMemory, LayersModel, in_memory}
 use Rattle.slate_db.specs.Log.{AreFine, LIMIT, LogModel, held_by}
 use Rattle.slate_db.specs.Managed.{IsManaged}
-use Rattle.slate_db.specs.Prepared.{IsPrepared, PreparedWith, lone_refusal, own_batch, prepared_for}
+use Rattle.slate_db.specs.Prepared.{IsPrepared, PreparedWith, lone_refusal, own_batch, prepared_for, whole_refusal}
 
 abbrev pub IsShortOr : Option SlateDBError → SlateDBError → Type 0
 IsShortOr refusal e = (e ≡ OutOfMemory) ⊎ (refusal ≡ Some e)
@@ -69,8 +74,13 @@ abbrev pub lone_refusal_of : Option (List ℕ → Combine) → Segments → Opti
     Option SlateDBError
 lone_refusal_of o g d now b = lone_refusal (prepared_for o g d now b)
 
-abbrev pub IfFolded : Result (Result Folded SlateDBError) SlateDBError → (Folded → Type 0) → Type 0
-IfFolded result f = IfOk result (λ r. IfOk r f)
+pub record IsFolded (w : PreparedWith) (r : Result Folded SlateDBError) : Type 0 where
+  pub refused : IfErr r (IsShortOr (lone_refusal w))
+  pub passed : IfOk r (λ f. lone_refusal w ≡ None)
+  pub prefixes : IfOk r (λ f. f.prefixes.keys ≡ keys_set (prefixes w.segments w.batch.ops))
+  pub rows : IfOk r (λ f. f.rows.items ≡
+      commit_rows (operator_at w.combine) w.default_millis 0 w.now w.batch.ops)
+  pub fit : AreFine w.batch.ops → IfOk r (λ f. AllByRecursion FitsMemory f.rows.items)
 
 abbrev pub AsPrepared : Prepared → (PreparedWith → Type 0) → Type 0
 AsPrepared prepared f = (w : PreparedWith) → IsPrepared w prepared → f w
@@ -80,8 +90,8 @@ abbrev pub AsPreparedOf : Ops → Prepared →
 AsPreparedOf ops prepared f = (o : Option (List ℕ → Combine)) (g : Segments) (d : Option ℕ)
     (now : ℤ) → IsPrepared (prepared_for o g d now (own_batch ops)) prepared → f o g d now
 
-abbrev pub AreWithin : ℕ → LayersModel → Type 0
-AreWithin last y = AllByRecursion (λ rows. AllByRecursion (λ r. r.seq ≤ last) rows) (in_memory y)
+abbrev pub AreNotNewer : ℕ → LayersModel → Type 0
+AreNotNewer last y = AllByRecursion (λ rows. AllByRecursion (λ r. r.seq ≤ last) rows) (in_memory y)
 
 pub record TestsBatch {A : Type 0} (refusal : Option SlateDBError) (before after : ℕ)
     (same_operator : Type 0) (result : Result A SlateDBError) : Type 0 where
@@ -119,6 +129,13 @@ ManagesMade m id now last ids cs ps made = IsManaged m ids (unwrap_or made.seq l
 abbrev pub Manages : Manager → Manager → List ℕ → ℤ → ℕ → Result Made SlateDBError → Type 0
 Manages old new id now last result = (ids : ℕ) (cs : List Commit) (ps : List (List ℕ × Tx)) →
     IsManaged old ids last cs ps → IfOk result (ManagesMade new id now last ids cs ps)
+
+abbrev pub HasTracked : ℕ → Manager → Manager → Type 0
+HasTracked seq old new = new ≡ record old { last = seq; kept = new.kept }
+
+abbrev pub StandsTracked : ℕ → List (List ℕ) → Manager → Manager → Type 0
+StandsTracked seq keys old new = (cs : List Commit) (c : Commit) → IsCommitOf seq keys c →
+    StandsFor old cs → StandsFor new (cs ++ c ∷ [])
 
 -- ---- what a commit makes
 
@@ -163,3 +180,10 @@ pub record PutsOwn (w : PreparedWith) (id : List ℕ) (seq : ℕ) (before after 
 abbrev pub IsAloneRefusal : Option SlateDBError → LogModel → SlateDBError → Type 0
 IsAloneRefusal refusal l e = (e ≡ OutOfMemory) ⊎ (refusal ≡ Some e)
     ⊎ ((e ≡ LimitReached LIMIT) × (LIMIT < held_by l + 1) × (refusal ≡ None))
+
+pub record PutsAlone (w : PreparedWith) (seq : ℕ) (before after : List (List ℕ))
+    (old new : LayersModel) (m n : Manager) : Type 0 where
+  pub tested : whole_refusal w before ≡ None
+  pub recorded : after ≡ with_prefixes w before
+  pub put : new ≡ with_rows w seq old
+  pub stands : StandsTracked seq (batch_keys w.batch.ops) m n

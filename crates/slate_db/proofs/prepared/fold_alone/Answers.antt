@@ -21,23 +21,29 @@ either : {A B C : Type 0} → (B → C) → A ⊎ B → A ⊎ C
 either f (inl a) = inl a
 either f (inr b) = inr (f b)
 
-pub returns-in-Err-clause-refused : goal.returns-in-Err-clause-refused
-returns-in-Err-clause-refused g c =
+pub returns-in-Err-clause-folded : goal.returns-in-Err-clause-folded
+returns-in-Err-clause-folded g c =
     let w = prepared_for (option_map g.M.MergeOperator.combine c.args.operator.now) (segments_by g.X.PrefixExtractor.lengths c.args.extractor.now) c.args.default_millis c.args.now c.args.batch.now in
     let same = alone_as w _ _ c.is_some.result (c.is_some.ensures ∙ sym (is_some_map g.M.MergeOperator.combine c.args.operator.now)) (ap (segments_by g.X.PrefixExtractor.lengths) c.as_ref.ensures.value) (to_z-of_z w64 c.args.now c.ranges.now) in
-    either (λ is. sym same ∙ is) c.in-Err.ensures.cause
+    record {
+      refused = either (λ is. sym same ∙ is) c.in-Err.ensures.cause;
+      passed = tt;
+      prefixes = tt;
+      rows = tt;
+      fit = λ fine. tt;
+    }
 
-pub returns-in_ok-rows-in-Ok-clause-passed : goal.returns-in_ok-rows-in-Ok-clause-passed
-returns-in_ok-rows-in-Ok-clause-passed g c =
+pub returns-in_ok-rows-in-Ok-clause-folded : goal.returns-in_ok-rows-in-Ok-clause-folded
+returns-in_ok-rows-in-Ok-clause-folded g c =
     let w = prepared_for (option_map g.M.MergeOperator.combine c.args.operator.now) (segments_by g.X.PrefixExtractor.lengths c.args.extractor.now) c.args.default_millis c.args.now c.args.batch.now in
     let same = alone_as w _ _ c.is_some.result (c.is_some.ensures ∙ sym (is_some_map g.M.MergeOperator.combine c.args.operator.now)) (ap (segments_by g.X.PrefixExtractor.lengths) c.as_ref.ensures.value) (to_z-of_z w64 c.args.now c.ranges.now) in
-    sym same ∙ c.in-Ok.ensures.fine
-
-pub returns-in_ok-rows-in-Ok-clause-prefixes : goal.returns-in_ok-rows-in-Ok-clause-prefixes
-returns-in_ok-rows-in-Ok-clause-prefixes g c = c.in-Ok.ensures.prefixes ∙ ap (λ o. keys_set (prefixes (segments_by g.X.PrefixExtractor.lengths o) c.args.batch.now.ops)) c.as_ref.ensures.value
-
-pub returns-in_ok-rows-in-Ok-clause-rows : goal.returns-in_ok-rows-in-Ok-clause-rows
-returns-in_ok-rows-in-Ok-clause-rows g c = c.in_ok-rows-in-Ok.ensures.rows ∙ ap (λ (z : ℤ). commit_rows (operator_at (option_map g.M.MergeOperator.combine c.args.operator.now)) c.args.default_millis 0 z c.args.batch.now.ops) (to_z-of_z w64 c.args.now c.ranges.now)
+    record {
+      refused = tt;
+      passed = sym same ∙ c.in-Ok.ensures.fine;
+      prefixes = c.in-Ok.ensures.prefixes ∙ ap (λ o. keys_set (prefixes (segments_by g.X.PrefixExtractor.lengths o) c.args.batch.now.ops)) c.as_ref.ensures.value;
+      rows = c.in_ok-rows-in-Ok.ensures.rows ∙ ap (λ (z : ℤ). commit_rows (operator_at (option_map g.M.MergeOperator.combine c.args.operator.now)) c.args.default_millis 0 z c.args.batch.now.ops) (to_z-of_z w64 c.args.now c.ranges.now);
+      fit = c.in_ok-rows-in-Ok.ensures.fit;
+    }
 
 pub returns-in_ok-rows-in-Ok-clause-unasked : goal.returns-in_ok-rows-in-Ok-clause-unasked
 returns-in_ok-rows-in-Ok-clause-unasked g c = λ e is.

@@ -8,7 +8,7 @@ use Rattle.slate_db.proofs.prepared.prepare.Goals as goal
 
 pub returns-clause-prepared : goal.returns-clause-prepared
 returns-clause-prepared g c =
-    let e = c.in_ok-folded.ensures in
+    let e = c.in_ok-folded.ensures.folded in
     subst (λ (z : ℤ). IsPrepared (prepared_for (option_map g.M.MergeOperator.combine c.args.operator.now) (segments_by g.X.PrefixExtractor.lengths c.args.extractor.now) c.args.default_millis z c.args.batch.now) (record { ops = c.from_vec-ops.result; keys = c.in_ok-keys.keys; folded = c.in_ok-folded.folded })) (to_z-of_z w64 c.args.now c.ranges.now)
     (record {
       ops = c.from_vec-ops.ensures ∙ c.in_ok-ops.ensures.ops;

@@ -17,22 +17,21 @@ use Rattle.slate_db.proofs.TableChecks.{filters_checked}
 use Rattle.slate_types.proofs.StillLaws.{told_still}
 use Rattle.slate_db.proofs.scan_filters.is_left.Goals as goal
 
-pub returns-then-not-can_reach-clause-denied : goal.returns-then-not-can_reach-clause-denied
-returns-then-not-can_reach-clause-denied g c = λ rows os stored filtered answers no. out_of_reach (reach_of g.S.Store g.M.MergeOperator g.T.BlockTransformer c.args.env.now).meaning os c.args.table.now c.args.range.now rows stored (search rules)
+pub returns-then-not-can_reach-clause-asks : goal.returns-then-not-can_reach-clause-asks
+returns-then-not-can_reach-clause-asks g c = record {
+  denied = λ rows os stored filtered answers no. out_of_reach (reach_of g.S.Store g.M.MergeOperator g.T.BlockTransformer c.args.env.now).meaning os c.args.table.now c.args.range.now rows stored (search rules);
+  checked = λ rows os stored. checks_none os (reach_of g.S.Store g.M.MergeOperator g.T.BlockTransformer c.args.env.now);
+  let_in = ([], call_none (reach_of g.S.Store g.M.MergeOperator g.T.BlockTransformer c.args.env.now), (tt, λ yes. cc));
+}
 
-pub returns-then-not-can_reach-clause-checked : goal.returns-then-not-can_reach-clause-checked
-returns-then-not-can_reach-clause-checked g c = λ rows os stored. checks_none os (reach_of g.S.Store g.M.MergeOperator g.T.BlockTransformer c.args.env.now)
-
-pub returns-then-not-can_reach-clause-let_in : goal.returns-then-not-can_reach-clause-let_in
-returns-then-not-can_reach-clause-let_in g c = ([], call_none (reach_of g.S.Store g.M.MergeOperator g.T.BlockTransformer c.args.env.now), (tt, λ yes. cc))
-
-pub returns-in_default-clause-let_in : goal.returns-in_default-clause-let_in
-returns-in_default-clause-let_in g c =
+pub returns-in_default-clause-asks : goal.returns-in_default-clause-asks
+returns-in_default-clause-asks g c =
     let none : c.args.query.now ≡ None = search rules in
-    ([], call_none (reach_of g.S.Store g.M.MergeOperator g.T.BlockTransformer c.args.env.now), (tt, λ yes asked is. let clash : None ≡ Some asked = sym none ∙ is in cc))
-
-pub returns-in_default-clause-checked : goal.returns-in_default-clause-checked
-returns-in_default-clause-checked g c = λ rows os stored. checks_none os (reach_of g.S.Store g.M.MergeOperator g.T.BlockTransformer c.args.env.now)
+    record {
+      denied = λ rows os stored filtered answers no. cc;
+      checked = λ rows os stored. checks_none os (reach_of g.S.Store g.M.MergeOperator g.T.BlockTransformer c.args.env.now);
+      let_in = ([], call_none (reach_of g.S.Store g.M.MergeOperator g.T.BlockTransformer c.args.env.now), (tt, λ yes asked is. let clash : None ≡ Some asked = sym none ∙ is in cc));
+    }
 
 pub returns : goal.returns
 returns g c =
@@ -57,9 +56,11 @@ returns g c =
     let asked : c.args.query.now ≡ Some c.in-Some.query = search rules in
     let matches = subst (λ (q : Option FilterQuery). Covers q c.args.range.now) asked c.requires in
     record {
-      denied = λ rows os stored filtered answers. left_denied asking c.args.table.now before after c.might_match.result c.args.range.now rows os known matches stored filtered answers;
-      checked = λ rows os stored. filters_checked asking c.args.table.now before after c.might_match.result rows os known stored;
-      let_in = subst (λ (q : Option FilterQuery). IfOk c.might_match.result (λ passes. AsksOf (c.args.table.now ∷ []) before after (λ reads. passes ≡ true → IsLetIn before.meaning.decode asking.policies q c.args.table.now reads))) (sym asked) (left_let_in asking c.args.table.now before after c.might_match.result known);
+      asks = record {
+        denied = λ rows os stored filtered answers. left_denied asking c.args.table.now before after c.might_match.result c.args.range.now rows os known matches stored filtered answers;
+        checked = λ rows os stored. filters_checked asking c.args.table.now before after c.might_match.result rows os known stored;
+        let_in = subst (λ (q : Option FilterQuery). IfOk c.might_match.result (λ passes. AsksOf (c.args.table.now ∷ []) before after (λ reads. passes ≡ true → IsLetIn before.meaning.decode asking.policies q c.args.table.now reads))) (sym asked) (left_let_in asking c.args.table.now before after c.might_match.result known);
+      };
       refused = subst (λ (q : Option FilterQuery). IfErr c.might_match.result (FailsAsking asking.policies q before after (c.args.table.now ∷ []))) (sym asked) (left_refused asking c.args.table.now before after c.might_match.result c.args.range.now known matches);
       reads = reads_of _ _ c.might_match.ensures.objects refl c.might_match.ensures.same_encoded c.might_match.ensures.same_decoded
           (asked_adds _ _ _ _ _ _ _ _ c.might_match.result (λ no. let n = c.might_match.ensures.none no in (n.0, ap g.S.Store.acts n.1)) c.might_match.ensures.asked c.might_match.ensures.once)

@@ -58,14 +58,12 @@ returns-in_err-place-clause-cause c = λ w p.
 pub returns-clause-place : goal.returns-clause-place
 returns-clause-place c = has_place c.args.log.now c.reserve.new.self c.reserve.ensures.value c.in_ok-reserve.ensures.room c.in_ok-place.ensures.place
 
-pub returns-clause-recorded : goal.returns-clause-recorded
-returns-clause-recorded c = λ w p. c.in_ok-put_batch.ensures.recorded ∙ ap (λ ps. keys_set (c.args.segments.now ++ ps)) (c.in_ok-passed.ensures.passed w p).prefixes ∙ set_of_rest c.args.segments.now (prefixes w.segments w.batch.ops)
-
-pub returns-clause-put : goal.returns-clause-put
-returns-clause-put c = λ w p. c.in_ok-put_batch.ensures.put ∙ ap (λ (rs : Rows). record c.args.layers.now { active = put_rows c.args.layers.now.active rs }) (c.in_ok-passed.ensures.passed w p).rows
-
-pub returns-clause-tested : goal.returns-clause-tested
-returns-clause-tested c = λ w p. (c.in_ok-passed.ensures.passed w p).tested
-
-pub returns-clause-stands : goal.returns-clause-stands
-returns-clause-stands c = λ w p cs d of. c.in_ok-put_batch.ensures.stands cs d (of.0, of.1 ∙ sym (c.in_ok-passed.ensures.passed w p).keys)
+pub returns-clause-puts : goal.returns-clause-puts
+returns-clause-puts c = λ w p.
+    let x = c.in_ok-passed.ensures.passed w p in
+    record {
+      tested = x.tested;
+      recorded = c.in_ok-put_batch.ensures.recorded ∙ ap (λ ps. keys_set (c.args.segments.now ++ ps)) x.prefixes ∙ set_of_rest c.args.segments.now (prefixes w.segments w.batch.ops);
+      put = c.in_ok-put_batch.ensures.put ∙ ap (λ (rs : Rows). record c.args.layers.now { active = put_rows c.args.layers.now.active rs }) x.rows;
+      stands = λ cs d of. c.in_ok-put_batch.ensures.stands cs d (of.0, of.1 ∙ sym x.keys);
+    }

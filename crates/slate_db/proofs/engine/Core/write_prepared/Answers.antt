@@ -79,7 +79,7 @@ abbrev written : goal.After-push_write → Option (List ℕ → Combine) → Bat
 written c o b = put_rows c.self.inside.layers.active (commit_rows (operator_at o) c.self.inside.default_millis (c.self.inside.log.last + 1) c.args.now b.ops)
 
 layers : (c : goal.After-push_write) (o : Option (List ℕ → Combine)) (k : Segments) (b : BatchModel) → IsPrepared (With c o k b) c.args.prepared → c.put_alone.new.layers ≡ record c.self.inside.layers { active = written c o b }
-layers c o k b p = c.in_ok-ops.ensures.put (With c o k b) p ∙ ap (λ (n : ℕ). record c.self.inside.layers { active = put_rows c.self.inside.layers.active (commit_rows (operator_at o) c.self.inside.default_millis (n + 1) c.args.now b.ops) }) c.last-last.ensures
+layers c o k b p = (c.in_ok-ops.ensures.puts (With c o k b) p).put ∙ ap (λ (n : ℕ). record c.self.inside.layers { active = put_rows c.self.inside.layers.active (commit_rows (operator_at o) c.self.inside.default_millis (n + 1) c.args.now b.ops) }) c.last-last.ensures
 
 ops_are : (c : goal.After-push_write) (o : Option (List ℕ → Combine)) (k : Segments) (b : BatchModel) → IsPrepared (With c o k b) c.args.prepared → c.in_ok-ops.ops ≡ b.ops
 ops_are c o k b p = c.in_ok-ops.ensures.ops ∙ p.ops
@@ -118,7 +118,7 @@ invariant_of-self-2 c =
     c.put_alone.new.manager
     (managed_written s.manager c.put_alone.new.manager s.log.ids n (n + 1) s.log.commits s.transactions (record { seq = n + 1; now = c.args.now; ops = b.ops; tracked = batch_keys b.ops })
     (subst (λ (k : ℕ). c.put_alone.new.manager ≡ record s.manager { last = k; kept = c.put_alone.new.manager.kept }) seq c.in_ok-ops.ensures.committed)
-    (c.in_ok-ops.ensures.stands (With c w.combine w.segments b) p _ _ (sym seq, refl)) c.self.invariant.tied.manager)
+    ((c.in_ok-ops.ensures.puts (With c w.combine w.segments b) p).stands _ _ (sym seq, refl)) c.self.invariant.tied.manager)
     (subst IsLog (log_is c w.combine w.segments b p) c.push_write.ensures.whole) (subst AreLayers (layers c w.combine w.segments b p) c.put_alone.ensures.whole) c.self.invariant))
 
 -- what was prepared for the core
@@ -155,13 +155,13 @@ returns c =
           (kept_recorded m (after_write (view_of c.self.inside) (n + 1) c.args.now b.ops (written c m.combine b) c.push_write.new.self.spare) c.put_alone.new.segments
           (kept_write m (view_of c.self.inside) (unseen_of c.self.inside) c.args.now b.ops _ c.push_write.new.self.spare
           (λ j. versions_more (combine_of m) c.self.inside.default_millis (n + 1) c.args.now b.ops c.self.inside.layers.active j (active_within m (view_of c.self.inside) (unseen_of c.self.inside) c.self.invariant old j))
-          (λ none. p.plain (tested_plain m.combine k c.self.inside.segments b.held_merge c.self.inside.default_millis c.args.now b.ops none (c.in_ok-ops.ensures.tested (With c m.combine k b) p)))
+          (λ none. p.plain (tested_plain m.combine k c.self.inside.segments b.held_merge c.self.inside.default_millis c.args.now b.ops none ((c.in_ok-ops.ensures.puts (With c m.combine k b) p).tested)))
           c.self.invariant old));
       segmented = λ m k b q z.
           let p = ready c m.combine k b q in
           subst (λ (s : Inside). IsSegmented k (view_of s)) (becomes c m.combine k b p)
           (segmented_more m.combine k (view_of c.self.inside) (record (after_write (view_of c.self.inside) (n + 1) c.args.now b.ops (written c m.combine b) c.push_write.new.self.spare) { segments = c.put_alone.new.segments })
-          c.self.inside.default_millis c.args.now b.held_merge (record { seq = n + 1; now = c.args.now; ops = b.ops; tracked = batch_keys b.ops }) (c.in_ok-ops.ensures.recorded (With c m.combine k b) p) refl (c.in_ok-ops.ensures.tested (With c m.combine k b) p)
+          c.self.inside.default_millis c.args.now b.held_merge (record { seq = n + 1; now = c.args.now; ops = b.ops; tracked = batch_keys b.ops }) ((c.in_ok-ops.ensures.puts (With c m.combine k b) p).recorded) refl ((c.in_ok-ops.ensures.puts (With c m.combine k b) p).tested)
           (subst (λ (v : CoreModel). IsSegmented k v) (sym c.self.view_is) z));
       load =
           let w = c.requires.prepared.1 in
@@ -177,7 +177,7 @@ returns c =
           accepted_as (λ e. e ≡ OutOfMemory) m.combine k c.args.now (view_of c.self.inside) c.args.self.now (NoPlace 1 c.args.self.now) b _ c.self.view_is
           (record {
             next = (ap (λ n. n + 1) (c.last-last.ensures ∙ c.self.invariant.log.last), subst (λ (k : ℕ). k < 2 ^ 64 - 2) c.self.invariant.log.last (below c), λ none. some c.is_empty.result c.args.prepared.ops c.is_empty.ensures.1 c.if-is_empty.false (p.ops ∙ none));
-            tested = λ some. c.in_ok-ops.ensures.tested (With c m.combine k b) p;
+            tested = λ some. (c.in_ok-ops.ensures.puts (With c m.combine k b) p).tested;
             cause = tt;
           });
       stay = stay_written c.args.self.now _ (Some (c.last-last.result + 1)) c.args.now c.args.prepared.ops (event c);
