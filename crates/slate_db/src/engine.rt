@@ -287,7 +287,7 @@ impl Core {
     /// for the events, and then nothing is changed and no part is asked, or where a table would pass a limit; by `StoreFault`, `BlockTransformError` and
     /// `Callback`, each only where its count of faults rose, and then the rows are frozen; by `MergeOperatorMissing`, only where a
     /// row in memory is an operand and there is no operator; and by `OutOfMemory`. Else the rows are in memory as before, or frozen,
-    /// and the store's objects are as they were, or have some first of the tables, which no event names.
+    /// and the store's objects are as they were, or have some last of the tables, which no event names.
     pub fn flush<S: Store, M: MergeOperator, T: BlockTransformer, X: PrefixExtractor>(
         &mut self,
         env: &mut Env<'_, S, M, T>,

@@ -1,7 +1,7 @@
 //! What all calls on one core are given alike, beside what is outside; and the laws of the definitions, each of which is
 //! proved of all values by a call that does nothing.
 ghost use Rattle.slate_db.specs.ChangedReads.{ChangedBytesSlipNowhere};
-ghost use Rattle.slate_db.specs.FlushLaws.{RunsAreOfSegments, TablesAreOfOneSegment};
+ghost use Rattle.slate_db.specs.FlushLaws.{FlushesAreWhole, RunsAreOfSegments, TablesAreOfOneSegment};
 ghost use Rattle.slate_db.specs.LeftLaws.{CallsBesideKeepWhatIsLeft, StepsEndNothing, WhatIsLeftIsOpen};
 ghost use Rattle.slate_db.specs.ScanLaws.{ListsHaveAllRows, ScansOfCoreShowWhatIsSeen, ScansShowWhatIsSeen};
 ghost use Rattle.slate_db.specs.SegmentLaws.{SegmentsStandApart};
@@ -39,11 +39,14 @@ pub fn changed_bytes()
     ensures { ChangedBytesSlipNowhere }
 {}
 
-/// Of flushes. Where no prefixes of its rows nest, the tables of a flush stand in one run for each segment that the rows touch, in the
-/// order of the prefixes. Where each key has a prefix, all rows of a table have the same.
+/// Of flushes. Where no prefixes of its rows nest, the tables of a flush stand in one run for each
+/// segment that the rows touch, in the order of the prefixes. Where each key has a prefix, all rows
+/// of a table have the same. Where the object of a flush's first table came to stand, all its
+/// tables do, with their bytes.
 pub fn flushes()
     ensures runs { RunsAreOfSegments }
     ensures tables { TablesAreOfOneSegment }
+    ensures whole { FlushesAreWhole }
 {}
 
 /// Of transactions. A core is vouched for where each commit in its journal was answered as a reader at its begin is, and so was what

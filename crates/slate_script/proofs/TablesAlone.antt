@@ -39,7 +39,9 @@ use Rattle.slate_script.proofs.BySequence.{one_table_more}
 use Rattle.slate_db.proofs.OneSegment.{InOneSegment, flushed_stand}
 use Rattle.slate_db.proofs.RunsOf.{runs_more, tables_are}
 use Rattle.slate_db.proofs.PathsApart.{ids_same}
+use Rattle.slate_db.proofs.Runs.{are_placed}
 use Rattle.slate_script.proofs.SessionLeaves.{leaves_frozen}
+use Rattle.slate_script.proofs.TurnedPuts.{puts_turned}
 
 -- the objects on both sides of a path that none of them has
 record IsPutAmong (os : Objects) (path bytes : List ℕ) : Type 0 where
@@ -145,12 +147,25 @@ table_alone m layout n p os ts t here first fits made one h =
       sorted = λ k. one_table_more k h.layers parts.first here parts.last h.rows parts.are (h.sorted k);
     }
 
-tables_alone : (m : Meaning) (layout : Layout) (n p : ℕ) (os : Objects) (ts us : List (Ulid × List ℕ)) (parts : List Rows) → 1 ≤ n → n < 2 ^ 64 → AreTablesAt m.encode layout n p parts us → AllByRecursion (InOneSegment layout.segments) parts →
-    HoldsAlone m layout n p os ts → (q : ℕ) × HoldsAlone m layout n q (with_tables os us) (ts ++ us)
-tables_alone m layout n p os ts [] [] first fits made one h = (p, subst (HoldsAlone m layout n p os) (sym (append-nil ts)) h)
+tables_alone : (m : Meaning) (layout : Layout) (n p : ℕ) (os : Objects)
+    (ts us : List (Ulid × List ℕ)) (parts : List Rows) → 1 ≤ n → n < 2 ^ 64 →
+    AreTablesAt m.encode layout n p parts us → AllByRecursion (InOneSegment layout.segments) parts →
+    HoldsAlone m layout n p os ts →
+    (q : ℕ) × HoldsAlone m layout n q (with_tables os us) (ts ++ us)
+tables_alone m layout n p os ts [] [] first fits made one h =
+    (p, subst (HoldsAlone m layout n p os) (sym (append-nil ts)) h)
 tables_alone m layout n p os ts (t ∷ us) (rows ∷ parts) first fits made one h =
-    subst (λ (xs : List (Ulid × List ℕ)). (q : ℕ) × HoldsAlone m layout n q (with_tables (with_object os (path_of root t.0.0) t.1) us) xs) (append_assoc ts (t ∷ []) us)
-    (tables_alone m layout n (p + 1) (with_object os (path_of root t.0.0) t.1) (ts ++ (t ∷ [])) us parts first fits made.1 one.1 (table_alone m layout n p os ts t rows first fits made.0 one.0 h))
+    let path : List ℕ = path_of root t.0.0 in
+    let all = tables_alone m layout n (p + 1) (with_object os path t.1) (ts ++ (t ∷ [])) us parts
+    first fits made.1 one.1 (table_alone m layout n p os ts t rows first fits made.0 one.0 h) in
+    (
+      all.0,
+      subst (λ (o : Objects). HoldsAlone m layout n all.0 o (ts ++ (t ∷ us)))
+      (sym (puts_turned os n p t us fits made.0.fits made.0.id
+      (are_placed m.encode layout n (p + 1) parts us made.1)))
+      (subst (HoldsAlone m layout n all.0 (with_tables (with_object os path t.1) us))
+      (append_assoc ts (t ∷ []) us) all.1),
+    )
 tables_alone m layout n p os ts (t ∷ us) [] first fits made one h = absurd made
 tables_alone m layout n p os ts [] (rows ∷ parts) first fits made one h = absurd made
 

@@ -13,7 +13,7 @@
 --     Lands journal tables flight old seen new r      a flush lands behind this journal, which has its number next, with one event, which is its own; or is refused, with none
 --     IsFlushFrom o m old from journal number layers      behind `from`, which begins with `old`, a flush took the rows of these memtables, all that wait there; it ends behind `journal`, which has its number next
 --     HasLanded o m layout n before after old own new own'      an install of the tables of such a flush, through n, ends the journal that is seen then, its place is one's own, a store that tells its objects took the tables and nothing else, and holds them beside the earlier ones, and all that the journal names have the filters of these policies
---     HasGivenUp o m layout before after old new      such a flush was given up: of a store that tells its objects nothing is changed, or it took some first of the tables
+--     HasGivenUp o m layout before after old new      such a flush was given up: of a store that tells its objects nothing is changed, or it took some last of the tables
 --     HasTableTooLarge o m layout journal e      a table of the rows that wait would have too many blocks
 --     IsOverLimit o m layout journal e      that, or the journal has no place for an event
 use Rattle.std.specs.Prelude.{◌≡◌, ◌⊎◌, ℕ, ◌+◌, ◌≤◌, false, List, [], ◌∷◌, ◌++◌, map, length, slice_get, Option, None, Some, Result, IfOk, IfErr, IfSome, OnErr}

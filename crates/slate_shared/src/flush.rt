@@ -48,7 +48,7 @@ impl<P: Parts> Pass<P> {
     /// second flush waits until the first has ended. Where no rows are in memory nothing is stored. Refuses by `StoreFault`,
     /// `BlockTransformError` and `Callback`, each only where its count of faults rose; by `LimitReached` where the journal has no
     /// place for an event, or where a table would pass a limit; and by `OutOfMemory`. Then the rows are in memory as before, or
-    /// frozen, and the store's objects are as they were, or have some first of the tables, which no event names. Either way a store
+    /// frozen, and the store's objects are as they were, or have some last of the tables, which no event names. Either way a store
     /// that tells its objects keeps each table that it held of what the journal names, and takes nothing but tables of the rows that
     /// waited. No failure of the store or of a part is passed over: each count of faults is as it was, but for that of the one whose
     /// fault is answered.

@@ -10,6 +10,8 @@ mod failing;
 #[cfg(test)]
 mod failing_flushes;
 #[cfg(test)]
+mod falling_puts;
+#[cfg(test)]
 mod filters;
 #[cfg(test)]
 mod flushes;
