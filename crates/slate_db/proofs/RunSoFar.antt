@@ -218,7 +218,7 @@ pub record AreLaid (stored left : List StoredTable) (tables : List (Ulid × List
     (runs : List SortedRun) : Type 0 where
   pub done : List StoredTable
   pub split : done ++ reverse left ≡ reverse stored
-  pub tables : tables ≡ map (λ t. t.table) done
+  pub named : tables ≡ map (λ t. t.table) done
   pub handles : handles_of runs ≡ map (λ t. t.handle) done
   pub stand : StandInRuns (map (λ t. t.prefix) done) runs
 
@@ -228,7 +228,7 @@ pub none_laid : (stored left : List StoredTable) (tables : List (Ulid × List �
 none_laid stored left tables runs is none empty = record {
   done = [];
   split = ap reverse is;
-  tables = none;
+  named = none;
   handles = ap handles_of empty;
   stand = subst (StandInRuns []) (sym empty) (record { each = refl; some = tt; differ = tt });
 }
@@ -244,7 +244,7 @@ one_laid stored left rest next tables ts runs more far is named kept adds = reco
   split = append_assoc far.done (next ∷ []) (reverse rest)
       ∙ ap (λ xs. far.done ++ xs) (sym (ap reverse is ∙ reverse-append rest (next ∷ [])))
       ∙ far.split;
-  tables = named ∙ ap (λ xs. xs ++ (next.table ∷ [])) far.tables
+  named = named ∙ ap (λ xs. xs ++ (next.table ∷ [])) far.named
       ∙ sym (map-append (λ (t : StoredTable). t.table) far.done (next ∷ []));
   handles = kept ∙ ap (λ xs. xs ++ (next.handle ∷ [])) far.handles
       ∙ sym (map-append (λ (t : StoredTable). t.handle) far.done (next ∷ []));

@@ -1,5 +1,6 @@
-use Rattle.std.proofs.Common.{◌∷◌, [], ◌++◌, ◌≡◌, map, length, refl, arith, ap, subst, ◌∙◌, rules, length-append}
+use Rattle.std.proofs.Common.{List, ◌∷◌, [], ◌++◌, ◌≡◌, map, length, refl, arith, ap, subst, ◌∙◌, rules, length-append}
 use Rattle.slate_db.specs.Flushed.{StandInRuns}
+use Rattle.slate_db.specs.declared.flush.StoredTable.{StoredTable}
 use Rattle.slate_db.proofs.RunSoFar.{all_laid, one_laid}
 use Rattle.slate_db.proofs.flush.in_runs.Goals as goal
 
@@ -20,4 +21,15 @@ loop-next-preserved c =
     }
 
 pub returns : goal.returns
-returns c = ?
+returns c =
+    let far = c.loop-next.invariant.far in
+    let empty : c.loop-next.stored.items ≡ [] = search rules in
+    let done = all_laid c.args.stored.items c.loop-next.stored.items c.loop-next.tables.items
+        c.loop-next.runs.items far empty in
+    record {
+      tables = c.from_vec.ensures ∙ far.named ∙ ap (map (λ (t : StoredTable). t.table)) done;
+      handles = far.handles ∙ ap (map (λ (t : StoredTable). t.handle)) done;
+      stand = subst (λ (ts : List StoredTable). StandInRuns (map (λ (t : StoredTable). t.prefix) ts)
+          c.loop-next.runs.items) done far.stand;
+      cause = tt;
+    }

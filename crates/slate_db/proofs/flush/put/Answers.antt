@@ -22,7 +22,7 @@ returns g c =
                 (subst (λ (bs : List ℕ). EachIsAByte bs) c.in_ok-bytes.ensures.bytes.0 c.in_ok-bytes.ensures.bytes.1);
             taken = takes t (g.S.Store.objects c.args.store.now) (g.S.Store.objects c.put_table.new.store) (λ os h. c.in_ok-handle.ensures.taken os h);
           }));
-      acts = subst (λ (bs : List ℕ). AddsPuts ((c.args.id, bs) ∷ []) (g.S.Store.acts c.args.store.now) (g.S.Store.acts c.put_table.new.store)) same (g.S.Store.acts c.put_table.new.store, c.in_ok-handle.ensures.act, refl);
+      acts = subst (λ (bs : List ℕ). AddsPuts ((c.args.id, bs) ∷ []) (g.S.Store.acts c.args.store.now) (g.S.Store.acts c.put_table.new.store)) same (g.S.Store.acts c.args.store.now, refl, c.in_ok-handle.ensures.act);
       adds = adds_act _ _ _ c.in_ok-handle.ensures.act;
       refused = λ encode layout number place rows is. tt;
       cause = tt;

@@ -18,7 +18,7 @@ returns g c =
     let was = c.in_ok-stored.ensures in
     record {
       stored = if_ok_both r _ _ _
-          (λ a tables handles. put_as _ _ _ _ _ _ _ _ _ tables handles was.stored)
+          (λ a tables handles. put_as _ _ _ _ _ _ _ _ _ _ tables handles was.stored)
           laid.tables laid.handles;
       acts = IfOk-weaker r _ _ (λ a tables. subst (λ ts. AddsPuts ts before.acts after.acts)
           (sym tables) was.acts) laid.tables;
