@@ -20,4 +20,15 @@ loop-next-preserved c =
     }
 
 pub returns : goal.returns
-returns c = ?
+returns c =
+    let was = c.loop-next.invariant.far in
+    let none : c.loop-next.stored.items ≡ [] = search rules in
+    let all = all_laid c.args.stored.items c.loop-next.stored.items c.loop-next.tables.items
+    c.loop-next.runs.items was none in
+    record {
+      tables = was.tables ∙ ap (map (λ t. t.table)) all;
+      handles = was.handles ∙ ap (map (λ t. t.handle)) all;
+      stand = subst (λ ts. StandInRuns (map (λ t. t.prefix) ts) c.loop-next.runs.items) all
+          was.stand;
+      cause = tt;
+    }
