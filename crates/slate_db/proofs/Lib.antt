@@ -24,6 +24,7 @@ mod LogViews
 mod MemoryLayers
 pub mod Wholes
 mod Calls
+mod WholeFlushes
 mod Writes
 mod Puts
 mod Versions

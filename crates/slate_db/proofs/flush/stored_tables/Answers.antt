@@ -1,16 +1,26 @@
-use Rattle.std.proofs.Common.{◌∷◌, [], ◌++◌, ◌≡◌, map, length, reverse, inl, refl, arith, ap, sym, ◌∙◌, rules, length-append}
-use Rattle.std.proofs.lemmas.List.{map-append}
+use Rattle.std.proofs.Common.{◌∷◌, [], ◌++◌, ◌≡◌, ℕ, ◌^◌, ◌<◌, List, map, length, inl, refl, arith, ap, ◌∙◌, rules, length-append}
+use Rattle.std.proofs.lemmas.List.{length-map, map-append}
 use Rattle.std.proofs.lemmas.Result.{IfOk-from_err, err_from_is_err_and}
+use Rattle.slate_types.specs.declared.types.Ulid.{Ulid}
 use Rattle.slate_types.specs.Outside.{Meaning, unblamed}
 use Rattle.slate_types.proofs.Reaching.{puts_none, puts_then}
 use Rattle.slate_types.proofs.StillLaws.{unasked_still}
 use Rattle.slate_store.specs.Reach.{reach_of}
-use Rattle.slate_db.specs.Model.{Rows}
+use Rattle.slate_db.specs.declared.cut.TableRows.{TableRows}
+use Rattle.slate_table.specs.Paths.{table_id}
 use Rattle.slate_db.specs.StoredParts.{IsPlace}
 use Rattle.slate_db.proofs.Adding.{adds_puts, adds_same, adds_then}
 use Rattle.slate_db.proofs.Built.{may_keep}
 use Rattle.slate_db.proofs.RunSoFar.{next_builds, one_prefix, one_so_far, one_turned, refused_run, some_taken}
 use Rattle.slate_db.proofs.flush.stored_tables.Goals as goal
+
+-- the place of the next table: how many lists are left
+next_place : (id : Ulid) (number count : ℕ) (rest : List TableRows) →
+    id.0 ≡ table_id number count → count ≡ length rest → count < 2 ^ 64 →
+    IsPlace id number (length (map (λ (t : TableRows). t.rows.items) rest))
+next_place id number count rest is same fits =
+    let places = length-map rest (λ (t : TableRows). t.rows.items) in
+    record { is = omega (arith, is, same, places); fits = omega (arith, same, places, fits) }
 
 pub stored_table-requires-clause-ready : goal.stored_table-requires-clause-ready
 stored_table-requires-clause-ready g c = λ κs lives.
@@ -46,7 +56,9 @@ returns-in_err-table g c =
             (some_taken before now after _ _ _ _ _ _ _ _ was.far next
             (ap (λ (m : Meaning). m.encode) was.puts.meaning)
             (c.in_err-table.ensures.refused c.args.number
-            (length (map (λ t. t.rows.items) c.pop.new.self.items)) ?));
+            (length (map (λ t. t.rows.items) c.pop.new.self.items))
+            (next_place _ c.args.number c.len-in-loop-part.result c.pop.new.self.items
+            (omega arith) c.len-in-loop-part.ensures c.len-in-loop-part.type_inv)));
         cause = rw (p.1, p.2) (refused_run before now after _ _ _ _ _ _ _ _ _ was.far next
             was.puts.later c.in_err-table.ensures.cause);
         operator = c.stored_table.ensures.operator ∙ was.operator;
@@ -75,7 +87,9 @@ loop-part-preserved g c =
       far = one_so_far before now after _ _ _ _ _ _ _ _ _ _ _ _ was.far next
           (ap (λ (m : Meaning). m.encode) was.puts.meaning)
           (c.in_ok-table.ensures.stored c.args.number
-          (length (map (λ t. t.rows.items) c.pop.new.self.items)) ?)
+          (length (map (λ t. t.rows.items) c.pop.new.self.items))
+            (next_place _ c.args.number c.len-in-loop-part.result c.pop.new.self.items
+            (omega arith) c.len-in-loop-part.ensures c.len-in-loop-part.type_inv))
           c.in_ok-table.ensures.acts
           (one_turned (λ t. t.table) _ _ _ c.push_reserved.ensures.items)
           (one_turned (λ t. t.handle) _ _ _ c.push_reserved.ensures.items);
