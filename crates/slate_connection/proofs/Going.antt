@@ -1,5 +1,5 @@
 -- How connections go on from call to call.
-use Rattle.std.proofs.Common.{◌≡◌, ℕ, ℤ, List, [], ◌++◌, Option, Some, Result, Ok, Err, ap, refl, sym, subst, ◌∙◌}
+use Rattle.std.proofs.Common.{◌≡◌, ℕ, ℤ, List, [], ◌++◌, Option, Some, Result, Ok, Err, zero, suc, inl, inr, ap, refl, sym, subst, ◌∙◌}
 use Rattle.std.specs.Prelude.{IfErr, IfOk, OnErr, OnOk}
 use mathlib.Core.List.{IsPrefix}
 use Rattle.slate_types.specs.declared.config.IsolationLevel.{IsolationLevel}
@@ -18,7 +18,7 @@ use Rattle.slate_steps.proofs.Attempts.{attempt_steps, vouched_begun}
 use Rattle.slate_steps.proofs.OnPass.{committed_then, sees_only_then}
 use Rattle.slate_steps.proofs.StoreTruth.{checked_earlier, checked_later}
 use Rattle.slate_connection.specs.Connected.{ConnectionModel, GoesOn, HasStayed, HasStayedBy, IsOpenAttempt, Stays, Terms, taken, taken_by}
-use Rattle.slate_connection.specs.Transacted.{CommitsSteps, HasRead, HasTransacted, IsLast, EndsByRefusal}
+use Rattle.slate_connection.specs.Transacted.{AfterConflicts, CommitsSteps, HasRead, HasTransacted, IsLast, EndsByRefusal}
 
 -- ---- a transaction
 
@@ -156,17 +156,33 @@ committed_later p level now first old new ts only reads last h = record {
   vouched = λ s. h.vouched (checked_later p.policies p.meaning new.pass.seen first.reach old.reach new.reach reads last s);
 }
 
-pub transacted_later : {F V A : Type 0} (seen : V → ConnectionModel) (step : F → V → Result A SlateDBError → V → F → Type 0) (p : Terms) (level : IsolationLevel) (now : ℤ) (first old new : ConnectionModel) (a : A) →
-    SeesOnly first.pass old.pass → OnlyReads first.reach old.reach → OnlyReads old.reach new.reach → HasTransacted seen step p level now old new a → HasTransacted seen step p level now first new a
-transacted_later seen step p level now first old new a only reads last h = record {
-  before = h.before;
-  after = h.after;
-  found = h.found;
-  left = h.left;
-  ran = h.ran;
-  bare = h.bare;
-  committed = committed_later p level now first old new (taken (seen h.left)) only reads last h.committed;
-}
+-- attempts, and more behind them
+pub conflicts_then : {F V A : Type 0} (seen : V → ConnectionModel) (step : F → V → Result A SlateDBError → V → F → Type 0) (p : Terms) (level : IsolationLevel) (n m : ℕ) (old mid new : ConnectionModel) (f g h : F) →
+    AfterConflicts {F = F} {V = V} {A = A} seen step p level n old f mid g → AfterConflicts {F = F} {V = V} {A = A} seen step p level m mid g new h → (k : ℕ) × AfterConflicts {F = F} {V = V} {A = A} seen step p level k old f new h
+conflicts_then {F} {V} {A} seen step p level n zero old mid new f g h first last =
+    (n, subst (λ (x : ConnectionModel × F). AfterConflicts {F = F} {V = V} {A = A} seen step p level n old f x.0 x.1) (λ i. (sym last.0 i, sym last.1 i)) first)
+conflicts_then seen step p level n (suc m) old mid new f g h first (c, e, rest, ends) =
+    let (k, all) = conflicts_then seen step p level n m old mid c f g e first rest in
+    (suc k, (c, e, all, ends))
+
+-- n, before: the attempts in front, which left the closure so
+pub transacted_later : {F V A : Type 0} (seen : V → ConnectionModel) (step : F → V → Result A SlateDBError → V → F → Type 0) (p : Terms) (level : IsolationLevel) (now : ℤ) (n : ℕ) (first old new : ConnectionModel) (given before : F) (a : A) →
+    SeesOnly first.pass old.pass → OnlyReads first.reach old.reach → OnlyReads old.reach new.reach → AfterConflicts {F = F} {V = V} {A = A} seen step p level n first given old before →
+    HasTransacted seen step p level now old new before a → HasTransacted seen step p level now first new given a
+transacted_later seen step p level now n first old new given before a only reads last behind h =
+    let (k, all) = conflicts_then seen step p level n h.number first old h.mid given before h.before behind h.earlier in
+    record {
+      number = k;
+      mid = h.mid;
+      before = h.before;
+      earlier = all;
+      after = h.after;
+      found = h.found;
+      left = h.left;
+      ran = h.ran;
+      bare = h.bare;
+      committed = committed_later p level now first old new (taken (seen h.left)) only reads last h.committed;
+    }
 
 -- by the connections behind the handles
 pub stays_at : {D : Type 0} (p : Terms) (seen : D → ConnectionModel) (shown last old new : D) → shown ≡ old → last ≡ new → Stays p (seen shown) (seen last) → Stays p (seen old) (seen new)
@@ -207,3 +223,25 @@ last_of_attempt seen step p level old new f g (Err e) ran cause = (g, cause)
 
 pub committed_at : (p : Terms) (level by : IsolationLevel) (now z : ℤ) (old new : ConnectionModel) (ts : List TranscriptStep) → by ≡ level → z ≡ now → CommitsSteps p by z old new ts → CommitsSteps p level now old new ts
 committed_at p level by now z old new ts same moment h = subst (λ (x : IsolationLevel × ℤ). CommitsSteps p x.0 x.1 old new ts) (λ i. (same i, moment i)) h
+
+-- what each run of a closure keeps holds of the closure that ran
+pub kept_by_attempts : {F V A : Type 0} (seen : V → ConnectionModel) (step : F → V → Result A SlateDBError → V → F → Type 0) (p : Terms) (level : IsolationLevel) (K : F → Type 0) →
+    ((f g : F) (s t : V) (r : Result A SlateDBError) → step f s r t g → K f → K g) → (n : ℕ) (old new : ConnectionModel) (f g : F) → AfterConflicts {F = F} {V = V} {A = A} seen step p level n old f new g → K f → K g
+kept_by_attempts seen step p level K keeps zero old new f g h k = subst K (sym h.1) k
+kept_by_attempts seen step p level K keeps (suc n) old new f g (c, e, rest, (seq, inl same)) k = subst K (sym same.0) (kept_by_attempts seen step p level K keeps n old c f e rest k)
+kept_by_attempts seen step p level K keeps (suc n) old new f g (c, e, rest, (seq, inr (inl (t, run)))) k = keeps e g run.found run.left _ run.ran (kept_by_attempts seen step p level K keeps n old c f e rest k)
+kept_by_attempts seen step p level K keeps (suc n) old new f g (c, e, rest, (seq, inr (inr (t, a, at, run, cause)))) k = keeps e g run.found run.left _ run.ran (kept_by_attempts seen step p level K keeps n old c f e rest k)
+
+pub kept_by_runs : {F V A : Type 0} (seen : V → ConnectionModel) (step : F → V → Result A SlateDBError → V → F → Type 0) (p : Terms) (level : IsolationLevel) (now : ℤ) (old new : ConnectionModel) (f : F) (a : A) (K : F → Type 0) →
+    ((f g : F) (s t : V) (r : Result A SlateDBError) → step f s r t g → K f → K g) → K f → (h : HasTransacted seen step p level now old new f a) → K h.before
+kept_by_runs seen step p level now old new f a K keeps k h = kept_by_attempts seen step p level K keeps h.number old h.mid f h.before h.earlier k
+
+-- so a closure that no run changes is the one that was given
+pub same_by_runs : {F V A : Type 0} (seen : V → ConnectionModel) (step : F → V → Result A SlateDBError → V → F → Type 0) (p : Terms) (level : IsolationLevel) (now : ℤ) (old new : ConnectionModel) (f : F) (a : A) →
+    ((f g : F) (s t : V) (r : Result A SlateDBError) → step f s r t g → g ≡ f) → (h : HasTransacted seen step p level now old new f a) → h.before ≡ f
+same_by_runs {F} seen step p level now old new f a keeps h = kept_by_runs seen step p level now old new f a (λ (x : F). x ≡ f) (λ x y s t r ran is. keeps x y s t r ran ∙ is) refl h
+
+pub transacted_more : {F V A : Type 0} (seen : V → ConnectionModel) (step : F → V → Result A SlateDBError → V → F → Type 0) (p : Terms) (level : IsolationLevel) (now : ℤ) (old new : ConnectionModel) (f : F) (r : Result A SlateDBError) →
+    IfOk r (HasTransacted seen step p level now old new f) → OnErr r (SeesOnly old.pass new.pass) → SeesMore old.pass new.pass
+transacted_more seen step p level now old new f (Ok a) h only = h.committed.committed.more
+transacted_more seen step p level now old new f (Err e) h only = only.more

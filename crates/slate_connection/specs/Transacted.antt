@@ -5,7 +5,7 @@
 --     EndsByRefusal seen step p level old new f g e      an attempt is refused so: nothing was begun; or the closure refused; or the commit of what it left did
 --     AfterConflicts seen step p level n old f new g      so many attempts, one after another, each of which was refused by a conflict
 --     IsLast seen step p level old new f r      the attempt that gives the answer
---     HasTransacted seen step p level now old new a      the closure ran on a transaction that took no step yet, to this answer, and what it left was committed
+--     HasTransacted seen step p level now old new f a      the closure f, as attempts left it that were refused by a conflict, ran on a transaction that took no step yet, to this answer, and what it left was committed
 use Rattle.std.specs.Prelude.{◌≡◌, ◌⊎◌, ℕ, zero, suc, ℤ, List, [], Option, Some, Result, Ok, Err}
 use mathlib.Core.List.{IsPrefix}
 use Rattle.slate_types.specs.declared.config.IsolationLevel.{IsolationLevel}
@@ -35,15 +35,6 @@ pub record HasRead (p : Terms) (old new : ConnectionModel) (ts : List Transcript
   pub known : IsPrefix done.seen new.pass.seen
   pub vouched : IsStoreChecked p.policies p.meaning new.pass.seen old.reach new.reach → IsVouchedThere p.options p.meaning done
 
-pub record HasTransacted {F V A : Type 0} (seen : V → ConnectionModel) (step : F → V → Result A SlateDBError → V → F → Type 0) (p : Terms) (level : IsolationLevel) (now : ℤ) (old new : ConnectionModel) (a : A) : Type 0 where
-  pub before : F
-  pub after : F
-  pub found : V
-  pub left : V
-  pub ran : step before found (Ok a) left after
-  pub bare : taken (seen found) ≡ []
-  pub committed : CommitsSteps p level now old new (taken (seen left))
-
 pub record HasRun {F V A : Type 0} (seen : V → ConnectionModel) (step : F → V → Result A SlateDBError → V → F → Type 0) (p : Terms) (level : IsolationLevel) (old : ConnectionModel) (f g : F) (answer : Result A SlateDBError) (t : Opened) : Type 0 where
   pub found : V
   pub left : V
@@ -66,3 +57,16 @@ AfterConflicts {F} {V} {A} seen step p level (suc n) old f new g =
 abbrev pub IsLast : {F V A : Type 0} → (V → ConnectionModel) → (F → V → Result A SlateDBError → V → F → Type 0) → Terms → IsolationLevel → ConnectionModel → ConnectionModel → F → Result A SlateDBError → Type 0
 IsLast {F} {V} {A} seen step p level old new f (Ok a) = (g : F) × (found : V) × (left : V) × step f found (Ok a) left g
 IsLast {F} {V} {A} seen step p level old new f (Err e) = (g : F) × EndsByRefusal {F = F} {V = V} {A = A} seen step p level old new f g e
+
+-- number, mid, before: the attempts in front, and the connection and the closure behind them
+pub record HasTransacted {F V A : Type 0} (seen : V → ConnectionModel) (step : F → V → Result A SlateDBError → V → F → Type 0) (p : Terms) (level : IsolationLevel) (now : ℤ) (old new : ConnectionModel) (f : F) (a : A) : Type 0 where
+  pub number : ℕ
+  pub mid : ConnectionModel
+  pub before : F
+  pub earlier : AfterConflicts {F = F} {V = V} {A = A} seen step p level number old f mid before
+  pub after : F
+  pub found : V
+  pub left : V
+  pub ran : step before found (Ok a) left after
+  pub bare : taken (seen found) ≡ []
+  pub committed : CommitsSteps p level now old new (taken (seen left))

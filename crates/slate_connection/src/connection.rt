@@ -165,6 +165,8 @@ impl<'a, R: Wait, S: Store> Connection<'a, R, S> {
             × HasWritten (IsFault (reach_in self.old) (reach_in self.new)) no_parts None
             (settings_of defaults) (pos 0) (with_op no_ops key.now (plain_put value.now))
             self.old.pass self.new.pass (Ok n)) }
+        ensures same { (self.new.pass.table ≡ self.old.pass.table)
+            × (self.new.pass.parts ≡ self.old.pass.parts) }
         ensures refused { OnErr result (SeesOnly self.old.pass self.new.pass) }
         ensures reads { OnlyReads (reach_in self.old) (reach_in self.new) }
         ensures still { self.new.txn ≡ self.old.txn }
@@ -187,6 +189,8 @@ impl<'a, R: Wait, S: Store> Connection<'a, R, S> {
             × HasWritten (IsFault (reach_in self.old) (reach_in self.new)) no_parts None
             (settings_of defaults) (pos 0) (with_op no_ops key.now
             (WriteOp.Put value.now options.now)) self.old.pass self.new.pass (Ok n)) }
+        ensures same { (self.new.pass.table ≡ self.old.pass.table)
+            × (self.new.pass.parts ≡ self.old.pass.parts) }
         ensures refused { OnErr result (SeesOnly self.old.pass self.new.pass) }
         ensures reads { OnlyReads (reach_in self.old) (reach_in self.new) }
         ensures still { self.new.txn ≡ self.old.txn }
@@ -204,6 +208,8 @@ impl<'a, R: Wait, S: Store> Connection<'a, R, S> {
             × HasWritten (IsFault (reach_in self.old) (reach_in self.new)) no_parts None
             (settings_of defaults) (pos 0) (with_op no_ops key.now WriteOp.Delete) self.old.pass
             self.new.pass (Ok n)) }
+        ensures same { (self.new.pass.table ≡ self.old.pass.table)
+            × (self.new.pass.parts ≡ self.old.pass.parts) }
         ensures refused { OnErr result (SeesOnly self.old.pass self.new.pass) }
         ensures reads { OnlyReads (reach_in self.old) (reach_in self.new) }
         ensures still { self.new.txn ≡ self.old.txn }

@@ -12,7 +12,7 @@ ghost use Rattle.slate_txn.specs.declared.event.Event.{Event};
 ghost use Rattle.slate_txn.specs.declared.event.TranscriptStep.TheVariants as steps;
 ghost use Rattle.slate_txn.specs.Replay.{IsLegal};
 ghost use Rattle.slate_shared.specs.Passes.{Opened};
-ghost use Rattle.slate_steps.specs.Attempts.{HasCommittedBehind, IsAttempt, IsReadErrorOn, IsRefusedBehind, IsUnbegun, SeesOnly};
+ghost use Rattle.slate_steps.specs.Attempts.{HasCommittedBehind, IsAttempt, IsReadErrorOn, IsRefusedBehind, IsUnbegun, SeesMore, SeesOnly};
 ghost use Rattle.slate_connection.specs.Connected.{IsOpenAttempt, Stays, StaysIn, taken};
 ghost use Rattle.slate_connection.specs.Transacted.{AfterConflicts, HasRead, HasTransacted, IsLast, EndsByRefusal};
 
@@ -147,13 +147,14 @@ pub trait Transact {
         requires stays { (f g : F) (s t : _) (r : _) → F.step f s r t g →
             StaysIn terms seen s.now.db t.now.db }
         ensures committed { IfOk result (HasTransacted (λ t. seen t.now.db.now) F.step terms
-            options.entry.now.level options.entry.now.now (seen self.old) (seen self.new)) }
+            options.entry.now.level options.entry.now.now (seen self.old) (seen self.new) work) }
         ensures tried { (n : ℕ) × (n < max 1 options.entry.now.attempts) × (mid : ConnectionModel)
             × (f : F)
             × AfterConflicts (λ t. seen t.now.db.now) F.step terms options.entry.now.level n
             (seen self.old) work mid f
             × IsLast (λ t. seen t.now.db.now) F.step terms options.entry.now.level mid
             (seen self.new) f result }
+        ensures more { SeesMore (seen self.old).pass (seen self.new).pass }
         ensures refused { OnErr result (SeesOnly (seen self.old).pass (seen self.new).pass) }
         ensures none { (seen self.new).txn ≡ None }
         ensures reads { OnlyReads (seen self.old).reach (seen self.new).reach }
@@ -292,7 +293,7 @@ fn attempt<D: Transact, A: Drop, F: FnMut(&mut Transaction<'_, D>) -> Result<A, 
     requires stays { (f g : F) (s t : _) (r : _) → F.step f s r t g →
         StaysIn D.terms D.seen s.now.db t.now.db }
     ensures committed { IfOk result (HasTransacted (λ t. D.seen t.now.db.now) F.step D.terms level
-        now (D.seen db.old) (D.seen db.new)) }
+        now (D.seen db.old) (D.seen db.new) work.old) }
     ensures ran { IfOk result (λ a. (s : _) × (t : _) × F.step work.old s (Ok a) t work.new) }
     ensures cause { IfErr result (EndsByRefusal (λ t. D.seen t.now.db.now) F.step D.terms level
         (D.seen db.old) (D.seen db.new) work.old work.new) }

@@ -20,7 +20,10 @@ returns-in_ok-commit-in-Ok-clause-committed g c =
     let new = d.seen c.commit.new.self in
     let n = c.in_ok-commit-in-Ok.field-0 in
     record {
+      number = 0;
+      mid = old;
       before = c.args.work.now;
+      earlier = (refl, refl);
       after = c.run.new.work;
       found = p.0;
       left = p.1;

@@ -1,0 +1,10 @@
+use Rattle.std.proofs.Common.{rules, ◌≡◌}
+use Rattle.std.proofs.lemmas.Result.{IfOk-weaker}
+use Rattle.slate_connection.proofs.Going.{committed_at}
+use Rattle.bank.proofs.bank.transfer.Goals as goal
+
+pub returns-clause-moved : goal.returns-clause-moved
+returns-clause-moved g c =
+    IfOk-weaker c.transact.result _ _
+    (λ a h. (_, committed_at _ _ _ _ _ _ _ _ c.patient.ensures.0 c.patient.ensures.1 h.committed, search rules))
+    c.transact.ensures.committed
