@@ -152,10 +152,10 @@ fn stored_tables<S: Store, M: MergeOperator, T: BlockTransformer, X: PrefixExtra
         StoresParts layout number lists (reach env.old) (reach env.new)
         (env.new.operator ≡ env.old.operator) result }
 {
-    let mut parts = parts;
-    let mut stored = Vec::with_capacity(alloc, parts.len())?;
-    while let Some(part) = parts.pop() {
-        let id = Ulid(number as u128 * 18446744073709551616 + parts.len() as u128);
+    let mut left = parts;
+    let mut stored = Vec::with_capacity(alloc, left.len())?;
+    while let Some(part) = left.pop() {
+        let id = Ulid(number as u128 * 18446744073709551616 + left.len() as u128);
         let (table, handle) = stored_table(alloc, id, part.rows, laws, env)?;
         let prefix = part.prefix;
         stored.push_reserved(StoredTable {
@@ -180,10 +180,10 @@ fn in_runs(
         a.1.items) }
     ensures cause { IsOkUnless result SlateDBError.OutOfMemory }
 {
-    let mut stored = stored;
-    let mut tables = Vec::with_capacity(alloc, stored.len())?;
+    let mut left = stored;
+    let mut tables = Vec::with_capacity(alloc, left.len())?;
     let mut runs = Vec::new(alloc);
-    while let Some(next) = stored.pop() {
+    while let Some(next) = left.pop() {
         tables.push_reserved(next.table);
         add_table(alloc, &mut runs, next.prefix, next.handle)?;
     }

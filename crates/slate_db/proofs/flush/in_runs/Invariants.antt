@@ -5,9 +5,9 @@ use Rattle.slate_db.proofs.flush.in_runs.Given as goal
 
 abbrev pub invariant-loop-next : goal.invariant-loop-next
 invariant-loop-next l = record {
-  far : AreLaid l.initial.stored.items l.stored.items l.tables.items l.runs.items;
-  room : length l.tables.items + length l.stored.items ≤ vec_capacity l.tables;
+  far : AreLaid l.initial.left.items l.left.items l.tables.items l.runs.items;
+  room : length l.tables.items + length l.left.items ≤ vec_capacity l.tables;
 }
 
 abbrev pub decreases-loop-next : goal.decreases-loop-next
-decreases-loop-next l = length l.stored.items
+decreases-loop-next l = length l.left.items

@@ -24,7 +24,7 @@ next_place id number count rest is same fits =
 
 pub stored_table-requires-clause-ready : goal.stored_table-requires-clause-ready
 stored_table-requires-clause-ready g c = λ κs lives.
-    let popped : c.loop-part.parts.items ≡ c.pop.new.self.items ++ (c.in-Some.part ∷ []) =
+    let popped : c.loop-part.left.items ≡ c.pop.new.self.items ++ (c.in-Some.part ∷ []) =
     search rules in
     let next = ap (map (λ t. t.rows.items)) popped
     ∙ map-append (λ t. t.rows.items) c.pop.new.self.items (c.in-Some.part ∷ []) in
@@ -35,7 +35,7 @@ returns-in_err-table g c =
     let p = err_from_is_err_and c.from_residual-in_err-table.result
     c.from_residual-in_err-table.ensures.1 in
     let was = c.loop-part.invariant in
-    let popped : c.loop-part.parts.items ≡ c.pop.new.self.items ++ (c.in-Some.part ∷ []) =
+    let popped : c.loop-part.left.items ≡ c.pop.new.self.items ++ (c.in-Some.part ∷ []) =
     search rules in
     let next = ap (map (λ t. t.rows.items)) popped
     ∙ map-append (λ t. t.rows.items) c.pop.new.self.items (c.in-Some.part ∷ []) in
@@ -71,7 +71,7 @@ returns-in_err-table g c =
 pub loop-part-preserved : goal.loop-part-preserved
 loop-part-preserved g c =
     let was = c.loop-part.invariant in
-    let popped : c.loop-part.parts.items ≡ c.pop.new.self.items ++ (c.in-Some.part ∷ []) =
+    let popped : c.loop-part.left.items ≡ c.pop.new.self.items ++ (c.in-Some.part ∷ []) =
     search rules in
     let next = ap (map (λ t. t.rows.items)) popped
     ∙ map-append (λ t. t.rows.items) c.pop.new.self.items (c.in-Some.part ∷ []) in

@@ -16,16 +16,16 @@ invariant-loop-part g l =
     let segments = segments_by g.X.PrefixExtractor.lengths l.laws.segments in
     record {
       far : IsSoFar before now (layout_of l.laws.options policies segments) l.number
-          (map (λ t. t.rows.items) l.initial.parts.items) (map (λ t. t.rows.items) l.parts.items)
+          (map (λ t. t.rows.items) l.initial.left.items) (map (λ t. t.rows.items) l.left.items)
           (map (λ t. t.table) (reverse l.stored.items))
           (map (λ t. t.handle) (reverse l.stored.items));
-      prefixes : PrefixesSoFar (map (λ t. t.prefix) l.initial.parts.items)
-          (map (λ t. t.prefix) l.parts.items) (map (λ t. t.prefix) (reverse l.stored.items));
-      room : length l.stored.items + length l.parts.items ≤ vec_capacity l.stored;
+      prefixes : PrefixesSoFar (map (λ t. t.prefix) l.initial.left.items)
+          (map (λ t. t.prefix) l.left.items) (map (λ t. t.prefix) (reverse l.stored.items));
+      room : length l.stored.items + length l.left.items ≤ vec_capacity l.stored;
       operator : l.env.operator ≡ l.initial.env.operator;
       puts : Puts before now;
       still : now.faults ≡ before.faults;
     }
 
 abbrev pub decreases-loop-part : goal.decreases-loop-part
-decreases-loop-part g l = length l.parts.items
+decreases-loop-part g l = length l.left.items
