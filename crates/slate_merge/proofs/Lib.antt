@@ -4,6 +4,7 @@ pub mod Grouping
 pub mod Newests
 pub mod Shuffles
 pub mod HeadLaws
+pub mod HeadOrders
 pub mod StepLaws
 pub mod SeekLaws
 pub mod BeginLaws

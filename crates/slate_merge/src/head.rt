@@ -2,12 +2,17 @@
 ghost use Rattle.std.specs.Prelude.{◌≡◌, IfOk, IsOkUnless};
 ghost use Rattle.slate_types.specs.declared.error.SlateDBError.{SlateDBError};
 ghost use Rattle.slate_types.specs.declared.iter.IterationOrder.{IterationOrder};
-ghost use Rattle.slate_merge.specs.Orders.{order_rank, rising_key, falling_key};
+ghost use Rattle.slate_types.specs.declared.types.RowEntry.{RowEntry};
+ghost use Rattle.slate_types.specs.RowTurns.{key_order};
+ghost use Rattle.slate_merge.specs.Orders.{order_rank};
 
-use slate_types::{IterationOrder, Outside, RowEntry, RowEntryIterator, SlateDBError};
+use slate_types::{
+    IterationOrder, Outside, RowEntry, RowEntryIterator, SlateDBError, compare_keys,
+};
 use std::alloc::Global;
 use std::cmp::Ordering;
 use std::marker::Model;
+use std::mem;
 
 /// A source in a box, so that a heap moves an address and not the source. Contracts see the source.
 #[derive(Drop)]
@@ -78,11 +83,59 @@ impl<E: Outside, I: RowEntryIterator<E>> RowEntryIterator<E> for BoxedSource<I> 
     }
 }
 
+/// A row in a box, so that a heap moves an address and not the row. Contracts see the row.
+#[derive(Drop)]
+pub struct BoxedRow {
+    row: Box<RowEntry>,
+}
+
+impl Model for BoxedRow {
+    ghost Value = { RowEntry };
+
+    ghost view = { λ b. b.row.value };
+}
+
+impl BoxedRow {
+    /// Puts a row into a box of its own.
+    pub fn new(alloc: Global, row: RowEntry) -> Result<BoxedRow, SlateDBError>
+        ensures row { IfOk result (λ b. b ≡ row) }
+        ensures cause { IsOkUnless result SlateDBError.OutOfMemory }
+    {
+        let row = Box::new(alloc, row)?;
+        Ok(BoxedRow { row })
+    }
+
+    /// Shows the row.
+    #[inline(always)]
+    pub fn as_row(&self) -> &RowEntry
+        ensures { result.now ≡ self.now }
+    {
+        &self.row
+    }
+
+    /// Puts a row into the box, and answers the one that was there.
+    #[inline(always)]
+    pub fn replace(&mut self, row: RowEntry) -> RowEntry
+        ensures row { result ≡ self.old }
+        ensures after { self.new ≡ row }
+    {
+        mem::replace(&mut self.row, row)
+    }
+
+    /// Takes the row out of its box.
+    pub fn into_row(self) -> RowEntry
+        ensures { result ≡ self }
+    {
+        let BoxedRow { row } = self;
+        Box::into_inner(row)
+    }
+}
+
 /// A source that has begun, with its first row, which was taken off.
 #[derive(Drop)]
 pub struct Head<I> {
     /// The row, which comes next of this source.
-    pub row: RowEntry,
+    pub row: BoxedRow,
 
     /// How many sources stand behind this one in the list of sources.
     pub behind: usize,
@@ -103,23 +156,13 @@ fn rank(order: IterationOrder) -> u8
     }
 }
 
-/// The key where keys rise, and nothing where they fall.
-fn rising_key(row: &RowEntry, order: IterationOrder) -> &[u8]
-    ensures { result.now ≡ rising_key order row.now.key }
+/// Compares two keys in an order: the key that comes first is the lesser.
+fn compare_in(order: IterationOrder, a: &[u8], b: &[u8]) -> Ordering
+    ensures { result ≡ key_order order a.now b.now }
 {
     match order {
-        IterationOrder::Ascending => row.key.as_slice(),
-        IterationOrder::Descending => &[],
-    }
-}
-
-/// The key where keys fall, and nothing where they rise.
-fn falling_key(row: &RowEntry, order: IterationOrder) -> &[u8]
-    ensures { result.now ≡ falling_key order row.now.key }
-{
-    match order {
-        IterationOrder::Ascending => &[],
-        IterationOrder::Descending => row.key.as_slice(),
+        IterationOrder::Ascending => compare_keys(a, b),
+        IterationOrder::Descending => compare_keys(b, a),
     }
 }
 
@@ -138,12 +181,15 @@ impl<I> Ord for Head<I> {
     ghost matches_eq = { Prim.search (comparing, rules) };
 
     fn cmp(&self, other: &Head<I>) -> Ordering {
+        let (row, other_row) = (self.row.as_row(), other.row.as_row());
+        let keys = compare_in(self.order, other_row.key.as_slice(), row.key.as_slice());
+        let places = row
+            .seq
+            .cmp(&other_row.seq)
+            .then(self.behind.cmp(&other.behind));
         rank(other.order)
             .cmp(&rank(self.order))
-            .then(rising_key(&other.row, other.order).cmp(rising_key(&self.row, self.order)))
-            .then(falling_key(&self.row, self.order).cmp(falling_key(&other.row, other.order)))
-            .then(self.row.seq.cmp(&other.row.seq))
-            .then(self.behind.cmp(&other.behind))
+            .then(keys.then(places))
     }
 }
 

@@ -15,7 +15,7 @@ ghost use Rattle.slate_merge.specs.MergeSteps.{CountsKey, CountsTaken, Goes, Joi
 ghost use Rattle.slate_merge.specs.Merging.{AreHeaped, AreReady, HasRow, begun_sources, blames, has_key, is_before, IsTop, merging_bound, waiting_sources, AreWithin};
 ghost use Rattle.slate_merge.specs.SourceSteps.{AreMerging, left_of_heads, MovesSources, SourcesAddNone, StepsHeads};
 
-use crate::head::{BoxedSource, Head};
+use crate::head::{BoxedRow, BoxedSource, Head};
 use slate_types::{
     IterationOrder, Outside, RowEntry, RowEntryIterator, SlateDBError, ValueDeletable,
 };
@@ -41,6 +41,7 @@ pub fn put_back<E: Outside, I: RowEntryIterator<E>>(
 {
     match source.next(alloc, env) {
         Ok(Some(row)) => {
+            let row = BoxedRow::new(alloc, row)?;
             let head = Head {
                 row,
                 behind,
@@ -51,6 +52,51 @@ pub fn put_back<E: Outside, I: RowEntryIterator<E>>(
         }
         Ok(None) => Ok(()),
         Err(refusal) => Err(refusal),
+    }
+}
+
+/// Takes the next row off a source into the box of the row before it, and puts the source with it
+/// among the heads, where there is one. Answers the row before.
+#[inline(always)]
+fn put_next<E: Outside, I: RowEntryIterator<E>>(
+    alloc: Global,
+    mut row: BoxedRow,
+    mut source: BoxedSource<I>,
+    behind: usize,
+    order: IterationOrder,
+    heads: &mut BinaryHeap<Head<I>>,
+    env: &mut E,
+) -> Result<RowEntry, SlateDBError>
+    ensures answer { IfOk result (λ first. first ≡ row) }
+    ensures joins { OnOk result (Joins (Goes I.rest I.sound I.refuses I.takes I.bound I.order (E.reach env.old) (E.reach env.new)) source behind order (heap_items heads.old) (heap_items heads.new)) }
+    ensures heap { KeepsHeap head_cmp (heap_items heads.old) (heap_items heads.new) }
+    ensures cause { IfErr result (λ e. IsFaultOr I.refuses (E.reach env.old) (E.reach env.new) source None e) }
+    ensures within { (paths : List (List ℕ)) → I.within source paths → AreWithin I.within (begun_sources (heap_items heads.old)) paths → ReadsAt paths (E.reach env.old) (E.reach env.new) × OnOk result (AreWithin I.within (begun_sources (heap_items heads.new)) paths) }
+    ensures reads { OnlyReads (E.reach env.old) (E.reach env.new) }
+    ensures counts { IsStill (E.reach env.old).faults (E.reach env.new).faults result }
+{
+    match source.next(alloc, env) {
+        Ok(Some(next)) => {
+            let first = row.replace(next);
+            let head = Head {
+                row,
+                behind,
+                order,
+                source,
+            };
+            match heads.push(head) {
+                Ok(()) => Ok(first),
+                Err(error) => {
+                    drop(first);
+                    Err(SlateDBError::from(error))
+                }
+            }
+        }
+        Ok(None) => Ok(row.into_row()),
+        Err(error) => {
+            drop(row);
+            Err(error)
+        }
     }
 }
 
@@ -79,12 +125,9 @@ pub fn take_first<E: Outside, I: RowEntryIterator<E>>(
         order,
         source,
     } = head;
-    match put_back(alloc, source, behind, order, heads, env) {
-        Ok(()) => Ok(Some(row)),
-        Err(error) => {
-            drop(row);
-            Err(error)
-        }
+    match put_next(alloc, row, source, behind, order, heads, env) {
+        Ok(first) => Ok(Some(first)),
+        Err(error) => Err(error),
     }
 }
 
@@ -93,7 +136,7 @@ fn top_has_key<I>(heads: &BinaryHeap<Head<I>>, key: &[u8]) -> bool
     ensures { (top : Option (Head I)) × IsTop (heap_items heads.now) top × (result ≡ has_key key.now top) }
 {
     match heads.peek() {
-        Some(head) => key == head.row.key.as_slice(),
+        Some(head) => key == head.row.as_row().key.as_slice(),
         None => false,
     }
 }
@@ -103,7 +146,9 @@ fn top_is_before<I>(heads: &BinaryHeap<Head<I>>, key: &[u8]) -> bool
     ensures { (top : Option (Head I)) × IsTop (heap_items heads.now) top × (result ≡ is_before key.now top) }
 {
     match heads.peek() {
-        Some(head) => head.order.puts_before(head.row.key.as_slice(), key),
+        Some(head) => head
+            .order
+            .puts_before(head.row.as_row().key.as_slice(), key),
         None => false,
     }
 }
@@ -188,13 +233,18 @@ pub fn seek_first<E: Outside, I: RowEntryIterator<E>>(
         order,
         mut source,
     } = head;
-    drop(row);
     match source.seek(alloc, key, env) {
-        Ok(()) => match put_back(alloc, source, behind, order, heads, env) {
-            Ok(()) => Ok(true),
+        Ok(()) => match put_next(alloc, row, source, behind, order, heads, env) {
+            Ok(first) => {
+                drop(first);
+                Ok(true)
+            }
             Err(error) => Err(error),
         },
-        Err(error) => Err(error),
+        Err(error) => {
+            drop(row);
+            Err(error)
+        }
     }
 }
 

@@ -4,7 +4,7 @@ use Rattle.slate_merge.proofs.heads.put_back.Goals as goal
 pub returns-in_ok-push-in-Ok-Some-clause-joins : goal.returns-in_ok-push-in-Ok-Some-clause-joins
 returns-in_ok-push-in-Ok-Some-clause-joins g c =
     let n = rw c.in-Ok-Some.field-0-is at c.in-Ok-Some.ensures in
-    inr (c.in-Ok-Some.row, c.next.new.self, record { step = record { rows = n.rows; still = n.still; checked = n.checked; taken = n.taken }; order = n.order; smaller = n.smaller }, c.in_ok-push-in-Ok-Some.ensures.permutation)
+    inr (c.in-Ok-Some.row, c.next.new.self, record { step = record { rows = n.rows; still = n.still; checked = n.checked; taken = n.taken }; order = n.order; smaller = n.smaller }, rw c.in_ok-row-in-Ok-Some.ensures.row at c.in_ok-push-in-Ok-Some.ensures.permutation)
 
 pub returns-in-Ok-None-clause-joins : goal.returns-in-Ok-None-clause-joins
 returns-in-Ok-None-clause-joins g c =
