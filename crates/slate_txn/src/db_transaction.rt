@@ -338,7 +338,7 @@ impl DbTransactionInner {
             marked,
             unmarked,
             reading,
-            transcript,
+            mut transcript,
             room,
             ..
         } = self;
@@ -354,11 +354,15 @@ impl DbTransactionInner {
         );
         drop(unmarked);
         match handed {
-            Ok(tracked) => Ok(Tested {
-                batch,
-                tracked,
-                transcript: Transcript::from_vec(transcript),
-            }),
+            Ok(tracked) => {
+                // It is kept for good, and most transcripts are shorter than their room.
+                transcript.shrink_to_fit();
+                Ok(Tested {
+                    batch,
+                    tracked,
+                    transcript: Transcript::from_vec(transcript),
+                })
+            }
             Err(error) => {
                 drop(batch);
                 drop(transcript);

@@ -20,7 +20,7 @@ returns-in-Ok c = record {
   commits = record {
     batch = subst (λ (t : Tx). IsBatchOf t.ops c.self.inside.batch) c.self.view_is c.self.invariant.batch;
     keys = c.in-Ok.ensures.tracked ∙ writes_are (own_view c.self.inside) c.args.self c.self.inside.batch c.as_slice.result.now c.self.view_is c.self.invariant.batch c.as_slice.ensures.value;
-    steps = c.from_vec.ensures ∙ ap (λ (t : Tx). t.transcript) c.self.view_is;
+    steps = c.from_vec.ensures ∙ c.shrink_to_fit.ensures.items ∙ ap (λ (t : Tx). t.transcript) c.self.view_is;
   };
 }
 
