@@ -12,7 +12,7 @@ use Rattle.std.proofs.lemmas.Slice.Eq.{bytes_eq-Decides}
 use Rattle.slate_types.specs.Keys.{key_cmp, among}
 use Rattle.slate_types.proofs.KeyOrder.{equal_keys, bytes_eq_below}
 use Rattle.slate_txn.specs.Named.{find_named}
-use Rattle.slate_txn.specs.Managers.{written}
+use Rattle.slate_txn.specs.Managers.{written, IsWritten}
 use Rattle.slate_txn.specs.ManagersView.{placed, over, real, IsKeptWithin, AreKept}
 use Rattle.slate_txn.proofs.Keeps.{Entries}
 use Rattle.slate_txn.proofs.NamedLaws.{find_is}
@@ -40,6 +40,14 @@ placed_new key es fs h was k =
     by true d None e = refl
     by false d (Some n) e = refl
     by false d None e = refl
+
+-- a key that is taken in with its sequence at once
+pub written_one : (n : ℕ) (key : List ℕ) (es fs : Entries) → ((k : List ℕ) → lookup (is_at (key_cmp k)) fs ≡ cond (is_at (key_cmp key) k) (Some n) (lookup (is_at (key_cmp k)) es)) → IsWritten n (key ∷ []) es fs
+written_one n key es fs was k = sym (find_is k fs) ∙ was k ∙ (let t = is_eq-slice_cmp key k in let f = find_is k es in λ i. cond (t i) (Some n) (f i)) ∙ by (bytes_eq key k) (find_named k es)
+  where
+    by : (t : Bool) (o : Option ℕ) → cond t (Some n) o ≡ written n (t || false) o
+    by true o = refl
+    by false o = refl
 
 -- what is none is taken out by its sequence
 pub real_new : (key : List ℕ) (es : Entries) → is_some (find_named key es) ≡ false → real (insert_entry key_cmp es key 0) ≡ real es

@@ -329,6 +329,19 @@ fn write(kept: &mut BTreeMap<Bytes, u64>, key: &Bytes, seq: u64)
     }
 }
 
+/// Keeps the sequence for one key, by one search. Where memory is wanting all is as it was.
+fn keep_one(kept: &mut BTreeMap<Bytes, u64>, key: &Bytes, seq: u64) -> Result<(), AllocError>
+    requires kept { AreKept (seq - 1) kept.old.entries }
+    requires later { 0 < seq }
+    ensures found { OnOk result (IsWritten seq (key.now ∷ []) kept.old.entries kept.new.entries) }
+    ensures kept { OnOk result (AreKept seq kept.new.entries) }
+    ensures same { OnErr result (kept.new.entries ≡ kept.old.entries) }
+{
+    let before = kept.insert(key.clone()?, seq)?;
+    drop(before);
+    Ok(())
+}
+
 /// Keeps the sequence for each of the keys. Where memory is wanting all is as it was.
 fn keep(kept: &mut BTreeMap<Bytes, u64>, keys: &[Bytes], seq: u64) -> Result<(), AllocError>
     requires kept { AreKept (seq - 1) kept.old.entries }
@@ -337,6 +350,9 @@ fn keep(kept: &mut BTreeMap<Bytes, u64>, keys: &[Bytes], seq: u64) -> Result<(),
     ensures kept { OnOk result (AreKept seq kept.new.entries) }
     ensures same { OnErr result (kept.new.entries ≡ kept.old.entries) }
 {
+    if let [key] = keys {
+        return keep_one(kept, key, seq);
+    }
     if let Err(error) = place_all(kept, keys) {
         drop_up_to(kept, 0);
         return Err(error);

@@ -12,7 +12,7 @@ returns-in-Err-clause-same c = c.drop_up_to.ensures ∙ c.in-Err.ensures.real �
 
 found : (c : goal.After-write_all) (k : List ℕ) → find_named k c.write_all.new.kept.entries ≡ written c.args.seq (among k c.args.keys.now) (find_named k c.args.kept.now.entries)
 found c k =
-    c.write_all.ensures.found k ∙ ap (over c.args.seq (among k c.args.keys.now)) (c.in_default.ensures.found k)
+    c.write_all.ensures.found k ∙ ap (over c.args.seq (among k c.args.keys.now)) (c.in_default-place_all.ensures.found k)
     ∙ written_is c.args.seq (among k c.args.keys.now) (find_named k c.args.kept.now.entries)
 
 pub returns-clause-found : goal.returns-clause-found
