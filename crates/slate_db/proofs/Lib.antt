@@ -91,7 +91,6 @@ pub mod Noting
 pub mod StepExits
 pub mod WriteVerdicts
 mod Writing
-mod WholeFlushes
 pub mod WriteFacts
 pub mod CommitFacts
 mod Unasked
