@@ -22,6 +22,7 @@ mod FilterWrites
 mod Results
 mod StatsReads
 mod InfoReads
+mod SectionAsks
 mod SectionReads
 mod OrderLaws
 mod PathLaws

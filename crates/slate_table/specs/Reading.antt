@@ -10,6 +10,7 @@
 --     of_index, of_filters, of_stats, of_block      the same, of the sections of a table that was put or opened
 --     stored_in section      what stands before the checksum of a section that was read, or the refusal
 --     Fits section      the section was read in full, and its checksum fits
+--     unchanged      what decodes bytes where there is no transformer
 --     IsPart decode section part      a section was read whose stored bytes are decoded to the part
 --     FailsDecoding before after section e      the transformer failed at a section whose checksum fits
 --     IsRefused decode refused section e      the section is refused, or its part is
@@ -87,6 +88,10 @@ stored_of cover (Some bytes) = part_in cover bytes
 
 abbrev pub stored_in : SectionRead → Result (List ℕ) SlateDBError
 stored_in s = stored_of s.cover s.answer
+
+-- bytes that no transformer changes
+abbrev pub unchanged : Encode
+unchanged bytes = bytes
 
 abbrev pub IsPart : Encode → SectionRead → List ℕ → Type 0
 IsPart decode s part = (stored : List ℕ) × (s.answer ≡ Some (summed s.cover stored)) × (part ≡ decode stored)

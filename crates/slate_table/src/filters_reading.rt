@@ -5,10 +5,11 @@ ghost use Rattle.slate_block.specs.Damage.{number_field};
 ghost use Rattle.slate_filter.specs.Asking.{also, asked_by};
 ghost use Rattle.slate_filter.specs.Named.{named_pair};
 ghost use Rattle.slate_table.specs.Decoded.{IsFilters};
-ghost use Rattle.slate_table.specs.Filtered.{AnswersFilterPart, RefusesFilterPart};
+ghost use Rattle.slate_table.specs.Filtered.{AnswersFilterPart, IsAsked, RefusesFilterPart, RefusesQuery};
 ghost use Rattle.slate_table.specs.FiltersReading.{name_field, filter_field, filters_from, filters_in, in_filters, filters_say, filters_say_from};
-ghost use Rattle.slate_table.specs.Reading.{AreNoFilters};
+ghost use Rattle.slate_table.specs.Reading.{AreNoFilters, read_at, unchanged};
 
+use crate::section::{SectionPlace, checked_len};
 use bytes::Bytes;
 use slate_block::fields::{block_field, corrupt, u16_field, u64_field};
 use slate_filter::{FilterPolicy, NamedFilter, asked_by, is_text};
@@ -137,6 +138,41 @@ pub(crate) fn ask_filters(
     answer.ok_or(SlateDBError::InvalidFilterBlock {
         len: part.len() as u64,
     })
+}
+
+/// What the filters of the section at a place answer that was read, without a transformer.
+pub(crate) fn ask_answer(
+    answer: Option<Bytes>,
+    place: SectionPlace,
+    policies: &[Box<dyn FilterPolicy>],
+    query: &FilterQuery,
+) -> Result<bool, SlateDBError>
+    ensures asked { IfOk result (IsAsked unchanged (map (λ p. meaning p) policies.now) query.now (read_at place answer)) }
+    ensures cause { IfErr result (RefusesQuery unchanged (map (λ p. meaning p) policies.now) query.now (read_at place answer)) }
+{
+    match answer {
+        None => Err(corrupt(0)),
+        Some(bytes) => {
+            let passes = ask_section(bytes.as_slice(), place, policies, query);
+            drop(bytes);
+            passes
+        }
+    }
+}
+
+/// What the filters of the section at a place answer, asked where they stand. Refuses as
+/// `checked_part` does, and as `ask_filters` does.
+fn ask_section(
+    bytes: &[u8],
+    place: SectionPlace,
+    policies: &[Box<dyn FilterPolicy>],
+    query: &FilterQuery,
+) -> Result<bool, SlateDBError>
+    ensures asked { IfOk result (IsAsked unchanged (map (λ p. meaning p) policies.now) query.now (read_at place (Some bytes.now))) }
+    ensures cause { IfErr result (RefusesQuery unchanged (map (λ p. meaning p) policies.now) query.now (read_at place (Some bytes.now))) }
+{
+    let len = checked_len(bytes, place)?;
+    ask_filters(policies, &bytes[..len], query)
 }
 
 /// What the filters of a part answer, where none that is asked is refused.

@@ -82,7 +82,7 @@ pub fn checked_part(bytes: &Bytes, place: SectionPlace) -> Result<Bytes, SlateDB
 
 /// How many bytes stand before a checksum that fits.
 #[tactic(auto, unfolding(crate::specs::SectionReading::part_in))]
-fn checked_len(bytes: &[u8], place: SectionPlace) -> Result<usize, SlateDBError>
+pub(crate) fn checked_len(bytes: &[u8], place: SectionPlace) -> Result<usize, SlateDBError>
     ensures found { IfOk result (λ len. part_in (covered_by place) bytes.now ≡ Ok (take len bytes.now)) }
     ensures within { IfOk result (λ len. len ≤ length bytes.now) }
     ensures cause { IfErr result (λ e. part_in (covered_by place) bytes.now ≡ Err e) }

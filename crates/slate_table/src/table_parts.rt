@@ -387,6 +387,8 @@ fn frozen(
     ensures cause { IsOkUnless result SlateDBError.OutOfMemory }
 {
     let _len = bytes.len();
+    let mut bytes = bytes;
+    bytes.shrink_to_fit();
     match Bytes::from_vec(bytes) {
         Ok(bytes) => Ok(EncodedSsTable::new(bytes, info, version, id)),
         Err(failed) => {

@@ -40,10 +40,11 @@ ghost use Rattle.slate_table.specs.Reading.{
   AreBlocksRead,
   RefusesBlocks,
   FailsBlocks,
+  unchanged,
 };
 
 use crate::encoded_table::EncodedSsTable;
-use crate::filters_reading::{ask_filters, decode_filters};
+use crate::filters_reading::{ask_answer, ask_filters, decode_filters};
 use crate::info::SsTableHandle;
 use crate::paths::{LONGEST_ROOT, PATH_ROOM, short_path, table_path};
 use crate::section::{BLOCK_KIND, FILTERS_KIND, INDEX_KIND, SectionPlace, open_section};
@@ -212,6 +213,9 @@ impl TableStore {
         if !asks_filters(policies, table.info.filter_len) {
             return Ok(true);
         }
+        if transformer.is_none() {
+            return ask_stored(alloc, store, root, table, policies, query);
+        }
         let place = (table.info.filter_offset, table.info.filter_len);
         let part = read_part(alloc, store, root, table, FILTERS_KIND, place, transformer)?;
         let passes = ask_filters(policies, part.as_slice(), query);
@@ -379,6 +383,36 @@ pub(crate) fn read_part<S: Store, T: BlockTransformer>(
 {
     let answer = read(alloc, store, root, table.id, place)?;
     opened(alloc, answer, place_in(table, kind, place.0), transformer)
+}
+
+/// Whether no filter of a table denies the query, by one read of their section. Without a
+/// transformer they are asked where they were read.
+fn ask_stored<S: Store>(
+    alloc: Global,
+    store: &mut S,
+    root: &str,
+    table: &SsTableHandle,
+    policies: &[Box<dyn FilterPolicy>],
+    query: &FilterQuery,
+) -> Result<bool, SlateDBError>
+    ensures asked { let reads = ReadsFilters (S.objects store.old) (S.acts store.old) (S.acts store.new) root.now table.now in
+        IfOk result (λ passes. reads (λ answer. IsAsked unchanged (map (λ p. meaning p) policies.now) query.now (of_filters table.now answer) passes)) }
+    ensures cause { let reads = ReadsFilters (S.objects store.old) (S.acts store.old) (S.acts store.new) root.now table.now in
+        IfErr result (λ e. IsStoreFault (S.faults store.old) (S.faults store.new) e
+        ⊎ reads (λ answer. RefusesQuery unchanged (map (λ p. meaning p) policies.now) query.now (of_filters table.now answer) e)) }
+    ensures once { let reads = ReadsFilters (S.objects store.old) (S.acts store.old) (S.acts store.new) root.now table.now in
+        OnErr result ((S.acts store.new ≡ S.acts store.old)
+        ⊎ reads (λ _. Unit {0})) }
+    ensures reaches { Reaches S.objects S.faults store.old store.new result }
+{
+    let place = (table.info.filter_offset, table.info.filter_len);
+    let answer = read(alloc, store, root, table.id, place)?;
+    ask_answer(
+        answer,
+        place_in(table, FILTERS_KIND, place.0),
+        policies,
+        query,
+    )
 }
 
 /// Whether a reader with these policies reads a filter section of this length.
