@@ -119,7 +119,7 @@ apart_later : (n p q : ℕ) (t : Ulid × List ℕ) (us : List (Ulid × List ℕ)
 apart_later n p q t [] id fits place later h = tt
 apart_later n p q t (u ∷ us) id fits place later h = (
   λ same. let is = ids_same n n p q fits fits place h.1
-  (sym (ap (path_of root) id) ∙ same ∙ ap (path_of root) h.0) in omega (arith, is.1, later),
+      (sym (ap (path_of root) id) ∙ same ∙ ap (path_of root) h.0) in omega (arith, is.1, later),
   apart_later n p (q + 1) t us id fits place (omega (arith, later)) h.2,
 )
 

@@ -90,7 +90,7 @@ one_made : (encode now : Encode) (layout : Layout) (number : ℕ) (left rest don
 one_made encode now layout number left rest done rows ts t same next is made = (
   subst (λ (e : Encode). IsTableAt e layout number (length rest) rows t) same is,
   subst (λ (p : ℕ). AreTablesAt encode layout number p done ts)
-  (ap length next ∙ length-append rest (rows ∷ [])) made,
+      (ap length next ∙ length-append rest (rows ∷ [])) made,
 )
 
 pub one_so_far : (before now after : Reach) (layout : Layout) (number : ℕ)
@@ -170,12 +170,12 @@ some_taken before now after layout number parts left rest rows ts handles far ne
         AreLastParts before.meaning.encode layout number parts (us ++ ts)
     one_more us (t, is, made) = subst (λ (xs : List (Ulid × List ℕ)).
         AreLastParts before.meaning.encode layout number parts (xs ++ ts)) (sym is) (record {
-      left = rest;
-      done = rows ∷ far.done;
-      split = one_split parts left rest far.done rows far.split next;
-      made = one_made before.meaning.encode now.meaning.encode layout number left rest far.done rows
-          ts t same next made far.made;
-    })
+          left = rest;
+          done = rows ∷ far.done;
+          split = one_split parts left rest far.done rows far.split next;
+          made = one_made before.meaning.encode now.meaning.encode layout number left rest far.done rows
+              ts t same next made far.made;
+        })
 
 pub part_too_large : (before now : Reach) (layout : Layout) (number : ℕ) (parts left rest : List Rows) (rows : Rows) (ts : List (Ulid × List ℕ)) (handles : List SsTableHandle) (e : SlateDBError) → IsSoFar before now layout number parts left ts handles → left ≡ rest ++ (rows ∷ []) →
     IsTooLarge layout rows e → IsPartTooLarge layout parts e

@@ -19,8 +19,12 @@ some_stand : (m : Meaning) (layout : Layout) (number barrier : ℕ) (layers left
     ((tables : List (Ulid × List ℕ)) × AreTablesOfFlush m layout number barrier layers tables ×
     Holds (with_tables before ts) tables)
 some_stand m layout number barrier layers [] ts before fits none made =
-    inr (ts, made, holds_puts before number 0 [] ts fits tt
-    (are_placed m.encode layout number 0 made.parts ts made.built) tt)
+    inr (
+      ts,
+      made,
+      holds_puts before number 0 [] ts fits tt
+          (are_placed m.encode layout number 0 made.parts ts made.built) tt,
+    )
 some_stand m layout number barrier layers (x ∷ xs) ts before fits none made =
     inl (others_keep before number 0 (length (x ∷ xs)) ts fits (omega arith) (omega arith)
     (are_placed m.encode layout number (length (x ∷ xs)) made.parts ts made.built) ∙ none)

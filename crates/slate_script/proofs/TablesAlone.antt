@@ -157,14 +157,13 @@ tables_alone m layout n p os ts [] [] first fits made one h =
 tables_alone m layout n p os ts (t ∷ us) (rows ∷ parts) first fits made one h =
     let path : List ℕ = path_of root t.0.0 in
     let all = tables_alone m layout n (p + 1) (with_object os path t.1) (ts ++ (t ∷ [])) us parts
-    first fits made.1 one.1 (table_alone m layout n p os ts t rows first fits made.0 one.0 h) in
-    (
+    first fits made.1 one.1 (table_alone m layout n p os ts t rows first fits made.0 one.0 h) in (
       all.0,
       subst (λ (o : Objects). HoldsAlone m layout n all.0 o (ts ++ (t ∷ us)))
-      (sym (puts_turned os n p t us fits made.0.fits made.0.id
-      (are_placed m.encode layout n (p + 1) parts us made.1)))
-      (subst (HoldsAlone m layout n all.0 (with_tables (with_object os path t.1) us))
-      (append_assoc ts (t ∷ []) us) all.1),
+          (sym (puts_turned os n p t us fits made.0.fits made.0.id
+          (are_placed m.encode layout n (p + 1) parts us made.1)))
+          (subst (HoldsAlone m layout n all.0 (with_tables (with_object os path t.1) us))
+          (append_assoc ts (t ∷ []) us) all.1),
     )
 tables_alone m layout n p os ts (t ∷ us) [] first fits made one h = absurd made
 tables_alone m layout n p os ts [] (rows ∷ parts) first fits made one h = absurd made

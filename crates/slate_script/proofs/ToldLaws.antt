@@ -112,7 +112,7 @@ puts_are : (ts : List (Ulid × List ℕ)) → ArePut (put_acts ts) ts
 puts_are [] = tt
 puts_are (t ∷ ts) = (
   Contains-append_right (put_acts ts) (Act.put (path_of root t.0.0) t.1 ∷ []) _
-  (0, omega arith, refl),
+      (0, omega arith, refl),
   puts_more (put_acts ts) (Act.put (path_of root t.0.0) t.1 ∷ []) ts (puts_are ts),
 )
 

@@ -25,7 +25,7 @@ returns c =
     let far = c.loop-next.invariant.far in
     let empty : c.loop-next.left.items ≡ [] = search rules in
     let done = all_laid c.args.stored.items c.loop-next.left.items c.loop-next.tables.items
-        c.loop-next.runs.items far empty in
+    c.loop-next.runs.items far empty in
     record {
       tables = c.from_vec.ensures ∙ far.named ∙ ap (map (λ (t : StoredTable). t.table)) done;
       handles = far.handles ∙ ap (map (λ (t : StoredTable). t.handle)) done;

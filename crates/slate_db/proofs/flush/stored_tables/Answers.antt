@@ -88,8 +88,8 @@ loop-part-preserved g c =
           (ap (λ (m : Meaning). m.encode) was.puts.meaning)
           (c.in_ok-table.ensures.stored c.args.number
           (length (map (λ t. t.rows.items) c.pop.new.self.items))
-            (next_place _ c.args.number c.len-in-Some.result c.pop.new.self.items
-            (omega arith) (c.len-in-Some.ensures ∙ c.pop.new.self.ok.0) c.len-in-Some.type_inv))
+          (next_place _ c.args.number c.len-in-Some.result c.pop.new.self.items
+          (omega arith) (c.len-in-Some.ensures ∙ c.pop.new.self.ok.0) c.len-in-Some.type_inv))
           c.in_ok-table.ensures.acts
           (one_turned (λ t. t.table) _ _ _ c.push_reserved.ensures.items)
           (one_turned (λ t. t.handle) _ _ _ c.push_reserved.ensures.items);
