@@ -9,7 +9,7 @@
 --     IsAskingRead hs act      the act is a read of the filters of one of these tables
 --     AsksOf hs before after means      a call made reads of these alone, and they mean this
 --     AsksTable policies query before after range h result
---                 a call tells whether a table is left: where it is not, no row of it is in the range
+--                 a call tells whether a table is left: else no row of it is in the range
 --     AddsLeft policies query before after range h old new, TablesAreLeft policies query before after range hs left, RunsAreLeft policies query before after range runs left
 --                 a call let a table in and left it, or its keys don't reach the range, or the filters that were read deny it; and the same of several tables, and of runs
 --     FailsAsking policies query before after hs e      a call that asked was refused, by a fault or by what such filters show

@@ -1,18 +1,13 @@
 //! A commit of a transaction, up to its event.
-ghost use Rattle.std.specs.Prelude.{◌≡◌, ◌+◌, ◌<◌, ◌≤◌, [], List, None, Some, Err, option_map, false, IfOk, OnErr};
+ghost use Rattle.std.specs.Prelude.{◌≡◌, ◌+◌, ◌<◌, ◌≤◌, [], None, Some, Err, option_map, false, OnErr};
 ghost use Rattle.slate_types.specs.declared.error.SlateDBError.{SlateDBError};
 ghost use Rattle.slate_types.specs.Faults.{faults_of};
 ghost use Rattle.slate_types.specs.Outside.{IsOperatorStill};
-ghost use Rattle.slate_txn.specs.Managers.{StandsFor};
-ghost use Rattle.slate_txn.specs.Conflict.{conflict};
-ghost use Rattle.slate_txn.specs.HandedOver.{Grown};
-ghost use Rattle.slate_txn.specs.State.{Commit};
 ghost use Rattle.slate_txn.specs.Tested.{IsUntracked};
-ghost use Rattle.slate_db.specs.BatchTests.{batch_refusal, test_refusal};
-ghost use Rattle.slate_db.specs.Calls.Commit.{commit_verdict_of};
+ghost use Rattle.slate_db.specs.BatchTests.{batch_refusal};
 ghost use Rattle.slate_db.specs.Layers.{AreLayers};
 ghost use Rattle.slate_db.specs.Meaning.{segments_by};
-ghost use Rattle.slate_db.specs.Calls.Put.{AnswersCommit, AreNotNewer, Makes, Manages, PutsOwn, TestsBatch};
+ghost use Rattle.slate_db.specs.Calls.Put.{AreNotNewer, LeavesGrown, MakesCommit, Manages, PutsOwn, TestsBatch};
 ghost use Rattle.slate_db.specs.Prepared.{prepared_for};
 
 use crate::layers::Layers;
@@ -55,19 +50,14 @@ pub(crate) fn make<M: MergeOperator, X: PrefixExtractor>(
     requires within { AreNotNewer last layers.old }
     requires newest { manager.old.last ≡ last }
     requires held { IsUntracked manager.old id.now owned }
-    ensures makes { IfOk result (Makes (option_map M.combine operator.old) (segments_by X.lengths
-        extractor.now) default_millis now owned last segments.old segments.new layers.old
-        layers.new) }
-    ensures answer { (cs : List Commit) → StandsFor manager.old cs →
-        AnswersCommit (commit_verdict_of (conflict cs owned) last owned.ops (test_refusal (option_map
-        M.combine operator.old) (segments_by X.lengths extractor.now) segments.old default_millis
-        now owned.ops)) owned.ops (faults_of M.faults operator.old)
-        (faults_of M.faults operator.new) (operator.new ≡ operator.old) result }
+    ensures commits { MakesCommit (option_map M.combine operator.old) (segments_by X.lengths
+        extractor.now) default_millis now owned last segments.old segments.new layers.old layers.new
+        manager.old (faults_of M.faults operator.old) (faults_of M.faults operator.new)
+        (operator.new ≡ operator.old) result }
     ensures whole { AreLayers layers.new }
     ensures committed { Manages manager.old manager.new id.now now last result }
-    ensures same_segments { OnErr result (segments.new ≡ segments.old) }
-    ensures same_layers { OnErr result (layers.new ≡ layers.old) }
-    ensures grown { OnErr result (Grown id.now manager.old manager.new) }
+    ensures left { OnErr result (LeavesGrown id.now segments.old segments.new layers.old layers.new
+        manager.old manager.new) }
     ensures same { option_map M.combine operator.new ≡ option_map M.combine operator.old }
     ensures later { faults_of M.faults operator.old ≤ faults_of M.faults operator.new }
     ensures still { IsOperatorStill (faults_of M.faults operator.old) (faults_of M.faults

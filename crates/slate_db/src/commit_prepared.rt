@@ -1,17 +1,13 @@
 //! A commit of a transaction whose batch was prepared, up to its event. It calls no operator.
 ghost use Rattle.std.specs.Prelude.{◌≡◌, ◌+◌, ◌<◌, ◌≤◌, ℕ, ℤ, List, Option, None, Some, Err, IfErr, IfOk, OnOk, OnErr};
 ghost use Rattle.slate_types.specs.declared.error.SlateDBError.{SlateDBError};
-ghost use Rattle.slate_types.specs.Fold.{operator_at};
 ghost use Rattle.slate_txn.specs.Managers.{StandsFor};
 ghost use Rattle.slate_txn.specs.Conflict.{conflict};
-ghost use Rattle.slate_txn.specs.HandedOver.{Grown};
 ghost use Rattle.slate_txn.specs.State.{Commit};
 ghost use Rattle.slate_txn.specs.Tested.{IsUntracked};
-ghost use Rattle.slate_db.specs.BatchTests.{test_refusal};
-ghost use Rattle.slate_db.specs.Committed.{put_at, recorded_at};
 ghost use Rattle.slate_db.specs.Layers.{AreLayers};
 ghost use Rattle.slate_db.specs.Prepared.{PreparedWith, IsPrepared, WasPrepared, own_batch, whole_refusal};
-ghost use Rattle.slate_db.specs.Calls.Put.{AreNotNewer, AsPrepared, AsPreparedOf, HasEnded, IsCommitRefusal, IsShortOr, MadeOf, Manages, StandsEnded, with_prefixes, with_rows};
+ghost use Rattle.slate_db.specs.Calls.Put.{AreNotNewer, AsPrepared, AsPreparedOf, HasEnded, IsCommitRefusal, IsShortOr, LeavesGrown, MadeOf, Manages, PutsPrepared, StandsEnded, with_prefixes, with_rows};
 
 use crate::commit::Made;
 use crate::layers::Layers;
@@ -46,17 +42,12 @@ pub(crate) fn make_prepared(
     ensures made { IfOk result (MadeOf owned last) }
     ensures free { (cs : List Commit) → StandsFor manager.old cs →
         OnOk result (conflict cs owned ≡ None) }
-    ensures tested { AsPreparedOf owned.ops prepared (λ o g d now. OnOk result (test_refusal o g
-        segments.old d now owned.ops ≡ None)) }
-    ensures recorded { AsPreparedOf owned.ops prepared (λ o g d now. IfOk result (λ made.
-        segments.new ≡ recorded_at g made.seq made.ops segments.old)) }
-    ensures put { AsPreparedOf owned.ops prepared (λ o g d now. IfOk result (λ made. layers.new ≡
-        put_at (operator_at o) d made.seq now owned.ops layers.old)) }
+    ensures puts { AsPreparedOf owned.ops prepared (λ o g d now. IfOk result (PutsPrepared o g d
+        now owned.ops segments.old segments.new layers.old layers.new)) }
     ensures whole { AreLayers layers.new }
     ensures committed { (now : ℤ) → Manages manager.old manager.new id.now now last result }
-    ensures same_segments { OnErr result (segments.new ≡ segments.old) }
-    ensures same_layers { OnErr result (layers.new ≡ layers.old) }
-    ensures grown { OnErr result (Grown id.now manager.old manager.new) }
+    ensures left { OnErr result (LeavesGrown id.now segments.old segments.new layers.old layers.new
+        manager.old manager.new) }
     ensures cause { AsPreparedOf owned.ops prepared (λ o g d now.
         (cs : List Commit) → StandsFor manager.old cs →
         IfErr result (IsCommitRefusal o g segments.old d now last (conflict cs owned) owned.ops)) }

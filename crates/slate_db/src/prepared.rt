@@ -6,7 +6,7 @@ ghost use Rattle.slate_types.specs.Outside.{IsOperatorStill};
 ghost use Rattle.slate_mem.specs.Lookup.{IsCallback};
 ghost use Rattle.slate_db.specs.Meaning.{segments_by};
 ghost use Rattle.slate_db.specs.Prepared.{PreparedWith, IsPrepared, IsPassed, lone_refusal, whole_refusal, numbered, prepared_for};
-ghost use Rattle.slate_db.specs.Calls.Put.{IsFolded, IsShortOrCallback, lone_refusal_of};
+ghost use Rattle.slate_db.specs.Calls.Put.{FoldsAlone, IsShortOrCallback, lone_refusal_of};
 
 use crate::segments::SegmentPrefixes;
 use crate::tested::rows_of_batch;
@@ -80,7 +80,7 @@ fn fold_alone<M: MergeOperator, X: PrefixExtractor>(
     operator: &mut Option<M>,
     extractor: &Option<X>,
 ) -> Result<Result<Folded, SlateDBError>, SlateDBError>
-    ensures folded { IfOk result (IsFolded (prepared_for (option_map M.combine operator.old)
+    ensures folded { IfOk result (FoldsAlone (prepared_for (option_map M.combine operator.old)
         (segments_by X.lengths extractor.now) default_millis now batch.now)) }
     ensures same { option_map M.combine operator.new ≡ option_map M.combine operator.old }
     ensures later { faults_of M.faults operator.old ≤ faults_of M.faults operator.new }

@@ -4,8 +4,8 @@
 --     IsShortOrCallback before after e      want of memory, or a failure of the operator, whose
 --                count rose
 --     lone_refusal_of o g d now b      what a batch is refused for by itself
---     IsFolded w r      of a batch this is kept: what is to be put of it, what it is refused for by
---                itself, or want of memory in its tests
+--     FoldsAlone w r      of a batch this is kept: what is to be put of it, what it is refused for
+--                by itself, or want of memory in its tests
 --     AsPrepared prepared f      so it is for all that it may have been prepared with
 --     AsPreparedOf ops prepared f      the same of a transaction's operations, of the operator, the
 --                segments, the time to live and the moment
@@ -29,6 +29,12 @@
 --     AnswersCommit verdict ops before after same_operator result      a commit is refused just by
 --                the verdict, but for want of memory and a failure of the operator, and asks nobody
 --                where it needn't
+--     MakesCommit o g d now t last .. result      so it is of an Ok, and the commit answers as the
+--                verdict over what the manager stands for
+--     PutsPrepared o g d now ops .. x      of a commit whose batch was prepared with these: nothing
+--                refuses it, and its prefixes and rows are put
+--     LeavesGrown id before after old new m n      nothing is put, and of the manager what it
+--                tracks of the transaction may have grown
 --     IsCommitRefusal o g recorded d now last conflicting ops e      a commit is refused for this
 --     PutsAlone w seq before after old new m n      the prefixes, the rows and the keys of a batch
 --                that commits by itself are put, and nothing refuses it
@@ -46,8 +52,8 @@ use Rattle.slate_mem.specs.CommitRows.{commit_rows}
 use Rattle.slate_mem.specs.KeyTests.{Segments, prefixes}
 use Rattle.slate_mem.specs.Lookup.{IsCallback}
 use Rattle.slate_mem.specs.Table.{put_rows}
-use Rattle.slate_txn.specs.Conflict.{tracked_writes}
-use Rattle.slate_txn.specs.HandedOver.{IsConflict}
+use Rattle.slate_txn.specs.Conflict.{conflict, tracked_writes}
+use Rattle.slate_txn.specs.HandedOver.{Grown, IsConflict}
 use Rattle.slate_txn.specs.Managers.{IsCommitOf, Manager, StandsFor, with_commit, writes_at}
 use Rattle.slate_txn.specs.Named.{find_named, without}
 use Rattle.slate_txn.specs.Replay.{commit_made}
@@ -55,9 +61,9 @@ use Rattle.slate_txn.specs.State.{Commit, Tx}
 use Rattle.slate_db.specs.declared.commit.Made.{Made}
 use Rattle.slate_db.specs.declared.prepared.Folded.{Folded}
 use Rattle.slate_db.specs.declared.prepared.Prepared.{Prepared}
-use Rattle.slate_db.specs.Calls.Commit.{AsksNobody}
+use Rattle.slate_db.specs.Calls.Commit.{AsksNobody, commit_verdict_of}
 use Rattle.slate_db.specs.Calls.Common.{Decides}
-use Rattle.slate_db.specs.BatchTests.{IsTestRefusal}
+use Rattle.slate_db.specs.BatchTests.{IsTestRefusal, test_refusal}
 use Rattle.slate_db.specs.Committed.{IsFull, IsNextOf, put_at, recorded_at}
 use Rattle.slate_db.specs.Layers.{FitsMemory, LayersModel, in_memory}
 use Rattle.slate_db.specs.Log.{AreFine, LIMIT, LogModel, held_by}
@@ -74,7 +80,7 @@ abbrev pub lone_refusal_of : Option (List ℕ → Combine) → Segments → Opti
     Option SlateDBError
 lone_refusal_of o g d now b = lone_refusal (prepared_for o g d now b)
 
-pub record IsFolded (w : PreparedWith) (r : Result Folded SlateDBError) : Type 0 where
+pub record FoldsAlone (w : PreparedWith) (r : Result Folded SlateDBError) : Type 0 where
   pub refused : IfErr r (IsShortOr (lone_refusal w))
   pub passed : IfOk r (λ f. lone_refusal w ≡ None)
   pub prefixes : IfOk r (λ f. f.prefixes.keys ≡ keys_set (prefixes w.segments w.batch.ops))
@@ -91,7 +97,8 @@ AsPreparedOf ops prepared f = (o : Option (List ℕ → Combine)) (g : Segments)
     (now : ℤ) → IsPrepared (prepared_for o g d now (own_batch ops)) prepared → f o g d now
 
 abbrev pub AreNotNewer : ℕ → LayersModel → Type 0
-AreNotNewer last y = AllByRecursion (λ rows. AllByRecursion (λ r. r.seq ≤ last) rows) (in_memory y)
+AreNotNewer last y =
+    AllByRecursion (λ rows. AllByRecursion (λ r. r.seq ≤ last) rows) (in_memory y)
 
 pub record TestsBatch {A : Type 0} (refusal : Option SlateDBError) (before after : ℕ)
     (same_operator : Type 0) (result : Result A SlateDBError) : Type 0 where
@@ -162,6 +169,27 @@ pub record AnswersCommit {A : Type 0} (verdict : Option SlateDBError) (ops : Ops
     (same_operator : Type 0) (result : Result A SlateDBError) : Type 0 where
   pub decides : Decides verdict (IsShortOrCallback before after) result
   pub asks : AsksNobody verdict ops → same_operator
+
+pub record MakesCommit (o : Option (List ℕ → Combine)) (g : Segments) (d : Option ℕ) (now : ℤ)
+    (t : Tx) (last : ℕ) (before after : List (List ℕ)) (old new : LayersModel) (m : Manager)
+    (faults_before faults_after : ℕ) (same_operator : Type 0)
+    (result : Result Made SlateDBError) : Type 0 where
+  pub makes : IfOk result (Makes o g d now t last before after old new)
+  pub answer : (cs : List Commit) → StandsFor m cs →
+      AnswersCommit (commit_verdict_of (conflict cs t) last t.ops
+      (test_refusal o g before d now t.ops)) t.ops faults_before faults_after same_operator result
+
+pub record PutsPrepared (o : Option (List ℕ → Combine)) (g : Segments) (d : Option ℕ) (now : ℤ)
+    (ops : Ops) (before after : List (List ℕ)) (old new : LayersModel) (x : Made) : Type 0 where
+  pub tested : test_refusal o g before d now ops ≡ None
+  pub recorded : after ≡ recorded_at g x.seq x.ops before
+  pub put : new ≡ put_at (operator_at o) d x.seq now ops old
+
+pub record LeavesGrown (id : List ℕ) (before after : List (List ℕ)) (old new : LayersModel)
+    (m n : Manager) : Type 0 where
+  pub segments : after ≡ before
+  pub layers : new ≡ old
+  pub grown : Grown id m n
 
 pub record PutsOwn (w : PreparedWith) (id : List ℕ) (seq : ℕ) (before after : List (List ℕ))
     (old new : LayersModel) (m n : Manager) (result : Result Ops SlateDBError) : Type 0 where

@@ -1,6 +1,6 @@
 use Rattle.std.proofs.Common.{◌≡◌, true, false, option_map, w64, inl, arith, ◌+◌, List, ◌++◌, unwrap_or, refl, ap, sym, subst, ◌∙◌, append-nil}
 use Rattle.std.proofs.lemmas.Int.{to_z-of_z}
-use Rattle.std.proofs.lemmas.Result.{err_from_is_err_and}
+use Rattle.std.proofs.lemmas.Result.{IfOk-from_err, err_from_is_err_and}
 use Rattle.slate_txn.specs.Conflict.{conflict}
 use Rattle.slate_mem.specs.Batch.{kept_ops}
 use Rattle.slate_mem.specs.CommitRows.{commit_rows}
@@ -47,98 +47,115 @@ returns-in-Ok-clause-still g c = c.in-Ok.ensures.still
 pub returns-in-Err-clause-still : goal.returns-in-Err-clause-still
 returns-in-Err-clause-still g c = c.in-Err.ensures.still
 
-pub returns-then-is_empty-clause-makes : goal.returns-then-is_empty-clause-makes
-returns-then-is_empty-clause-makes g c =
-    subst (Makes (option_map g.M.MergeOperator.combine c.args.operator.now) (segments_by g.X.PrefixExtractor.lengths c.args.extractor.now) c.args.default_millis c.args.now c.args.owned c.args.last c.args.segments.now c.args.segments.now c.args.layers.now c.args.layers.now) (sym c.idle.ensures)
-    (record {
-      made = record {
-        tracked = c.in_ok-tested.ensures.commits.keys;
-        steps = c.in_ok-tested.ensures.commits.steps;
-        ops = sym (c.is_empty.ensures.0 c.if-is_empty.true) ∙ c.in_ok-tested.ensures.commits.batch.0;
-        fine = tt;
-        next = empty_kept c.args.owned.ops (sym c.in_ok-tested.ensures.commits.batch.0 ∙ c.is_empty.ensures.0 c.if-is_empty.true);
+-- ---- what is made, what it answers, and whether the operator was asked
+
+pub returns-in_err-tested-clause-commits : goal.returns-in_err-tested-clause-commits
+returns-in_err-tested-clause-commits g c = record {
+  makes = IfOk-from_err c.from_residual.result _ c.from_residual.ensures.0;
+  answer = λ cs stands.
+      let p = err_from_is_err_and c.from_residual.result c.from_residual.ensures.1 in
+      record {
+        decides = decides_tested (conflict cs c.args.owned) c.args.last c.args.owned.ops _ _ _ c.in_err-tested.field-0.0 c.from_residual.result (inl refl) p.1 p.2 (c.in_err-tested.ensures.met cs stands c.requires.held);
+        asks = λ nobody. refl;
       };
-      recorded = refl;
-      put = refl;
-    })
+}
 
-pub returns-in-Ok-clause-makes : goal.returns-in-Ok-clause-makes
-returns-in-Ok-clause-makes g c = record {
-  made = record {
-    tracked = c.in_ok-tested.ensures.commits.keys;
-    steps = c.in_ok-tested.ensures.commits.steps;
-    ops = c.in-Ok.ensures.puts.ops ∙ c.in_ok-tested.ensures.commits.batch.0;
-    fine = subst AreFine (sym c.in-Ok.ensures.puts.ops) c.in-Ok.ensures.puts.fine;
-    next = (refl, omega (arith, c.if-last-ge18446744073709551614.false), λ none. let t : true ≡ false = sym (c.is_empty.ensures.1 (c.in_ok-tested.ensures.commits.batch.0 ∙ ap kept_ops none)) ∙ c.if-is_empty.false in cc);
+pub returns-then-is_empty-clause-commits : goal.returns-then-is_empty-clause-commits
+returns-then-is_empty-clause-commits g c = record {
+  makes =
+      subst (Makes (option_map g.M.MergeOperator.combine c.args.operator.now) (segments_by g.X.PrefixExtractor.lengths c.args.extractor.now) c.args.default_millis c.args.now c.args.owned c.args.last c.args.segments.now c.args.segments.now c.args.layers.now c.args.layers.now) (sym c.idle.ensures)
+      (record {
+        made = record {
+          tracked = c.in_ok-tested.ensures.commits.keys;
+          steps = c.in_ok-tested.ensures.commits.steps;
+          ops = sym (c.is_empty.ensures.0 c.if-is_empty.true) ∙ c.in_ok-tested.ensures.commits.batch.0;
+          fine = tt;
+          next = empty_kept c.args.owned.ops (sym c.in_ok-tested.ensures.commits.batch.0 ∙ c.is_empty.ensures.0 c.if-is_empty.true);
+        };
+        recorded = refl;
+        put = refl;
+      });
+  answer = λ cs stands. record {
+    decides = decides_ok _ _ _ (verdict_empty (conflict cs c.args.owned) c.args.last c.args.owned.ops _ (c.in_ok-tested.ensures.free cs stands c.requires.held)
+        (empty_kept c.args.owned.ops (sym c.in_ok-tested.ensures.commits.batch.0 ∙ c.is_empty.ensures.0 c.if-is_empty.true)));
+    asks = λ nobody. refl;
   };
-  recorded = c.in-Ok.ensures.puts.recorded ∙ ap (λ ops. keys_set (c.args.segments.now ++ prefixes (segments_by g.X.PrefixExtractor.lengths c.args.extractor.now) ops)) (sym c.in-Ok.ensures.puts.ops);
-  put = c.in-Ok.ensures.puts.put ∙ (λ i. record c.args.layers.now { active = put_rows c.args.layers.now.active (commit_rows (operator_at (option_map g.M.MergeOperator.combine c.args.operator.now)) c.args.default_millis (c.args.last + 1) (to_z-of_z w64 c.args.now c.ranges.now i) (c.in_ok-tested.ensures.commits.batch.0 i)) });
 }
 
-pub returns-in-Err-clause-same_segments : goal.returns-in-Err-clause-same_segments
-returns-in-Err-clause-same_segments g c = c.in-Err.ensures.puts.same_segments
+pub returns-then-last-ge18446744073709551614-clause-commits : goal.returns-then-last-ge18446744073709551614-clause-commits
+returns-then-last-ge18446744073709551614-clause-commits g c = record {
+  makes = tt;
+  answer = λ cs stands. record {
+    decides = decides_err _ _ _ SequenceExhausted (verdict_spent (conflict cs c.args.owned) c.args.last c.args.owned.ops _ (c.in_ok-tested.ensures.free cs stands c.requires.held)
+        (λ none. let t : true ≡ false = sym (c.is_empty.ensures.1 (c.in_ok-tested.ensures.commits.batch.0 ∙ ap kept_ops none)) ∙ c.if-is_empty.false in cc)
+        (omega (arith, c.requires.fits, c.if-last-ge18446744073709551614.true)));
+    asks = λ nobody. refl;
+  };
+}
 
-pub returns-in-Err-clause-same_layers : goal.returns-in-Err-clause-same_layers
-returns-in-Err-clause-same_layers g c = c.in-Err.ensures.puts.same_layers
+pub returns-in-Ok-clause-commits : goal.returns-in-Ok-clause-commits
+returns-in-Ok-clause-commits g c = record {
+  makes = record {
+    made = record {
+      tracked = c.in_ok-tested.ensures.commits.keys;
+      steps = c.in_ok-tested.ensures.commits.steps;
+      ops = c.in-Ok.ensures.puts.ops ∙ c.in_ok-tested.ensures.commits.batch.0;
+      fine = subst AreFine (sym c.in-Ok.ensures.puts.ops) c.in-Ok.ensures.puts.fine;
+      next = (refl, omega (arith, c.if-last-ge18446744073709551614.false), λ none. let t : true ≡ false = sym (c.is_empty.ensures.1 (c.in_ok-tested.ensures.commits.batch.0 ∙ ap kept_ops none)) ∙ c.if-is_empty.false in cc);
+    };
+    recorded = c.in-Ok.ensures.puts.recorded ∙ ap (λ ops. keys_set (c.args.segments.now ++ prefixes (segments_by g.X.PrefixExtractor.lengths c.args.extractor.now) ops)) (sym c.in-Ok.ensures.puts.ops);
+    put = c.in-Ok.ensures.puts.put ∙ (λ i. record c.args.layers.now { active = put_rows c.args.layers.now.active (commit_rows (operator_at (option_map g.M.MergeOperator.combine c.args.operator.now)) c.args.default_millis (c.args.last + 1) (to_z-of_z w64 c.args.now c.ranges.now i) (c.in_ok-tested.ensures.commits.batch.0 i)) });
+  };
+  answer = λ cs stands. record {
+    decides = decides_ok _ _ _
+        (verdict_tested (conflict cs c.args.owned) c.args.last c.args.owned.ops _ (c.in_ok-tested.ensures.free cs stands c.requires.held)
+        (λ none. let t : true ≡ false = sym (c.is_empty.ensures.1 (c.in_ok-tested.ensures.commits.batch.0 ∙ ap kept_ops none)) ∙ c.if-is_empty.false in cc)
+        (omega (arith, c.if-last-ge18446744073709551614.false))
+        ∙ sym (test_as (option_map g.M.MergeOperator.combine c.args.operator.now) (segments_by g.X.PrefixExtractor.lengths c.args.extractor.now) c.args.segments.now c.args.default_millis _ c.args.now c.args.owned.ops c.in_ok-tested.tested.batch (to_z-of_z w64 c.args.now c.ranges.now) c.in_ok-tested.ensures.commits.batch)
+        ∙ c.in-Ok.ensures.decides.tested);
+    asks =
+        asks_tested (conflict cs c.args.owned) c.args.last c.args.owned.ops _ (c.in_ok-tested.ensures.free cs stands c.requires.held)
+        (λ none. let t : true ≡ false = sym (c.is_empty.ensures.1 (c.in_ok-tested.ensures.commits.batch.0 ∙ ap kept_ops none)) ∙ c.if-is_empty.false in cc)
+        (omega (arith, c.if-last-ge18446744073709551614.false))
+        (λ e refused. c.put_commit-put.ensures.decides.unasked e
+        (test_as (option_map g.M.MergeOperator.combine c.args.operator.now) (segments_by g.X.PrefixExtractor.lengths c.args.extractor.now) c.args.segments.now c.args.default_millis _ c.args.now c.args.owned.ops c.in_ok-tested.tested.batch (to_z-of_z w64 c.args.now c.ranges.now) c.in_ok-tested.ensures.commits.batch ∙ refused))
+        (λ none. c.put_commit-put.ensures.plain (c.in_ok-tested.ensures.commits.batch.1 ∙ none));
+  };
+}
 
-pub returns-in-Err-clause-grown : goal.returns-in-Err-clause-grown
-returns-in-Err-clause-grown g c = subst (Grown c.args.id.now c.args.manager.now) (sym c.in-Err.ensures.puts.same) c.in_ok-tested.ensures.grown
+pub returns-in-Err-clause-commits : goal.returns-in-Err-clause-commits
+returns-in-Err-clause-commits g c = record {
+  makes = tt;
+  answer = λ cs stands. record {
+    decides = decides_batch _ _ _ _ _ c.in-Err.error
+        (verdict_tested (conflict cs c.args.owned) c.args.last c.args.owned.ops _ (c.in_ok-tested.ensures.free cs stands c.requires.held)
+        (λ none. let t : true ≡ false = sym (c.is_empty.ensures.1 (c.in_ok-tested.ensures.commits.batch.0 ∙ ap kept_ops none)) ∙ c.if-is_empty.false in cc)
+        (omega (arith, c.if-last-ge18446744073709551614.false))
+        ∙ sym (test_as (option_map g.M.MergeOperator.combine c.args.operator.now) (segments_by g.X.PrefixExtractor.lengths c.args.extractor.now) c.args.segments.now c.args.default_millis _ c.args.now c.args.owned.ops c.in_ok-tested.tested.batch (to_z-of_z w64 c.args.now c.ranges.now) c.in_ok-tested.ensures.commits.batch))
+        c.in-Err.ensures.decides.first (λ h. h) c.in-Err.ensures.decides.cause;
+    asks =
+        asks_tested (conflict cs c.args.owned) c.args.last c.args.owned.ops _ (c.in_ok-tested.ensures.free cs stands c.requires.held)
+        (λ none. let t : true ≡ false = sym (c.is_empty.ensures.1 (c.in_ok-tested.ensures.commits.batch.0 ∙ ap kept_ops none)) ∙ c.if-is_empty.false in cc)
+        (omega (arith, c.if-last-ge18446744073709551614.false))
+        (λ e refused. c.put_commit-put.ensures.decides.unasked e
+        (test_as (option_map g.M.MergeOperator.combine c.args.operator.now) (segments_by g.X.PrefixExtractor.lengths c.args.extractor.now) c.args.segments.now c.args.default_millis _ c.args.now c.args.owned.ops c.in_ok-tested.tested.batch (to_z-of_z w64 c.args.now c.ranges.now) c.in_ok-tested.ensures.commits.batch ∙ refused))
+        (λ none. c.put_commit-put.ensures.plain (c.in_ok-tested.ensures.commits.batch.1 ∙ none));
+  };
+}
 
--- ---- what it answers, and whether the operator was asked
+-- ---- what a refusal leaves
 
-pub returns-in_err-tested-clause-answer : goal.returns-in_err-tested-clause-answer
-returns-in_err-tested-clause-answer g c cs stands =
+pub returns-in_err-tested-clause-left : goal.returns-in_err-tested-clause-left
+returns-in_err-tested-clause-left g c =
     let p = err_from_is_err_and c.from_residual.result c.from_residual.ensures.1 in
-    record {
-      decides = decides_tested (conflict cs c.args.owned) c.args.last c.args.owned.ops _ _ _ c.in_err-tested.field-0.0 c.from_residual.result (inl refl) p.1 p.2 (c.in_err-tested.ensures.met cs stands c.requires.held);
-      asks = λ nobody. refl;
-    }
+    rw p.1 (record { segments = refl; layers = refl; grown = c.in_err-tested.ensures.grown })
 
-pub returns-then-is_empty-clause-answer : goal.returns-then-is_empty-clause-answer
-returns-then-is_empty-clause-answer g c cs stands = record {
-  decides = decides_ok _ _ _ (verdict_empty (conflict cs c.args.owned) c.args.last c.args.owned.ops _ (c.in_ok-tested.ensures.free cs stands c.requires.held)
-      (empty_kept c.args.owned.ops (sym c.in_ok-tested.ensures.commits.batch.0 ∙ c.is_empty.ensures.0 c.if-is_empty.true)));
-  asks = λ nobody. refl;
-}
+pub returns-then-last-ge18446744073709551614-clause-left : goal.returns-then-last-ge18446744073709551614-clause-left
+returns-then-last-ge18446744073709551614-clause-left g c = record { segments = refl; layers = refl; grown = c.in_ok-tested.ensures.grown }
 
-pub returns-then-last-ge18446744073709551614-clause-answer : goal.returns-then-last-ge18446744073709551614-clause-answer
-returns-then-last-ge18446744073709551614-clause-answer g c cs stands = record {
-  decides = decides_err _ _ _ SequenceExhausted (verdict_spent (conflict cs c.args.owned) c.args.last c.args.owned.ops _ (c.in_ok-tested.ensures.free cs stands c.requires.held)
-      (λ none. let t : true ≡ false = sym (c.is_empty.ensures.1 (c.in_ok-tested.ensures.commits.batch.0 ∙ ap kept_ops none)) ∙ c.if-is_empty.false in cc)
-      (omega (arith, c.requires.fits, c.if-last-ge18446744073709551614.true)));
-  asks = λ nobody. refl;
-}
-
-pub returns-in-Ok-clause-answer : goal.returns-in-Ok-clause-answer
-returns-in-Ok-clause-answer g c cs stands = record {
-  decides = decides_ok _ _ _
-      (verdict_tested (conflict cs c.args.owned) c.args.last c.args.owned.ops _ (c.in_ok-tested.ensures.free cs stands c.requires.held)
-      (λ none. let t : true ≡ false = sym (c.is_empty.ensures.1 (c.in_ok-tested.ensures.commits.batch.0 ∙ ap kept_ops none)) ∙ c.if-is_empty.false in cc)
-      (omega (arith, c.if-last-ge18446744073709551614.false))
-      ∙ sym (test_as (option_map g.M.MergeOperator.combine c.args.operator.now) (segments_by g.X.PrefixExtractor.lengths c.args.extractor.now) c.args.segments.now c.args.default_millis _ c.args.now c.args.owned.ops c.in_ok-tested.tested.batch (to_z-of_z w64 c.args.now c.ranges.now) c.in_ok-tested.ensures.commits.batch)
-      ∙ c.in-Ok.ensures.decides.tested);
-  asks =
-      asks_tested (conflict cs c.args.owned) c.args.last c.args.owned.ops _ (c.in_ok-tested.ensures.free cs stands c.requires.held)
-      (λ none. let t : true ≡ false = sym (c.is_empty.ensures.1 (c.in_ok-tested.ensures.commits.batch.0 ∙ ap kept_ops none)) ∙ c.if-is_empty.false in cc)
-      (omega (arith, c.if-last-ge18446744073709551614.false))
-      (λ e refused. c.put_commit-put.ensures.decides.unasked e
-      (test_as (option_map g.M.MergeOperator.combine c.args.operator.now) (segments_by g.X.PrefixExtractor.lengths c.args.extractor.now) c.args.segments.now c.args.default_millis _ c.args.now c.args.owned.ops c.in_ok-tested.tested.batch (to_z-of_z w64 c.args.now c.ranges.now) c.in_ok-tested.ensures.commits.batch ∙ refused))
-      (λ none. c.put_commit-put.ensures.plain (c.in_ok-tested.ensures.commits.batch.1 ∙ none));
-}
-
-pub returns-in-Err-clause-answer : goal.returns-in-Err-clause-answer
-returns-in-Err-clause-answer g c cs stands = record {
-  decides = decides_batch _ _ _ _ _ c.in-Err.error
-      (verdict_tested (conflict cs c.args.owned) c.args.last c.args.owned.ops _ (c.in_ok-tested.ensures.free cs stands c.requires.held)
-      (λ none. let t : true ≡ false = sym (c.is_empty.ensures.1 (c.in_ok-tested.ensures.commits.batch.0 ∙ ap kept_ops none)) ∙ c.if-is_empty.false in cc)
-      (omega (arith, c.if-last-ge18446744073709551614.false))
-      ∙ sym (test_as (option_map g.M.MergeOperator.combine c.args.operator.now) (segments_by g.X.PrefixExtractor.lengths c.args.extractor.now) c.args.segments.now c.args.default_millis _ c.args.now c.args.owned.ops c.in_ok-tested.tested.batch (to_z-of_z w64 c.args.now c.ranges.now) c.in_ok-tested.ensures.commits.batch))
-      c.in-Err.ensures.decides.first (λ h. h) c.in-Err.ensures.decides.cause;
-  asks =
-      asks_tested (conflict cs c.args.owned) c.args.last c.args.owned.ops _ (c.in_ok-tested.ensures.free cs stands c.requires.held)
-      (λ none. let t : true ≡ false = sym (c.is_empty.ensures.1 (c.in_ok-tested.ensures.commits.batch.0 ∙ ap kept_ops none)) ∙ c.if-is_empty.false in cc)
-      (omega (arith, c.if-last-ge18446744073709551614.false))
-      (λ e refused. c.put_commit-put.ensures.decides.unasked e
-      (test_as (option_map g.M.MergeOperator.combine c.args.operator.now) (segments_by g.X.PrefixExtractor.lengths c.args.extractor.now) c.args.segments.now c.args.default_millis _ c.args.now c.args.owned.ops c.in_ok-tested.tested.batch (to_z-of_z w64 c.args.now c.ranges.now) c.in_ok-tested.ensures.commits.batch ∙ refused))
-      (λ none. c.put_commit-put.ensures.plain (c.in_ok-tested.ensures.commits.batch.1 ∙ none));
+pub returns-in-Err-clause-left : goal.returns-in-Err-clause-left
+returns-in-Err-clause-left g c = record {
+  segments = c.in-Err.ensures.puts.same_segments;
+  layers = c.in-Err.ensures.puts.same_layers;
+  grown = subst (Grown c.args.id.now c.args.manager.now) (sym c.in-Err.ensures.puts.same) c.in_ok-tested.ensures.grown;
 }

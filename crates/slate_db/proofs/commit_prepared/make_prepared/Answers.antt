@@ -4,6 +4,7 @@ use Rattle.slate_types.specs.Keys.{keys_set}
 use Rattle.slate_mem.specs.Batch.{Ops, kept_ops}
 use Rattle.slate_mem.specs.KeyTests.{prefixes}
 use Rattle.slate_txn.specs.Conflict.{conflict}
+use Rattle.slate_txn.specs.HandedOver.{Grown}
 use Rattle.slate_txn.specs.Named.{without}
 use Rattle.slate_txn.specs.State.{Commit}
 use Rattle.slate_db.specs.BatchTests.{test_refusal}
@@ -42,14 +43,12 @@ returns-then-is_empty-clause-made c = record {
 pub returns-then-is_empty-clause-free : goal.returns-then-is_empty-clause-free
 returns-then-is_empty-clause-free c = λ cs stands. c.in_ok-tested.ensures.free cs stands c.requires.held
 
-pub returns-then-is_empty-clause-tested : goal.returns-then-is_empty-clause-tested
-returns-then-is_empty-clause-tested c = λ o g d now p. subst (λ (ops : Ops). test_refusal o g c.args.segments.now d now ops ≡ None) (sym (nothing c)) refl
-
-pub returns-then-is_empty-clause-recorded : goal.returns-then-is_empty-clause-recorded
-returns-then-is_empty-clause-recorded c = λ o g d now p. refl
-
-pub returns-then-is_empty-clause-put : goal.returns-then-is_empty-clause-put
-returns-then-is_empty-clause-put c = λ o g d now p. refl
+pub returns-then-is_empty-clause-puts : goal.returns-then-is_empty-clause-puts
+returns-then-is_empty-clause-puts c = λ o g d now p. record {
+  tested = subst (λ (ops : Ops). test_refusal o g c.args.segments.now d now ops ≡ None) (sym (nothing c)) refl;
+  recorded = refl;
+  put = refl;
+}
 
 pub returns-then-is_empty-clause-committed : goal.returns-then-is_empty-clause-committed
 returns-then-is_empty-clause-committed c = λ now ids cs ps w.
@@ -88,18 +87,34 @@ returns-clause-made c = record {
 pub returns-clause-free : goal.returns-clause-free
 returns-clause-free c = λ cs stands. c.in_ok-tested.ensures.free cs stands c.requires.held
 
-pub returns-clause-tested : goal.returns-clause-tested
-returns-clause-tested c = λ o g d now p.
-    sym (refusal_kept o g c.args.segments.now d now c.args.owned.ops (own_batch c.args.owned.ops) (refl, refl)) ∙ c.in_ok-ops.ensures.tested (prepared_for o g d now (own_batch c.args.owned.ops)) p
-
-pub returns-clause-recorded : goal.returns-clause-recorded
-returns-clause-recorded c = λ o g d now p.
-    c.in_ok-ops.ensures.recorded (prepared_for o g d now (own_batch c.args.owned.ops)) p ∙ ap (λ (ops : Ops). keys_set (c.args.segments.now ++ prefixes g ops)) (sym (c.in_ok-ops.ensures.ops ∙ c.requires.prepared.2.is.ops))
-
-pub returns-clause-put : goal.returns-clause-put
-returns-clause-put c = λ o g d now p. c.in_ok-ops.ensures.put (prepared_for o g d now (own_batch c.args.owned.ops)) p
+pub returns-clause-puts : goal.returns-clause-puts
+returns-clause-puts c = λ o g d now p. record {
+  tested = sym (refusal_kept o g c.args.segments.now d now c.args.owned.ops (own_batch c.args.owned.ops) (refl, refl)) ∙ c.in_ok-ops.ensures.tested (prepared_for o g d now (own_batch c.args.owned.ops)) p;
+  recorded = c.in_ok-ops.ensures.recorded (prepared_for o g d now (own_batch c.args.owned.ops)) p ∙ ap (λ (ops : Ops). keys_set (c.args.segments.now ++ prefixes g ops)) (sym (c.in_ok-ops.ensures.ops ∙ c.requires.prepared.2.is.ops));
+  put = c.in_ok-ops.ensures.put (prepared_for o g d now (own_batch c.args.owned.ops)) p;
+}
 
 pub returns-clause-committed : goal.returns-clause-committed
 returns-clause-committed c = λ now ids cs ps w.
     managed_committed c.args.manager.now c.test.new.manager c.put_prepared.new.manager ids c.args.last (c.args.last + 1) cs ps c.args.id.now c.args.owned _ c.in_ok-tested.ensures.grown (c.in_ok-tested.ensures.handed c.requires.held) refl c.in_ok-tested.ensures.commits.keys
     c.in_ok-ops.ensures.committed (c.in_ok-ops.ensures.stands cs _) w
+
+-- ---- what a refusal leaves
+
+pub returns-in_err-tested-clause-left : goal.returns-in_err-tested-clause-left
+returns-in_err-tested-clause-left c =
+    let q = err_from_is_err_and c.from_residual.result c.from_residual.ensures.1 in
+    rw q.1 (record { segments = refl; layers = refl; grown = c.in_err-tested.ensures.grown })
+
+pub returns-then-last-ge18446744073709551614-clause-left : goal.returns-then-last-ge18446744073709551614-clause-left
+returns-then-last-ge18446744073709551614-clause-left c = record { segments = refl; layers = refl; grown = c.in_ok-tested.ensures.grown }
+
+pub returns-in_err-ops-clause-left : goal.returns-in_err-ops-clause-left
+returns-in_err-ops-clause-left c =
+    let q = err_from_is_err_and c.from_residual-in_err-ops.result c.from_residual-in_err-ops.ensures.1 in
+    rw q.1
+    (record {
+      segments = c.in_err-ops.ensures.same_segments;
+      layers = c.in_err-ops.ensures.same_layers;
+      grown = subst (Grown c.args.id.now c.args.manager.now) (sym c.in_err-ops.ensures.same) c.in_ok-tested.ensures.grown;
+    })

@@ -52,9 +52,9 @@ make-made-requires-clause-held g c = λ κs lives. ap (find_named c.args.id.now)
 pub push_commit-requires : goal.push_commit-requires
 push_commit-requires g c =
     may_commit (view_of c.self.inside) (unseen_of c.self.inside) c.args.id.now c.in-Some.owned c.in-Ok.made.seq c.in-Ok.made.ops c.in-Ok.made.tracked c.in-Ok.made.transcript c.self.invariant (sym c.in-Some.ensures.taken)
-    (none_free (conflict c.self.inside.log.commits c.in-Some.owned) c.last-last.result c.in-Some.owned.ops _ (decided_none _ _ c.in-Ok.made (c.in-Ok.ensures.answer c.self.inside.log.commits c.self.invariant.tied.manager.stands).decides))
-    (subst (λ (k : ℕ). IsNextOf k c.in-Some.owned.ops c.in-Ok.made.seq) c.last-last.ensures c.in-Ok.ensures.makes.made.next)
-    c.in-Ok.ensures.makes.made.ops c.in-Ok.ensures.makes.made.tracked c.in-Ok.ensures.makes.made.steps c.in-Ok.ensures.makes.made.fine
+    (none_free (conflict c.self.inside.log.commits c.in-Some.owned) c.last-last.result c.in-Some.owned.ops _ (decided_none _ _ c.in-Ok.made (c.in-Ok.ensures.commits.answer c.self.inside.log.commits c.self.invariant.tied.manager.stands).decides))
+    (subst (λ (k : ℕ). IsNextOf k c.in-Some.owned.ops c.in-Ok.made.seq) c.last-last.ensures c.in-Ok.ensures.commits.makes.made.next)
+    c.in-Ok.ensures.commits.makes.made.ops c.in-Ok.ensures.commits.makes.made.tracked c.in-Ok.ensures.commits.makes.made.steps c.in-Ok.ensures.commits.makes.made.fine
 
 -- ---- what is committed
 
@@ -74,11 +74,11 @@ terms g c = given_by (reach_of g.S.Store g.M.MergeOperator g.T.BlockTransformer 
 made : (g : given.Over) (c : goal.After-push_commit g) → Commits (asked g c) (by g c) c.self.inside c.push_commit.new.self c.make-made.new.layers c.make-made.new.segments c.take.new.self c.args.id.now c.in-Ok.made.seq c.args.now c.in-Some.owned
 made g c = record {
   log = c.push_commit.ensures.value
-      ∙ (λ i. with_commit c.self.inside.log c.args.id.now c.in-Ok.made.seq (to_z-of_z w64 c.args.now c.ranges.now i) (c.in-Ok.ensures.makes.made.ops i) (c.in-Ok.ensures.makes.made.tracked i) (c.in-Ok.ensures.makes.made.steps i) c.push_commit.new.self.spare);
-  layers = put_as (option_map g.M.MergeOperator.combine c.args.env.now.operator) (meaning g c).combine c.self.inside.default_millis c.in-Ok.made.seq _ c.args.now c.in-Some.owned.ops c.self.inside.layers c.make-made.new.layers c.in-Ok.ensures.makes.put (sym (combine_is g.M.MergeOperator.combine c.args.env.now.operator)) (to_z-of_z w64 c.args.now c.ranges.now);
-  recorded = c.in-Ok.ensures.makes.recorded ∙ ap (λ ops. recorded_at (by g c) c.in-Ok.made.seq ops c.self.inside.segments) c.in-Ok.ensures.makes.made.ops;
+      ∙ (λ i. with_commit c.self.inside.log c.args.id.now c.in-Ok.made.seq (to_z-of_z w64 c.args.now c.ranges.now i) (c.in-Ok.ensures.commits.makes.made.ops i) (c.in-Ok.ensures.commits.makes.made.tracked i) (c.in-Ok.ensures.commits.makes.made.steps i) c.push_commit.new.self.spare);
+  layers = put_as (option_map g.M.MergeOperator.combine c.args.env.now.operator) (meaning g c).combine c.self.inside.default_millis c.in-Ok.made.seq _ c.args.now c.in-Some.owned.ops c.self.inside.layers c.make-made.new.layers c.in-Ok.ensures.commits.makes.put (sym (combine_is g.M.MergeOperator.combine c.args.env.now.operator)) (to_z-of_z w64 c.args.now c.ranges.now);
+  recorded = c.in-Ok.ensures.commits.makes.recorded ∙ ap (λ ops. recorded_at (by g c) c.in-Ok.made.seq ops c.self.inside.segments) c.in-Ok.ensures.commits.makes.made.ops;
   txns = c.in-Some.ensures.left;
-  next = subst (λ (k : ℕ). IsNextOf k c.in-Some.owned.ops c.in-Ok.made.seq) c.last-last.ensures c.in-Ok.ensures.makes.made.next;
+  next = subst (λ (k : ℕ). IsNextOf k c.in-Some.owned.ops c.in-Ok.made.seq) c.last-last.ensures c.in-Ok.ensures.commits.makes.made.next;
 }
 
 abbrev core : (g : given.Over) (c : goal.After-push_commit g) → Inside
@@ -93,7 +93,7 @@ invariant_of-self g c =
     subst IsWholeInside (becomes g c)
     (whole_recorded (after_commit (view_of s) c.args.id.now c.in-Ok.made.seq c.args.now c.in-Some.owned (RowsAfter (asked g c) (view_of s) c.in-Ok.made.seq c.args.now c.in-Some.owned) c.push_commit.new.self.spare) _ _
     (whole_made (asked g c) (view_of s) (unseen_of s) c.args.id.now c.in-Ok.made.seq c.args.now c.in-Some.owned c.push_commit.new.self.spare c.make-made.new.manager (made g c).next
-    (managed_made c.make-made.new.manager s.log.ids _ s.log.last s.log.commits _ c.in-Ok.made.seq _ c.args.now _ _ _ _ c.last-last.ensures (to_z-of_z w64 c.args.now c.ranges.now) c.in-Ok.ensures.makes.made.ops c.in-Ok.ensures.makes.made.tracked
+    (managed_made c.make-made.new.manager s.log.ids _ s.log.last s.log.commits _ c.in-Ok.made.seq _ c.args.now _ _ _ _ c.last-last.ensures (to_z-of_z w64 c.args.now c.ranges.now) c.in-Ok.ensures.commits.makes.made.ops c.in-Ok.ensures.commits.makes.made.tracked
     (c.in-Ok.ensures.committed s.log.ids s.log.commits s.transactions (subst (λ (k : ℕ). IsManaged s.manager s.log.ids k s.log.commits s.transactions) (sym c.last-last.ensures) c.self.invariant.tied.manager)))
     (subst IsLog (made g c).log c.push_commit.ensures.whole) (subst AreLayers (made g c).layers c.in-Ok.ensures.whole) c.self.invariant))
 
@@ -112,7 +112,7 @@ returns-in-Ok-clause-commits g c t named =
     commits_moved (terms g c) c.args.id.now (view_of c.self.inside) c.args.self.now (view_of (core_after (asked g c) (by g c) c.self.inside c.args.id.now c.in-Ok.made.seq c.args.now c.in-Some.owned c.push_commit.new.self.spare c.make-made.new.manager)) (view_of (core g c)) c.in-Some.owned t before after (Ok c.in-Ok.made.seq)
     c.self.view_is (ap view_of (becomes g c)) (sym c.in-Some.ensures.taken) named
     (commits_ok (terms g c) c.self.inside c.args.id.now c.in-Ok.made.seq c.in-Some.owned c.push_commit.new.self.spare c.make-made.new.manager before after c.self.invariant (sym c.in-Some.ensures.taken)
-    (decides_ok_as (parts_ok g c) (verdict_inside (terms g c) c.self.inside c.in-Some.owned) _ (IsFault before after) c.in-Ok.made c.in-Ok.made.seq (verdict_ok g c) (c.in-Ok.ensures.answer c.self.inside.log.commits c.self.invariant.tied.manager.stands).decides) (made g c).next
+    (decides_ok_as (parts_ok g c) (verdict_inside (terms g c) c.self.inside c.in-Some.owned) _ (IsFault before after) c.in-Ok.made c.in-Ok.made.seq (verdict_ok g c) (c.in-Ok.ensures.commits.answer c.self.inside.log.commits c.self.invariant.tied.manager.stands).decides) (made g c).next
     (record {
       call = asked_call g.S.Store g.M.MergeOperator g.T.BlockTransformer c.args.env.now c.make-made.new.operator c.make-made.ensures.same;
       reads = asked_reads g.S.Store g.M.MergeOperator g.T.BlockTransformer c.args.env.now c.make-made.new.operator c.make-made.ensures.same c.make-made.ensures.later;
@@ -128,7 +128,7 @@ abbrev left : (g : given.Over) (c : goal.After-push_end g) → Inside
 left g c = record c.self.inside { log = c.push_end.new.self; layers = c.make-made.new.layers; transactions = c.take.new.self; manager = c.drop_txn.new.self; segments = c.make-made.new.segments }
 
 ends : (g : given.Over) (c : goal.After-push_end g) → record c.self.inside { log = with_end c.self.inside.log c.args.id.now c.push_end.new.self.spare; transactions = without c.args.id.now c.self.inside.transactions; manager = c.drop_txn.new.self } ≡ left g c
-ends g c = refused_parts_are c.self.inside c.push_end.new.self c.make-made.new.layers c.make-made.new.segments c.take.new.self c.drop_txn.new.self c.args.id.now c.push_end.ensures.value c.in-Err.ensures.same_layers c.in-Err.ensures.same_segments c.in-Some.ensures.left
+ends g c = refused_parts_are c.self.inside c.push_end.new.self c.make-made.new.layers c.make-made.new.segments c.take.new.self c.drop_txn.new.self c.args.id.now c.push_end.ensures.value c.in-Err.ensures.left.layers c.in-Err.ensures.left.segments c.in-Some.ensures.left
 
 abbrev before : (g : given.Over) → goal.After-push_end g → Reach
 before g c = reach_of g.S.Store g.M.MergeOperator g.T.BlockTransformer c.args.env.now
@@ -158,7 +158,7 @@ invariant_of-self-in-Err g c =
     let s : Inside = c.self.inside in
     subst IsWholeInside (ends g c)
     (whole_end (view_of s) (unseen_of s) c.args.id.now c.push_end.new.self.spare c.drop_txn.new.self
-    (managed_dropped s.manager c.make-made.new.manager c.drop_txn.new.self s.log.ids s.log.last s.log.commits s.transactions c.args.id.now c.in-Err.ensures.grown c.drop_txn.ensures.dropped (c.drop_txn.ensures.stands _) c.self.invariant.tied.manager)
+    (managed_dropped s.manager c.make-made.new.manager c.drop_txn.new.self s.log.ids s.log.last s.log.commits s.transactions c.args.id.now c.in-Err.ensures.left.grown c.drop_txn.ensures.dropped (c.drop_txn.ensures.stands _) c.self.invariant.tied.manager)
     (subst IsLog c.push_end.ensures.value c.push_end.ensures.whole) c.self.invariant)
 
 pub returns-in-Err-clause-commits : goal.returns-in-Err-clause-commits
@@ -166,7 +166,7 @@ returns-in-Err-clause-commits g c t named =
     commits_moved (with g c) c.args.id.now (view_of c.self.inside) c.args.self.now (view_of (record c.self.inside { log = with_end c.self.inside.log c.args.id.now c.push_end.new.self.spare; transactions = without c.args.id.now c.self.inside.transactions; manager = c.drop_txn.new.self })) (view_of (left g c)) c.in-Some.owned t (before g c) (after g c) (Err c.in-Err.error)
     c.self.view_is (ap view_of (ends g c)) (sym c.in-Some.ensures.taken) named
     (commits_err (with g c) c.self.inside c.args.id.now c.in-Some.owned c.push_end.new.self.spare c.drop_txn.new.self c.in-Err.error (before g c) (after g c) c.self.invariant (sym c.in-Some.ensures.taken)
-    (decides_err_as _ (Option ℕ) (parts_err g c) (verdict_inside (with g c) c.self.inside c.in-Some.owned) _ (fault g c) c.in-Err.error (verdict_err g c) (fault_of g c) (c.in-Err.ensures.answer c.self.inside.log.commits c.self.invariant.tied.manager.stands).decides)
+    (decides_err_as _ (Option ℕ) (parts_err g c) (verdict_inside (with g c) c.self.inside c.in-Some.owned) _ (fault g c) c.in-Err.error (verdict_err g c) (fault_of g c) (c.in-Err.ensures.commits.answer c.self.inside.log.commits c.self.invariant.tied.manager.stands).decides)
     (record {
       call = asked_call g.S.Store g.M.MergeOperator g.T.BlockTransformer c.args.env.now c.make-made.new.operator c.make-made.ensures.same;
       reads = asked_reads g.S.Store g.M.MergeOperator g.T.BlockTransformer c.args.env.now c.make-made.new.operator c.make-made.ensures.same c.make-made.ensures.later;
@@ -183,10 +183,10 @@ returns-in-Err-clause-outside g c = refl
 
 pub returns-in-Ok-clause-unasked : goal.returns-in-Ok-clause-unasked
 returns-in-Ok-clause-unasked g c t named unasked =
-    ap (λ o. record c.args.env.now { operator = o }) ((c.make-made.ensures.answer c.self.inside.log.commits c.self.invariant.tied.manager.stands).asks
+    ap (λ o. record c.args.env.now { operator = o }) ((c.make-made.ensures.commits.answer c.self.inside.log.commits c.self.invariant.tied.manager.stands).asks
     (subst (λ (v : Option SlateDBError). AsksNobody v c.in-Some.owned.ops) (sym (verdict_ok g c)) (unasked_moved (terms g c) c.self.inside c.args.self.now c.args.id.now c.in-Some.owned t c.self.invariant c.self.view_is (sym c.in-Some.ensures.taken) named unasked)))
 
 pub returns-in-Err-clause-unasked : goal.returns-in-Err-clause-unasked
 returns-in-Err-clause-unasked g c t named unasked =
-    ap (λ o. record c.args.env.now { operator = o }) ((c.make-made.ensures.answer c.self.inside.log.commits c.self.invariant.tied.manager.stands).asks
+    ap (λ o. record c.args.env.now { operator = o }) ((c.make-made.ensures.commits.answer c.self.inside.log.commits c.self.invariant.tied.manager.stands).asks
     (subst (λ (v : Option SlateDBError). AsksNobody v c.in-Some.owned.ops) (sym (verdict_err g c)) (unasked_moved (with g c) c.self.inside c.args.self.now c.args.id.now c.in-Some.owned t c.self.invariant c.self.view_is (sym c.in-Some.ensures.taken) named unasked)))

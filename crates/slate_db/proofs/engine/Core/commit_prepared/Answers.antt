@@ -76,7 +76,7 @@ there c = subst (λ (v : CoreModel). WasPrepared v.settings.default_millis c.arg
     (c.requires.prepared c.in-Some.owned (named_there (view_of c.self.inside) c.args.self.now c.args.id.now c.in-Some.owned c.self.view_is (sym c.in-Some.ensures.taken)))
 
 tested : (c : goal.After-push_commit) (o : Option (List ℕ → Combine)) (k : Segments) → Ready c o k → test_refusal o k c.self.inside.segments c.self.inside.default_millis c.args.now c.in-Some.owned.ops ≡ None
-tested c o k p = c.in-Ok.ensures.tested o k c.self.inside.default_millis c.args.now p
+tested c o k p = (c.in-Ok.ensures.puts o k c.self.inside.default_millis c.args.now p).tested
 
 next : (c : goal.After-push_commit) → IsNextOf c.self.inside.log.last c.in-Some.owned.ops c.in-Ok.made.seq
 next c = subst (λ (k : ℕ). IsNextOf k c.in-Some.owned.ops c.in-Ok.made.seq) c.last-last.ensures c.in-Ok.ensures.made.next
@@ -85,8 +85,8 @@ made : (c : goal.After-push_commit) (o : Option (List ℕ → Combine)) (k : Seg
 made c o k p = record {
   log = c.push_commit.ensures.value
       ∙ (λ i. with_commit c.self.inside.log c.args.id.now c.in-Ok.made.seq (to_z-of_z w64 c.args.now c.ranges.now i) (c.in-Ok.ensures.made.ops i) (c.in-Ok.ensures.made.tracked i) (c.in-Ok.ensures.made.steps i) c.push_commit.new.self.spare);
-  layers = c.in-Ok.ensures.put o k c.self.inside.default_millis c.args.now p;
-  recorded = c.in-Ok.ensures.recorded o k c.self.inside.default_millis c.args.now p ∙ ap (λ ops. recorded_at k c.in-Ok.made.seq ops c.self.inside.segments) c.in-Ok.ensures.made.ops;
+  layers = (c.in-Ok.ensures.puts o k c.self.inside.default_millis c.args.now p).put;
+  recorded = (c.in-Ok.ensures.puts o k c.self.inside.default_millis c.args.now p).recorded ∙ ap (λ ops. recorded_at k c.in-Ok.made.seq ops c.self.inside.segments) c.in-Ok.ensures.made.ops;
   txns = c.in-Some.ensures.left;
   next = next c;
 }
@@ -168,14 +168,14 @@ abbrev left : goal.After-push_end → Inside
 left c = record c.self.inside { log = c.push_end.new.self; layers = c.make_prepared-made.new.layers; transactions = c.take.new.self; manager = c.drop_txn.new.self; segments = c.make_prepared-made.new.segments }
 
 ends : (c : goal.After-push_end) → record c.self.inside { log = with_end c.self.inside.log c.args.id.now c.push_end.new.self.spare; transactions = without c.args.id.now c.self.inside.transactions; manager = c.drop_txn.new.self } ≡ left c
-ends c = refused_parts_are c.self.inside c.push_end.new.self c.make_prepared-made.new.layers c.make_prepared-made.new.segments c.take.new.self c.drop_txn.new.self c.args.id.now c.push_end.ensures.value c.in-Err.ensures.same_layers c.in-Err.ensures.same_segments c.in-Some.ensures.left
+ends c = refused_parts_are c.self.inside c.push_end.new.self c.make_prepared-made.new.layers c.make_prepared-made.new.segments c.take.new.self c.drop_txn.new.self c.args.id.now c.push_end.ensures.value c.in-Err.ensures.left.layers c.in-Err.ensures.left.segments c.in-Some.ensures.left
 
 pub invariant_of-self-in-Err : goal.invariant_of-self-in-Err
 invariant_of-self-in-Err c =
     let s : Inside = c.self.inside in
     subst IsWholeInside (ends c)
     (whole_end (view_of s) (unseen_of s) c.args.id.now c.push_end.new.self.spare c.drop_txn.new.self
-    (managed_dropped s.manager c.make_prepared-made.new.manager c.drop_txn.new.self s.log.ids s.log.last s.log.commits s.transactions c.args.id.now c.in-Err.ensures.grown c.drop_txn.ensures.dropped (c.drop_txn.ensures.stands _) c.self.invariant.tied.manager)
+    (managed_dropped s.manager c.make_prepared-made.new.manager c.drop_txn.new.self s.log.ids s.log.last s.log.commits s.transactions c.args.id.now c.in-Err.ensures.left.grown c.drop_txn.ensures.dropped (c.drop_txn.ensures.stands _) c.self.invariant.tied.manager)
     (subst IsLog c.push_end.ensures.value c.push_end.ensures.whole) c.self.invariant)
 
 ended_so : (c : goal.After-push_end) → IsEnded c.args.self.now (view_of (left c)) c.args.id.now
