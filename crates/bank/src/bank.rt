@@ -27,13 +27,17 @@ fn patient() -> TransactOptions
 }
 
 /// Counts a visit, and returns the count. It is committed as one more than what the counter
-/// was, and nothing else is.
+/// was, and nothing else is. At `u64::MAX` a counter stays.
 pub fn count<R: Wait, S: Store>(
     db: &mut Connection<'_, R, S>,
     key: &[u8],
 ) -> Result<u64, SlateDBError>
-    ensures counted { IfOk result (λ n. (ts : List TranscriptStep) × CommitsSteps plain_terms Level.SerializableSnapshot (pos 0) (connected db.old) (connected db.new) ts × IsCount key.now n ts) }
-    ensures same { (db.new.pass.table ≡ db.old.pass.table) × (db.new.pass.parts ≡ db.old.pass.parts) }
+    ensures counted { IfOk result (λ n. (ts : List TranscriptStep)
+        × CommitsSteps plain_terms Level.SerializableSnapshot (pos 0) (connected db.old)
+        (connected db.new) ts
+        × IsCount key.now n ts) }
+    ensures same { (db.new.pass.table ≡ db.old.pass.table)
+        × (db.new.pass.parts ≡ db.old.pass.parts) }
     ensures refused { OnErr result (SeesOnly db.old.pass db.new.pass) }
 {
     db.transact(&patient(), |txn| add_one(txn, key))
@@ -41,7 +45,8 @@ pub fn count<R: Wait, S: Store>(
 
 fn add_one<D: Transact>(txn: &mut Transaction<'_, D>, key: &[u8]) -> Result<u64, SlateDBError>
     ensures stays { StaysIn D.terms D.seen txn.old.db txn.new.db }
-    ensures took { taken (D.seen txn.old.db.now) ≡ [] → IfOk result (λ n. IsCount key.now n (taken (D.seen txn.new.db.now))) }
+    ensures took { taken (D.seen txn.old.db.now) ≡ [] →
+        IfOk result (λ n. IsCount key.now n (taken (D.seen txn.new.db.now))) }
 {
     let count = amount(&txn.get(key)?).saturating_add(1);
     txn.put(key, &count.to_be_bytes())?;
@@ -56,8 +61,12 @@ pub fn transfer<R: Wait, S: Store>(
     to: u8,
     amount: u64,
 ) -> Result<bool, SlateDBError>
-    ensures moved { IfOk result (λ moved. (ts : List TranscriptStep) × CommitsSteps plain_terms Level.SerializableSnapshot (pos 0) (connected db.old) (connected db.new) ts × IsTransfer moved from to amount ts) }
-    ensures same { (db.new.pass.table ≡ db.old.pass.table) × (db.new.pass.parts ≡ db.old.pass.parts) }
+    ensures moved { IfOk result (λ moved. (ts : List TranscriptStep)
+        × CommitsSteps plain_terms Level.SerializableSnapshot (pos 0) (connected db.old)
+        (connected db.new) ts
+        × IsTransfer moved from to amount ts) }
+    ensures same { (db.new.pass.table ≡ db.old.pass.table)
+        × (db.new.pass.parts ≡ db.old.pass.parts) }
     ensures refused { OnErr result (SeesOnly db.old.pass db.new.pass) }
 {
     db.transact(&patient(), |txn| move_amount(txn, from, to, amount))
@@ -70,7 +79,8 @@ fn move_amount<D: Transact>(
     amount: u64,
 ) -> Result<bool, SlateDBError>
     ensures stays { StaysIn D.terms D.seen txn.old.db txn.new.db }
-    ensures took { taken (D.seen txn.old.db.now) ≡ [] → IfOk result (λ moved. IsTransfer moved from to amount (taken (D.seen txn.new.db.now))) }
+    ensures took { taken (D.seen txn.old.db.now) ≡ [] →
+        IfOk result (λ moved. IsTransfer moved from to amount (taken (D.seen txn.new.db.now))) }
 {
     let source = self::amount(&txn.get(&[from])?);
     let target = self::amount(&txn.get(&[to])?);
@@ -87,7 +97,8 @@ fn move_amount<D: Transact>(
 
 /// Returns what a value says, and 0 if there is none.
 fn amount(value: &Option<Bytes>) -> u64
-    ensures { (row : Option KeyValue) → value.now ≡ option_map (λ r. r.value) row → result ≡ amount_of row }
+    ensures { (row : Option KeyValue) → value.now ≡ option_map (λ r. r.value) row →
+        result ≡ amount_of row }
 {
     match value {
         Some(value) => counter_value(value.as_slice()),
@@ -97,7 +108,8 @@ fn amount(value: &Option<Bytes>) -> u64
 
 /// Opens ten accounts with a hundred each.
 pub fn open_accounts<R: Wait, S: Store>(db: &mut Connection<'_, R, S>) -> Result<(), SlateDBError>
-    ensures same { (db.new.pass.table ≡ db.old.pass.table) × (db.new.pass.parts ≡ db.old.pass.parts) }
+    ensures same { (db.new.pass.table ≡ db.old.pass.table)
+        × (db.new.pass.parts ≡ db.old.pass.parts) }
 {
     db.transact(&patient(), |txn| put_accounts(txn))
 }
@@ -113,7 +125,8 @@ fn put_accounts<D: Transact>(txn: &mut Transaction<'_, D>) -> Result<(), SlateDB
 
 /// Returns what all accounts have at one moment.
 pub fn total<R: Wait, S: Store>(db: &mut Connection<'_, R, S>) -> Result<u64, SlateDBError>
-    ensures same { (db.new.pass.table ≡ db.old.pass.table) × (db.new.pass.parts ≡ db.old.pass.parts) }
+    ensures same { (db.new.pass.table ≡ db.old.pass.table)
+        × (db.new.pass.parts ≡ db.old.pass.parts) }
 {
     db.transact(&patient(), |txn| add_up(txn))
 }
