@@ -142,6 +142,26 @@ check_exports() {
     [[ $(./slate_tables "$folder" state | cut -d ' ' -f 1-3,6) == "$(./slate_tables "$1/loaded" state | cut -d ' ' -f 1-3,6)" ]] || fail "an exported script makes another state"
 }
 
+# tells_of_tables STATUS TEXT WORDS..: with the word `tell` a call of ./slate_tables ends so, and says the text in a line.
+tells_of_tables() {
+    local got
+    got=$(./slate_tables tell "${@:3}" 2>&1 >/dev/null; printf 'status %s' $?)
+    [[ $got == *"tables: status $1: $2"$'\n'*"status $1" ]] || fail "./slate_tables tell ${*:3} doesn't say '$2': $got"
+}
+
+# What a person is told: which folder failed and why, and which part of which table is damaged.
+check_told_tables() {
+    local folder=$1/told file=$1/told/$first mode
+    tells_of_tables 7 "$1/nowhere couldn't be read: No such file or directory (os error 2)" "$1/nowhere" list
+    mkdir -p "$folder/db/compacted"
+    put_byte 26 062 >"$file"
+    for mode in check state script; do
+        tells_of_tables 12 "$file, block 0 at byte 0: ChecksumMismatch 3827995144 2743789784" "$folder" "$mode"
+    done
+    tells_of_tables 7 "$file is no folder" "$file" check
+    tells_of_tables 2 "behind the folder stands a mode: list, check, rows, state or script" "$folder" see
+}
+
 # Words that aren't known, and a folder that isn't there.
 check_table_words() {
     local words
@@ -171,6 +191,7 @@ check_table_folders() {
         check_example_folders "$folder"
         check_exports "$folder"
         check_table_words "$folder"
+        check_told_tables "$folder"
         rm -rf "$folder"
         say "folders of tables: checked"
     fi

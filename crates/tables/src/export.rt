@@ -1,6 +1,9 @@
 //! The modes `state` and `script`: the state to which the tables of a folder fold.
+ghost use Rattle.std.specs.Prelude.{◌≡◌, codes, string_bytes};
+
+use crate::folder::{read_folder, tell_fault};
 use slate_language::{NamedOperator, Xor, parse_words};
-use slate_store::{Env, FileStore, Store, WriterSink};
+use slate_store::{Env, Store, WriterSink};
 use slate_table::SstReader;
 use slate_tables::check::{Checked, check_table};
 use slate_tables::listing::{Listing, list_tables};
@@ -42,20 +45,27 @@ pub fn read_request(words: &[String]) -> Option<Request> {
 /// Writes the state of the tables in a folder, if all of them are whole, and answers the status to
 /// end with.
 pub fn export(rt: &HostRuntime, folder: &str, request: Request) -> u8 {
-    let Ok(store) = FileStore::new(rt.alloc(), rt, folder) else {
-        return 20;
-    };
-    let transformer = transformer_of(request.mask);
-    let Ok(mut reader) = SstReader::new(rt.alloc(), "db", store, transformer) else {
-        return 20;
-    };
-    match whole_tables(rt.alloc(), &mut reader) {
+    match tables_of(rt, folder, request) {
         Ok(listing) => {
             let status = export_tables(rt, folder, request, listing.tables.as_slice());
             drop(listing);
             status
         }
         Err(status) => status,
+    }
+}
+
+/// Lists the tables in a folder, and refuses the first one that is damaged.
+fn tables_of(rt: &HostRuntime, folder: &str, request: Request) -> Result<Listing, u8> {
+    match read_folder(rt, folder, transformer_of(request.mask)) {
+        Ok(mut reader) => {
+            let found = whole_tables(rt.alloc(), &mut reader);
+            if let Err(status) = &found {
+                tell_fault(rt, *status, &reader);
+            }
+            found
+        }
+        Err(status) => Err(status),
     }
 }
 
@@ -96,14 +106,25 @@ fn check_each<S: Store, T: BlockTransformer>(
 }
 
 fn export_tables(rt: &HostRuntime, folder: &str, request: Request, ids: &[Ulid]) -> u8 {
-    let Ok(store) = FileStore::new(rt.alloc(), rt, folder) else {
-        return 20;
-    };
-    let transformer = transformer_of(request.mask);
-    let Ok(mut reader) = SstReader::new(rt.alloc(), "db", store, transformer) else {
-        return 20;
-    };
-    match Tables::open(rt.alloc(), &mut reader, ids) {
+    match read_folder(rt, folder, transformer_of(request.mask)) {
+        Ok(mut reader) => {
+            let status = export_opened(rt, request, &mut reader, ids);
+            tell_fault(rt, status, &reader);
+            status
+        }
+        Err(status) => status,
+    }
+}
+
+fn export_opened<S: Store, T: BlockTransformer>(
+    rt: &HostRuntime,
+    request: Request,
+    reader: &mut SstReader<S, T>,
+    ids: &[Ulid],
+) -> u8
+    requires { string_bytes reader.now.root_path ≡ codes "db" }
+{
+    match Tables::open(rt.alloc(), reader, ids) {
         Ok(tables) => {
             let status = write_tables(rt, request, &tables, &mut reader.store);
             drop(tables);

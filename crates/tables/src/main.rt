@@ -6,15 +6,14 @@ ghost use Rattle.std.specs.String.{string_bytes};
 ghost use Rattle.slate_command.specs.FirstWord.{first_word};
 
 mod export;
+mod folder;
 
 use crate::export::{export, read_request};
+use crate::folder::{read_folder, tell_fault, test_folder};
 use slate_command::{FirstWord, print, words};
 use slate_language::Xor;
-use slate_store::{FileStore, WriterSink};
-use slate_table::SstReader;
+use slate_store::WriterSink;
 use slate_tables::run_tables;
-use std::fs;
-use std::io::ErrorKind;
 use std::process::ExitCode;
 
 const HELP: &str = "Reads the tables that a run of slate left in a folder.
@@ -99,16 +98,6 @@ fn run_by(rt: &HostRuntime, asks: Option<FirstWord>, first: &str, words: Vec<Str
     }
 }
 
-/// Refuses what isn't there or is no folder, by the status to end with. A store over it would have
-/// no tables.
-fn test_folder(rt: &HostRuntime, folder: &str) -> Result<(), u8> {
-    match fs::metadata(rt, folder) {
-        Ok(found) if found.is_dir() => Ok(()),
-        Err(error) if error.kind() == ErrorKind::OutOfMemory => Err(20),
-        _ => Err(7),
-    }
-}
-
 /// Exports the tables where the words ask for it, and reads them otherwise.
 fn run_over(rt: &HostRuntime, folder: &str, words: Vec<String>) -> u8 {
     let mut words = words;
@@ -127,12 +116,13 @@ fn is_of_filters(word: &[u8]) -> bool {
 }
 
 fn read_tables(rt: &HostRuntime, folder: &str, words: Vec<String>) -> u8 {
-    let Ok(store) = FileStore::new(rt.alloc(), rt, folder) else {
-        return 20;
-    };
-    let Ok(mut reader) = SstReader::new(rt.alloc(), "db", store, None::<Xor>) else {
-        return 20;
-    };
-    let mut sink = WriterSink::new(rt.stdout());
-    run_tables(rt.alloc(), words, &mut sink, &mut reader)
+    match read_folder(rt, folder, None::<Xor>) {
+        Ok(mut reader) => {
+            let mut sink = WriterSink::new(rt.stdout());
+            let status = run_tables(rt.alloc(), words, &mut sink, &mut reader);
+            tell_fault(rt, status, &reader);
+            status
+        }
+        Err(status) => status,
+    }
 }
