@@ -155,16 +155,39 @@ why_not_read() {
         echo "$1 takes no word behind it"
     elif [[ $1 == - ]]; then
         echo "a store in memory leaves no tables; the first word is a folder"
-    elif [[ ! ${2-} =~ ^(list|check|rows|state|script)$ ]]; then
-        echo "behind the folder stands a mode: list, check, rows, state or script"
+    elif [[ ! ${2-} =~ ^(list|check|rows|state|get|script)$ ]]; then
+        echo "behind the folder stands a mode: list, check, rows, state, get or script"
     else
         for word in "${@:3}"; do
             [[ $word == filter=* ]] || words+=("$word")
         done
-        for word in 1 2; do
-            [[ $2 != rows || ! ${words-} =~ ^$(below 18446744073709551615)$ ]] || words=("${words[@]:1}")
-        done
-        why_word "${words[@]}" || echo "nothing was read; --help has the words"
+        read_kinds
+        case $2 in
+        rows)
+            for word in 1 2; do
+                ! fits "${words-}" number || words=("${words[@]:1}")
+            done
+            ;;
+        get)
+            if ! fits "${words-}" key; then
+                echo "behind get stands ${token_name[key]}"
+                return
+            fi
+            words=("${words[@]:1}")
+            ;;
+        state)
+            if fits "${words-}" order; then
+                for word in "${words[1]-}" "${words[2]-}"; do
+                    fits "$word" bound || {
+                        echo "${word:-the word behind $words} isn't known: expected ${token_name[bound]}"
+                        return
+                    }
+                done
+                words=("${words[@]:3}")
+            fi
+            ;;
+        esac
+        why_word "${words[@]}" || echo "no key is between the bounds, or nothing was read; --help has the words"
     fi
 }
 
