@@ -78,7 +78,7 @@ says() {
 
 # What is wrong is said by each program in the same way: which word, which line and which token.
 check_causes() {
-    local known wrong expected
+    local known wrong expected got
     case $starter in
     slate) known="begin t si" wrong="begin u sy" expected='at sy: expected si or ssi' ;;
     slate_stock) known="issue money bank 5" wrong="pay money bank Ann 1" expected='at Ann: expected a name' ;;
@@ -96,8 +96,84 @@ check_causes() {
     printf 'text' >"$room/notes"
     says 2 "notes is a file and no folder" '' notes
     says 7 "notes is no folder" '' notes/below
+    got=$(cd "$room" && "$top/$starter" tell notes/below </dev/null 2>&1)
+    [[ $got == "$program_name: status 7: notes/below couldn't be looked at: Not a directory (os error 20)"$'\n'* ]] || fail "./$starter doesn't say why a folder can't be made: $got"
     says 7 "/proc: " '' /proc/slate
     rm -f "$room/notes"
+}
+
+# begin_told WORDS..: a run over the folder `store` that tells what its status means, of lines that are written to 7. `told` is its process.
+begin_told() {
+    mkfifo "$room/lines"
+    (cd "$room" && exec "$top/$starter" tell store format=v1 filter=none "$@" <lines >replies 2>told) &
+    told=$!
+    exec 7>"$room/lines"
+}
+
+# has_replied TEXT: the run has written this, within some seconds.
+has_replied() {
+    local turn
+    for ((turn = 0; turn < 200; turn++)); do
+        [[ $(<"$room/replies") != "$1" ]] || return 0
+        sleep 0.05
+    done 2>/dev/null
+    fail "a run that is to fail doesn't begin: $(<"$room/replies"), $(<"$room/told")"
+}
+
+# ended_told STATUS TEXT..: the run ends so, and each of the texts stands in a line on standard error.
+ended_told() {
+    local status text
+    exec 7>&-
+    wait "$told"
+    status=$?
+    ((status == $1)) || fail "a run that is to end with status $1 ends with $status: $(<"$room/told")"
+    for text in "${@:2}"; do
+        grep -qxF "$program_name: status $1: $text" "$room/told" || fail "a run that ends with status $1 doesn't say '$text': $(<"$room/told")"
+    done
+    rm -rf "${room:?}"/*
+}
+
+# What ends a run over a folder is told with its path: the error of the system at 7, the part of the table at 12 and 16.
+check_failures() {
+    local table=store/db/compacted/${first##*/} told text
+    begin_told
+    printf "write put 'a '1\n" >&7
+    has_replied 'written 1'
+    mv "$room/store/db" "$room/store/was"
+    printf 'text' >"$room/store/db"
+    echo flush >&7
+    ended_told 7 "$table couldn't be written: Not a directory (os error 20)" "store/db is no folder"
+    # What failed is told also where it doesn't fail any more.
+    begin_told
+    printf "write put 'a '1\n" >&7
+    has_replied 'written 1'
+    mkdir "$room/$table"
+    echo flush >&7
+    ended_told 7 "$table couldn't be written: Is a directory (os error 21)"
+    for text in 12 16; do
+        begin_told
+        printf "write put 'a '1\nflush\n" >&7
+        has_replied $'written 1\nflushed 1'
+        case $text in
+        12) printf 2 | dd of="$room/$table" bs=1 seek=26 conv=notrunc status=none ;;
+        16) rm "$room/$table" ;;
+        esac
+        printf "begin t si\nget t 'a\n" >&7
+        case $text in
+        12) ended_told 12 "a table in the folder store is damaged: a checksum isn't that of its section" \
+            "$table, block 0 at byte 0: ChecksumMismatch 3827995144 2743789784" ;;
+        16) ended_told 16 "$table isn't there, or has no 19 bytes from 35 on" "each table that is in the folder store now is whole" ;;
+        esac
+    done
+    # A line that is typed, or behind what another program read.
+    printf 'notes\nbegin t si\nget t\n' >"$room/script"
+    text=$(cd "$room" && { read -r _ && "$top/$starter" tell - 2>&1 >/dev/null; } <script)
+    [[ $text == *"line 2 is no line of the language: get t"*"expected a key"* ]] || fail "./$starter doesn't tell a wrong line behind a file's front: $text"
+    if command -v script >/dev/null; then
+        text=$(cd "$room" && sleep 1 | cat - script | sed 1d | script -qec "$top/$starter tell -" /dev/null | tr -d '\r')
+        [[ $text == *"line 2 is no line of the language: get t"* ]] || fail "./$starter doesn't tell a wrong line that is typed: $text"
+    fi
+    rm -rf "${room:?}"/*
 }
 
 # A call of a program that is there asks the toolchain nothing.
@@ -187,6 +263,7 @@ check_first_hour() {
         check_one_run
         check_pages
         check_causes
+        [[ $starter != slate ]] || check_failures
         check_calls
         check_sum
         say "first calls of $starter: checked"

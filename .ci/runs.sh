@@ -1,7 +1,7 @@
 # shellcheck shell=bash disable=SC2154
 # Functions of ./slate and the other programs: how their program is run where a person is told what its status means. Source this file behind
-# program.sh, with `call` set. What is told is found out by looking again: the program itself says its status, and with SLATE_TELL in its
-# environment the path of a table that couldn't be read or written, or is damaged.
+# program.sh, with `call` set. The program says its status, and with a name in SLATE_TELL, behind that name, which path failed and why, or
+# which table was read last. The rest of what is told is found out by looking again.
 . "$top/.ci/lines.sh"
 
 # The words of a run behind the first one, an expression.
@@ -112,6 +112,38 @@ damage() {
     esac
 }
 
+# show_damage FLUSH PLACE PART BLOCK OFFSET ERROR..: of a line of damage which table it is, which part of it, and what is wrong there.
+show_damage() {
+    local part=$3
+    [[ $4 == - ]] || part+=" $4"
+    [[ $5 == - ]] || part+=" at byte $5"
+    printf '%s/db/compacted/%016x%016x.sst, %s: %s\n' "$folder" "$1" "$2" "$part" "${*:6}"
+}
+
+# check_tables WORDS..: what ./slate_tables finds, which tells a person nothing of its own here.
+check_tables() {
+    if [[ $program_name == tables ]]; then
+        "$program" "$@"
+    else
+        "$top/slate_tables" "$@" 2> >(cat >&2)
+    fi
+}
+
+# where_damaged FOLDER WORDS..: the first damaged table of the folder, as `./slate_tables FOLDER check` finds it by those of the words that
+# set something.
+where_damaged() {
+    local folder=${1%/} word words=() line
+    for word in "${@:2}"; do
+        [[ ! $word =~ ^[a-z]+= ]] || words+=("$word")
+    done
+    while read -ra line; do
+        [[ ${line[0]} == damaged ]] || continue
+        show_damage "${line[@]:1}"
+        return
+    done < <(check_tables "$1" check "${words[@]}")
+    echo "each table that is in the folder $1 now is whole"
+}
+
 # why_not_read WORDS..: why no table was looked at.
 why_not_read() {
     local word words=()
@@ -123,16 +155,39 @@ why_not_read() {
         echo "$1 takes no word behind it"
     elif [[ $1 == - ]]; then
         echo "a store in memory leaves no tables; the first word is a folder"
-    elif [[ ! ${2-} =~ ^(list|check|rows)$ ]]; then
-        echo "behind the folder stands a mode: list, check or rows"
+    elif [[ ! ${2-} =~ ^(list|check|rows|state|get|script)$ ]]; then
+        echo "behind the folder stands a mode: list, check, rows, state, get or script"
     else
         for word in "${@:3}"; do
             [[ $word == filter=* ]] || words+=("$word")
         done
-        for word in 1 2; do
-            [[ $2 != rows || ! ${words-} =~ ^$(below 18446744073709551615)$ ]] || words=("${words[@]:1}")
-        done
-        why_word "${words[@]}" || echo "nothing was read; --help has the words"
+        read_kinds
+        case $2 in
+        rows)
+            for word in 1 2; do
+                ! fits "${words-}" number || words=("${words[@]:1}")
+            done
+            ;;
+        get)
+            if ! fits "${words-}" key; then
+                echo "behind get stands ${token_name[key]}"
+                return
+            fi
+            words=("${words[@]:1}")
+            ;;
+        state)
+            if fits "${words-}" order; then
+                for word in "${words[1]-}" "${words[2]-}"; do
+                    fits "$word" bound || {
+                        echo "${word:-the word behind $words} isn't known: expected ${token_name[bound]}"
+                        return
+                    }
+                done
+                words=("${words[@]:3}")
+            fi
+            ;;
+        esac
+        why_word "${words[@]}" || echo "no key is between the bounds, or nothing was read; --help has the words"
     fi
 }
 
@@ -142,7 +197,10 @@ meaning_of_reading() {
     2) why_not_read "${@:2}" ;;
     6) echo "standard output couldn't be written" ;;
     7) echo "the folder $2 couldn't be read" ;;
-    12 | 14 | 15 | 16 | 18 | 19) echo "a table in the folder $2 is damaged, or xor= isn't that of its run" ;;
+    12 | 14 | 15 | 16 | 18 | 19)
+        echo "a table in the folder $2 is damaged, or a word isn't that of its run: $(damage "$1")"
+        where_damaged "$2" "${@:4}"
+        ;;
     20) echo "there is no more memory" ;;
     *) return 1 ;;
     esac
@@ -161,27 +219,30 @@ meaning_of() {
     5) echo "standard input couldn't be read" ;;
     6) echo "standard output couldn't be written" ;;
     7) why_failed "$2" ;;
-    12 | 14 | 15 | 16 | 18 | 19) echo "a table in the folder $2 is damaged: $(damage "$1")" ;;
+    12 | 14 | 15 | 16 | 18 | 19)
+        echo "a table in the folder $2 is damaged: $(damage "$1")"
+        where_damaged "${@:2}"
+        ;;
     20) echo "there is no more memory" ;;
     *) return 1 ;;
     esac
 }
 
-# run_watched WORDS..: runs the program, tells a person what its status means, and ends with it. What comes by a pipe is kept besides, so that
-# the line at 3 is known.
+# run_watched WORDS..: runs the program, tells a person what its status means, and ends with it. What comes by a pipe, or is typed, is kept
+# besides, so that the line at 3 is known.
 run_watched() {
     local status text
     kept=''
-    if [[ -p /dev/stdin && ${2-} != gen ]] && kept=$(mktemp); then
+    if [[ $program_name != @(shell|tables) && ${2-} != gen ]] && is_spent_once && kept=$(mktemp); then
         trap 'rm -f "$kept"' EXIT
         exec 6< <(exec 5>&1 >"$kept" && exec tee /dev/fd/5)
-        SLATE_TELL=1 "$program" "$@" <&6
+        SLATE_TELL=$program_name "$program" "$@" <&6
         status=$?
         kill "$!" 2>/dev/null
     else
         # A file is read anew, where the script was all of it.
-        [[ ! -f /dev/stdin ]] || ! grep -qx 'pos:[[:space:]]*0' /proc/self/fdinfo/0 || kept=/dev/stdin
-        SLATE_TELL=1 "$program" "$@"
+        [[ ! -f /dev/stdin ]] || kept=/dev/stdin
+        SLATE_TELL=$program_name "$program" "$@"
         status=$?
     fi
     if text=$(meaning_of "$status" "$@"); then
@@ -190,4 +251,9 @@ run_watched() {
         done <<<"$text"
     fi
     exit "$status"
+}
+
+# is_spent_once: standard input can't be read again from where it stands: it is a pipe, a terminal, or a file from its middle on.
+is_spent_once() {
+    [[ -p /dev/stdin || -t 0 ]] || { [[ -f /dev/stdin ]] && ! grep -qx 'pos:[[:space:]]*0' /proc/self/fdinfo/0; }
 }

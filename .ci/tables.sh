@@ -138,8 +138,53 @@ check_exports() {
     printf '%b' "write put 'b '1 put 'a '2\nflush\nwrite delete 'b put 'c 0x00ff\nwrite put 'a '3\nflush\n" | ./slate "$folder" >/dev/null
     script=$(./slate_tables "$folder" script && echo flush) || fail "./slate_tables script doesn't end with 0"
     ./slate "$1/loaded" >/dev/null <<<"$script" || fail "an exported script doesn't run"
+    check_ranges "$folder"
     [[ $(./slate_tables "$folder" state | cut -d ' ' -f 1-3) == "$(printf '%s\n' "row 'a '3" "row 'c 0x00ff")" ]] || fail "./slate_tables state isn't the state of two flushes"
     [[ $(./slate_tables "$folder" state | cut -d ' ' -f 1-3,6) == "$(./slate_tables "$1/loaded" state | cut -d ' ' -f 1-3,6)" ]] || fail "an exported script makes another state"
+}
+
+# check_ranges FOLDER: the rows of the two keys a and c, of which b was deleted, between bounds in both orders, and the row of each.
+check_ranges() {
+    local a="row 'a '3 3 0 -" c="row 'c 0x00ff 2 0 -"
+    set -f
+    reads 0 "$1" "state asc * * format=v2" "$a\n$c\n"
+    reads 0 "$1" "state desc * *" "$c\n$a\n"
+    reads 0 "$1" "state asc e'a *" "$c\n"
+    reads 0 "$1" "state desc i'a e'c" "$a\n"
+    reads 0 "$1" "state asc i'b i'b" ''
+    reads 0 "$1" "get 'a" "$a\n"
+    reads 0 "$1" "get 0x63 format=v2" "$c\n"
+    reads 0 "$1" "get 'b" 'none\n'
+    reads 2 "$1" "state asc i'b e'b" ''
+    reads 2 "$1" "state asc i'c i'a" ''
+    reads 2 "$1" "state asc i'a" ''
+    reads 2 "$1" "state up * *" ''
+    reads 2 "$1" "state asc * * n1" ''
+    reads 2 "$1" "get a" ''
+    reads 2 "$1" get ''
+    set +f
+}
+
+# tells_of_tables STATUS TEXT WORDS..: with the word `tell` a call of ./slate_tables ends so, and says the text in a line.
+tells_of_tables() {
+    local got
+    got=$(./slate_tables tell "${@:3}" 2>&1 >/dev/null; printf 'status %s' $?)
+    [[ $got == *"tables: status $1: $2"$'\n'*"status $1" ]] || fail "./slate_tables tell ${*:3} doesn't say '$2': $got"
+}
+
+# What a person is told: which folder failed and why, and which part of which table is damaged.
+check_told_tables() {
+    local folder=$1/told file=$1/told/$first mode
+    tells_of_tables 7 "$1/nowhere couldn't be read: No such file or directory (os error 2)" "$1/nowhere" list
+    mkdir -p "$folder/db/compacted"
+    put_byte 26 062 >"$file"
+    for mode in check state script; do
+        tells_of_tables 12 "$file, block 0 at byte 0: ChecksumMismatch 3827995144 2743789784" "$folder" "$mode"
+    done
+    tells_of_tables 7 "$file is no folder" "$file" check
+    tells_of_tables 2 "behind the folder stands a mode: list, check, rows, state, get or script" "$folder" see
+    tells_of_tables 2 "'a isn't known: expected a bound, as i'key, e'key or *" "$folder" state asc "'a" '*'
+    tells_of_tables 2 "behind get stands a key, as 'text or 0x74657874" "$folder" get
 }
 
 # Words that aren't known, and a folder that isn't there.
@@ -171,6 +216,7 @@ check_table_folders() {
         check_example_folders "$folder"
         check_exports "$folder"
         check_table_words "$folder"
+        check_told_tables "$folder"
         rm -rf "$folder"
         say "folders of tables: checked"
     fi

@@ -6,11 +6,11 @@ ghost use Rattle.std.specs.String.{string_bytes};
 ghost use Rattle.slate_filter.specs.Laws.{AreValidNames};
 ghost use Rattle.slate_command.specs.FirstWord.{first_word};
 
-use slate_command::{FirstWord, Watched, filters, hold, print, words};
+use slate_command::{FirstWord, filters, hold, open_folder, print, words};
 use slate_filter::FilterPolicy;
 use slate_language::parse_words;
 use slate_shell::{Pages, run_by_words};
-use slate_store::{FileStore, MemoryStore, ReaderSource, Store, WriterSink};
+use slate_store::{MemoryStore, ReaderSource, Store, WriterSink};
 use slate_types::SlateDBError;
 use std::io::IsTerminal;
 use std::process::ExitCode;
@@ -133,9 +133,8 @@ fn run_in_memory(rt: &HostRuntime, words: &[String]) -> u8 {
 }
 
 fn run_over_folder(rt: &HostRuntime, folder: &str, words: &[String]) -> u8 {
-    match FileStore::new(rt.alloc(), rt, folder) {
-        Ok(store) => {
-            let mut store = Watched::new(rt.alloc(), store);
+    match open_folder(rt, folder) {
+        Ok(mut store) => {
             let status = run_with(rt, Some(folder), words, &mut store);
             store.tell(rt, status);
             status

@@ -11,11 +11,11 @@ ghost use Rattle.slate_script.specs.Program.{IsDamageStatus};
 ghost use Rattle.slate_script.specs.Told.{IsUntrue};
 ghost use Rattle.slate_table.specs.Filtered.{AreLawful};
 
-use slate_command::{FirstWord, Watched, filters, hold, print, words};
+use slate_command::{FirstWord, filters, hold, open_folder, print, words};
 use slate_filter::FilterPolicy;
 use slate_language::{parse_generated, parse_words};
 use slate_script::run_main;
-use slate_store::{FileStore, MemoryStore, ReaderSource, Store, WriterSink};
+use slate_store::{MemoryStore, ReaderSource, Store, WriterSink};
 use slate_types::SlateDBError;
 use std::process::ExitCode;
 
@@ -133,9 +133,8 @@ fn run_by(rt: &HostRuntime, asks: Option<FirstWord>, first: &str, words: &[Strin
 
 /// Runs over a store in the folder.
 fn run_over_folder(rt: &HostRuntime, folder: &str, words: &[String]) -> u8 {
-    match FileStore::new(rt.alloc(), rt, folder) {
-        Ok(store) => {
-            let mut store = Watched::new(rt.alloc(), store);
+    match open_folder(rt, folder) {
+        Ok(mut store) => {
             let status = run_with(rt, Some(folder), words, &mut store);
             store.tell(rt, status);
             status

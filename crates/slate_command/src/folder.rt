@@ -3,6 +3,8 @@
 ghost use Rattle.std.specs.Prelude.{◌≡◌};
 ghost use Rattle.slate_command.specs.FolderStatus.{folder_status};
 
+use crate::telling::tell;
+use crate::watched_files::{LastError, WatchedFiles};
 use slate_store::{FileStore, Store, StoreError};
 use slate_types::SlateDBError;
 use std::fs::{self, File, TryLockError};
@@ -46,7 +48,8 @@ impl FolderError {
 /// Makes the folder where it is missing, and holds it for one run: while the file that it answers
 /// is there, which ends with its process in whatever way, each other call is refused by `InUse`. A
 /// folder that has tables is refused, and one that can't be written, as far as a file shows that is
-/// made beside them and taken away.
+/// made beside them and taken away. Where it failed, what failed and why is said on standard error,
+/// if the environment asks for it.
 pub fn hold(rt: &HostRuntime, folder: &str) -> Result<File, FolderError> {
     test_kind(rt, folder)?;
     let tables = format!(in rt.alloc(); "{folder}/db/compacted").map_err(
@@ -58,12 +61,12 @@ pub fn hold(rt: &HostRuntime, folder: &str) -> Result<File, FolderError> {
 }
 
 fn hold_for(rt: &HostRuntime, folder: &str, tables: &str) -> Result<File, FolderError> {
-    fs::create_dir_all(rt, tables).map_err(failed)?;
-    let held = File::open(rt, folder).map_err(failed)?;
+    fs::create_dir_all(rt, tables).map_err(|error| failed(rt, tables, "made", error))?;
+    let held = File::open(rt, folder).map_err(|error| failed(rt, folder, "opened", error))?;
     match held.try_lock() {
         Ok(()) => {}
         Err(TryLockError::WouldBlock) => return Err(FolderError::InUse),
-        Err(TryLockError::Error(error)) => return Err(failed(error)),
+        Err(TryLockError::Error(error)) => return Err(failed(rt, folder, "locked", error)),
     }
     test_empty(rt, tables)?;
     test_writing(rt, tables)?;
@@ -76,13 +79,15 @@ fn test_kind(rt: &HostRuntime, folder: &str) -> Result<(), FolderError> {
         Ok(found) if found.is_dir() => Ok(()),
         Ok(_) => Err(FolderError::NotAFolder),
         Err(error) if error.kind() == ErrorKind::NotFound => Ok(()),
-        Err(error) => Err(failed(error)),
+        Err(error) => Err(failed(rt, folder, "looked at", error)),
     }
 }
 
 /// Refuses tables of an earlier run, over which this one would put its own.
 fn test_empty(rt: &HostRuntime, tables: &str) -> Result<(), FolderError> {
-    let mut store = FileStore::new(rt.alloc(), rt, tables).map_err(of_store)?;
+    let last = LastError::none(rt.alloc()).map_err(|_| FolderError::OutOfMemory)?;
+    let files = WatchedFiles::new(rt, &last).map_err(|_| FolderError::OutOfMemory)?;
+    let mut store = FileStore::new(rt.alloc(), files, tables).map_err(of_store)?;
     match store.list(rt.alloc()) {
         Ok(names) => {
             if names.iter().any(|name| name.as_str().ends_with(".sst")) {
@@ -91,7 +96,10 @@ fn test_empty(rt: &HostRuntime, tables: &str) -> Result<(), FolderError> {
                 Ok(())
             }
         }
-        Err(StoreError::Failed) => Err(FolderError::Failed),
+        Err(StoreError::Failed) => {
+            let error = last.get().unwrap_or(ErrorKind::Other.into());
+            Err(failed(rt, tables, "listed", error))
+        }
         Err(StoreError::OutOfMemory) => Err(FolderError::OutOfMemory),
     }
 }
@@ -102,13 +110,17 @@ fn test_writing(rt: &HostRuntime, tables: &str) -> Result<(), FolderError> {
     let trial = format!(in rt.alloc(); "{tables}/trial.tmp").map_err(|_| FolderError::OutOfMemory)?;
     let written = fs::write(rt, &trial, "trial").and_then(|()| fs::remove_file(rt, &trial));
     drop(trial);
-    written.map_err(failed)
+    written.map_err(|error| failed(rt, tables, "written in", error))
 }
 
-fn failed(error: io::Error) -> FolderError {
+/// Says what couldn't be done with a path, and why.
+fn failed(rt: &HostRuntime, path: &str, done: &str, error: io::Error) -> FolderError {
     match error.kind() {
         ErrorKind::OutOfMemory => FolderError::OutOfMemory,
-        _ => FolderError::Failed,
+        _ => {
+            tell(rt, 7, format_args!("{path} couldn't be {done}: {error}"));
+            FolderError::Failed
+        }
     }
 }
 

@@ -6,8 +6,8 @@ ghost use Rattle.slate_command.specs.FirstWord.{first_word};
 use crate::arguments::print;
 use crate::first_word::FirstWord;
 use crate::folder::hold;
-use crate::watched::Watched;
-use slate_store::{FileStore, MemoryStore, Store};
+use crate::watched::open_folder;
+use slate_store::{MemoryStore, Store};
 
 /// A program that answers lines of standard input, over a store that is empty at the start.
 pub trait LineProgram {
@@ -67,9 +67,8 @@ fn run_over_folder<P: LineProgram>(rt: &HostRuntime, program: &P, folder: &str) 
 }
 
 fn run_in<P: LineProgram>(rt: &HostRuntime, program: &P, folder: &str) -> u8 {
-    match FileStore::new(rt.alloc(), rt, folder) {
-        Ok(store) => {
-            let mut store = Watched::new(rt.alloc(), store);
+    match open_folder(rt, folder) {
+        Ok(mut store) => {
             let status = program.run(rt, &mut store);
             store.tell(rt, status);
             status

@@ -26,5 +26,6 @@ pub mod NewExports
 pub mod Undamaged
 pub mod Writings
 pub mod Movings
+pub mod Points
 pub mod ListedTables
 pub mod Openings

@@ -5,6 +5,7 @@ use Rattle.std.specs.List.{AllByRecursion}
 use Rattle.slate_types.specs.declared.bytes_range.BytesRange.{BytesRange}
 use Rattle.slate_types.specs.declared.error.SlateDBError.{SlateDBError}
 use Rattle.slate_types.specs.declared.error.SlateDBError.TheVariants as errors
+use Rattle.slate_types.specs.declared.iter.IterationOrder.{IterationOrder}
 use Rattle.slate_types.specs.declared.iter.IterationOrder.TheVariants.{Ascending}
 use Rattle.slate_types.specs.declared.types.RowEntry.{RowEntry}
 use Rattle.slate_types.specs.declared.types.ValueDeletable.TheVariants.{Tombstone}
@@ -21,7 +22,7 @@ use Rattle.slate_tables.specs.Exported.{IsExport, IsState}
 use Rattle.slate_tables.specs.Loading.{IsReached, KeysPass, created, earlier, moment}
 use Rattle.slate_tables.specs.LoadText.{first_line, last_line, last_words, load_script, now_line, script_of, write_line}
 use Rattle.slate_tables.specs.Moved.{CanMove, Moves}
-use Rattle.slate_tables.specs.States.{WritesExport, WritesScript, WritesState}
+use Rattle.slate_tables.specs.States.{WritesExport, WritesPart, WritesRange, WritesScript, WritesState}
 use Rattle.slate_tables.specs.Writing.{IsLoadable, IsUnwritten, Passes, WritesRows, form_text, row_script, state_line, tally}
 use Rattle.slate_tables.proofs.Moments.{earlier_fits, is_in_time, later_fits}
 use Rattle.slate_tables.proofs.Moved.{script_loads_state}
@@ -74,6 +75,9 @@ whole_text before rows =
 pub state_written : (m : Meaning) (has : Bool) (rows out : List RowEntry) (before : List ℕ) (after : Option (List ℕ)) (t : Written) → IsExport (operator_at m.combine) Ascending whole rows out → WritesRows forms.State has out before after t → WritesState m rows before after t
 state_written m has rows out before after t is w = record { out = out; state = as_state (operator_at m.combine) rows out is; text = w.text; counts = w.counts }
 
+pub range_written : (m : Meaning) (order : IterationOrder) (range : BytesRange) (rows : List RowEntry) (before : List ℕ) (after : Option (List ℕ)) (t : Written) → WritesPart forms.State m order range rows before after t → WritesRange m order range rows before after t
+range_written m order range rows before after t h = record { out = h.0; export = h.1; text = h.2.text; counts = h.2.counts }
+
 pub script_written : (m : Meaning) (rows out : List RowEntry) (before : List ℕ) (middle after : Option (List ℕ)) (t : Written) → IsExport (operator_at m.combine) Ascending whole rows out →
     WritesRows forms.Script (is_some m.combine) out (before ++ (first_line ++ (10 ∷ []))) middle t → ((front : List ℕ) → middle ≡ Some front → after ≡ Some (front ++ (last_line out ++ (10 ∷ [])))) → WritesScript m rows before after t
 script_written m rows out before middle after t is w last = record {
@@ -96,6 +100,10 @@ script_last m rows before middle after t (Ok told) h same wrote =
 pub last_unwritten : (i j k : ℕ) (e : SlateDBError) → j ≡ i → (e ≡ errors.OutOfMemory) ⊎ ((e ≡ errors.WriteFault) × Rose j k) → IsUnwritten forms.Script i k e
 last_unwritten i j k e same (inl is) = inr (false, record { key = []; value = Tombstone; seq = 0; create_ts = None; expire_ts = None }, inl is)
 last_unwritten i j k e same (inr f) = inl (f.0, subst (λ (n : ℕ). Rose n k) same f.1)
+
+pub found_unwritten : (i k : ℕ) (e : SlateDBError) → (e ≡ errors.OutOfMemory) ⊎ ((e ≡ errors.WriteFault) × Rose i k) → IsUnwritten forms.State i k e
+found_unwritten i k e (inl is) = inr (false, record { key = []; value = Tombstone; seq = 0; create_ts = None; expire_ts = None }, is)
+found_unwritten i k e (inr f) = inl f
 
 pub last_undamaged : (i j : ℕ) (e : SlateDBError) → (e ≡ errors.OutOfMemory) ⊎ ((e ≡ errors.WriteFault) × Rose i j) → ¬ IsDamage e
 last_undamaged i j e (inl is) = λ d. subst IsDamage is d

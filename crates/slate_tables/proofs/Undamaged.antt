@@ -5,10 +5,8 @@ use Rattle.std.specs.List.{AllByRecursion}
 use Rattle.slate_types.specs.declared.error.SlateDBError.{SlateDBError}
 use Rattle.slate_types.specs.declared.bytes_range.BytesRange.{BytesRange}
 use Rattle.slate_types.specs.declared.iter.IterationOrder.{IterationOrder}
-use Rattle.slate_types.specs.declared.iter.IterationOrder.TheVariants.{Ascending}
 use Rattle.slate_types.specs.declared.types.RowEntry.{RowEntry}
 use Rattle.slate_types.specs.Fold.{operator_at}
-use Rattle.slate_types.specs.Keys.{whole}
 use Rattle.slate_types.specs.Outside.{Act, IsFault, Meaning, Objects, OnlyReads, Reach}
 use Rattle.slate_types.specs.Refusing.{IsDamage}
 use Rattle.slate_types.specs.World.{AnswersWorld, HoldsWorld, Made, Sees, World}
@@ -21,7 +19,7 @@ use Rattle.slate_tables.specs.declared.export.Written.{Written}
 use Rattle.slate_tables.specs.Exported.{IsExport}
 use Rattle.slate_tables.specs.Merging.{Export}
 use Rattle.slate_tables.specs.Opened.{IsWorldHolding}
-use Rattle.slate_tables.specs.States.{IsUnwrittenState, WritesExport}
+use Rattle.slate_tables.specs.States.{IsUnwrittenPart, IsUnwrittenState, WritesPart}
 use Rattle.slate_tables.specs.Writing.{IsUnwritten, WritesRows}
 use Rattle.slate_tables.specs.Reading.{ExportRefusal, IsRefusedRead, RefusesNew}
 
@@ -58,16 +56,12 @@ refused_then refuses handles range order it a b c e first later second = (later.
     by (inr r) = inr (later.2 second.0 None e (subst (λ (m : Meaning). refuses it m second.0 None e) first.meaning r))
 
 -- and so does a state that isn't written
-pub unwritten_then : (refuses : ExportRefusal) (handles : List SsTableHandle) (range : BytesRange) (form : Form) (it : Export) (a b c : Reach) (i j : ℕ) (r : Result Written SlateDBError) → range ≡ whole → OnlyReads a b →
-    Made a b (λ reads. (more : List Act) (at : Option (List ℕ)) (d : SlateDBError) → refuses it a.meaning more at d → RefusesNew refuses handles range Ascending a.meaning (reads ++ more) at d) →
-    IfErr r (λ e. IsUnwritten form i j e ⊎ Made b c (λ reads. IsFault b c e ⊎ refuses it b.meaning reads None e)) → IfErr r (IsUnwrittenState form refuses handles i j a c)
-unwritten_then refuses handles range form it a b c i j (Ok t) all first later h = tt
-unwritten_then refuses handles range form it a b c i j (Err e) all first later (inl u) = inl u
-unwritten_then refuses handles range form it a b c i j (Err e) all first later (inr made) =
-    inr (subst (λ (x : BytesRange). IsRefusedRead refuses handles x Ascending a c e) all (refused_then refuses handles range Ascending it a b c e first later made))
-
-pub unopened : (refuses : ExportRefusal) (handles : List SsTableHandle) (range : BytesRange) (form : Form) (a b : Reach) (i j : ℕ) (e : SlateDBError) → range ≡ whole → IsRefusedRead refuses handles range Ascending a b e → IsUnwrittenState form refuses handles i j a b e
-unopened refuses handles range form a b i j e all h = inr (subst (λ (x : BytesRange). IsRefusedRead refuses handles x Ascending a b e) all h)
+pub unwritten_then : (refuses : ExportRefusal) (handles : List SsTableHandle) (range : BytesRange) (order : IterationOrder) (form : Form) (it : Export) (a b c : Reach) (i j : ℕ) (r : Result Written SlateDBError) → OnlyReads a b →
+    Made a b (λ reads. (more : List Act) (at : Option (List ℕ)) (d : SlateDBError) → refuses it a.meaning more at d → RefusesNew refuses handles range order a.meaning (reads ++ more) at d) →
+    IfErr r (λ e. IsUnwritten form i j e ⊎ Made b c (λ reads. IsFault b c e ⊎ refuses it b.meaning reads None e)) → IfErr r (IsUnwrittenPart form refuses handles range order i j a c)
+unwritten_then refuses handles range order form it a b c i j (Ok t) first later h = tt
+unwritten_then refuses handles range order form it a b c i j (Err e) first later (inl u) = inl u
+unwritten_then refuses handles range order form it a b c i j (Err e) first later (inr made) = inr (refused_then refuses handles range order it a b c e first later made)
 
 -- faults that were counted before the first call that failed
 pub unwritten_earlier : (refuses : ExportRefusal) (handles : List SsTableHandle) (form : Form) (a b : Reach) (i j k : ℕ) (e : SlateDBError) → j ≡ i → IsUnwrittenState form refuses handles j k a b e → IsUnwrittenState form refuses handles i k a b e
@@ -76,11 +70,11 @@ unwritten_earlier refuses handles form a b i j k e same (inr r) = inr r
 
 -- ---- what is written
 
-pub written_here : (form : Form) (m : Meaning) (w : World) (b : Reach) (range : BytesRange) (rows out : List RowEntry) (before : List ℕ) (after : Option (List ℕ)) (t : Written) → w.meaning ≡ m → b.meaning ≡ m → range ≡ whole →
-    IsExport (operator_at w.meaning.combine) Ascending range rows out → WritesRows form (is_some b.meaning.combine) out before after t → WritesExport form m rows before after t
-written_here form m w b range rows out before after t same later all is h = (
+pub written_here : (form : Form) (order : IterationOrder) (m : Meaning) (w : World) (b : Reach) (range : BytesRange) (rows out : List RowEntry) (before : List ℕ) (after : Option (List ℕ)) (t : Written) → w.meaning ≡ m → b.meaning ≡ m →
+    IsExport (operator_at w.meaning.combine) order range rows out → WritesRows form (is_some b.meaning.combine) out before after t → WritesPart form m order range rows before after t
+written_here form order m w b range rows out before after t same later is h = (
   out,
-  subst (λ (x : BytesRange). IsExport (operator_at m.combine) Ascending x rows out) all (subst (λ (p : Meaning). IsExport (operator_at p.combine) Ascending range rows out) same is),
+  subst (λ (p : Meaning). IsExport (operator_at p.combine) order range rows out) same is,
   subst (λ (p : Meaning). WritesRows form (is_some p.combine) out before after t) later h,
 )
 

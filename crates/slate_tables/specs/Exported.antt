@@ -5,6 +5,7 @@
 --                                 the list of the newest table comes first
 --     KeysCome order rows      keys come in the order, each once
 --     row_with_key rows k      the row of a key
+--     first_row rows      the first row, where there is one
 --     IsExport c order range rows out      in the range, of each key the row that all rows fold
 --                                          to, and no other row
 --     IsState c rows out      the same of all keys, keys rising
@@ -44,6 +45,10 @@ KeysCome order (r ∷ rows) =
 abbrev pub row_with_key : List RowEntry → List ℕ → Option RowEntry
 row_with_key [] k = None
 row_with_key (r ∷ rows) k = if bytes_eq r.key k then Some r else row_with_key rows k
+
+abbrev pub first_row : List RowEntry → Option RowEntry
+first_row [] = None
+first_row (r ∷ rows) = Some r
 
 pub record IsExport (c : List ℕ → Combine) (order : IterationOrder) (range : BytesRange)
     (rows out : List RowEntry) : Type 0 where

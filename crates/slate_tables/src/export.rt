@@ -1,9 +1,10 @@
 //! The rows of an export, as they are written.
 ghost use Rattle.std.specs.Prelude.{◌≡◌, ◌≤◌, ◌⊎◌, ◌-◌, ◌^◌, ◌++◌, ◌∷◌, ℕ, List, None, Some};
-ghost use Rattle.std.specs.Prelude.{not, ◌&&◌, is_some, IfSome, FitsSigned, OnOk, IfOk, IfErr, IsOkUnless};
+ghost use Rattle.std.specs.Prelude.{not, ◌&&◌, is_some, option_map, IfSome, FitsSigned, OnOk, IfOk, IfErr, IsOkUnless};
 ghost use mir.Syntax.{w64};
 ghost use Rattle.std.specs.List.{join_with_byte};
 ghost use Rattle.slate_types.specs.declared.error.SlateDBError.{SlateDBError};
+ghost use Rattle.slate_types.specs.Faults.{Rose};
 ghost use Rattle.slate_types.specs.Keys.{AreBytes};
 ghost use Rattle.slate_types.specs.Outside.{IsFault, IsStill, OnlyReads};
 ghost use Rattle.slate_types.specs.Refusing.{IsDamage};
@@ -306,6 +307,57 @@ fn row_text(
     match form {
         Form::State => state_text(alloc, row),
         Form::Script => loaded_text(alloc, row, has_operator),
+    }
+}
+
+/// Returns the answer of a `get` that found a row, or none, with its line end. The one error is
+/// `OutOfMemory`.
+fn answer_text(alloc: Global, row: Option<RowEntry>) -> Result<Vec<u8>, SlateDBError>
+    ensures text { IfOk result (λ text. text.items ≡
+        reply_line (Found (option_map key_value row))) }
+    ensures cause { IsOkUnless result SlateDBError.OutOfMemory }
+{
+    match row {
+        Some(row) => {
+            let text = state_text(alloc, &row);
+            drop(row);
+            text
+        }
+        None => none_text(alloc),
+    }
+}
+
+fn none_text(alloc: Global) -> Result<Vec<u8>, SlateDBError>
+    ensures text { IfOk result (λ text. text.items ≡ reply_line (Found None)) }
+    ensures cause { IsOkUnless result SlateDBError.OutOfMemory }
+{
+    match reply_text(alloc, &Answer::Found(None)) {
+        Ok(text) => Ok(text),
+        Err(error) => Err(SlateDBError::from(error)),
+    }
+}
+
+/// Writes the answer of a `get` that found a row, or none.
+pub(crate) fn write_found<W: Sink>(
+    alloc: Global,
+    row: Option<RowEntry>,
+    sink: &mut W,
+) -> Result<(), SlateDBError>
+    ensures text { (before : List ℕ) → W.content sink.old ≡ Some before →
+        OnOk result (W.content sink.new ≡
+        Some (before ++ reply_line (Found (option_map key_value row)))) }
+    ensures cause { IfErr result (λ e. (e ≡ SlateDBError.OutOfMemory)
+        ⊎ ((e ≡ SlateDBError.WriteFault) × Rose (W.faults sink.old) (W.faults sink.new))) }
+    ensures later { W.faults sink.old ≤ W.faults sink.new }
+    ensures still { OnOk result (W.faults sink.new ≡ W.faults sink.old) }
+{
+    match answer_text(alloc, row) {
+        Ok(text) => {
+            let done = write_all(sink, text.as_slice());
+            drop(text);
+            done
+        }
+        Err(error) => Err(error),
     }
 }
 

@@ -21,4 +21,4 @@ pub use merging::Export;
 pub use reader::Tables;
 pub use run::run_tables;
 pub use script::write_script;
-pub use state::write_state;
+pub use state::{write_range, write_row_of, write_state};

@@ -11,20 +11,24 @@ ghost use Rattle.slate_types.specs.World.{Checks, Made, Sees, World};
 ghost use Rattle.slate_merge.specs.Merge.{all_rows};
 ghost use Rattle.slate_read.specs.TableWalk.{root};
 ghost use Rattle.slate_table.specs.Reading.{IsStoreFault};
-ghost use Rattle.slate_tables.specs.Exported.{IsExport};
+ghost use Rattle.slate_table.specs.Stored.{stored};
+ghost use Rattle.slate_txn.specs.Own.{only_key};
+ghost use Rattle.slate_tables.specs.Exported.{IsExport, first_row};
 ghost use Rattle.slate_tables.specs.Merging.{AreReadableTables, MatchEach, export_rows};
 ghost use Rattle.slate_tables.specs.Merging.{export_sound};
 ghost use Rattle.slate_tables.specs.Opened.{MayRefuse, WasOpened};
 ghost use Rattle.slate_tables.specs.Reading.{IsRefusedRead, RefusesNew};
 
 use crate::merging::{Export, merged, table_sources};
+use bytes::Bytes;
 use slate_store::{Env, EnvOf, Store};
 use slate_table::{SsTableHandle, SstReader};
 use slate_types::{
-    BlockTransformer, BytesRange, IterationOrder, MergeOperator, Outside, RowEntryIterator,
-    SlateDBError, Ulid,
+    BlockTransformer, BytesRange, IterationOrder, MergeOperator, Outside, RowEntry,
+    RowEntryIterator, SlateDBError, Ulid,
 };
-use std::alloc::Global;
+use std::alloc::{AllocError, Global};
+use std::ops::Bound;
 
 /// The tables of a store, opened. Of each table its info is kept, and no rows.
 #[derive(Drop)]
@@ -116,6 +120,83 @@ impl Tables {
         let rows = merged(alloc, sources, order);
         begin(alloc, rows, env)
     }
+
+    /// Returns the row of a key: the one that the rows of all tables fold to. `None` if it has none,
+    /// or was deleted. Of each table the index is read, and the blocks that can hold the key.
+    ///
+    /// In a world in which the tables are read, it is just that row, and no damage is answered.
+    /// Else damage is answered only for what this call read.
+    pub fn get<S: Store, M: MergeOperator, T: BlockTransformer>(
+        &self,
+        alloc: Global,
+        key: &[u8],
+        env: &mut Env<'_, S, M, T>,
+    ) -> Result<Option<RowEntry>, SlateDBError>
+        ensures row { let reach = ⟦<EnvOf<S, M, T> as Outside>⟧.reach in
+            (w : World) (tables : List (List RowEntry)) →
+            AreReadableTables w self.now.handles.items tables →
+            Sees w (reach env.old) (reach env.new) → IfOk result (λ row.
+            row ≡ stored (operator_at w.meaning.combine key.now) (all_rows tables) key.now) }
+        ensures checked { let reach = ⟦<EnvOf<S, M, T> as Outside>⟧.reach in
+            (w : World) (tables : List (List RowEntry)) →
+            AreReadableTables w self.now.handles.items tables →
+            OnOk result (Checks w (reach env.old) (reach env.new)) }
+        ensures undamaged { let reach = ⟦<EnvOf<S, M, T> as Outside>⟧.reach in
+            (w : World) (tables : List (List RowEntry)) →
+            AreReadableTables w self.now.handles.items tables →
+            Sees w (reach env.old) (reach env.new) → IfErr result (λ e. ¬ IsDamage e) }
+        ensures cause { let reach = ⟦<EnvOf<S, M, T> as Outside>⟧.reach in
+            let refuses = ⟦<Export as RowEntryIterator<EnvOf<S, M, T>>>⟧.refuses in
+            IfErr result (IsRefusedRead refuses self.now.handles.items (only_key key.now)
+            IterationOrder.Ascending (reach env.old) (reach env.new)) }
+        ensures reads { let reach = ⟦<EnvOf<S, M, T> as Outside>⟧.reach in
+            OnlyReads (reach env.old) (reach env.new) }
+        ensures counts { let reach = ⟦<EnvOf<S, M, T> as Outside>⟧.reach in
+            IsStill (reach env.old).faults (reach env.new).faults result }
+    {
+        let range = only_key(alloc, key)?;
+        match self.scan(alloc, &range, IterationOrder::Ascending, env) {
+            Ok(rows) => first_row(alloc, rows, env),
+            Err(error) => Err(error),
+        }
+    }
+}
+
+/// Returns the range of one key.
+fn only_key(alloc: Global, key: &[u8]) -> Result<BytesRange, AllocError>
+    ensures range { IfOk result (λ range. range ≡ only_key key.now) }
+    ensures some { IfOk result (λ range. is_refused range.start range.end ≡ false) }
+{
+    let start = Bytes::copy_from_slice(alloc, key)?;
+    let end = start.clone()?;
+    Ok(BytesRange {
+        start: Bound::Included(start),
+        end: Bound::Included(end),
+    })
+}
+
+/// Takes the first row.
+fn first_row<E: Outside, I: RowEntryIterator<E>>(
+    alloc: Global,
+    mut rows: I,
+    env: &mut E,
+) -> Result<Option<RowEntry>, SlateDBError>
+    ensures row { (w : World) → Sees w (E.reach env.old) (E.reach env.new) → I.sound rows w →
+        IfOk result (λ row. row ≡ first_row (I.rest rows w)) }
+    ensures checked { (w : World) → I.sound rows w →
+        OnOk result (Checks w (E.reach env.old) (E.reach env.new)) }
+    ensures undamaged { (w : World) → Sees w (E.reach env.old) (E.reach env.new) → I.sound rows w →
+        IfErr result (λ e. ¬ IsDamage e) }
+    ensures read { IfOk result (λ _. Made (E.reach env.old) (E.reach env.new) (λ _. Unit {0})) }
+    ensures cause { IfErr result (λ e. Made (E.reach env.old) (E.reach env.new) (λ reads.
+        IsFault (E.reach env.old) (E.reach env.new) e
+        ⊎ I.refuses rows (E.reach env.old).meaning reads None e)) }
+    ensures reads { OnlyReads (E.reach env.old) (E.reach env.new) }
+    ensures counts { IsStill (E.reach env.old).faults (E.reach env.new).faults result }
+{
+    let row = rows.next(alloc, env);
+    drop(rows);
+    row
 }
 
 /// Returns the id at a place.

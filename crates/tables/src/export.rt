@@ -1,61 +1,40 @@
-//! The modes `state` and `script`: the state to which the tables of a folder fold.
-use slate_language::{NamedOperator, Xor, parse_words};
-use slate_store::{Env, FileStore, Store, WriterSink};
+//! The modes `state`, `get` and `script`: the state to which the tables of a folder fold.
+ghost use Rattle.std.specs.Prelude.{◌≡◌, codes, string_bytes};
+
+use crate::folder::{read_folder, tell_fault};
+use crate::request::{Mode, Request};
+use slate_store::{Env, Store, WriterSink};
 use slate_table::SstReader;
 use slate_tables::check::{Checked, check_table};
 use slate_tables::listing::{Listing, list_tables};
-use slate_tables::{Tables, write_script, write_state};
+use slate_tables::{Tables, write_range, write_row_of, write_script, write_state};
 use slate_types::{BlockTransformer, SlateDBError, Ulid};
 use std::alloc::Global;
 
-/// How the state is written.
-#[derive(Clone, Copy)]
-enum Form {
-    State,
-    Script,
-}
-
-/// What is asked for: a form, and of the run's words the ones that are used.
-#[derive(Clone, Copy)]
-pub struct Request {
-    form: Form,
-    mask: Option<u8>,
-    operator: Option<NamedOperator>,
-}
-
-/// What the words ask for. None if they ask for another mode, or aren't known.
-pub fn read_request(words: &[String]) -> Option<Request> {
-    let (first, rest) = words.split_first()?;
-    let form = match first.as_bytes() {
-        b"state" => Form::State,
-        b"script" => Form::Script,
-        _ => return None,
-    };
-    let settings = parse_words(rest, &[])?;
-    Some(Request {
-        form,
-        mask: settings.mask,
-        operator: settings.operator,
-    })
-}
-
 /// Writes the state of the tables in a folder, if all of them are whole, and answers the status to
 /// end with.
-pub fn export(rt: &HostRuntime, folder: &str, request: Request) -> u8 {
-    let Ok(store) = FileStore::new(rt.alloc(), rt, folder) else {
-        return 20;
-    };
-    let transformer = transformer_of(request.mask);
-    let Ok(mut reader) = SstReader::new(rt.alloc(), "db", store, transformer) else {
-        return 20;
-    };
-    match whole_tables(rt.alloc(), &mut reader) {
+pub fn export(rt: &HostRuntime, folder: &str, request: &Request) -> u8 {
+    match tables_of(rt, folder, request) {
         Ok(listing) => {
             let status = export_tables(rt, folder, request, listing.tables.as_slice());
             drop(listing);
             status
         }
         Err(status) => status,
+    }
+}
+
+/// Lists the tables in a folder, and refuses the first one that is damaged.
+fn tables_of(rt: &HostRuntime, folder: &str, request: &Request) -> Result<Listing, u8> {
+    match read_folder(rt, folder, request.transformer()) {
+        Ok(mut reader) => {
+            let found = whole_tables(rt.alloc(), &mut reader);
+            if let Err(status) = &found {
+                tell_fault(rt, *status, &reader);
+            }
+            found
+        }
+        Err(status) => Err(status),
     }
 }
 
@@ -95,15 +74,26 @@ fn check_each<S: Store, T: BlockTransformer>(
     Ok(())
 }
 
-fn export_tables(rt: &HostRuntime, folder: &str, request: Request, ids: &[Ulid]) -> u8 {
-    let Ok(store) = FileStore::new(rt.alloc(), rt, folder) else {
-        return 20;
-    };
-    let transformer = transformer_of(request.mask);
-    let Ok(mut reader) = SstReader::new(rt.alloc(), "db", store, transformer) else {
-        return 20;
-    };
-    match Tables::open(rt.alloc(), &mut reader, ids) {
+fn export_tables(rt: &HostRuntime, folder: &str, request: &Request, ids: &[Ulid]) -> u8 {
+    match read_folder(rt, folder, request.transformer()) {
+        Ok(mut reader) => {
+            let status = export_opened(rt, request, &mut reader, ids);
+            tell_fault(rt, status, &reader);
+            status
+        }
+        Err(status) => status,
+    }
+}
+
+fn export_opened<S: Store, T: BlockTransformer>(
+    rt: &HostRuntime,
+    request: &Request,
+    reader: &mut SstReader<S, T>,
+    ids: &[Ulid],
+) -> u8
+    requires { string_bytes reader.now.root_path ≡ codes "db" }
+{
+    match Tables::open(rt.alloc(), reader, ids) {
         Ok(tables) => {
             let status = write_tables(rt, request, &tables, &mut reader.store);
             drop(tables);
@@ -115,7 +105,7 @@ fn export_tables(rt: &HostRuntime, folder: &str, request: Request, ids: &[Ulid])
 
 fn write_tables<S: Store>(
     rt: &HostRuntime,
-    request: Request,
+    request: &Request,
     tables: &Tables,
     store: &mut S,
 ) -> u8 {
@@ -123,27 +113,28 @@ fn write_tables<S: Store>(
     let mut env = Env {
         store,
         operator: request.operator,
-        transformer: transformer_of(request.mask),
+        transformer: request.transformer(),
     };
-    let written = match request.form {
-        Form::State => write_state(rt.alloc(), tables, &mut env, &mut sink),
-        Form::Script => write_script(rt.alloc(), tables, &mut env, &mut sink),
+    let written = match &request.mode {
+        Mode::State => write_state(rt.alloc(), tables, &mut env, &mut sink).map(|_| ()),
+        Mode::Range { range, order } => {
+            if range.leaves_none() {
+                return 2;
+            }
+            write_range(rt.alloc(), tables, range, *order, &mut env, &mut sink).map(|_| ())
+        }
+        Mode::Get { key } => {
+            write_row_of(rt.alloc(), tables, key.as_slice(), &mut env, &mut sink)
+        }
+        Mode::Script => write_script(rt.alloc(), tables, &mut env, &mut sink).map(|_| ()),
     };
     match written {
-        Ok(_) => 0,
+        Ok(()) => 0,
         Err(error) => status_of(error),
     }
 }
 
-/// The transformer of a word `xor=`, if there is one.
-fn transformer_of(mask: Option<u8>) -> Option<Xor> {
-    match mask {
-        None => None,
-        Some(mask) => Some(Xor { mask }),
-    }
-}
-
-fn status_of(error: SlateDBError) -> u8 {
+pub fn status_of(error: SlateDBError) -> u8 {
     let status = error.status().unwrap_or(16);
     drop(error);
     status

@@ -6,15 +6,16 @@ ghost use Rattle.std.specs.String.{string_bytes};
 ghost use Rattle.slate_command.specs.FirstWord.{first_word};
 
 mod export;
+mod folder;
+mod request;
 
-use crate::export::{export, read_request};
+use crate::export::{export, status_of};
+use crate::folder::{read_folder, tell_fault, test_folder};
+use crate::request::read_request;
 use slate_command::{FirstWord, print, words};
 use slate_language::Xor;
-use slate_store::{FileStore, WriterSink};
-use slate_table::SstReader;
+use slate_store::WriterSink;
 use slate_tables::run_tables;
-use std::fs;
-use std::io::ErrorKind;
 use std::process::ExitCode;
 
 const HELP: &str = "Reads the tables that a run of slate left in a folder.
@@ -22,19 +23,23 @@ const HELP: &str = "Reads the tables that a run of slate left in a folder.
 Usage: slate_tables FOLDER list [WORDS]
        slate_tables FOLDER check [WORDS]
        slate_tables FOLDER rows [FLUSH [PLACE]] [WORDS]
-       slate_tables FOLDER state [WORDS]
+       slate_tables FOLDER state [ORDER FROM TO] [WORDS]
+       slate_tables FOLDER get KEY [WORDS]
        slate_tables FOLDER script [WORDS]
 
 The words are those of the run, as they were; xor= alone is used, and by
-state and script op= too.
+state, get and script op= too. ORDER, FROM, TO and KEY are as in a line of
+slate: asc or desc, a bound as i'key, e'key or *, and 'key.
 
   list    what each table says of itself; no block is read
   check   reads each section and each block of each table
   rows    the rows as they are stored: of all tables, of a flush's, or of one
-  state   of each key the row that all tables fold to, as a get answers it
+  state   of each key the row that all tables fold to, as a get answers it: of
+          all keys, rising, or of those between two bounds, in an order
+  get     the row of one key, or none
   script  a script that makes this state in a new store
 
-state and script check all tables first, and write nothing where one is
+state, get and script check all tables first, and write nothing where one is
 damaged. The others write a line for each table, with the number of its flush
 and its place in the flush:
 
@@ -99,26 +104,22 @@ fn run_by(rt: &HostRuntime, asks: Option<FirstWord>, first: &str, words: Vec<Str
     }
 }
 
-/// Refuses what isn't there or is no folder, by the status to end with. A store over it would have
-/// no tables.
-fn test_folder(rt: &HostRuntime, folder: &str) -> Result<(), u8> {
-    match fs::metadata(rt, folder) {
-        Ok(found) if found.is_dir() => Ok(()),
-        Err(error) if error.kind() == ErrorKind::OutOfMemory => Err(20),
-        _ => Err(7),
-    }
-}
-
 /// Exports the tables where the words ask for it, and reads them otherwise.
 fn run_over(rt: &HostRuntime, folder: &str, words: Vec<String>) -> u8 {
     let mut words = words;
     words.retain(|word| !is_of_filters(word.as_bytes()));
-    match read_request(words.as_slice()) {
-        Some(request) => {
+    match read_request(rt.alloc(), words.as_slice()) {
+        Ok(Some(request)) => {
             drop(words);
-            export(rt, folder, request)
+            let status = export(rt, folder, &request);
+            drop(request);
+            status
         }
-        None => read_tables(rt, folder, words),
+        Ok(None) => read_tables(rt, folder, words),
+        Err(error) => {
+            drop(words);
+            status_of(error)
+        }
     }
 }
 
@@ -127,12 +128,13 @@ fn is_of_filters(word: &[u8]) -> bool {
 }
 
 fn read_tables(rt: &HostRuntime, folder: &str, words: Vec<String>) -> u8 {
-    let Ok(store) = FileStore::new(rt.alloc(), rt, folder) else {
-        return 20;
-    };
-    let Ok(mut reader) = SstReader::new(rt.alloc(), "db", store, None::<Xor>) else {
-        return 20;
-    };
-    let mut sink = WriterSink::new(rt.stdout());
-    run_tables(rt.alloc(), words, &mut sink, &mut reader)
+    match read_folder(rt, folder, None::<Xor>) {
+        Ok(mut reader) => {
+            let mut sink = WriterSink::new(rt.stdout());
+            let status = run_tables(rt.alloc(), words, &mut sink, &mut reader);
+            tell_fault(rt, status, &reader);
+            status
+        }
+        Err(status) => status,
+    }
 }
