@@ -1,3 +1,4 @@
 pub mod Going
 pub mod Slot
 pub mod Behind
+pub mod Scanning

@@ -1,5 +1,5 @@
 //! A connection, and its calls that are no transaction of a closure.
-ghost use Rattle.std.specs.Prelude.{◌≡◌, ℕ, ◌+◌, ◌<◌, ◌++◌, [], None, Ok, Option, OnErr, OnOk, pos};
+ghost use Rattle.std.specs.Prelude.{◌≡◌, ℕ, ◌+◌, ◌<◌, ◌++◌, [], Err, None, Ok, Option, OnErr, OnOk, pos};
 ghost use mathlib.Core.List.{IsPrefix};
 ghost use Rattle.slate_types.specs.Config.{defaults};
 ghost use Rattle.slate_types.specs.declared.error.SlateDBError.{SlateDBError};
@@ -12,6 +12,7 @@ ghost use Rattle.slate_shared.specs.Passes.{Opened};
 ghost use Rattle.slate_steps.specs.Attempts.{SeesMore, SeesOnly};
 ghost use Rattle.slate_connection.specs.Connected.{reach_in};
 
+use crate::scan::rows_within;
 use crate::transact::Transact;
 use bytes::Bytes;
 use slate_mem::WriteBatch;
@@ -19,8 +20,8 @@ use slate_shared::{Database, DbTransaction, Pass, Plain, WriteHandle};
 use slate_steps::on_pass::{begin, rollback};
 use slate_store::{Env, Store};
 use slate_types::{
-    BlockTransformer, IsolationLevel, KeyValue, MergeOperator, NoOperator, NoTransformer,
-    PutOptions, SlateDBError,
+    BlockTransformer, ByteRangeBounds, IsolationLevel, KeyValue, MergeOperator, NoOperator,
+    NoTransformer, PutOptions, ScanOptions, SlateDBError,
 };
 use std::alloc::Global;
 use std::marker::Model;
@@ -219,6 +220,15 @@ impl<'a, R: Wait, S: Store> Connection<'a, R, S> {
         self.write(batch, 0)?;
         Ok(())
     }
+
+    /// Merges nothing: a plain database has no operator. Refuses by `MergeOperatorMissing`, and
+    /// then nothing is committed.
+    pub fn merge(&mut self, _key: &[u8], _operand: &[u8]) -> Result<(), SlateDBError>
+        ensures missing { result ≡ Err SlateDBError.MergeOperatorMissing }
+        ensures same { self.new ≡ self.old }
+    {
+        Err(SlateDBError::MergeOperatorMissing)
+    }
 }
 
 impl<R: Wait, S: Store> Transact for Connection<'_, R, S> {
@@ -275,6 +285,29 @@ impl<R: Wait, S: Store> Transact for Connection<'_, R, S> {
     fn delete_within(&mut self, key: &[u8]) -> Result<(), SlateDBError> {
         match &mut self.txn {
             Some(txn) => txn.delete(key),
+            None => Err(not_open()),
+        }
+    }
+
+    fn scan_within<B: ByteRangeBounds>(
+        &mut self,
+        prefix: &[u8],
+        range: &B,
+        options: &ScanOptions,
+        limit: u64,
+    ) -> Result<Vec<KeyValue>, SlateDBError> {
+        match &mut self.txn {
+            Some(txn) => rows_within(
+                self.rt,
+                self.alloc,
+                self.db,
+                txn,
+                prefix,
+                range,
+                options,
+                limit,
+                &mut self.env,
+            ),
             None => Err(not_open()),
         }
     }

@@ -5,6 +5,7 @@
 #![tactic(auto)]
 
 pub mod connection;
+mod scan;
 pub mod shared_store;
 pub mod transact;
 

@@ -1,9 +1,11 @@
 //! Transactions of closures.
 ghost use Rattle.std.specs.Prelude.{◌≡◌, ◌⊎◌, ◌<◌, ◌++◌, ◌∷◌, [], ℕ, List, false, max, Err, None, Ok, Option, Some, option_map, IfErr, IfOk, OnErr, OnOk, pos};
 ghost use mathlib.Core.List.{IsPrefix};
+ghost use Rattle.slate_types.specs.declared.bytes_range.BytesRange.{BytesRange};
 ghost use Rattle.slate_types.specs.declared.config.IsolationLevel.{IsolationLevel as Level};
 ghost use Rattle.slate_types.specs.declared.error.SlateDBError.{SlateDBError};
 ghost use Rattle.slate_types.specs.declared.types.KeyValue.{KeyValue};
+ghost use Rattle.slate_types.specs.Keys.{prefix_subrange};
 ghost use Rattle.slate_types.specs.Outside.{IsFault, OnlyReads};
 ghost use Rattle.slate_mem.specs.BatchModel.{plain_put};
 ghost use Rattle.slate_mem.specs.declared.WriteOp.{WriteOp};
@@ -14,10 +16,13 @@ ghost use Rattle.slate_txn.specs.Replay.{IsLegal};
 ghost use Rattle.slate_shared.specs.Passes.{Opened};
 ghost use Rattle.slate_steps.specs.Attempts.{HasCommittedBehind, IsAttempt, IsReadErrorOn, IsRefusedBehind, IsUnbegun, SeesMore, SeesOnly};
 ghost use Rattle.slate_connection.specs.Connected.{IsOpenAttempt, Stays, StaysIn, taken};
+ghost use Rattle.slate_connection.specs.Scanned.{HasScanned, IsScanError, IsScanned};
 ghost use Rattle.slate_connection.specs.Transacted.{AfterConflicts, HasRead, HasTransacted, IsLast, EndsByRefusal};
 
 use bytes::Bytes;
-use slate_types::{IsolationLevel, KeyValue, PutOptions, SlateDBError};
+use slate_types::{
+    ByteRangeBounds, IsolationLevel, KeyValue, PutOptions, ScanOptions, SlateDBError,
+};
 use std::thread;
 
 /// How a transaction of a closure is made.
@@ -200,6 +205,68 @@ pub trait Transact {
             Err(error) => Err(error),
         }
     }
+
+    /// Returns the first rows, up to a limit, that the open transaction sees at the keys that are a
+    /// prefix and then a key between the bounds. It opens a scan, and takes row after row until
+    /// so many are there or none is left. Refuses as `DbTransaction::scan_prefix_with_options` and
+    /// `next` do, and by `UnknownTransaction` if nothing is open; then it may have taken steps.
+    fn scan_within<B: ByteRangeBounds>(
+        &mut self,
+        prefix: &[u8],
+        range: &B,
+        options: &ScanOptions,
+        limit: u64,
+    ) -> Result<Vec<KeyValue>, SlateDBError>
+        ensures stays { Stays terms (seen self.old) (seen self.new) }
+        ensures noted { IfOk result (λ rows. (r : BytesRange)
+            × (prefix_subrange prefix.now (B.start range.now) (B.end range.now) ≡ Some r)
+            × IsScanned options.now.order r limit (taken (seen self.old)) (taken (seen self.new))
+            rows.items) }
+        ensures more { IsPrefix (taken (seen self.old)) (taken (seen self.new)) }
+        ensures cause { (t : Opened) (from : List Event) (level : Level) →
+            (seen self.old).txn ≡ Some t → IsOpenAttempt terms from level t →
+            IfErr result (λ e. (u : Opened) × ((seen self.new).txn ≡ Some u) × IsScanError terms
+            (prefix_subrange prefix.now (B.start range.now) (B.end range.now))
+            (seen self.old).reach (seen self.new).reach u e) };
+
+    /// Returns the first rows at the keys that are a prefix and then a key between the bounds, by
+    /// a transaction of its own that commits nothing. Refuses as `begin` and `scan_within` do.
+    final fn scan_prefix<B: ByteRangeBounds>(
+        &mut self,
+        prefix: &[u8],
+        range: &B,
+        options: &ScanOptions,
+        limit: u64,
+    ) -> Result<Vec<KeyValue>, SlateDBError>
+        ensures read { IfOk result (λ rows. HasScanned terms
+            (prefix_subrange prefix.now (B.start range.now) (B.end range.now)) options.now.order
+            limit (seen self.old) (seen self.new) rows.items) }
+        ensures only { SeesOnly (seen self.old).pass (seen self.new).pass }
+        ensures none { (seen self.new).txn ≡ None }
+        ensures reads { OnlyReads (seen self.old).reach (seen self.new).reach }
+    {
+        self.begin(IsolationLevel::Snapshot)?;
+        let rows = self.scan_within(prefix, range, options, limit);
+        self.end();
+        rows
+    }
+
+    /// Returns the first rows in a range, so too.
+    final fn scan<B: ByteRangeBounds>(
+        &mut self,
+        range: &B,
+        options: &ScanOptions,
+        limit: u64,
+    ) -> Result<Vec<KeyValue>, SlateDBError>
+        ensures read { IfOk result (λ rows. HasScanned terms
+            (prefix_subrange [] (B.start range.now) (B.end range.now)) options.now.order
+            limit (seen self.old) (seen self.new) rows.items) }
+        ensures only { SeesOnly (seen self.old).pass (seen self.new).pass }
+        ensures none { (seen self.new).txn ≡ None }
+        ensures reads { OnlyReads (seen self.old).reach (seen self.new).reach }
+    {
+        self.scan_prefix(&[], range, options, limit)
+    }
 }
 
 /// The open transaction of a connection, as it is lent to a closure.
@@ -271,6 +338,54 @@ impl<'t, D: Transact> Transaction<'t, D> {
         ensures same { OnErr result (D.seen self.new.db.now ≡ D.seen self.old.db.now) }
     {
         self.db.delete_within(key)
+    }
+
+    /// Returns the first rows, up to a limit, that it sees at the keys that are a prefix and then a
+    /// key between the bounds. It takes row after row until so many are there or none is left.
+    /// Refuses as `DbTransaction::scan_prefix_with_options` and `next` do, and then it may have
+    /// taken steps.
+    pub fn scan_prefix<B: ByteRangeBounds>(
+        &mut self,
+        prefix: &[u8],
+        range: &B,
+        options: &ScanOptions,
+        limit: u64,
+    ) -> Result<Vec<KeyValue>, SlateDBError>
+        ensures stays { StaysIn D.terms D.seen self.old.db self.new.db }
+        ensures noted { IfOk result (λ rows. (r : BytesRange)
+            × (prefix_subrange prefix.now (B.start range.now) (B.end range.now) ≡ Some r)
+            × IsScanned options.now.order r limit (taken (D.seen self.old.db.now))
+            (taken (D.seen self.new.db.now)) rows.items) }
+        ensures more { IsPrefix (taken (D.seen self.old.db.now)) (taken (D.seen self.new.db.now)) }
+    {
+        self.db.scan_within(prefix, range, options, limit)
+    }
+
+    /// Returns the first rows in a range, so too.
+    pub fn scan<B: ByteRangeBounds>(
+        &mut self,
+        range: &B,
+        options: &ScanOptions,
+        limit: u64,
+    ) -> Result<Vec<KeyValue>, SlateDBError>
+        ensures stays { StaysIn D.terms D.seen self.old.db self.new.db }
+        ensures noted { IfOk result (λ rows. (r : BytesRange)
+            × (prefix_subrange [] (B.start range.now) (B.end range.now) ≡ Some r)
+            × IsScanned options.now.order r limit (taken (D.seen self.old.db.now))
+            (taken (D.seen self.new.db.now)) rows.items) }
+        ensures more { IsPrefix (taken (D.seen self.old.db.now)) (taken (D.seen self.new.db.now)) }
+    {
+        self.db.scan_within(&[], range, options, limit)
+    }
+
+    /// Merges nothing: the databases that connections serve have no operator. Refuses by
+    /// `MergeOperatorMissing`, and then it took no step.
+    pub fn merge(&mut self, _key: &[u8], _operand: &[u8]) -> Result<(), SlateDBError>
+        ensures missing { result ≡ Err SlateDBError.MergeOperatorMissing }
+        ensures stays { StaysIn D.terms D.seen self.old.db self.new.db }
+        ensures same { D.seen self.new.db.now ≡ D.seen self.old.db.now }
+    {
+        Err(SlateDBError::MergeOperatorMissing)
     }
 }
 

@@ -6,11 +6,17 @@ use slate_connection::{Connection, SharedStore, Transact, TransactOptions, Trans
 use slate_mem::WriteBatch;
 use slate_shared::{Database, Plain};
 use slate_store::{MemoryStore, Store};
-use slate_types::{PutOptions, SlateDBError};
+use slate_types::{PutOptions, ScanOptions, SlateDBError};
 use std::alloc::Global;
+use std::ops::RangeFull;
 use std::sync::{Mutex, Wait};
 
-// Two reads, and an operation of each kind. Returns whether the reads show what was put before.
+// Whether a merge is refused for want of an operator.
+fn is_refused(merged: &Result<(), SlateDBError>) -> bool {
+    matches!(merged, Err(SlateDBError::MergeOperatorMissing))
+}
+
+// Two reads, an operation of each kind, and two scans. Returns whether they show what was put.
 fn step<D: Transact>(txn: &mut Transaction<'_, D>) -> Result<bool, SlateDBError>
     ensures stays { StaysIn D.terms D.seen txn.old.db txn.new.db }
 {
@@ -20,7 +26,11 @@ fn step<D: Transact>(txn: &mut Transaction<'_, D>) -> Result<bool, SlateDBError>
     txn.put_with(b"c", b"3", &PutOptions::default())?;
     txn.delete(b"a")?;
     let is_value = value.as_ref().map(Bytes::as_slice) == Some(b"1".as_slice());
-    Ok(row.is_some() && is_value)
+    let options = ScanOptions::default();
+    let rows = txn.scan(&RangeFull, &options, 2)?;
+    let named = txn.scan_prefix(b"d", &RangeFull, &options, u64::MAX)?;
+    let is_missing = is_refused(&txn.merge(b"b", b"2"));
+    Ok(row.is_some() && is_value && rows.len() == 2 && named.len() == 1 && is_missing)
 }
 
 fn calls<R: Wait, S: Store>(
@@ -37,7 +47,12 @@ fn calls<R: Wait, S: Store>(
     db.flush()?;
     let gone = db.get(b"a")?;
     let row = db.get_row(b"e")?;
-    Ok(is_seen && gone.is_none() && row.is_some())
+    let options = ScanOptions::default();
+    let rows = db.scan(&RangeFull, &options, u64::MAX)?;
+    let named = db.scan_prefix(b"e", &RangeFull, &options, u64::MAX)?;
+    let is_scanned = rows.len() == 3 && named.len() == 1;
+    let is_missing = is_refused(&db.merge(b"e", b"5"));
+    Ok(is_seen && gone.is_none() && row.is_some() && is_scanned && is_missing)
 }
 
 // Whether each call answers as it should, by a connection that has taken in another one.
