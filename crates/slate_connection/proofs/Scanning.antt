@@ -32,7 +32,7 @@ use Rattle.slate_steps.proofs.OnPass.{next_attempt, next_checked_on, next_readin
 use Rattle.slate_steps.proofs.Reading.{if_err_map}
 use Rattle.slate_steps.proofs.StoreTruth.{checked_earlier, earlier_checked_os, met_first, met_last}
 use Rattle.slate_connection.specs.Connected.{ConnectionModel, GoesOn, IsOpenAttempt, Stays, Terms, taken}
-use Rattle.slate_connection.specs.Scanned.{HandsUpTo, HasScanned, HasWalked, IsScanError, IsScanned, WalksOn, next_steps}
+use Rattle.slate_connection.specs.Scanned.{HandsUpTo, HasScanned, HasWalked, IsScanRefused, AddsScan, WalksOn, next_steps}
 use Rattle.slate_connection.proofs.Going.{attempt_nothing, goes_none, if_ok, open_as, read_through, reads_same}
 use Rattle.slate_connection.proofs.Slot.{stays_by}
 
@@ -232,13 +232,13 @@ module _ (p : Terms) where
     pub record IsUnopened (range : Option BytesRange) (e : SlateDBError) : Type 0 where
       pub goes : GoesOn p a b t u
       pub more : IsPrefix t.tx.transcript u.tx.transcript
-      pub cause : (from : List Event) (level : IsolationLevel) → IsOpenAttempt p from level t → IsScanError p range a b u e
+      pub cause : (from : List Event) (level : IsolationLevel) → IsOpenAttempt p from level t → IsScanRefused p range a b u e
       pub reads : OnlyReads a b
 
     pub unopened_at : (s : Result TxnIterator SlateDBError) (e : SlateDBError) (range : Option BytesRange) → (quiet → b ≡ a) → s ≡ Err e → Opens s range → Fails s range → IsUnopened range e
     unopened_at s e range still is opens fails = by range (subst (λ (x : Result TxnIterator SlateDBError). Opens x range) is opens) (subst (λ (x : Result TxnIterator SlateDBError). Fails x range) is fails)
       where
-        cause_of : (refusal e ≡ refusal InvalidRange) ⊎ (refusal e ≡ refusal OutOfMemory) → IsScanError p None a b u e
+        cause_of : (refusal e ≡ refusal InvalidRange) ⊎ (refusal e ≡ refusal OutOfMemory) → IsScanRefused p None a b u e
         cause_of (inl h) = inl (refl, ap (error_or e) h)
         cause_of (inr h) = inr (inl (subst (λ (x : SlateDBError). IsFault a b x) (sym (ap (error_or e) h)) tt))
 
@@ -293,14 +293,14 @@ module _ (p : Terms) where
       sym (append_assoc t.tx.transcript (steps.Scan order h.r ∷ []) w.more.0) ∙ ap (λ (ts : List TranscriptStep). ts ++ w.more.0) (sym h.taken) ∙ w.more.1,
     )
 
-    pub scan_steps : (limit : ℕ) (rows : List KeyValue) → HandsUpTo limit (number_of it) u.tx.transcript v.tx.transcript rows → (r : BytesRange) × (range ≡ Some r) × IsScanned order r limit t.tx.transcript v.tx.transcript rows
+    pub scan_steps : (limit : ℕ) (rows : List KeyValue) → HandsUpTo limit (number_of it) u.tx.transcript v.tx.transcript rows → (r : BytesRange) × (range ≡ Some r) × AddsScan order r limit t.tx.transcript v.tx.transcript rows
     scan_steps limit rows handed = (h.r, h.is, subst (λ (x : ℕ × List TranscriptStep). HandsUpTo limit x.0 x.1 v.tx.transcript rows) (λ i. (h.named.number i, h.taken i)) handed)
 
     pub scan_reads : OnlyReads a c
     scan_reads = reads_then a b c h.reads w.reads
 
     pub scan_error_at : {A : Type 0} (s : Result A SlateDBError) → ((from : Reach) → OnlyReads from b → IsScanSinceOn p.options from b u.seen it → IfErr s (IsReadErrorOn p.options p.policies from c u.seen)) →
-        (from : List Event) (level : IsolationLevel) → IsOpenAttempt p from level t → IfErr s (IsScanError p range a c v)
+        (from : List Event) (level : IsolationLevel) → IsOpenAttempt p from level t → IfErr s (IsScanRefused p range a c v)
     scan_error_at s cause from level o =
         if_err_map s _ _ (λ e refused. inr (subst (λ (es : List Event). IsReadErrorOn p.options p.policies a c es e) (sym w.seen) refused)) (cause a h.reads (h.since from level o))
 
@@ -313,15 +313,15 @@ module _ (p : Terms) (s n : ConnectionModel) (t u : Opened) (a b : Reach) (was :
       stays_by p s n t u was is same (subst (λ (x : Reach × Reach). OnlyReads x.0 x.1) (λ i. (from_is i, to_is i)) reads)
       (subst (λ (x : Reach × Reach). GoesOn p x.0 x.1 t u) (λ i. (from_is i, to_is i)) goes)
 
-  pub cause_scanned : {A : Type 0} (r : Result A SlateDBError) (range : Option BytesRange) → ((from : List Event) (level : IsolationLevel) → IsOpenAttempt p from level t → IfErr r (IsScanError p range a b u)) →
-      (x : Opened) (from : List Event) (level : IsolationLevel) → s.txn ≡ Some x → IsOpenAttempt p from level x → IfErr r (λ e. (y : Opened) × (n.txn ≡ Some y) × IsScanError p range s.reach n.reach y e)
+  pub cause_scanned : {A : Type 0} (r : Result A SlateDBError) (range : Option BytesRange) → ((from : List Event) (level : IsolationLevel) → IsOpenAttempt p from level t → IfErr r (IsScanRefused p range a b u)) →
+      (x : Opened) (from : List Event) (level : IsolationLevel) → s.txn ≡ Some x → IsOpenAttempt p from level x → IfErr r (λ e. (y : Opened) × (n.txn ≡ Some y) × IsScanRefused p range s.reach n.reach y e)
   cause_scanned r range cause x from level there h =
-      if_err_map r _ _ (λ e refusal. (u, is, subst (λ (y : Reach × Reach). IsScanError p range y.0 y.1 u e) (λ i. (from_is i, to_is i)) refusal))
+      if_err_map r _ _ (λ e refusal. (u, is, subst (λ (y : Reach × Reach). IsScanRefused p range y.0 y.1 u e) (λ i. (from_is i, to_is i)) refusal))
       (cause from level (subst (IsOpenAttempt p from level) (sym (same_Some t x (sym was ∙ there))) h))
 
 -- by a transaction of its own
 pub scanned_through : (p : Terms) (old mid next new : ConnectionModel) (t : Opened) (range : Option BytesRange) (order : IterationOrder) (limit : ℕ) (rows : List KeyValue) → mid.reach ≡ old.reach → Stays p mid next → new.reach ≡ next.reach →
-    mid.txn ≡ Some t → IsAttempt p.options old.pass.seen Snapshot [] t → ((u : Opened) → next.txn ≡ Some u → IsPrefix u.seen new.pass.seen) → (r : BytesRange) × (range ≡ Some r) × IsScanned order r limit (taken mid) (taken next) rows → HasScanned p range order limit old new rows
+    mid.txn ≡ Some t → IsAttempt p.options old.pass.seen Snapshot [] t → ((u : Opened) → next.txn ≡ Some u → IsPrefix u.seen new.pass.seen) → (r : BytesRange) × (range ≡ Some r) × AddsScan order r limit (taken mid) (taken next) rows → HasScanned p range order limit old new rows
 scanned_through p old mid next new t range order limit rows still ran ends there begins known (r, is, scanned) =
     let nothing : taken mid ≡ [] = attempt_nothing p old.pass.seen Snapshot mid t there begins in
     record {
@@ -329,5 +329,5 @@ scanned_through p old mid next new t range order limit rows still ran ends there
       is = is;
       taken = taken next;
       read = read_through p old mid next new t (taken next) still ran ends there begins known (ap (λ (us : List TranscriptStep). us ++ taken next) (sym nothing));
-      scanned = subst (λ (us : List TranscriptStep). IsScanned order r limit us (taken next) rows) nothing scanned;
+      scanned = subst (λ (us : List TranscriptStep). AddsScan order r limit us (taken next) rows) nothing scanned;
     }

@@ -2,11 +2,11 @@
 --     next_steps n rows      the steps at which the n-th scan answered these rows
 --     HasStopped limit n rows last      so many rows are the limit; or they are fewer, and the last step tells that none is left
 --     HandsUpTo limit n old new rows      the transcript, after so many rows at most were asked of the scan
---     IsScanned order range limit old new rows      so it is after the scan was opened too
+--     AddsScan order range limit old new rows      so it is after the scan was opened too
 --     HasScanned p range order limit old new rows      a transaction that took these steps, and no other, is ended without a commit
 --     WalksOn p before after t u x y us      the transaction took these steps, by a scan that was x and is y, and is open still
 --     HasWalked p before after t u x      so it did, and the scan isn't asked again
---     IsScanError p range before after new e      the bounds make no range; or it is refused as a read by what the transaction has seen
+--     IsScanRefused p range before after new e      the bounds make no range; or it is refused as a read by what the transaction has seen
 use Rattle.std.specs.Prelude.{◌≡◌, ◌⊎◌, ℕ, ◌<◌, List, [], ◌∷◌, ◌++◌, length, map, Option, Some, None, count_by}
 use mathlib.Core.List.{IsPrefix}
 use Rattle.slate_types.specs.declared.bytes_range.BytesRange.{BytesRange}
@@ -41,8 +41,8 @@ pub record HandsUpTo (limit n : ℕ) (old new : List TranscriptStep) (rows : Lis
   pub stopped : HasStopped limit n rows last
   pub is : new ≡ old ++ (next_steps n rows ++ last)
 
-abbrev pub IsScanned : IterationOrder → BytesRange → ℕ → List TranscriptStep → List TranscriptStep → List KeyValue → Type 0
-IsScanned order range limit old new rows =
+abbrev pub AddsScan : IterationOrder → BytesRange → ℕ → List TranscriptStep → List TranscriptStep → List KeyValue → Type 0
+AddsScan order range limit old new rows =
     HandsUpTo limit (count_by is_scan old) (old ++ (steps.Scan order range ∷ [])) new rows
 
 pub record HasScanned (p : Terms) (range : Option BytesRange) (order : IterationOrder) (limit : ℕ) (old new : ConnectionModel) (rows : List KeyValue) : Type 0 where
@@ -50,7 +50,7 @@ pub record HasScanned (p : Terms) (range : Option BytesRange) (order : Iteration
   pub is : range ≡ Some r
   pub taken : List TranscriptStep
   pub read : HasRead p old new taken
-  pub scanned : IsScanned order r limit [] taken rows
+  pub scanned : AddsScan order r limit [] taken rows
 
 -- by these objects, if they answered each read between or none slipped, some rows are left
 pub record WalksOn (p : Terms) (before after : Reach) (t u : Opened) (x y : TxnIterator) (us : List TranscriptStep) : Type 0 where
@@ -75,6 +75,6 @@ pub record HasWalked (p : Terms) (before after : Reach) (t u : Opened) (x : TxnI
       IsVouchedThere p.options p.meaning t → IsVouchedThere p.options p.meaning u
   pub reads : OnlyReads before after
 
-abbrev pub IsScanError : Terms → Option BytesRange → Reach → Reach → Opened → SlateDBError → Type 0
-IsScanError p range before after new e =
+abbrev pub IsScanRefused : Terms → Option BytesRange → Reach → Reach → Opened → SlateDBError → Type 0
+IsScanRefused p range before after new e =
     ((range ≡ None) × (e ≡ InvalidRange)) ⊎ IsReadErrorOn p.options p.policies before after new.seen e

@@ -11,7 +11,7 @@ ghost use Rattle.slate_txn.specs.Step.{is_scan};
 ghost use Rattle.slate_db.specs.Scans.{id_of, number_of};
 ghost use Rattle.slate_steps.specs.Attempts.{IsReadErrorOn, IsScanSinceOn};
 ghost use Rattle.slate_connection.specs.Connected.{GoesOn, IsOpenAttempt, plain_terms};
-ghost use Rattle.slate_connection.specs.Scanned.{HandsUpTo, HasWalked, IsScanError, IsScanned};
+ghost use Rattle.slate_connection.specs.Scanned.{HandsUpTo, HasWalked, IsScanRefused, AddsScan};
 
 use slate_db::scan::TxnIterator;
 use slate_shared::{Database, DbTransaction, Plain};
@@ -49,12 +49,12 @@ pub(crate) fn rows_within<
         GoesOn plain_terms (reach env.old) (reach env.new) txn.old txn.new }
     ensures noted { IfOk result (λ rows. (r : BytesRange)
         × (prefix_subrange prefix.now (B.start range.now) (B.end range.now) ≡ Some r)
-        × IsScanned options.now.order r limit txn.old.tx.transcript txn.new.tx.transcript
+        × AddsScan options.now.order r limit txn.old.tx.transcript txn.new.tx.transcript
         rows.items) }
     ensures more { IsPrefix txn.old.tx.transcript txn.new.tx.transcript }
     ensures cause { let reach = ⟦<EnvOf<S, M, T> as Outside>⟧.reach in
         (from : List Event) (level : Level) → IsOpenAttempt plain_terms from level txn.old →
-        IfErr result (IsScanError plain_terms
+        IfErr result (IsScanRefused plain_terms
         (prefix_subrange prefix.now (B.start range.now) (B.end range.now)) (reach env.old)
         (reach env.new) txn.new) }
     ensures reads { let reach = ⟦<EnvOf<S, M, T> as Outside>⟧.reach in

@@ -16,7 +16,7 @@ ghost use Rattle.slate_txn.specs.Replay.{IsLegal};
 ghost use Rattle.slate_shared.specs.Passes.{Opened};
 ghost use Rattle.slate_steps.specs.Attempts.{HasCommittedBehind, IsAttempt, IsReadErrorOn, IsRefusedBehind, IsUnbegun, SeesMore, SeesOnly};
 ghost use Rattle.slate_connection.specs.Connected.{IsOpenAttempt, Stays, StaysIn, taken};
-ghost use Rattle.slate_connection.specs.Scanned.{HasScanned, IsScanError, IsScanned};
+ghost use Rattle.slate_connection.specs.Scanned.{HasScanned, IsScanRefused, AddsScan};
 ghost use Rattle.slate_connection.specs.Transacted.{AfterConflicts, HasRead, HasTransacted, IsLast, EndsByRefusal};
 
 use bytes::Bytes;
@@ -220,12 +220,12 @@ pub trait Transact {
         ensures stays { Stays terms (seen self.old) (seen self.new) }
         ensures noted { IfOk result (λ rows. (r : BytesRange)
             × (prefix_subrange prefix.now (B.start range.now) (B.end range.now) ≡ Some r)
-            × IsScanned options.now.order r limit (taken (seen self.old)) (taken (seen self.new))
+            × AddsScan options.now.order r limit (taken (seen self.old)) (taken (seen self.new))
             rows.items) }
         ensures more { IsPrefix (taken (seen self.old)) (taken (seen self.new)) }
         ensures cause { (t : Opened) (from : List Event) (level : Level) →
             (seen self.old).txn ≡ Some t → IsOpenAttempt terms from level t →
-            IfErr result (λ e. (u : Opened) × ((seen self.new).txn ≡ Some u) × IsScanError terms
+            IfErr result (λ e. (u : Opened) × ((seen self.new).txn ≡ Some u) × IsScanRefused terms
             (prefix_subrange prefix.now (B.start range.now) (B.end range.now))
             (seen self.old).reach (seen self.new).reach u e) };
 
@@ -354,7 +354,7 @@ impl<'t, D: Transact> Transaction<'t, D> {
         ensures stays { StaysIn D.terms D.seen self.old.db self.new.db }
         ensures noted { IfOk result (λ rows. (r : BytesRange)
             × (prefix_subrange prefix.now (B.start range.now) (B.end range.now) ≡ Some r)
-            × IsScanned options.now.order r limit (taken (D.seen self.old.db.now))
+            × AddsScan options.now.order r limit (taken (D.seen self.old.db.now))
             (taken (D.seen self.new.db.now)) rows.items) }
         ensures more { IsPrefix (taken (D.seen self.old.db.now)) (taken (D.seen self.new.db.now)) }
     {
@@ -371,7 +371,7 @@ impl<'t, D: Transact> Transaction<'t, D> {
         ensures stays { StaysIn D.terms D.seen self.old.db self.new.db }
         ensures noted { IfOk result (λ rows. (r : BytesRange)
             × (prefix_subrange [] (B.start range.now) (B.end range.now) ≡ Some r)
-            × IsScanned options.now.order r limit (taken (D.seen self.old.db.now))
+            × AddsScan options.now.order r limit (taken (D.seen self.old.db.now))
             (taken (D.seen self.new.db.now)) rows.items) }
         ensures more { IsPrefix (taken (D.seen self.old.db.now)) (taken (D.seen self.new.db.now)) }
     {
