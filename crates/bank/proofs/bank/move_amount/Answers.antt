@@ -1,4 +1,4 @@
-use Rattle.std.proofs.Common.{rules, ◌≡◌}
+use Rattle.std.proofs.Common.{rules}
 use Rattle.bank.proofs.bank.move_amount.Goals as goal
 
 pub returns-clause-took : goal.returns-clause-took
