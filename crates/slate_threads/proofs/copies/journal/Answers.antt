@@ -16,7 +16,7 @@ returns-clause-alone g c = λ v.
     (returns-clause-vouched g c v)
 
 -- the places that the pass had before are all
-owns : (g : given.Over) (c : goal.At-returns g) → c.args.pass.now.parts ≡ all_parts →
+owns : (g : given.Over) (c : goal.After-journal g) → c.args.pass.now.parts ≡ all_parts →
     OwnsAll c.args.pass.now.own c.journal.new.self.seen
 owns g c all = subst (λ (l : List ℕ). OwnsAll l c.journal.new.self.seen)
     c.journal.ensures.same.2 (c.journal.ensures.whole all)
