@@ -93,6 +93,7 @@ check_causes() {
     says 2 "help isn't known, --help is; a folder of that name is ./help" '' help
     says 2 "op=concat stands before - or the name of a folder" '' op=concat
     says 2 "blck=3 isn't known behind the first word" '' - blck=3
+    says 2 "more isn't known behind the first word" '' - blck=3 more
     printf 'text' >"$room/notes"
     says 2 "notes is a file and no folder" '' notes
     says 7 "notes is no folder" '' notes/below
