@@ -31,9 +31,10 @@ if ! is_current; then
     say "this program is unproved; ./$call --prove proves and builds it, once"
 fi
 # Line editing at a terminal is that of rlwrap, where it is there.
+editor=()
 if [[ $program_name == shell && -t 0 && -t 1 ]] && type -P rlwrap >/dev/null; then
-    exec rlwrap "$program" "$@"
+    editor=(rlwrap)
 fi
-[[ -n $telling ]] || exec "$program" "$@"
+[[ -n $telling ]] || exec "${editor[@]}" "$program" "$@"
 . "$top/.ci/runs.sh"
 run_watched "$@"

@@ -1,7 +1,7 @@
 # shellcheck shell=bash disable=SC2154
 # Functions of ./slate and the other programs: how their program is run where a person is told what its status means. Source this file behind
-# program.sh, with `call` set. The program says its status, and with a name in SLATE_TELL, behind that name, which path failed and why, or
-# which table was read last. The rest of what is told is found out by looking again.
+# program.sh, with `call` set, and `editor`, the words that start a line editor. The program says its status, and with a name in SLATE_TELL,
+# behind that name, which path failed and why, or which table was read last. The rest of what is told is found out by looking again.
 . "$top/.ci/lines.sh"
 
 # The words of a run behind the first one, an expression.
@@ -34,9 +34,9 @@ why_first() {
     esac
 }
 
-# why_word WORDS..: which word behind the first isn't known, where there is one.
+# why_word WORDS..: which words behind the first aren't known, each in a line, where there are such.
 why_word() {
-    local word name setting='' filters=''
+    local word name setting='' filters='' found=1
     local -A seen=()
     if [[ $program_name == slate && ${1-} == gen ]]; then
         if [[ ! ${2-} =~ ^$(below 100000)$ || ! ${3-} =~ ^$(below 18446744073709551615)$ ]]; then
@@ -53,15 +53,15 @@ why_word() {
             echo "$word isn't known behind the first word; --help has the words and their values"
         elif [[ -n ${seen[$name]-} && $name != filter || -n ${seen[$word]-} ]]; then
             echo "$word comes behind another word $name="
-        elif [[ $filters == *' none '?* || $filters == ?*' none ' ]]; then
+        elif [[ $name == filter && ($filters == *' none '?* || $filters == ?*' none ') ]]; then
             echo "$word stands beside another word filter="
         else
             seen[$name]=1 seen[$word]=1
             continue
         fi
-        return
+        found=0
     done
-    return 1
+    return "$found"
 }
 
 # why_not WORDS..: why nothing was run.
@@ -242,7 +242,7 @@ run_watched() {
     else
         # A file is read anew, where the script was all of it.
         [[ ! -f /dev/stdin ]] || kept=/dev/stdin
-        SLATE_TELL=$program_name "$program" "$@"
+        SLATE_TELL=$program_name "${editor[@]}" "$program" "$@"
         status=$?
     fi
     if text=$(meaning_of "$status" "$@"); then
