@@ -46,10 +46,11 @@ impl FolderError {
 }
 
 /// Makes the folder where it is missing, and holds it for one run: while the file that it answers
-/// is there, which ends with its process in whatever way, each other call is refused by `InUse`. A
-/// folder that has tables is refused, and one that can't be written, as far as a file shows that is
-/// made beside them and taken away. Where it failed, what failed and why is said on standard error,
-/// if the environment asks for it.
+/// is there, which ends with its process in whatever way, each other call is refused by `InUse`.
+/// Syncs the folders that have the names of those that it made. A folder that has tables is
+/// refused, and one that can't be written, as far as a file shows that is made beside them and
+/// taken away. Where it failed, what failed and why is said on standard error, if the environment
+/// asks for it.
 pub fn hold(rt: &HostRuntime, folder: &str) -> Result<File, FolderError> {
     test_kind(rt, folder)?;
     let tables = format!(in rt.alloc(); "{folder}/db/compacted").map_err(
@@ -61,7 +62,7 @@ pub fn hold(rt: &HostRuntime, folder: &str) -> Result<File, FolderError> {
 }
 
 fn hold_for(rt: &HostRuntime, folder: &str, tables: &str) -> Result<File, FolderError> {
-    fs::create_dir_all(rt, tables).map_err(|error| failed(rt, tables, "made", error))?;
+    make(rt, tables).map_err(|error| failed(rt, tables, "made", error))?;
     let held = File::open(rt, folder).map_err(|error| failed(rt, folder, "opened", error))?;
     match held.try_lock() {
         Ok(()) => {}
@@ -71,6 +72,40 @@ fn hold_for(rt: &HostRuntime, folder: &str, tables: &str) -> Result<File, Folder
     test_empty(rt, tables)?;
     test_writing(rt, tables)?;
     Ok(held)
+}
+
+/// Makes the folder and those above it that are missing, and syncs the folders that have their
+/// names, so that what is put there lasts.
+fn make(rt: &HostRuntime, folder: &str) -> io::Result<()> {
+    let missing = count_missing(rt, folder);
+    fs::create_dir_all(rt, folder)?;
+    let mut path = folder;
+    for _ in 0..missing {
+        path = above(path);
+        File::open(rt, path)?.sync_all()?;
+    }
+    Ok(())
+}
+
+/// How many of the folder and those above it aren't there.
+fn count_missing(rt: &HostRuntime, folder: &str) -> usize {
+    let mut path = folder;
+    for missing in 0..folder.len() {
+        if fs::metadata(rt, path).is_ok() {
+            return missing;
+        }
+        path = above(path);
+    }
+    folder.len()
+}
+
+/// The folder that has the name that the path ends with.
+fn above(path: &str) -> &str {
+    match path.rsplit_once('/') {
+        Some((parent, _)) if !parent.is_empty() => parent,
+        Some(_) => "/",
+        None => ".",
+    }
 }
 
 /// Refuses what is there and no folder.
